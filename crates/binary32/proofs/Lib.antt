@@ -1,0 +1,10 @@
+pub mod Truth
+pub mod Nans
+pub mod Sizes
+pub mod Signs
+pub mod Casts
+pub mod Values
+pub mod Units
+pub mod Products
+pub mod Sticky
+pub mod Halves

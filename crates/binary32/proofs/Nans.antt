@@ -1,0 +1,21 @@
+-- A NaN told by comparing a value with itself, as the programs here do. Assumes nothing.
+use mathlib.Core.Path.{_≡_, refl, sym}
+use mathlib.Core.Bool.{true, false, true≢false}
+use lib.Ieee.{Float, nan, inf, fin, isNan, ne}
+use lib.Ieee.Compare.{differs-from-itself}
+use Rattle.binary32.proofs.Truth.{yes}
+
+pub is-nan : (x : Float) → ne x x ≡ true → x ≡ nan
+is-nan x h = differs-from-itself x (yes h)
+
+pub no-nan : (x : Float) → ne x x ≡ false → isNan x ≡ false
+unfolding ne isNan
+no-nan nan h = absurd (true≢false h)
+no-nan (inf s) h = refl
+no-nan (fin s m e) h = refl
+
+pub tells-nan : (x : Float) → isNan x ≡ true → x ≡ nan
+unfolding isNan
+tells-nan nan h = refl
+tells-nan (inf s) h = absurd (true≢false (sym h))
+tells-nan (fin s m e) h = absurd (true≢false (sym h))

@@ -1,0 +1,64 @@
+-- The sign bit of a value is the highest bit of its pattern, in any format. Assumes nothing.
+use mathlib.Core.Path.{_≡_, refl, sym, ap, _∙_, subst}
+use Prim.Native.Nat.{ℕ, zero, suc, _+_, _-_, _*_, _/_, _%_, _≤_, _<_}
+use native.Mathlib.Nat.{div-eq-of-lt, div-eq-of-lt-le, mul-pos, zero-lt-suc}
+use native.Mathlib.Omega.{arith}
+use mathlib.Core.Bool.{Bool, true, false, not, _||_, cond, Bool·beq, true≢false}
+use borrow.Author.Tests.{leb-true, leb-false}
+use lib.Dec.{T, leb, eqb}
+use lib.Pow.{pow-pos}
+use lib.IntN.{pos}
+use lib.Ieee.{Float, nan, inf, fin, Format, binary32, eq, prec, low, hid, ones, top, odd, fits, isNan, ofFields, ofBits, toBits}
+use lib.Ieee.Bits.{ofBits-toBits, toBits-lt}
+use Rattle.binary32.specs.Leaves.{signOf, crossingOf}
+
+odd-sign : (d : ℕ) (s : Bool) (q k l : ℕ) → signOf (odd d s q k l) ≡ s
+unfolding signOf odd
+odd-sign d s zero k l = refl
+odd-sign d s (suc q) k l = refl
+
+fields-sign : (f : Format) (s : Bool) (x t : ℕ) → isNan (ofFields f s x t) ≡ false → signOf (ofFields f s x t) ≡ s
+unfolding ofFields isNan
+fields-sign f s zero t h = odd-sign (prec f) s t 0 (low f)
+fields-sign f s (suc x) t h = go (eqb (suc x) (ones f)) (eqb t 0) h
+  where
+    go : (a b : Bool) → isNan (cond a (cond b (inf s) nan) (odd (prec f) s (hid f + t) x (low f))) ≡ false → signOf (cond a (cond b (inf s) nan) (odd (prec f) s (hid f + t) x (low f))) ≡ s
+    go true true g = unfold signOf in refl
+    go true false g = absurd (true≢false g)
+    go false b g = odd-sign (prec f) s (hid f + t) x (low f)
+
+pattern-sign : (f : Format) (b : ℕ) → isNan (ofBits f b) ≡ false → signOf (ofBits f b) ≡ leb (top f) b
+unfolding ofBits
+pattern-sign f b h = fields-sign f (leb (top f) b) (b % top f / hid f) (b % hid f) h
+
+top-pos : (f : Format) → 0 < top f
+top-pos f = mul-pos (pow-pos (prec f - 1)) (zero-lt-suc (ones f))
+
+upper-half : (b h : ℕ) → 0 < h → b < 2 * h → b / h ≡ cond (leb h b) 1 0
+upper-half b h H B = go (leb h b) refl
+  where
+    at-least : (b h : ℕ) → h ≤ b → 1 * h ≤ b
+    at-least b h g = omega arith
+
+    go : (t : Bool) → leb h b ≡ t → b / h ≡ cond t 1 0
+    go true e = div-eq-of-lt-le h (at-least b h (leb-true h b e)) B
+    go false e = div-eq-of-lt (leb-false h b e)
+
+pub sign-bit : (f : Format) (x : Float) → T (fits f x) → isNan x ≡ false → toBits f x / top f ≡ cond (signOf x) 1 0
+sign-bit f x F N =
+    let b = toBits f x in
+    let back : ofBits f b ≡ x = ofBits-toBits f x F in
+    upper-half b (top f) (top-pos f) (toBits-lt f x F)
+    ∙ ap (λ (t : Bool). cond t 1 0) (sym (pattern-sign f b (ap isNan back ∙ N)) ∙ ap signOf back)
+
+-- what the crossing test comes to where neither value is NaN and this one is not zero
+pub crossing-signs : (x y : Float) → T (fits binary32 x) → T (fits binary32 y) → isNan x ≡ false → isNan y ≡ false → eq x (fin false 0 (pos 0)) ≡ false
+    → not (eqb (toBits binary32 x / 0x8000_0000) (toBits binary32 y / 0x8000_0000)) ≡ crossingOf x y
+unfolding crossingOf
+crossing-signs x y F G N M Z = simp (sign-bit binary32 x F N, sign-bit binary32 y G M, N, M, Z) (go (signOf x) (signOf y))
+  where
+    go : (s t : Bool) → not (eqb (cond s 1 0) (cond t 1 0)) ≡ (not (Bool·beq s t) || false)
+    go true true = refl
+    go true false = refl
+    go false true = refl
+    go false false = refl

@@ -1,0 +1,239 @@
+-- Comparisons and operations by any fractions that the operands equal, of all signs. `HasValue x s a c` of lib.Ieee.Exact says that x is finite, has the sign s, and is a / c in size.
+-- Two values that a format holds, of one sign and one size, are equal as data. Assumes nothing.
+use mathlib.Core.Path.{_≡_, refl, sym, ap, ap₂, _∙_, subst}
+use mathlib.Core.Logic.{_⊎_, inl, inr}
+use Prim.Native.Nat.{ℕ, zero, suc, _+_, _-_, _*_, _/_, _%_, _^_, _≤_, _<_, zero-le}
+use native.Mathlib.Nat.{le-of-eq, le-of-lt, lt-of-lt-of-le, lt-of-le-of-lt, eq-or-lt-of-le, mul-comm, mul-assoc, mul-right-comm, mul-lt-mul-of-pos-right, lt-of-mul-lt-mul-right, eq-of-mul-eq-mul-right, zero-mul, add-mul, mul-sub, mul-pos, lt-irrefl, mul-mul-mul-comm, mul-div-cancel, mul-mod-left, add-zero}
+use native.Mathlib.Omega.{arith}
+use mathlib.Core.Bool.{Bool, true, false, not, _&&_, _||_, Bool·beq, cond}
+use lib.Dec.{T, leb, ltb, eqb, lt→ltb, ltb→lt, eqb→eq, le→leb, leb→le, not-T}
+use lib.Arith.{mod-mul}
+use lib.Ieee.{Float, nan, inf, fin, Format, prec, low, unlike, up, down, size, round, sum, add, sub, mul, rem, neg, lt, eq, le, below, level, fits, hid, top, ofBits, toBits}
+use lib.Ieee.Fits.{eq→eqb, up-pos, down-pos, and-i, and-l, and-r}
+use lib.Ieee.Bits.{is-true, cond-no, ofBits-toBits}
+use lib.Ieee.Exact.{HasValue}
+use lib.Ieee.Nearest.{div-same}
+use lib.Ieee.Scale.{round-same}
+use lib.Ieee.Positive.{first-pos}
+use Rattle.binary32.proofs.Truth.{same-test, or-l, or-r, or-split}
+
+-- ---- Where p / k is a / c and q / k is b / c, a test of p and q answers as that of a and b
+module _ (c k : ℕ) (C : 0 < c) (K : 0 < k) where
+  lt-same : {p q a b : ℕ} → p * c ≡ a * k → q * c ≡ b * k → p < q → a < b
+  lt-same h g l = lt-of-mul-lt-mul-right k (lt-of-le-of-lt (le-of-eq (sym h)) (lt-of-lt-of-le (mul-lt-mul-of-pos-right l C) (le-of-eq g)))
+
+  eq-same : {p q a b : ℕ} → p * c ≡ a * k → q * c ≡ b * k → p ≡ q → a ≡ b
+  eq-same {p} {q} {a} {b} h g e = eq-of-mul-eq-mul-right k K a b (sym h ∙ ap (λ (z : ℕ). z * c) e ∙ g)
+
+ltb-same : (c k p q a b : ℕ) → 0 < c → 0 < k → p * c ≡ a * k → q * c ≡ b * k → ltb p q ≡ ltb a b
+ltb-same c k p q a b C K h g =
+    same-test (ltb p q) (ltb a b) (λ t. lt→ltb a b (lt-same c k C K h g (ltb→lt p q t))) (λ t. lt→ltb p q (lt-same k c K C (sym h) (sym g) (ltb→lt a b t)))
+
+eqb-same : (c k p q a b : ℕ) → 0 < c → 0 < k → p * c ≡ a * k → q * c ≡ b * k → eqb p q ≡ eqb a b
+eqb-same c k p q a b C K h g =
+    same-test (eqb p q) (eqb a b) (λ t. eq→eqb (eq-same c k C K h g (eqb→eq p q t))) (λ t. eq→eqb (eq-same k c K C (sym h) (sym g) (eqb→eq a b t)))
+
+none-same : (c k : ℕ) → 0 * c ≡ 0 * k
+none-same c k = zero-mul c ∙ sym (zero-mul k)
+
+sum-same : (c k p q a b : ℕ) → p * c ≡ a * k → q * c ≡ b * k → (p + q) * c ≡ (a + b) * k
+sum-same c k p q a b h g = add-mul p q c ∙ ap₂ (λ (x y : ℕ). x + y) h g ∙ sym (add-mul a b k)
+
+below-same : (c k : ℕ) (s : Bool) (p : ℕ) (t : Bool) (q a b : ℕ) → 0 < c → 0 < k → p * c ≡ a * k → q * c ≡ b * k → below s p t q ≡ below s a t b
+below-same c k false p false q a b C K h g = ltb-same c k p q a b C K h g
+below-same c k false p true q a b C K h g = refl
+below-same c k true p false q a b C K h g = ltb-same c k 0 (p + q) 0 (a + b) C K (none-same c k) (sum-same c k p q a b h g)
+below-same c k true p true q a b C K h g = ltb-same c k q p b a C K g h
+
+level-same : (c k : ℕ) (s : Bool) (p : ℕ) (t : Bool) (q a b : ℕ) → 0 < c → 0 < k → p * c ≡ a * k → q * c ≡ b * k → level s p t q ≡ level s a t b
+level-same c k s p t q a b C K h g =
+    ap₂ (λ (x y : Bool). x && (Bool·beq s t || y)) (eqb-same c k p q a b C K h g) (eqb-same c k p 0 a 0 C K h (none-same c k))
+
+-- ---- two finite values over one denominator
+left : (M E D a c : ℕ) → M * c ≡ a * E → M * D * c ≡ a * (E * D)
+left M E D a c h = mul-right-comm M D c ∙ ap (λ (z : ℕ). z * D) h ∙ mul-assoc a E D
+
+right : (N E D b c : ℕ) → N * c ≡ b * D → N * E * c ≡ b * (E * D)
+right N E D b c h = left N D E b c h ∙ ap (λ (z : ℕ). b * z) (mul-comm D E)
+
+-- ---- comparisons
+pub lt-value : (x y : Float) (s : Bool) (a : ℕ) (t : Bool) (b c : ℕ) → 0 < c → HasValue x s a c → HasValue y t b c → lt x y ≡ below s a t b
+unfolding lt
+lt-value nan y s a t b c C h g = absurd h
+lt-value (inf u) y s a t b c C h g = absurd h
+lt-value (fin u m e) nan s a t b c C h g = absurd g
+lt-value (fin u m e) (inf v) s a t b c C h g = absurd g
+lt-value (fin u m e) (fin v n d) s a t b c C h g =
+    ap₂ (λ (i j : Bool). below i (m * up e * down d) j (n * up d * down e)) (h .0) (g .0)
+    ∙ below-same c (down e * down d) s (m * up e * down d) t (n * up d * down e) a b C (mul-pos (down-pos e) (down-pos d))
+    (left (m * up e) (down e) (down d) a c (h .1)) (right (n * up d) (down e) (down d) b c (g .1))
+
+pub eq-value : (x y : Float) (s : Bool) (a : ℕ) (t : Bool) (b c : ℕ) → 0 < c → HasValue x s a c → HasValue y t b c → eq x y ≡ level s a t b
+unfolding eq
+eq-value nan y s a t b c C h g = absurd h
+eq-value (inf u) y s a t b c C h g = absurd h
+eq-value (fin u m e) nan s a t b c C h g = absurd g
+eq-value (fin u m e) (inf v) s a t b c C h g = absurd g
+eq-value (fin u m e) (fin v n d) s a t b c C h g =
+    ap₂ (λ (i j : Bool). level i (m * up e * down d) j (n * up d * down e)) (h .0) (g .0)
+    ∙ level-same c (down e * down d) s (m * up e * down d) t (n * up d * down e) a b C (mul-pos (down-pos e) (down-pos d))
+    (left (m * up e) (down e) (down d) a c (h .1)) (right (n * up d) (down e) (down d) b c (g .1))
+
+-- ±a ≤ ±b
+abbrev pub most : Bool → ℕ → Bool → ℕ → Bool
+most false a false b = leb a b
+most false a true b = eqb (a + b) 0
+most true a false b = true
+most true a true b = leb b a
+
+le-of-tests : (a b : ℕ) (q : Bool) → (T q → a ≡ b) → T (ltb a b || q) → a ≤ b
+le-of-tests a b q e t = elim (or-split (ltb a b) q t) [ inl u ↦ le-of-lt (ltb→lt a b u) | inr u ↦ le-of-eq (e u) ]
+
+tests-of-le : (a b : ℕ) (q : Bool) → (a ≡ b → T q) → a ≤ b → T (ltb a b || q)
+tests-of-le a b q e h = elim (eq-or-lt-of-le h) [ inl p ↦ or-r (ltb a b) q (e p) | inr p ↦ or-l (ltb a b) q (lt→ltb a b p) ]
+
+both-zero : (a b : ℕ) → T (eqb a b && eqb a 0) → a + b ≡ 0
+both-zero a b t = go (eqb→eq a b (and-l (eqb a b) (eqb a 0) t)) (eqb→eq a 0 (and-r (eqb a b) (eqb a 0) t))
+  where
+    go : a ≡ b → a ≡ 0 → a + b ≡ 0
+    go p q = omega arith
+
+zero-both : (a b : ℕ) → a + b ≡ 0 → T (eqb a b && eqb a 0)
+zero-both a b h = and-i (eqb a b) (eqb a 0) (eq→eqb (alike a b h)) (eq→eqb (none a b h))
+  where
+    alike : (a b : ℕ) → a + b ≡ 0 → a ≡ b
+    alike a b h = omega arith
+
+    none : (a b : ℕ) → a + b ≡ 0 → a ≡ 0
+    none a b h = omega arith
+
+most-is : (s : Bool) (a : ℕ) (t : Bool) (b : ℕ) → (below s a t b || level s a t b) ≡ most s a t b
+most-is false a false b =
+    same-test (ltb a b || (eqb a b && true)) (leb a b)
+    (λ h. le→leb a b (le-of-tests a b (eqb a b && true) (λ u. eqb→eq a b (and-l (eqb a b) true u)) h))
+    (λ h. tests-of-le a b (eqb a b && true) (λ e. and-i (eqb a b) true (eq→eqb e) tt) (leb→le a b h))
+most-is false a true b = same-test (eqb a b && eqb a 0) (eqb (a + b) 0) (λ h. eq→eqb (both-zero a b h)) (λ h. zero-both a b (eqb→eq (a + b) 0 h))
+most-is true a false b = is-true (ltb 0 (a + b) || (eqb a b && eqb a 0)) (tests-of-le 0 (a + b) (eqb a b && eqb a 0) (λ e. zero-both a b (sym e)) zero-le)
+most-is true a true b =
+    same-test (ltb b a || (eqb a b && true)) (leb b a)
+    (λ h. le→leb b a (le-of-tests b a (eqb a b && true) (λ u. sym (eqb→eq a b (and-l (eqb a b) true u))) h))
+    (λ h. tests-of-le b a (eqb a b && true) (λ e. and-i (eqb a b) true (eq→eqb (sym e)) tt) (leb→le b a h))
+
+pub le-value : (x y : Float) (s : Bool) (a : ℕ) (t : Bool) (b c : ℕ) → 0 < c → HasValue x s a c → HasValue y t b c → le x y ≡ most s a t b
+unfolding le
+le-value x y s a t b c C h g = ap₂ (λ (p q : Bool). p || q) (lt-value x y s a t b c C h g) (eq-value x y s a t b c C h g) ∙ most-is s a t b
+
+-- ---- operations
+diff-same : (c k p q a b : ℕ) → p * c ≡ a * k → q * c ≡ b * k → (p - q) * c ≡ (a - b) * k
+diff-same c k p q a b h g =
+    mul-comm (p - q) c
+    ∙ mul-sub c p q
+    ∙ ap₂ (λ (x y : ℕ). x - y) (mul-comm c p ∙ h ∙ mul-comm a k) (mul-comm c q ∙ g ∙ mul-comm b k)
+    ∙ sym (mul-sub k a b)
+    ∙ mul-comm k (a - b)
+
+sum-is : (f : Format) (c k : ℕ) (s : Bool) (p : ℕ) (t : Bool) (q a b : ℕ) → 0 < c → 0 < k → p * c ≡ a * k → q * c ≡ b * k → sum f s p t q k ≡ sum f s a t b c
+unfolding sum
+sum-is f c k s p t q a b C K h g =
+    let all : round f s (p + q) k ≡ round f s (a + b) c = round-same f s (p + q) k (a + b) c K C (sum-same c k p q a b h g) in
+    let over : round f t (q - p) k ≡ round f t (b - a) c = round-same f t (q - p) k (b - a) c K C (diff-same c k q p b a g h) in
+    let under : round f (s && ltb q p) (p - q) k ≡ round f (s && ltb b a) (a - b) c =
+    ap (λ (u : Bool). round f (s && u) (p - q) k) (ltb-same c k q p b a C K g h)
+    ∙ round-same f (s && ltb b a) (p - q) k (a - b) c K C (diff-same c k p q a b h g) in
+    λ i. cond (Bool·beq s t) (all i) (cond (ltb-same c k p q a b C K h g i) (over i) (under i))
+
+pub add-value : (f : Format) (x y : Float) (s : Bool) (a : ℕ) (t : Bool) (b c : ℕ) → 0 < c → HasValue x s a c → HasValue y t b c → add f x y ≡ sum f s a t b c
+unfolding add
+add-value f nan y s a t b c C h g = absurd h
+add-value f (inf u) y s a t b c C h g = absurd h
+add-value f (fin u m e) nan s a t b c C h g = absurd g
+add-value f (fin u m e) (inf v) s a t b c C h g = absurd g
+add-value f (fin u m e) (fin v n d) s a t b c C h g =
+    ap₂ (λ (i j : Bool). sum f i (m * up e * down d) j (n * up d * down e) (down e * down d)) (h .0) (g .0)
+    ∙ sum-is f c (down e * down d) s (m * up e * down d) t (n * up d * down e) a b C (mul-pos (down-pos e) (down-pos d))
+    (left (m * up e) (down e) (down d) a c (h .1)) (right (n * up d) (down e) (down d) b c (g .1))
+
+pub neg-value : (x : Float) (s : Bool) (a c : ℕ) → HasValue x s a c → HasValue (neg x) (not s) a c
+unfolding neg
+neg-value nan s a c h = h
+neg-value (inf u) s a c h = h
+neg-value (fin u m e) s a c h = (ap not (h .0), h .1)
+
+pub sub-value : (f : Format) (x y : Float) (s : Bool) (a : ℕ) (t : Bool) (b c : ℕ) → 0 < c → HasValue x s a c → HasValue y t b c → sub f x y ≡ sum f s a (not t) b c
+unfolding sub
+sub-value f x y s a t b c C h g = add-value f x (neg y) s a (not t) b c C h (neg-value y t b c g)
+
+-- the factors may have denominators of their own
+pub mul-value : (f : Format) (x y : Float) (s : Bool) (a c : ℕ) (t : Bool) (b d : ℕ) → 0 < c → 0 < d → HasValue x s a c → HasValue y t b d
+    → mul f x y ≡ round f (unlike s t) (a * b) (c * d)
+unfolding mul
+mul-value f nan y s a c t b d C D h g = absurd h
+mul-value f (inf u) y s a c t b d C D h g = absurd h
+mul-value f (fin u m e) nan s a c t b d C D h g = absurd g
+mul-value f (fin u m e) (inf v) s a c t b d C D h g = absurd g
+mul-value f (fin u m e) (fin v n i) s a c t b d C D h g =
+    ap₂ (λ (z w : Bool). round f (unlike z w) (m * up e * (n * up i)) (down e * down i)) (h .0) (g .0)
+    ∙ round-same f (unlike s t) (m * up e * (n * up i)) (down e * down i) (a * b) (c * d) (mul-pos (down-pos e) (down-pos i)) (mul-pos C D)
+    (mul-mul-mul-comm (m * up e) (n * up i) c d ∙ ap₂ (λ (z w : ℕ). z * w) (h .1) (g .1) ∙ mul-mul-mul-comm a (down e) b (down i))
+
+pub mod-scale : (a b k : ℕ) → 0 < b → 0 < k → a * k % (b * k) ≡ a % b * k
+mod-scale a b k B K =
+    mod-mul (a * k) B K ∙ ap₂ (λ (x y : ℕ). x % b * k + y) (mul-div-cancel a K) (mul-mod-left a k) ∙ add-zero (a % b * k)
+
+mod-same : (c k p q a b : ℕ) → 0 < c → 0 < k → 0 < q → 0 < b → p * c ≡ a * k → q * c ≡ b * k → p % q * c ≡ a % b * k
+mod-same c k p q a b C K Q B h g = sym (mod-scale p q c Q C) ∙ ap₂ (λ (x y : ℕ). x % y) h g ∙ mod-scale a b k B K
+
+-- a value that is not 0 in size has an m that is not 0
+not-zero : (n u c b k : ℕ) → n * u * c ≡ b * k → 0 < b → 0 < k → 0 < n
+not-zero n u c b k g B K = first-pos n u (first-pos (n * u) c (subst (λ (z : ℕ). 0 < z) (sym g) (mul-pos B K)))
+
+pub rem-value : (f : Format) (x y : Float) (s : Bool) (a : ℕ) (t : Bool) (b c : ℕ) → 0 < c → 0 < b → HasValue x s a c → HasValue y t b c
+    → rem f x y ≡ round f s (a % b) c
+unfolding rem
+rem-value f nan y s a t b c C B h g = absurd h
+rem-value f (inf u) y s a t b c C B h g = absurd h
+rem-value f (fin u m e) nan s a t b c C B h g = absurd g
+rem-value f (fin u m e) (inf v) s a t b c C B h g = absurd g
+rem-value f (fin u m e) (fin v n d) s a t b c C B h g =
+    let p = m * up e * down d in
+    let q = n * up d * down e in
+    let k = down e * down d in
+    let K : 0 < k = mul-pos (down-pos e) (down-pos d) in
+    let N : 0 < n = not-zero n (up d) c b (down d) (g .1) B (down-pos d) in
+    cond-no (eqb n 0) nan (round f u (p % q) k) (not-T (eqb n 0) (λ t. lt-irrefl 0 (subst (λ (z : ℕ). 0 < z) (eqb→eq n 0 t) N)))
+    ∙ ap (λ (z : Bool). round f z (p % q) k) (h .0)
+    ∙ round-same f s (p % q) k (a % b) c K C
+    (mod-same c k p q a b C K (mul-pos (mul-pos N (up-pos d)) (down-pos e)) B (left (m * up e) (down e) (down d) a c (h .1)) (right (n * up d) (down e) (down d) b c (g .1)))
+
+-- ---- one value, other fractions
+pub value-same : (x : Float) (s : Bool) (a c b d : ℕ) → 0 < c → a * d ≡ b * c → HasValue x s a c → HasValue x s b d
+value-same nan s a c b d C e h = h
+value-same (inf u) s a c b d C e h = h
+value-same (fin u m i) s a c b d C e h = (
+  h .0,
+  eq-of-mul-eq-mul-right c C (m * up i * d) (b * down i)
+      (mul-right-comm (m * up i) d c
+      ∙ ap (λ (z : ℕ). z * d) (h .1)
+      ∙ mul-right-comm a (down i) d
+      ∙ ap (λ (z : ℕ). z * down i) e
+      ∙ mul-right-comm b c (down i)),
+)
+
+-- ---- one value, one float
+
+-- the bit pattern of the sign s and n of the format's smallest values
+abbrev pattern : Format → Bool → ℕ → ℕ
+pattern f s n = let k = size n - prec f in cond s (top f) 0 + k * hid f + n / 2 ^ k
+
+value-bits : (f : Format) (x : Float) (s : Bool) (a c : ℕ) → 0 < c → HasValue x s a c → toBits f x ≡ pattern f s (a * 2 ^ low f / c)
+unfolding toBits
+value-bits f nan s a c C h = absurd h
+value-bits f (inf u) s a c C h = absurd h
+value-bits f (fin u m e) s a c C h =
+    ap₂ (pattern f) (h .0)
+    (div-same (m * up e * 2 ^ low f) (down e) (a * 2 ^ low f) c (down-pos e) C
+    (mul-right-comm (m * up e) (2 ^ low f) c ∙ ap (λ (z : ℕ). z * 2 ^ low f) (h .1) ∙ mul-right-comm a (down e) (2 ^ low f)))
+
+pub value-unique : (f : Format) (x y : Float) (s : Bool) (a c : ℕ) → 0 < c → T (fits f x) → T (fits f y) → HasValue x s a c → HasValue y s a c → x ≡ y
+value-unique f x y s a c C p q h g =
+    sym (ofBits-toBits f x p) ∙ ap (ofBits f) (value-bits f x s a c C h ∙ sym (value-bits f y s a c C g)) ∙ ofBits-toBits f y q

@@ -1,0 +1,145 @@
+// What the engine needs of binary32 beyond the language's own operators: conversions, floor, minimum, maximum, size, the crossing test
+// and bit patterns. Each function takes every value of its arguments, and equals a definition in specs/Leaves.antt.
+ghost use mathlib.Core.Path.{_≡_};
+ghost use Prim.Native.Nat.{_*_, _^_, _<_};
+ghost use Rattle.binary32.specs.Leaves.{asFloat, asWhole, floorOf, minOf, maxOf, absOf, crossingOf, bitsOf, floatOf};
+
+// `n as f32`. Both halves of 24 bits are exact below 2^48, so only their sum rounds.
+pub fn u64_to_f32(n: u64) -> f32
+    ensures { λ r. ⌜ r ≡ asFloat n ⌝ }
+{
+    if n <= 0x100_0000 {
+        n as f32
+    } else if n < 0x1_0000_0000_0000 {
+        low_to_f32(n)
+    } else if n % 0x2_0000 == 0 {
+        high_to_f32(n / 0x2_0000 * 2)
+    } else {
+        high_to_f32(n / 0x2_0000 * 2 + 1)
+    }
+}
+
+pub fn usize_to_f32(n: usize) -> f32
+    ensures { λ r. ⌜ r ≡ asFloat n ⌝ }
+{
+    u64_to_f32(n as u64)
+}
+
+pub fn u32_to_f32(n: u32) -> f32
+    ensures { λ r. ⌜ r ≡ asFloat n ⌝ }
+{
+    u64_to_f32(n as u64)
+}
+
+fn low_to_f32(n: u64) -> f32
+    requires { ⌜ n < 2 ^ 48 ⌝ }
+    ensures { λ r. ⌜ r ≡ asFloat n ⌝ }
+{
+    ((n >> 24) as f32) * 16777216.0 + ((n & 0xff_ffff) as f32)
+}
+
+// The float nearest to s * 2^16. Of a number from 2^48 on, the 17 lowest bits matter only by being zero or not: s holds the others, and that as its last bit.
+fn high_to_f32(s: u64) -> f32
+    requires { ⌜ s < 2 ^ 48 ⌝ }
+    ensures { λ r. ⌜ r ≡ asFloat (s * 2 ^ 16) ⌝ }
+{
+    ((s >> 24) as f32) * 1099511627776.0 + ((s & 0xff_ffff) as f32) * 65536.0
+}
+
+// `x as usize`.
+pub fn f32_to_usize(x: f32) -> usize
+    ensures { λ r. ⌜ r ≡ asWhole 64 x ⌝ }
+{
+    if x < 18446744073709551616.0 {
+        if x > 0.0 {
+            std::num::truncating_f32_to_u64(x) as usize
+        } else {
+            0
+        }
+    } else if x != x {
+        0
+    } else {
+        usize::MAX
+    }
+}
+
+// `x as u32`.
+pub fn f32_to_u32(x: f32) -> u32
+    ensures { λ r. ⌜ r ≡ asWhole 32 x ⌝ }
+{
+    let n = f32_to_usize(x);
+    if n < 0xffff_ffff { n as u32 } else { u32::MAX }
+}
+
+// f32::min.
+pub fn min(a: f32, b: f32) -> f32
+    ensures { λ r. ⌜ r ≡ minOf a b ⌝ }
+{
+    if a != a {
+        b
+    } else if b < a {
+        b
+    } else {
+        a
+    }
+}
+
+// f32::max.
+pub fn max(a: f32, b: f32) -> f32
+    ensures { λ r. ⌜ r ≡ maxOf a b ⌝ }
+{
+    if a != a {
+        b
+    } else if a < b {
+        b
+    } else {
+        a
+    }
+}
+
+// f32::abs.
+pub fn abs(x: f32) -> f32
+    ensures { λ r. ⌜ r ≡ absOf x ⌝ }
+{
+    if x < 0.0 {
+        -x
+    } else if x == 0.0 {
+        0.0
+    } else {
+        x
+    }
+}
+
+// f32::to_bits, with one pattern for NaN.
+pub fn to_bits(x: f32) -> u32
+    ensures { λ r. ⌜ r ≡ bitsOf x ⌝ }
+{
+    if x != x { 0x7fc0_0000 } else { f32::to_bits(x) }
+}
+
+// f32::from_bits.
+pub fn from_bits(pattern: u32) -> f32
+    ensures { λ r. ⌜ r ≡ floatOf pattern ⌝ }
+{
+    if pattern % 0x8000_0000 > 0x7f80_0000 {
+        0.0 / 0.0
+    } else {
+        f32::from_bits(pattern)
+    }
+}
+
+// Whether the sound crosses zero from `last` to `value`.
+pub fn crossing(value: f32, last: f32) -> bool
+    ensures { λ r. ⌜ r ≡ crossingOf value last ⌝ }
+{
+    if value != value {
+        return true;
+    }
+    if last != last {
+        return true;
+    }
+    if value == 0.0 {
+        return true;
+    }
+    f32::to_bits(value) / 0x8000_0000 != f32::to_bits(last) / 0x8000_0000
+}
