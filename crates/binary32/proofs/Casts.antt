@@ -10,7 +10,6 @@ use lib.IntN.{pos}
 use lib.Pow.{pow-pos, pow-mono}
 use lib.Ieee.{Float, nan, inf, fin, up, down, lt, ne, toUnsigned}
 use lib.Ieee.Fits.{down-pos}
-use Rattle.binary32.proofs.Truth.{yes}
 use Rattle.binary32.proofs.Nans.{is-nan}
 
 capped : (a c : ℕ) → 0 < c → c ≤ a → c - 1 ≡ min a (c - 1)
@@ -51,12 +50,14 @@ before-start w (fin false m e) h =
     let z : m * up e ≡ 0 = none-over (m * up e) (down e) (simp mul-one at (ltb-false (0 * 1 * down e) (m * up e * 1) h)) in
     least (2 ^ w - 1) ∙ sym (ap (λ (n : ℕ). min (n / down e) (2 ^ w - 1)) z ∙ ap (λ (n : ℕ). min n (2 ^ w - 1)) (zero-div (down e)))
 
-pub above-zero : (x : Float) → lt (fin false 0 (pos 0)) x ≡ true → T (lt (fin true 1 (pos 0)) x)
+-- a value that is not below 2 ^ v, but below something, is above -1
+pub above-minus-one : (v : ℕ) (x y : Float) → lt x (fin false 1 (pos v)) ≡ false → lt x y ≡ true → T (lt (fin true 1 (pos 0)) x)
 unfolding lt
-above-zero nan h = absurd (true≢false (sym h))
-above-zero (inf s) h = yes h
-above-zero (fin true m e) h = absurd (true≢false (sym h))
-above-zero (fin false m e) h = lt→ltb 0 (1 * 1 * down e + m * up e * 1) (some (down e) (m * up e) (down-pos e))
+above-minus-one v nan y h k = absurd (true≢false (sym k))
+above-minus-one v (inf true) y h k = absurd (true≢false h)
+above-minus-one v (inf false) y h k = tt
+above-minus-one v (fin true m e) y h k = absurd (none (m * up e * 1) (1 * 2 ^ v * down e) (power-above v (down e) (down-pos e)) (ltb-false _ _ h))
+above-minus-one v (fin false m e) y h k = lt→ltb 0 (1 * 1 * down e + m * up e * 1) (some (down e) (m * up e) (down-pos e))
   where
     some : (d n : ℕ) → 0 < d → 0 < 1 * 1 * d + n * 1
     some d n p = omega arith

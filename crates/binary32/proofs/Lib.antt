@@ -5,6 +5,10 @@ pub mod Signs
 pub mod Casts
 pub mod Values
 pub mod Units
+pub mod Rounding
+pub mod Sums
+pub mod Snap
 pub mod Products
 pub mod Sticky
 pub mod Halves
+pub mod Floors

@@ -2,20 +2,19 @@
 -- 1 is 2 ^ low units. -0 counts as 0 units. Assumes nothing.
 use mathlib.Core.Path.{_≡_, refl, sym, ap, ap₂, _∙_, subst}
 use mathlib.Core.Logic.{inl, inr}
-use Prim.Native.Nat.{ℕ, zero, suc, _+_, _-_, _*_, _/_, _%_, _^_, _≤_, _<_, zero-le}
-use native.Mathlib.Nat.{le-of-eq, le-trans, le-of-suc-le-suc, eq-or-lt-of-le, zero-add, add-zero, lt-of-lt-of-le, lt-of-le-of-lt, lt-of-not-le, not-le-of-lt, mul-comm, mul-assoc, mul-right-comm, one-mul, mul-one, zero-mul, mul-lt-mul-of-pos-right, lt-of-mul-lt-mul-right, eq-of-mul-eq-mul-right}
-use native.Mathlib.Omega.{arith}
-use mathlib.Core.Bool.{Bool, true, false, not, _&&_, _||_, Bool·beq, and-true, and-self}
+use Prim.Native.Nat.{ℕ, zero, suc, _+_, _-_, _*_, _%_, _^_, _≤_, _<_, zero-le}
+use native.Mathlib.Nat.{le-of-eq, le-trans, le-of-suc-le-suc, eq-or-lt-of-le, zero-add, add-zero, lt-of-lt-of-le, lt-of-le-of-lt, lt-of-not-le, not-le-of-lt, mul-comm, mul-assoc, mul-right-comm, one-mul, mul-one, zero-mul, lt-irrefl, mul-lt-mul-of-pos-right, lt-of-mul-lt-mul-right}
+use mathlib.Core.Bool.{Bool, true, false, _&&_, and-true, and-self}
 use lib.IntN.{ℤ, pos, negsuc}
 use lib.Dec.{T, leb, ltb, eqb, ltb→lt, leb→le, eqb·suc-zero, leb·suc-zero}
 use borrow.Author.Tests.{le-ltb, le-leb}
 use lib.Pow.{pow-add, pow-pos, pow-lt}
 use lib.Ieee.{Float, nan, inf, fin, Format, prec, emax, low, up, down, lt, eq, le, below, level, fits}
-use lib.Ieee.Fits.{two, two-le-pos, down-pos, and-l, and-r}
+use lib.Ieee.Fits.{two, two-le-pos, and-l, and-r}
 use lib.Ieee.Digits.{back}
 use lib.Ieee.Exact.{HasValue}
 use lib.Ieee.Scale.{finite, overflow}
-use Rattle.binary32.proofs.Values.{lt-value, eq-value, le-value, most, value-same, value-unique}
+use Rattle.binary32.proofs.Values.{negative, value-sign, value-finite, value-size, value-same, lt-value, eq-value, le-value, most, value-unique}
 
 -- ---- the numbers of units that a format holds
 
@@ -39,10 +38,8 @@ grid-multiple f q j h = elim (eq-or-lt-of-le h) [
   | inr l ↦ record { digits = q; shift = j; few = l; is = refl }
 ]
 
-abbrev pub negative : Float → Bool
-negative nan = false
-negative (inf s) = s
-negative (fin s m e) = s
+pub pow-over : (q j k : ℕ) → k ≤ j → q * 2 ^ j ≡ q * 2 ^ (j - k) * 2 ^ k
+pow-over q j k h = ap (λ (z : ℕ). q * 2 ^ z) (sym (back j k h)) ∙ ap (λ (z : ℕ). q * z) (pow-add 2 (j - k) k) ∙ sym (mul-assoc q (2 ^ (j - k)) (2 ^ k))
 
 -- x is a number of units in size that is on the grid and below overflow
 pub record Held (f : Format) (x : Float) : Type 0 where
@@ -133,27 +130,19 @@ module _ {f : Format} {x y : Float} {a b : ℕ} (p : Units f x a) (q : Units f y
   eq-units = eq-value x y (p .sign) a (q .sign) b (2 ^ low f) (pow-pos (low f)) (p .is) (q .is) ∙ signless-level (p .sign) a (q .sign) b (p .null) (q .null)
 
 -- ---- what a value that is n units has besides
-pub value-sign : (x : Float) (s : Bool) (a c : ℕ) → HasValue x s a c → negative x ≡ s
-value-sign nan s a c h = absurd h
-value-sign (inf t) s a c h = absurd h
-value-sign (fin t m e) s a c h = h .0
-
-pub value-finite : (x : Float) (s : Bool) (a c : ℕ) → HasValue x s a c → T (finite x)
-value-finite nan s a c h = absurd h
-value-finite (inf t) s a c h = absurd h
-value-finite (fin t m e) s a c h = tt
-
-pub value-size : (x : Float) (s : Bool) (a : ℕ) (t : Bool) (b c : ℕ) → HasValue x s a c → HasValue x t b c → a ≡ b
-value-size nan s a t b c h g = absurd h
-value-size (inf u) s a t b c h g = absurd h
-value-size (fin u m e) s a t b c h g = eq-of-mul-eq-mul-right (down e) (down-pos e) a b (sym (h .1) ∙ g .1)
-
 module _ {f : Format} {x : Float} {n : ℕ} (p : Units f x n) where
   pub units-sign : negative x ≡ p .sign
   units-sign = value-sign x (p .sign) n (2 ^ low f) (p .is)
 
   pub units-finite : T (finite x)
   units-finite = value-finite x (p .sign) n (2 ^ low f) (p .is)
+
+  pub units-above-sign : 0 < n → negative x ≡ false
+  units-above-sign h = units-sign ∙ go (p .sign) (p .null)
+    where
+      go : (s : Bool) → (T s → n ≡ 0) → s ≡ false
+      go true z = absurd (lt-irrefl 0 (subst (λ (k : ℕ). 0 < k) (z tt) h))
+      go false z = refl
 
   held : T (fits f x) → Held f x
   held h = on-grid f x units-finite h

@@ -1,8 +1,8 @@
 -- Comparisons and operations by any fractions that the operands equal, of all signs. `HasValue x s a c` of lib.Ieee.Exact says that x is finite, has the sign s, and is a / c in size.
 -- Two values that a format holds, of one sign and one size, are equal as data. Assumes nothing.
 use mathlib.Core.Path.{_≡_, refl, sym, ap, ap₂, _∙_, subst}
-use mathlib.Core.Logic.{_⊎_, inl, inr}
-use Prim.Native.Nat.{ℕ, zero, suc, _+_, _-_, _*_, _/_, _%_, _^_, _≤_, _<_, zero-le}
+use mathlib.Core.Logic.{inl, inr}
+use Prim.Native.Nat.{ℕ, _+_, _-_, _*_, _/_, _%_, _^_, _≤_, _<_, zero-le}
 use native.Mathlib.Nat.{le-of-eq, le-of-lt, lt-of-lt-of-le, lt-of-le-of-lt, eq-or-lt-of-le, mul-comm, mul-assoc, mul-right-comm, mul-lt-mul-of-pos-right, lt-of-mul-lt-mul-right, eq-of-mul-eq-mul-right, zero-mul, add-mul, mul-sub, mul-pos, lt-irrefl, mul-mul-mul-comm, mul-div-cancel, mul-mod-left, add-zero}
 use native.Mathlib.Omega.{arith}
 use mathlib.Core.Bool.{Bool, true, false, not, _&&_, _||_, Bool·beq, cond}
@@ -13,9 +13,52 @@ use lib.Ieee.Fits.{eq→eqb, up-pos, down-pos, and-i, and-l, and-r}
 use lib.Ieee.Bits.{is-true, cond-no, ofBits-toBits}
 use lib.Ieee.Exact.{HasValue}
 use lib.Ieee.Nearest.{div-same}
-use lib.Ieee.Scale.{round-same}
+use lib.Ieee.Scale.{round-same, finite}
 use lib.Ieee.Positive.{first-pos}
 use Rattle.binary32.proofs.Truth.{same-test, or-l, or-r, or-split}
+
+-- ---- what `HasValue` says
+abbrev pub negative : Float → Bool
+negative nan = false
+negative (inf s) = s
+negative (fin s m e) = s
+
+pub value-sign : (x : Float) (s : Bool) (a c : ℕ) → HasValue x s a c → negative x ≡ s
+value-sign nan s a c h = absurd h
+value-sign (inf t) s a c h = absurd h
+value-sign (fin t m e) s a c h = h .0
+
+pub value-finite : (x : Float) (s : Bool) (a c : ℕ) → HasValue x s a c → T (finite x)
+value-finite nan s a c h = absurd h
+value-finite (inf t) s a c h = absurd h
+value-finite (fin t m e) s a c h = tt
+
+pub value-size : (x : Float) (s : Bool) (a : ℕ) (t : Bool) (b c : ℕ) → HasValue x s a c → HasValue x t b c → a ≡ b
+value-size nan s a t b c h g = absurd h
+value-size (inf u) s a t b c h g = absurd h
+value-size (fin u m e) s a t b c h g = eq-of-mul-eq-mul-right (down e) (down-pos e) a b (sym (h .1) ∙ g .1)
+
+-- by another fraction of the same size
+pub value-same : (x : Float) (s : Bool) (a c b d : ℕ) → 0 < c → a * d ≡ b * c → HasValue x s a c → HasValue x s b d
+value-same nan s a c b d C e h = h
+value-same (inf u) s a c b d C e h = h
+value-same (fin u m i) s a c b d C e h = (
+  h .0,
+  eq-of-mul-eq-mul-right c C (m * up i * d) (b * down i)
+      (mul-right-comm (m * up i) d c
+      ∙ ap (λ (z : ℕ). z * d) (h .1)
+      ∙ mul-right-comm a (down i) d
+      ∙ ap (λ (z : ℕ). z * down i) e
+      ∙ mul-right-comm b c (down i)),
+)
+
+-- two fractions that one value equals
+pub value-cross : (x : Float) (s : Bool) (a c : ℕ) (t : Bool) (b d : ℕ) → HasValue x s a c → HasValue x t b d → a * d ≡ b * c
+value-cross nan s a c t b d h g = absurd h
+value-cross (inf u) s a c t b d h g = absurd h
+value-cross (fin u m e) s a c t b d h g =
+    eq-of-mul-eq-mul-right (down e) (down-pos e) (a * d) (b * c)
+    (mul-right-comm a d (down e) ∙ ap (λ (z : ℕ). z * d) (sym (h .1)) ∙ mul-right-comm (m * up e) c d ∙ ap (λ (z : ℕ). z * c) (g .1) ∙ mul-right-comm b (down e) c)
 
 -- ---- Where p / k is a / c and q / k is b / c, a test of p and q answers as that of a and b
 module _ (c k : ℕ) (C : 0 < c) (K : 0 < k) where
@@ -204,20 +247,6 @@ rem-value f (fin u m e) (fin v n d) s a t b c C B h g =
     ∙ ap (λ (z : Bool). round f z (p % q) k) (h .0)
     ∙ round-same f s (p % q) k (a % b) c K C
     (mod-same c k p q a b C K (mul-pos (mul-pos N (up-pos d)) (down-pos e)) B (left (m * up e) (down e) (down d) a c (h .1)) (right (n * up d) (down e) (down d) b c (g .1)))
-
--- ---- one value, other fractions
-pub value-same : (x : Float) (s : Bool) (a c b d : ℕ) → 0 < c → a * d ≡ b * c → HasValue x s a c → HasValue x s b d
-value-same nan s a c b d C e h = h
-value-same (inf u) s a c b d C e h = h
-value-same (fin u m i) s a c b d C e h = (
-  h .0,
-  eq-of-mul-eq-mul-right c C (m * up i * d) (b * down i)
-      (mul-right-comm (m * up i) d c
-      ∙ ap (λ (z : ℕ). z * d) (h .1)
-      ∙ mul-right-comm a (down i) d
-      ∙ ap (λ (z : ℕ). z * down i) e
-      ∙ mul-right-comm b c (down i)),
-)
 
 -- ---- one value, one float
 

@@ -2,6 +2,8 @@
 // and bit patterns. Each function takes every value of its arguments, and equals a definition in specs/Leaves.antt.
 ghost use mathlib.Core.Path.{_≡_};
 ghost use Prim.Native.Nat.{_*_, _^_, _<_};
+ghost use lib.Dec.{T};
+ghost use lib.Ieee.{binary32, lt, ofBits};
 ghost use Rattle.binary32.specs.Leaves.{asFloat, asWhole, floorOf, minOf, maxOf, absOf, crossingOf, bitsOf, floatOf};
 
 // `n as f32`. Both halves of 24 bits are exact below 2^48, so only their sum rounds.
@@ -50,12 +52,10 @@ fn high_to_f32(s: u64) -> f32
 pub fn f32_to_usize(x: f32) -> usize
     ensures { λ r. ⌜ r ≡ asWhole 64 x ⌝ }
 {
-    if x < 18446744073709551616.0 {
-        if x > 0.0 {
-            std::num::truncating_f32_to_u64(x) as usize
-        } else {
-            0
-        }
+    if x < 8388608.0 {
+        if x > 0.0 { whole_part(x) as usize } else { 0 }
+    } else if x < 18446744073709551616.0 {
+        std::num::truncating_f32_to_u64(x) as usize
     } else if x != x {
         0
     } else {
@@ -69,6 +69,34 @@ pub fn f32_to_u32(x: f32) -> u32
 {
     let n = f32_to_usize(x);
     if n < 0xffff_ffff { n as u32 } else { u32::MAX }
+}
+
+// f32::floor.
+pub fn floor(x: f32) -> f32
+    ensures { λ r. ⌜ r ≡ floorOf x ⌝ }
+{
+    if x > 0.0 {
+        if x < 8388608.0 { whole_part(x) } else { x }
+    } else if x < 0.0 {
+        if x > -8388608.0 {
+            let below = whole_part(-x);
+            if below < -x { -(below + 1.0) } else { -below }
+        } else {
+            x
+        }
+    } else {
+        x
+    }
+}
+
+// A float of 2^23 or more has no room for a fraction: adding 2^23 rounds x to a whole number, at most one too high.
+fn whole_part(x: f32) -> f32
+    requires { ⌜ T (lt (ofBits binary32 0) x) ⌝ }
+    requires { ⌜ T (lt x (ofBits binary32 0x4b00_0000)) ⌝ }
+    ensures { λ r. ⌜ r ≡ floorOf x ⌝ }
+{
+    let near = (x + 8388608.0) - 8388608.0;
+    if x < near { near - 1.0 } else { near }
 }
 
 // f32::min.
