@@ -12,3 +12,5 @@ pub mod Products
 pub mod Sticky
 pub mod Halves
 pub mod Floors
+pub mod Patterns
+pub mod Examples

@@ -1,7 +1,7 @@
 -- A NaN told by comparing a value with itself, as the programs here do. Assumes nothing.
 use mathlib.Core.Path.{_≡_, refl, sym}
 use mathlib.Core.Bool.{true, false, true≢false}
-use lib.Ieee.{Float, nan, inf, fin, isNan, ne}
+use lib.Ieee.{Float, nan, inf, fin, isNan, ne, lt}
 use lib.Ieee.Compare.{differs-from-itself}
 use Rattle.binary32.proofs.Truth.{yes}
 
@@ -19,3 +19,9 @@ unfolding isNan
 tells-nan nan h = refl
 tells-nan (inf s) h = absurd (true≢false (sym h))
 tells-nan (fin s m e) h = absurd (true≢false (sym h))
+
+pub below-no-nan : (x y : Float) → lt x y ≡ true → isNan x ≡ false
+unfolding lt isNan
+below-no-nan nan y h = absurd (true≢false (sym h))
+below-no-nan (inf s) y h = refl
+below-no-nan (fin s m e) y h = refl

@@ -21,10 +21,10 @@ pub fn u64_to_f32(n: u64) -> f32
     }
 }
 
-pub fn usize_to_f32(n: usize) -> f32
-    ensures { λ r. ⌜ r ≡ asFloat n ⌝ }
+pub fn usize_to_f32(count: usize) -> f32
+    ensures { λ r. ⌜ r ≡ asFloat count ⌝ }
 {
-    u64_to_f32(n as u64)
+    u64_to_f32(count as u64)
 }
 
 pub fn u32_to_f32(n: u32) -> f32
@@ -116,9 +116,9 @@ pub fn min(a: f32, b: f32) -> f32
 pub fn max(a: f32, b: f32) -> f32
     ensures { λ r. ⌜ r ≡ maxOf a b ⌝ }
 {
-    if a != a {
+    if a < b {
         b
-    } else if a < b {
+    } else if a != a {
         b
     } else {
         a
