@@ -4,7 +4,7 @@ use Prim.Native.Nat.{_+_, _^_}
 use mathlib.Core.Bool.{true, false}
 use lib.IntN.{pos}
 use lib.Ieee.{nan, inf, fin, lt, eq, isNan, ofBits, ofInt, round, toUnsigned}
-use Rattle.binary32.specs.Leaves.{asFloat, asWhole, floorOf, minOf, maxOf, absOf, signOf, crossingOf, floatOf}
+use Rattle.binary32.specs.Leaves.{asFloat, asWhole, floorOf, minOf, maxOf, absOf, crossingOf, floatOf}
 
 -- K9: 16777217 becomes 16777216, 16777219 becomes 16777220
 pub K9 : (asFloat 16777217 ≡ fin false 1 (pos 24)) × (asFloat 16777219 ≡ fin false 4194305 (pos 2))
@@ -40,7 +40,7 @@ size-of-minus-zero = refl
 
 -- from +0 to 1 the sign bit stays and this value is not 0; from -0 it changes
 from-zero : (crossingOf (fin false 1 (pos 0)) (fin false 0 (pos 0)) ≡ false) × (crossingOf (fin false 1 (pos 0)) (fin true 0 (pos 0)) ≡ true)
-unfolding crossingOf signOf isNan eq
+unfolding crossingOf isNan eq
 from-zero = (refl, refl)
 
 ends : (asWhole 64 (inf false) ≡ 18446744073709551615) × (asWhole 32 (inf true) ≡ 0) × (asWhole 32 nan ≡ 0)

@@ -12,8 +12,7 @@ use lib.Bits.{bitAnd, and-mask}
 use lib.Ieee.{Float, fin, Format, prec, emax, low, round, add, sum, mul, ofInt, inFloat}
 use lib.Ieee.Exact.{HasValue, round-exact}
 use lib.Ieee.Back.{round-whole}
-use Rattle.binary32.proofs.Values.{add-value}
-use Rattle.binary32.proofs.Products.{mul-value}
+use Rattle.binary32.proofs.Values.{mul-value, add-value}
 
 -- ---- a whole number of at most k digits, times 2 ^ t
 pub ofInt-whole : (f : Format) (a : ℕ) → a ≤ 2 ^ prec f → HasValue (ofInt f (pos a)) false a 1

@@ -3,20 +3,23 @@
 use mathlib.Core.Path.{_≡_, refl, sym, ap, ap₂, _∙_, subst}
 use mathlib.Core.Logic.{inl, inr}
 use Prim.Native.Nat.{ℕ, zero, suc, _+_, _-_, _*_, _/_, _%_, _^_, _≤_, _<_, zero-le, compare, Ordering·lt, compare·zero-suc}
-use native.Mathlib.Nat.{suc-mul, lt-div-mul-add, div-mul-le-self, div-lt-iff-lt-mul, div-le-of-le-mul, add-le-add, le-of-suc-le-suc, mul-comm, le-trans, le-of-eq, le-antisymm, lt-of-lt-of-le, lt-of-le-of-lt, lt-of-not-le, not-le-of-lt, lt-irrefl, eq-or-lt-of-le, mul-assoc, mul-one, mul-le-mul-right, mul-pos, mul-div-cancel, mul-mod-left, le-div-iff-mul-le}
+use native.Mathlib.Nat.{zero-mul, suc-mul, lt-div-mul-add, div-mul-le-self, div-lt-iff-lt-mul, div-le-of-le-mul, add-le-add, le-of-suc-le-suc, mul-comm, le-trans, le-of-eq, le-antisymm, lt-of-lt-of-le, lt-of-le-of-lt, lt-of-not-le, not-le-of-lt, lt-irrefl, eq-or-lt-of-le, mul-assoc, mul-one, mul-le-mul-right, mul-pos, mul-div-cancel, mul-mod-left, le-div-iff-mul-le}
 use native.Mathlib.Omega.{arith}
 use mathlib.Core.Bool.{Bool, true, false, not, cond}
+use lib.IntN.{pos}
 use lib.Dec.{T, ltb}
 use lib.Arith.{le→nltb}
 use lib.Pow.{pow-add, pow-pos, pow-mono, shl-lt}
-use lib.Ieee.{Float, inf, Format, prec, low, size, nearest, odd, units, round, neg, fits}
+use lib.Ieee.{Float, inf, fin, Format, prec, low, size, nearest, odd, units, round, neg, fits, isNan}
 use lib.Ieee.Digits.{size-lt, size-le, size-reaches}
 use lib.Ieee.Fits.{two, two-le-pos, nearest-le, kept-lt, round-is, round-fits}
 use lib.Ieee.Bits.{cond-no}
 use lib.Ieee.Exact.{HasValue, units-val, odd-sign}
 use lib.Ieee.Nearest.{closest, closest-mono, closest-same, nearest-ge}
 use lib.Ieee.Scale.{finite, overflow, round-same}
-use Rattle.binary32.proofs.Values.{negative, value-sign, value-finite, value-same, value-cross, value-unique}
+use Rattle.binary32.proofs.Truth.{cond-split}
+use Rattle.binary32.specs.Leaves.{signOf}
+use Rattle.binary32.proofs.Values.{finite-not-nan, value-sign, value-finite, value-same, value-cross, value-unique}
 use Rattle.binary32.proofs.Units.{Grid, grid-multiple, pow-over, Units, units-sign, on-grid}
 
 -- n with its prec leading digits kept, rounded to the nearest, a tie to the even one
@@ -101,24 +104,31 @@ rd-le {f} g h = le-trans (rd-mono f h) (le-of-eq (rd-exact g))
 pub rd-ge : {f : Format} {n g : ℕ} → Grid f g → g ≤ n → g ≤ rd f n
 rd-ge {f} g h = le-trans (le-of-eq (sym (rd-exact g))) (rd-mono f h)
 
+-- ---- (n + (u - 1)) / u, the least w with n ≤ w * u
+pub up-reaches : (n u : ℕ) → 0 < u → n ≤ (n + (u - 1)) / u * u
+up-reaches n u U = go n u ((n + (u - 1)) / u * u) U (lt-div-mul-add U)
+  where
+    go : (n u w : ℕ) → 0 < u → n + (u - 1) < w + u → n ≤ w
+    go n u w U h = omega arith
+
+pub up-least : (n u w : ℕ) → 0 < u → n ≤ w * u → (n + (u - 1)) / u ≤ w
+up-least n u w U h = le-of-suc-le-suc (div-lt-iff-lt-mul U .1 (lt-of-lt-of-le (go n u (w * u) U h) (le-of-eq (sym (suc-mul w u)))))
+  where
+    go : (n u w : ℕ) → 0 < u → n ≤ w → n + (u - 1) < w + u
+    go n u w U h = omega arith
+
+pub up-near : (n u : ℕ) → 0 < u → (n + (u - 1)) / u * u < n + u
+up-near n u U = go n u ((n + (u - 1)) / u * u) U (div-mul-le-self (n + (u - 1)) u)
+  where
+    go : (n u w : ℕ) → 0 < u → w ≤ n + (u - 1) → w < n + u
+    go n u w U h = omega arith
+
 -- ---- how far a number can move: up to 2 ^ (prec + j) each multiple of 2 ^ j is on the grid
 pub rd-near : (f : Format) (n j : ℕ) → n ≤ 2 ^ (prec f + j) → rd f n < n + 2 ^ j
 rd-near f n j h =
     let u = 2 ^ j in
-    let U : 0 < u = pow-pos j in
-    let q = (n + (u - 1)) / u in
-    let few : q ≤ 2 ^ prec f =
-    le-of-suc-le-suc (div-lt-iff-lt-mul U .1 (lt-of-lt-of-le (within n u (2 ^ prec f * u) U (le-trans h (le-of-eq (pow-add 2 (prec f) j)))) (le-of-eq (sym (suc-mul (2 ^ prec f) u))))) in
-    lt-of-le-of-lt (rd-le (grid-multiple f q j few) (reaches n u (q * u) U (lt-div-mul-add U))) (under n u (q * u) U (div-mul-le-self (n + (u - 1)) u))
-  where
-    within : (n u w : ℕ) → 0 < u → n ≤ w → n + (u - 1) < w + u
-    within n u w U h = omega arith
-
-    reaches : (n u w : ℕ) → 0 < u → n + (u - 1) < w + u → n ≤ w
-    reaches n u w U h = omega arith
-
-    under : (n u w : ℕ) → 0 < u → w ≤ n + (u - 1) → w < n + u
-    under n u w U h = omega arith
+    let few = up-least n u (2 ^ prec f) (pow-pos j) (le-trans h (le-of-eq (pow-add 2 (prec f) j))) in
+    lt-of-le-of-lt (rd-le (grid-multiple f ((n + (u - 1)) / u) j few) (up-reaches n u (pow-pos j))) (up-near n u (pow-pos j))
 
 pub rd-near-below : (f : Format) (n j : ℕ) → n ≤ 2 ^ (prec f + j) → n < rd f n + 2 ^ j
 rd-near-below f n j h =
@@ -194,21 +204,25 @@ round-held f x s a c C h v =
     ∙ value-unique f (round f s n (2 ^ low f)) x s n (2 ^ low f) (pow-pos (low f)) (round-fits f s n (2 ^ low f)) h (round-grid s (k .grid) (k .under)) w
 
 -- a value that is w ones is the integer w as a float
-pub whole-round : {f : Format} {x : Float} (w : ℕ) → T (fits f x) → negative x ≡ false → Units f x (w * 2 ^ low f) → x ≡ round f false w 1
+pub whole-round : {f : Format} {x : Float} (w : ℕ) → T (fits f x) → signOf x ≡ false → Units f x (w * 2 ^ low f) → x ≡ round f false w 1
 whole-round {f} {x} w t e p =
     let v : HasValue x false (w * 2 ^ low f) (2 ^ low f) = subst (λ (s : Bool). HasValue x s (w * 2 ^ low f) (2 ^ low f)) (sym (units-sign p) ∙ e) (p .is) in
     sym (round-held f x false w 1 (pow-pos 0) t (value-same x false (w * 2 ^ low f) (2 ^ low f) w 1 (pow-pos (low f)) (mul-one (w * 2 ^ low f)) v))
 
-rounded-sign : (f : Format) (s : Bool) (q k : ℕ) → negative (units f s q k) ≡ s
+-- what holds of the infinity and of what `odd` writes holds of what `round` gives
+units-either : (f : Format) (s : Bool) (q k : ℕ) (P : Float → Type 0) → P (odd (suc (prec f)) s q k (low f)) → P (inf s) → P (units f s q k)
 unfolding units
-rounded-sign f s q k = go (ltb (q * 2 ^ k) (overflow f))
-  where
-    go : (b : Bool) → negative (cond b (odd (suc (prec f)) s q k (low f)) (inf s)) ≡ s
-    go true = value-sign (odd (suc (prec f)) s q k (low f)) s (q * 2 ^ k) (2 ^ low f) (odd-sign (suc (prec f)) s q k (low f))
-    go false = refl
+units-either f s q k P o i = cond-split P (ltb (q * 2 ^ k) (overflow f)) (odd (suc (prec f)) s q k (low f)) (inf s) (λ t. o) (λ t. i)
 
-pub round-sign : (f : Format) (s : Bool) (a c : ℕ) → negative (round f s a c) ≡ s
-round-sign f s a c = ap negative (round-is f s a c) ∙ rounded-sign f s _ _
+round-either : (f : Format) (s : Bool) (a c : ℕ) (P : Float → Type 0) → ((x : Float) (q k : ℕ) → HasValue x s (q * 2 ^ k) (2 ^ low f) → P x) → P (inf s) → P (round f s a c)
+round-either f s a c P v i = subst P (sym (round-is f s a c)) (units-either f s _ _ P (v _ _ _ (odd-sign (suc (prec f)) s _ _ (low f))) i)
+
+pub round-sign : (f : Format) (s : Bool) (a c : ℕ) → signOf (round f s a c) ≡ s
+round-sign f s a c = round-either f s a c (λ (x : Float). signOf x ≡ s) (λ x q k v. value-sign x s (q * 2 ^ k) (2 ^ low f) v) refl
+
+pub round-not-nan : (f : Format) (s : Bool) (a c : ℕ) → T (not (isNan (round f s a c)))
+unfolding isNan
+round-not-nan f s a c = round-either f s a c (λ (x : Float). T (not (isNan x))) (λ x q k v. finite-not-nan x (value-finite x s (q * 2 ^ k) (2 ^ low f) v)) tt
 
 odd-neg : (d : ℕ) (s : Bool) (q k l : ℕ) → odd d (not s) q k l ≡ neg (odd d s q k l)
 unfolding odd neg
@@ -225,3 +239,7 @@ units-neg f s q k = go (ltb (q * 2 ^ k) (overflow f))
 
 pub round-neg : (f : Format) (s : Bool) (a c : ℕ) → round f (not s) a c ≡ neg (round f s a c)
 round-neg f s a c = round-is f (not s) a c ∙ units-neg f s _ _ ∙ ap neg (sym (round-is f s a c))
+
+pub round-zero : (f : Format) (s : Bool) (c : ℕ) → 0 < c → round f s 0 c ≡ fin s 0 (pos 0)
+unfolding fits
+round-zero f s c C = round-held f (fin s 0 (pos 0)) s 0 c C tt (refl, zero-mul c)

@@ -13,7 +13,7 @@ use lib.Ieee.Bits.{ofBits-toBits, toBits-lt}
 use Rattle.binary32.specs.Leaves.{signOf, crossingOf}
 
 odd-sign : (d : ℕ) (s : Bool) (q k l : ℕ) → signOf (odd d s q k l) ≡ s
-unfolding signOf odd
+unfolding odd
 odd-sign d s zero k l = refl
 odd-sign d s (suc q) k l = refl
 
@@ -23,7 +23,7 @@ fields-sign f s zero t h = odd-sign (prec f) s t 0 (low f)
 fields-sign f s (suc x) t h = go (eqb (suc x) (ones f)) (eqb t 0) h
   where
     go : (a b : Bool) → isNan (cond a (cond b (inf s) nan) (odd (prec f) s (hid f + t) x (low f))) ≡ false → signOf (cond a (cond b (inf s) nan) (odd (prec f) s (hid f + t) x (low f))) ≡ s
-    go true true g = unfold signOf in refl
+    go true true g = refl
     go true false g = absurd (true≢false g)
     go false b g = odd-sign (prec f) s (hid f + t) x (low f)
 

@@ -1,22 +1,22 @@
 -- Adding 2 ^ (prec - 1) and taking it away again leaves the whole number nearest to x, a tie to the even one, for 0 ≤ x < 2 ^ (prec - 1).
--- One comparison makes x's whole part of it. Assumes nothing.
+-- One comparison makes of it the greatest whole number that is no more than x, or the least that is no less. Assumes nothing.
 use mathlib.Core.Path.{_≡_, refl, sym, ap, ap₂, _∙_, subst}
 use Prim.Native.Nat.{ℕ, suc, _+_, _-_, _*_, _/_, _%_, _^_, _≤_, _<_, compare, Ordering, Ordering·lt, Ordering·eq, Ordering·gt}
-use native.Mathlib.Nat.{le-trans, le-of-eq, le-antisymm, lt-of-lt-of-le, lt-of-le-of-lt, add-mul, add-le-add, add-lt-add-of-lt-of-le, add-sub-cancel, le-add-left, suc-mul, suc-add, two-pow-succ, div-lt-iff-lt-mul, le-div-iff-mul-le, add-mul-div-right, add-mul-mod-self-right, mul-le-mul-right}
+use native.Mathlib.Nat.{lt-div-mul-add, le-trans, le-of-eq, le-of-lt, lt-of-mul-lt-mul-right, le-antisymm, lt-of-lt-of-le, lt-of-le-of-lt, add-mul, add-le-add, add-lt-add-of-lt-of-le, add-sub-cancel, le-add-left, suc-mul, suc-add, two-pow-succ, div-lt-iff-lt-mul, le-div-iff-mul-le, add-mul-div-right, add-mul-mod-self-right, mul-le-mul-right}
 use native.Mathlib.Omega.{arith}
 use mathlib.Core.Bool.{Bool, true, false, not, _&&_, cond, and-false}
 use lib.IntN.{pos}
-use lib.Dec.{T, ltb→lt, nltb→le, lit<}
-use lib.Pow.{pow-add, pow-pos, pow-lt}
-use lib.Ieee.{Float, fin, Format, binary32, binary64, prec, emax, low, nearest, round, add, sub, lt, fits}
+use lib.Dec.{T, ltb→lt, nltb→le}
+use lib.Pow.{pow-add, pow-pos}
+use lib.Ieee.{Float, fin, Format, binary32, binary64, prec, low, nearest, round, add, sub, lt, fits}
 use lib.Ieee.Fits.{two, two-le-pos, nearest-le, cond-fits, add-fits, sub-fits}
-use lib.Ieee.Nearest.{closest, nearest-ge}
+use lib.Ieee.Nearest.{closest, closest-mono, nearest-ge}
 use lib.Ieee.Scale.{overflow}
 use Rattle.binary32.proofs.Truth.{cond-split}
-use Rattle.binary32.proofs.Values.{negative}
-use Rattle.binary32.proofs.Units.{Grid, grid-multiple, Units, lt-units, power-units, one, one-units}
-use Rattle.binary32.proofs.Rounding.{rd, rd-at, whole-round}
-use Rattle.binary32.proofs.Sums.{add-sign, sub-sign, add-units, sub-exact, less-one}
+use Rattle.binary32.specs.Leaves.{signOf}
+use Rattle.binary32.proofs.Units.{Grid, grid-multiple, whole-under, Units, lt-units, power-units, one, one-units}
+use Rattle.binary32.proofs.Rounding.{rd, rd-at, closest-exact, up-reaches, up-least, whole-round}
+use Rattle.binary32.proofs.Sums.{add-sign, sub-sign, add-units, add-exact, sub-exact, less-one}
 
 -- From this value on, up to 2 ^ prec, the format holds just the whole numbers.
 abbrev pub wholes : Format → Float
@@ -27,6 +27,9 @@ snapped f x = sub f (add f x (wholes f)) (wholes f)
 
 abbrev pub floored : Format → Float → Float
 floored f x = cond (lt x (snapped f x)) (sub f (snapped f x) one) (snapped f x)
+
+abbrev pub ceiled : Format → Float → Float
+ceiled f x = cond (lt (snapped f x) x) (add f (snapped f x) one) (snapped f x)
 
 -- ---- numbers
 nearest-add : (q m : ℕ) (o : Ordering) → m % 2 ≡ 0 → nearest (q + m) o ≡ nearest q o + m
@@ -45,10 +48,6 @@ closest-add n m u h e =
 even : (f : Format) → 2 ^ (prec f - 1) % 2 ≡ 0
 even binary32 = refl
 even binary64 = refl
-
-fine : (f : Format) → prec f + low f < low f + suc (emax f)
-fine binary32 = lit< tt
-fine binary64 = lit< tt
 
 twice : (f : Format) → 2 ^ (prec f - 1) + 2 ^ (prec f - 1) ≡ 2 ^ prec f
 twice f = sym (two-pow-succ (prec f - 1)) ∙ ap (λ (k : ℕ). 2 ^ k) (go (prec f) (two-le-pos (prec f) (two f)))
@@ -85,7 +84,7 @@ module _ {f : Format} {x : Float} {n : ℕ} (p : Units f x n) (h : n < 2 ^ (prec
       ∙ ap (λ (z : ℕ). z * L) (closest-add n P L (pow-pos (low f)) (even f))
 
   fits-in : (c + P) * L < overflow f
-  fits-in = lt-of-le-of-lt (mul-le-mul-right L (add-le-add small (le-of-eq refl))) (lt-of-le-of-lt (le-of-eq (ap (λ (z : ℕ). z * L) (twice f) ∙ sym (pow-add 2 (prec f) (low f)))) (pow-lt (fine f)))
+  fits-in = whole-under f (c + P) (le-trans (add-le-add small (le-of-eq refl)) (le-of-eq (twice f)))
 
   lifted : Units f (add f x (wholes f)) ((c + P) * L)
   lifted = subst (Units f (add f x (wholes f))) rounded (add-units p (power-units f (prec f - 1)) (lt-of-le-of-lt (le-of-eq rounded) fits-in))
@@ -101,10 +100,10 @@ module _ {f : Format} {x : Float} {n : ℕ} (p : Units f x n) (h : n < 2 ^ (prec
       subst (Units f (snapped f x)) back-down
       (sub-exact lifted (power-units f (prec f - 1)) (add-fits f x (wholes f)) over (subst (Grid f) (sym back-down) (grid-multiple f c (low f) few)))
 
-  pub snap-sign : negative (snapped f x) ≡ false
+  pub snap-sign : signOf (snapped f x) ≡ false
   snap-sign =
       sub-sign lifted (power-units f (prec f - 1)) over
-      ∙ ap (λ (s : Bool). s && true) (add-sign p (power-units f (prec f - 1)) ∙ and-false (negative x))
+      ∙ ap (λ (s : Bool). s && true) (add-sign p (power-units f (prec f - 1)) ∙ and-false (signOf x))
 
   snap-fits : T (fits f (snapped f x))
   snap-fits = sub-fits f (add f x (wholes f)) (wholes f)
@@ -136,8 +135,44 @@ module _ {f : Format} {x : Float} {n : ℕ} (p : Units f x n) (h : n < 2 ^ (prec
   pub floor-is : floored f x ≡ round f false (n / 2 ^ low f) 1
   floor-is = whole-round (n / L) (cond-fits f (lt x (snapped f x)) (sub f (snapped f x) one) (snapped f x) (sub-fits f (snapped f x) one) snap-fits) sign floor-units
     where
-      sign : negative (floored f x) ≡ false
+      sign : signOf (floored f x) ≡ false
       sign =
-          cond-split (λ (z : Float). negative z ≡ false) (lt x (snapped f x)) (sub f (snapped f x) one) (snapped f x)
+          cond-split (λ (z : Float). signOf z ≡ false) (lt x (snapped f x)) (sub f (snapped f x) one) (snapped f x)
           (λ t. sub-sign snap-units (one-units f) (one-in t) ∙ ap (λ (s : Bool). s && true) snap-sign)
+          (λ t. snap-sign)
+
+  -- ---- the least whole number that is no less
+  abbrev K : ℕ
+  K = (n + (L - 1)) / L
+
+  unit-pos : 0 < L
+  unit-pos = pow-pos (low f)
+
+  most-snapped : c ≤ K
+  most-snapped = le-trans (closest-mono n L (K * L) L unit-pos unit-pos (mul-le-mul-right L (up-reaches n L unit-pos))) (le-of-eq (closest-exact K L unit-pos))
+
+  pub ceil-under : T (not (lt (snapped f x) x)) → Units f (snapped f x) ((n + (2 ^ low f - 1)) / 2 ^ low f * 2 ^ low f)
+  ceil-under t =
+      subst (λ (w : ℕ). Units f (snapped f x) (w * L)) (le-antisymm most-snapped (up-least n L c unit-pos (nltb→le (c * L) n (subst (λ (b : Bool). T (not b)) (lt-units snap-units p) t)))) snap-units
+
+  pub ceil-over : T (lt (snapped f x) x) → Units f (add f (snapped f x) one) ((n + (2 ^ low f - 1)) / 2 ^ low f * 2 ^ low f)
+  ceil-over t =
+      let under : c * L < n = ltb→lt (c * L) n (subst T (lt-units snap-units p) t) in
+      let k : suc c ≤ 2 ^ prec f = le-trans (lt-of-mul-lt-mul-right L (lt-of-lt-of-le under (le-of-lt h))) (le-trans (le-add-left P P) (le-of-eq (twice f))) in
+      let next : c * L + L ≡ suc c * L = sym (suc-mul c L) in
+      let up : n ≤ suc c * L = le-trans (le-of-lt (lt-div-mul-add unit-pos)) (le-trans (add-le-add (mul-le-mul-right L above) (le-of-eq refl)) (le-of-eq next)) in
+      let e : suc c ≡ K = le-antisymm (lt-of-mul-lt-mul-right L (lt-of-lt-of-le under (up-reaches n L unit-pos))) (up-least n L (suc c) unit-pos up) in
+      subst (Units f (add f (snapped f x) one)) (next ∙ ap (λ (w : ℕ). w * L) e)
+      (add-exact snap-units (one-units f) (subst (Grid f) (sym next) (grid-multiple f (suc c) (low f) k)) (lt-of-le-of-lt (le-of-eq next) (whole-under f (suc c) k)))
+
+  pub ceil-units : Units f (ceiled f x) ((n + (2 ^ low f - 1)) / 2 ^ low f * 2 ^ low f)
+  ceil-units = cond-split (λ (z : Float). Units f z (K * L)) (lt (snapped f x) x) (add f (snapped f x) one) (snapped f x) ceil-over ceil-under
+
+  pub ceil-is : ceiled f x ≡ round f false ((n + (2 ^ low f - 1)) / 2 ^ low f) 1
+  ceil-is = whole-round K (cond-fits f (lt (snapped f x) x) (add f (snapped f x) one) (snapped f x) (add-fits f (snapped f x) one) snap-fits) sign ceil-units
+    where
+      sign : signOf (ceiled f x) ≡ false
+      sign =
+          cond-split (λ (z : Float). signOf z ≡ false) (lt (snapped f x) x) (add f (snapped f x) one) (snapped f x)
+          (λ t. add-sign snap-units (one-units f) ∙ and-false (signOf (snapped f x)))
           (λ t. snap-sign)

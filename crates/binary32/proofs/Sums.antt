@@ -3,19 +3,21 @@
 use mathlib.Core.Path.{_≡_, refl, sym, ap, ap₂, _∙_, subst}
 use mathlib.Core.Logic.{inl, inr}
 use Prim.Native.Nat.{ℕ, zero, _+_, _-_, _*_, _^_, _≤_, _<_, zero-le}
-use native.Mathlib.Nat.{le-trans, le-of-eq, le-of-lt, lt-of-le-of-lt, eq-or-lt-of-le, mul-comm, mul-sub, mul-le-mul-right, zero-sub, one-mul, sub-le, le-of-mul-le-mul-right}
+use native.Mathlib.Nat.{le-trans, le-of-eq, le-of-lt, lt-of-le-of-lt, eq-or-lt-of-le, mul-comm, mul-sub, mul-le-mul-right, zero-sub, one-mul, two-mul, sub-le, le-of-mul-le-mul-right}
 use native.Mathlib.Omega.{arith}
-use mathlib.Core.Bool.{Bool, true, false, not, _&&_, cond}
+use mathlib.Core.Bool.{Bool, true, false, not, _&&_, cond, Bool·not-not}
+use lib.IntN.{pos}
 use lib.Dec.{T, leb, ltb, leb→le, nleb→lt}
 use lib.Pow.{pow-pos}
 use borrow.Author.Tests.{lt-ltb, le-ltb}
-use lib.Ieee.{Float, Format, prec, low, round, sum, add, sub, fits}
-use lib.Ieee.Fits.{and-l, and-r}
+use lib.Ieee.{Float, Format, prec, low, round, sum, add, sub, mul, fits, nan, inf, fin, up, down}
+use lib.Ieee.Fits.{down-pos, and-l, and-r}
 use lib.Ieee.Exact.{HasValue}
 use lib.Ieee.Scale.{overflow}
 use Rattle.binary32.proofs.Truth.{yes-or-no}
-use Rattle.binary32.proofs.Values.{negative, add-value, sub-value}
-use Rattle.binary32.proofs.Units.{Grid, grid-multiple, pow-over, Units, units-sign, grid-of, under-of, one, one-units}
+use Rattle.binary32.specs.Leaves.{signOf}
+use Rattle.binary32.proofs.Values.{mul-value, add-value, sub-value}
+use Rattle.binary32.proofs.Units.{Grid, grid-multiple, grid-double, value-grid, value-under, pow-over, Units, units-sign, grid-of, under-of, one, one-units}
 use Rattle.binary32.proofs.Rounding.{rd, rd-exact, rd-le, round-units, round-value, round-sign}
 
 -- ---- `sum` by its signs
@@ -35,23 +37,27 @@ unfolding sum
 sum-under f true a b c h = ap (λ (t : Bool). cond t (round f false (b - a) c) (round f (ltb b a) (a - b) c)) (le-ltb a b h)
 sum-under f false a b c h = ap (λ (t : Bool). cond t (round f true (b - a) c) (round f false (a - b) c)) (le-ltb a b h)
 
--- ---- where a negative sign stands only at 0
+-- -a + b for a ≤ b is not signOf, and +0 at a = b
+sum-back : (f : Format) (a b c : ℕ) → a ≤ b → sum f true a false b c ≡ round f false (b - a) c
+sum-back f a b c h = elim (eq-or-lt-of-le h) [
+  | inl e ↦ sum-under f true a b c (le-of-eq (sym e)) ∙ ap₂ (λ (t : Bool) (z : ℕ). round f t z c) (le-ltb b a h) (none a b e)
+  | inr l ↦ sum-over f true a b c l
+]
+  where
+    none : (a b : ℕ) → a ≡ b → a - b ≡ b - a
+    none a b e = omega arith
+
+-- ---- where a signOf sign stands only at 0
 signless-sum : (f : Format) (s : Bool) (a : ℕ) (t : Bool) (b c : ℕ) → (T s → a ≡ 0) → (T t → b ≡ 0) → sum f s a t b c ≡ round f (s && t) (a + b) c
 signless-sum f false a false b c p q = sum-like f false a b c
 signless-sum f false a true b c p q = sum-under f false a b c (le-trans (le-of-eq (q tt)) zero-le) ∙ ap (λ (z : ℕ). round f false z c) (go a b (q tt))
   where
     go : (a b : ℕ) → b ≡ 0 → a - b ≡ a + b
     go a b e = omega arith
-signless-sum f true a false b c p q = elim (eq-or-lt-of-le {m = b} (le-trans (le-of-eq (p tt)) zero-le)) [
-  | inl e ↦ sum-under f true a b c (le-of-eq (sym e)) ∙ ap₂ (λ (t : Bool) (z : ℕ). round f t z c) (le-ltb b a (le-of-eq e)) (none a b (p tt) e)
-  | inr l ↦ sum-over f true a b c l ∙ ap (λ (z : ℕ). round f false z c) (rest a b (p tt))
-]
+signless-sum f true a false b c p q = sum-back f a b c (le-trans (le-of-eq (p tt)) zero-le) ∙ ap (λ (z : ℕ). round f false z c) (go a b (p tt))
   where
-    none : (a b : ℕ) → a ≡ 0 → a ≡ b → a - b ≡ a + b
-    none a b z e = omega arith
-
-    rest : (a b : ℕ) → a ≡ 0 → b - a ≡ a + b
-    rest a b z = omega arith
+    go : (a b : ℕ) → a ≡ 0 → b - a ≡ a + b
+    go a b e = omega arith
 signless-sum f true a true b c p q = sum-like f true a b c
 
 signless-diff : (f : Format) (s : Bool) (a : ℕ) (t : Bool) (b c : ℕ) → (T s → a ≡ 0) → (T t → b ≡ 0) → b ≤ a → sum f s a (not t) b c ≡ round f (s && not t) (a - b) c
@@ -87,11 +93,11 @@ module _ {f : Format} {x y : Float} {a b : ℕ} (p : Units f x a) (q : Units f y
   pub sub-round : b ≤ a → sub f x y ≡ round f (p .sign && not (q .sign)) (a - b) (2 ^ low f)
   sub-round h = sub-value f x y (p .sign) a (q .sign) b (2 ^ low f) (pow-pos (low f)) (p .is) (q .is) ∙ signless-diff f (p .sign) a (q .sign) b (2 ^ low f) (p .null) (q .null) h
 
-  pub add-sign : negative (add f x y) ≡ (negative x && negative y)
-  add-sign = ap negative add-round ∙ round-sign f (p .sign && q .sign) (a + b) (2 ^ low f) ∙ sym (ap₂ (λ (s t : Bool). s && t) (units-sign p) (units-sign q))
+  pub add-sign : signOf (add f x y) ≡ (signOf x && signOf y)
+  add-sign = ap signOf add-round ∙ round-sign f (p .sign && q .sign) (a + b) (2 ^ low f) ∙ sym (ap₂ (λ (s t : Bool). s && t) (units-sign p) (units-sign q))
 
-  pub sub-sign : b ≤ a → negative (sub f x y) ≡ (negative x && not (negative y))
-  sub-sign h = ap negative (sub-round h) ∙ round-sign f (p .sign && not (q .sign)) (a - b) (2 ^ low f) ∙ sym (ap₂ (λ (s t : Bool). s && not t) (units-sign p) (units-sign q))
+  pub sub-sign : b ≤ a → signOf (sub f x y) ≡ (signOf x && not (signOf y))
+  sub-sign h = ap signOf (sub-round h) ∙ round-sign f (p .sign && not (q .sign)) (a - b) (2 ^ low f) ∙ sym (ap₂ (λ (s t : Bool). s && not t) (units-sign p) (units-sign q))
 
   pub add-units : rd f (a + b) < overflow f → Units f (add f x y) (rd f (a + b))
   add-units h = subst (λ (z : Float). Units f z (rd f (a + b))) (sym add-round) (round-units f (p .sign && q .sign) (a + b) null h)
@@ -124,6 +130,36 @@ module _ {f : Format} {x y : Float} {a b : ℕ} (p : Units f x a) (q : Units f y
   sub-over-value t h =
       subst (λ (z : Float). HasValue z true (rd f (b - a)) (2 ^ low f)) (sym (sub-over h))
       (round-value f true (b - a) (lt-of-le-of-lt (rd-le (grid-of q t) (sub-le b a)) (under-of q t)))
+
+-- ---- a signOf value and one that is larger in size: the sum is not signOf
+pub add-back : (f : Format) (x y : Float) (a b c : ℕ) → 0 < c → HasValue x true a c → HasValue y false b c → a ≤ b → add f x y ≡ round f false (b - a) c
+add-back f x y a b c C v w h = add-value f x y true a false b c C v w ∙ sum-back f a b c h
+
+pub add-back-units : (f : Format) (x y : Float) (a b : ℕ) → T (fits f y) → HasValue x true a (2 ^ low f) → HasValue y false b (2 ^ low f) → a ≤ b
+    → Units f (add f x y) (rd f (b - a))
+add-back-units f x y a b u v w h =
+    subst (λ (z : Float). Units f z (rd f (b - a))) (sym (add-back f x y a b (2 ^ low f) (pow-pos (low f)) v w h))
+    (round-units f false (b - a) (λ t. absurd t) (lt-of-le-of-lt (rd-le (value-grid f y false b u w) (sub-le b a)) (value-under f y false b u w)))
+
+-- ---- twice a value
+abbrev pub two : Float
+two = fin false 1 (pos 1)
+
+pub double-is : (f : Format) (x : Float) → mul f two x ≡ add f x x
+unfolding mul add
+double-is f nan = refl
+double-is f (inf true) = refl
+double-is f (inf false) = refl
+double-is f (fin s m e) =
+    let x = fin s m e in
+    let a = m * up e in
+    let sizes : round f (not (not s)) (2 * a) (1 * down e) ≡ round f s (a + a) (down e) = λ i. round f (Bool·not-not s i) (two-mul a i) (one-mul (down e) i) in
+    mul-value f two x false 2 1 s a (down e) (pow-pos 0) (down-pos e) (refl, refl) (refl, refl)
+    ∙ sizes
+    ∙ sym (add-value f x x s a s a (down e) (down-pos e) (refl, refl) (refl, refl) ∙ sum-like f s a a (down e))
+
+pub double-units : {f : Format} {x : Float} {n : ℕ} → T (fits f x) → Units f x n → n + n < overflow f → Units f (mul f two x) (n + n)
+double-units {f} {x} {n} t p h = subst (λ (z : Float). Units f z (n + n)) (sym (double-is f x)) (add-exact p p (grid-double (grid-of p t)) h)
 
 -- ---- which differences are on the grid
 sub-mul : (m n k : ℕ) → (m - n) * k ≡ m * k - n * k

@@ -3,18 +3,19 @@
 use mathlib.Core.Path.{_≡_, refl, sym, ap, ap₂, _∙_, subst}
 use mathlib.Core.Logic.{inl, inr}
 use Prim.Native.Nat.{ℕ, zero, suc, _+_, _-_, _*_, _%_, _^_, _≤_, _<_, zero-le}
-use native.Mathlib.Nat.{le-of-eq, le-trans, le-of-suc-le-suc, eq-or-lt-of-le, zero-add, add-zero, lt-of-lt-of-le, lt-of-le-of-lt, lt-of-not-le, not-le-of-lt, mul-comm, mul-assoc, mul-right-comm, one-mul, mul-one, zero-mul, lt-irrefl, mul-lt-mul-of-pos-right, lt-of-mul-lt-mul-right}
+use native.Mathlib.Nat.{le-of-eq, le-trans, le-of-suc-le-suc, eq-or-lt-of-le, zero-add, add-zero, lt-of-lt-of-le, lt-of-le-of-lt, lt-of-not-le, not-le-of-lt, mul-comm, mul-assoc, mul-right-comm, one-mul, mul-one, zero-mul, lt-irrefl, mul-le-mul-right, mul-add, two-pow-succ, mul-lt-mul-of-pos-right, lt-of-mul-lt-mul-right}
 use mathlib.Core.Bool.{Bool, true, false, _&&_, and-true, and-self}
 use lib.IntN.{ℤ, pos, negsuc}
-use lib.Dec.{T, leb, ltb, eqb, ltb→lt, leb→le, eqb·suc-zero, leb·suc-zero}
+use lib.Dec.{T, lit<, leb, ltb, eqb, ltb→lt, leb→le, eqb·suc-zero, leb·suc-zero}
 use borrow.Author.Tests.{le-ltb, le-leb}
 use lib.Pow.{pow-add, pow-pos, pow-lt}
-use lib.Ieee.{Float, nan, inf, fin, Format, prec, emax, low, up, down, lt, eq, le, below, level, fits}
+use lib.Ieee.{Float, nan, inf, fin, Format, binary32, binary64, prec, emax, low, up, down, lt, eq, le, below, level, fits}
 use lib.Ieee.Fits.{two, two-le-pos, and-l, and-r}
 use lib.Ieee.Digits.{back}
 use lib.Ieee.Exact.{HasValue}
 use lib.Ieee.Scale.{finite, overflow}
-use Rattle.binary32.proofs.Values.{negative, value-sign, value-finite, value-size, value-same, lt-value, eq-value, le-value, most, value-unique}
+use Rattle.binary32.specs.Leaves.{signOf}
+use Rattle.binary32.proofs.Values.{value-sign, value-finite, value-size, value-same, lt-value, eq-value, le-value, most, value-unique}
 
 -- ---- the numbers of units that a format holds
 
@@ -38,13 +39,30 @@ grid-multiple f q j h = elim (eq-or-lt-of-le h) [
   | inr l ↦ record { digits = q; shift = j; few = l; is = refl }
 ]
 
+-- whole numbers up to 2 ^ prec are far below overflow
+pub whole-under : (f : Format) (w : ℕ) → w ≤ 2 ^ prec f → w * 2 ^ low f < overflow f
+whole-under f w h = lt-of-le-of-lt (mul-le-mul-right (2 ^ low f) h) (lt-of-le-of-lt (le-of-eq (sym (pow-add 2 (prec f) (low f)))) (pow-lt (room f)))
+  where
+    room : (f : Format) → prec f + low f < low f + suc (emax f)
+    room binary32 = lit< tt
+    room binary64 = lit< tt
+
+pub grid-double : {f : Format} {n : ℕ} → Grid f n → Grid f (n + n)
+grid-double {f} {n} g =
+    record {
+      digits = g .digits;
+      shift = suc (g .shift);
+      few = g .few;
+      is = ap₂ (λ (x y : ℕ). x + y) (g .is) (g .is) ∙ sym (mul-add (g .digits) (2 ^ g .shift) (2 ^ g .shift)) ∙ ap (λ (z : ℕ). g .digits * z) (sym (two-pow-succ (g .shift)));
+    }
+
 pub pow-over : (q j k : ℕ) → k ≤ j → q * 2 ^ j ≡ q * 2 ^ (j - k) * 2 ^ k
 pow-over q j k h = ap (λ (z : ℕ). q * 2 ^ z) (sym (back j k h)) ∙ ap (λ (z : ℕ). q * z) (pow-add 2 (j - k) k) ∙ sym (mul-assoc q (2 ^ (j - k)) (2 ^ k))
 
 -- x is a number of units in size that is on the grid and below overflow
 pub record Held (f : Format) (x : Float) : Type 0 where
   pub count : ℕ
-  pub is : HasValue x (negative x) count (2 ^ low f)
+  pub is : HasValue x (signOf x) count (2 ^ low f)
   pub grid : Grid f count
   pub under : count < overflow f
 
@@ -89,6 +107,20 @@ on-grid f (fin s (suc m) e) t h =
     held-at f s (suc m) e (ltb→lt _ _ (and-r a b (and-l (a && b) c (and-l (a && b && c) d h)))) (leb→le _ _ (and-r (a && b) c (and-l (a && b && c) d h)))
     (ltb→lt _ _ (and-r (a && b && c) d h))
 
+-- by any number of units that x is
+module _ (f : Format) (x : Float) (s : Bool) (n : ℕ) (t : T (fits f x)) (v : HasValue x s n (2 ^ low f)) where
+  held : Held f x
+  held = on-grid f x (value-finite x s n (2 ^ low f) v) t
+
+  count-is : held .count ≡ n
+  count-is = value-size x (signOf x) (held .count) s n (2 ^ low f) (held .is) v
+
+  pub value-grid : Grid f n
+  value-grid = subst (Grid f) count-is (held .grid)
+
+  pub value-under : n < overflow f
+  value-under = subst (λ (z : ℕ). z < overflow f) count-is (held .under)
+
 -- ---- a value by its number of units
 
 -- x is not below zero, and is n units
@@ -131,35 +163,36 @@ module _ {f : Format} {x y : Float} {a b : ℕ} (p : Units f x a) (q : Units f y
 
 -- ---- what a value that is n units has besides
 module _ {f : Format} {x : Float} {n : ℕ} (p : Units f x n) where
-  pub units-sign : negative x ≡ p .sign
+  pub units-sign : signOf x ≡ p .sign
   units-sign = value-sign x (p .sign) n (2 ^ low f) (p .is)
 
   pub units-finite : T (finite x)
   units-finite = value-finite x (p .sign) n (2 ^ low f) (p .is)
 
-  pub units-above-sign : 0 < n → negative x ≡ false
+  pub units-above-sign : 0 < n → signOf x ≡ false
   units-above-sign h = units-sign ∙ go (p .sign) (p .null)
     where
       go : (s : Bool) → (T s → n ≡ 0) → s ≡ false
       go true z = absurd (lt-irrefl 0 (subst (λ (k : ℕ). 0 < k) (z tt) h))
       go false z = refl
 
-  held : T (fits f x) → Held f x
-  held h = on-grid f x units-finite h
-
-  count-is : (h : T (fits f x)) → held h .count ≡ n
-  count-is h = value-size x (negative x) (held h .count) (p .sign) n (2 ^ low f) (held h .is) (p .is)
+  pub units-above-value : 0 < n → HasValue x false n (2 ^ low f)
+  units-above-value h = subst (λ (s : Bool). HasValue x s n (2 ^ low f)) (sym units-sign ∙ units-above-sign h) (p .is)
 
   pub grid-of : T (fits f x) → Grid f n
-  grid-of h = subst (Grid f) (count-is h) (held h .grid)
+  grid-of t = value-grid f x (p .sign) n t (p .is)
 
   pub under-of : T (fits f x) → n < overflow f
-  under-of h = subst (λ (z : ℕ). z < overflow f) (count-is h) (held h .under)
+  under-of t = value-under f x (p .sign) n t (p .is)
 
-pub units-unique : {f : Format} {x y : Float} {n : ℕ} → T (fits f x) → T (fits f y) → negative x ≡ negative y → Units f x n → Units f y n → x ≡ y
+pub units-unique : {f : Format} {x y : Float} {n : ℕ} → T (fits f x) → T (fits f y) → signOf x ≡ signOf y → Units f x n → Units f y n → x ≡ y
 units-unique {f} {x} {y} {n} h k e p q =
     value-unique f x y (p .sign) n (2 ^ low f) (pow-pos (low f)) h k (p .is)
     (subst (λ (s : Bool). HasValue y s n (2 ^ low f)) (sym (units-sign q) ∙ sym e ∙ units-sign p) (q .is))
+
+-- above 0 there is but one sign
+pub units-unique-above : {f : Format} {x y : Float} {n : ℕ} → 0 < n → T (fits f x) → T (fits f y) → Units f x n → Units f y n → x ≡ y
+units-unique-above h t u p q = units-unique t u (units-above-sign p h ∙ sym (units-above-sign q h)) p q
 
 -- ---- values whose units are known
 pub zero-units : (f : Format) (s : Bool) → Units f (fin s 0 (pos 0)) 0

@@ -2,28 +2,30 @@
 -- Two values that a format holds, of one sign and one size, are equal as data. Assumes nothing.
 use mathlib.Core.Path.{_≡_, refl, sym, ap, ap₂, _∙_, subst}
 use mathlib.Core.Logic.{inl, inr}
-use Prim.Native.Nat.{ℕ, _+_, _-_, _*_, _/_, _%_, _^_, _≤_, _<_, zero-le}
-use native.Mathlib.Nat.{le-of-eq, le-of-lt, lt-of-lt-of-le, lt-of-le-of-lt, eq-or-lt-of-le, mul-comm, mul-assoc, mul-right-comm, mul-lt-mul-of-pos-right, lt-of-mul-lt-mul-right, eq-of-mul-eq-mul-right, zero-mul, add-mul, mul-sub, mul-pos, lt-irrefl, mul-mul-mul-comm, mul-div-cancel, mul-mod-left, add-zero}
+use Prim.Native.Nat.{ℕ, _+_, _-_, _*_, _/_, _%_, _^_, _≤_, _<_, zero-le, min}
+use native.Mathlib.Nat.{le-of-eq, le-of-lt, lt-of-lt-of-le, lt-of-le-of-lt, eq-or-lt-of-le, eq-zero-or-pos, mul-comm, mul-assoc, mul-right-comm, mul-lt-mul-of-pos-right, lt-of-mul-lt-mul-right, eq-of-mul-eq-mul-right, zero-mul, add-mul, mul-sub, mul-pos, lt-irrefl, mul-mul-mul-comm, mul-div-cancel, mul-mod-left, add-zero}
 use native.Mathlib.Omega.{arith}
-use mathlib.Core.Bool.{Bool, true, false, not, _&&_, _||_, Bool·beq, cond}
-use lib.Dec.{T, leb, ltb, eqb, lt→ltb, ltb→lt, eqb→eq, le→leb, leb→le, not-T}
+use mathlib.Core.Bool.{Bool, true, false, not, _&&_, _||_, Bool·beq, cond, true≢false, and-true}
+use lib.IntN.{ℤ, pos}
+use lib.Dec.{T, leb, ltb, eqb, lt→ltb, ltb→lt, eqb→eq, le→leb, leb→le, leb·zero, not-T, T-not}
 use lib.Arith.{mod-mul}
-use lib.Ieee.{Float, nan, inf, fin, Format, prec, low, unlike, up, down, size, round, sum, add, sub, mul, rem, neg, lt, eq, le, below, level, fits, hid, top, ofBits, toBits}
+use lib.Ieee.{Float, nan, inf, fin, Format, prec, low, unlike, up, down, size, round, sum, add, sub, mul, rem, neg, lt, eq, le, below, level, fits, isNan, hid, top, ofBits, toBits, toUnsigned}
 use lib.Ieee.Fits.{eq→eqb, up-pos, down-pos, and-i, and-l, and-r}
 use lib.Ieee.Bits.{is-true, cond-no, ofBits-toBits}
 use lib.Ieee.Exact.{HasValue}
 use lib.Ieee.Nearest.{div-same}
 use lib.Ieee.Scale.{round-same, finite}
 use lib.Ieee.Positive.{first-pos}
+use Rattle.binary32.specs.Leaves.{signOf}
 use Rattle.binary32.proofs.Truth.{same-test, or-l, or-r, or-split}
 
--- ---- what `HasValue` says
-abbrev pub negative : Float → Bool
-negative nan = false
-negative (inf s) = s
-negative (fin s m e) = s
+pub finite-not-nan : (x : Float) → T (finite x) → T (not (isNan x))
+unfolding isNan
+finite-not-nan nan t = absurd t
+finite-not-nan (inf s) t = tt
+finite-not-nan (fin s m e) t = tt
 
-pub value-sign : (x : Float) (s : Bool) (a c : ℕ) → HasValue x s a c → negative x ≡ s
+pub value-sign : (x : Float) (s : Bool) (a c : ℕ) → HasValue x s a c → signOf x ≡ s
 value-sign nan s a c h = absurd h
 value-sign (inf t) s a c h = absurd h
 value-sign (fin t m e) s a c h = h .0
@@ -37,6 +39,15 @@ pub value-size : (x : Float) (s : Bool) (a : ℕ) (t : Bool) (b c : ℕ) → Has
 value-size nan s a t b c h g = absurd h
 value-size (inf u) s a t b c h g = absurd h
 value-size (fin u m e) s a t b c h g = eq-of-mul-eq-mul-right (down e) (down-pos e) a b (sym (h .1) ∙ g .1)
+
+-- x as data
+abbrev Opened : Float → Bool → ℕ → ℕ → Type 0
+Opened x s a c = (m : ℕ) × (e : ℤ) × (x ≡ fin s m e) × (m * up e * c ≡ a * down e)
+
+opened : (x : Float) (s : Bool) (a c : ℕ) → HasValue x s a c → Opened x s a c
+opened nan s a c h = absurd h
+opened (inf t) s a c h = absurd h
+opened (fin t m e) s a c h = (m, e, λ i. fin (h .0 i) m e, h .1)
 
 -- by another fraction of the same size
 pub value-same : (x : Float) (s : Bool) (a c b d : ℕ) → 0 < c → a * d ≡ b * c → HasValue x s a c → HasValue x s b d
@@ -59,6 +70,45 @@ value-cross (inf u) s a c t b d h g = absurd h
 value-cross (fin u m e) s a c t b d h g =
     eq-of-mul-eq-mul-right (down e) (down-pos e) (a * d) (b * c)
     (mul-right-comm a d (down e) ∙ ap (λ (z : ℕ). z * d) (sym (h .1)) ∙ mul-right-comm (m * up e) c d ∙ ap (λ (z : ℕ). z * c) (g .1) ∙ mul-right-comm b (down e) c)
+
+-- the size, cut to a whole number
+pub value-cut : (u : Bool) (m : ℕ) (e : ℤ) (s : Bool) (a c : ℕ) → 0 < c → HasValue (fin u m e) s a c → m * up e / down e ≡ a / c
+value-cut u m e s a c C h = div-same (m * up e) (down e) a c (down-pos e) C (h .1)
+
+pub value-toUnsigned : (w : ℕ) (x : Float) (a c : ℕ) → 0 < c → HasValue x false a c → toUnsigned w x ≡ min (a / c) (2 ^ w - 1)
+unfolding toUnsigned
+value-toUnsigned w nan a c C h = absurd h
+value-toUnsigned w (inf t) a c C h = absurd h
+value-toUnsigned w (fin true m e) a c C h = absurd (true≢false (h .0))
+value-toUnsigned w (fin false m e) a c C h = ap (λ (n : ℕ). min n (2 ^ w - 1)) (value-cut false m e false a c C h)
+
+-- over k times its own denominator
+pub scaled : (s : Bool) (m : ℕ) (e : ℤ) (k : ℕ) → HasValue (fin s m e) s (m * up e * k) (down e * k)
+scaled s m e k = (refl, sym (mul-assoc (m * up e) (down e) k) ∙ mul-right-comm (m * up e) (down e) k)
+
+-- two finite values over one denominator
+pub record Common (x y : Float) : Type 0 where
+  pub left : ℕ
+  pub right : ℕ
+  pub over : ℕ
+  pub over-pos : 0 < over
+  pub is-left : HasValue x (signOf x) left over
+  pub is-right : HasValue y (signOf y) right over
+
+pub common : (x y : Float) → T (finite x) → T (finite y) → Common x y
+common nan y p q = absurd p
+common (inf s) y p q = absurd p
+common (fin s m e) nan p q = absurd q
+common (fin s m e) (inf t) p q = absurd q
+common (fin s m e) (fin t n d) p q =
+    record {
+      left = m * up e * down d;
+      right = n * up d * down e;
+      over = down e * down d;
+      over-pos = mul-pos (down-pos e) (down-pos d);
+      is-left = scaled s m e (down d);
+      is-right = subst (HasValue (fin t n d) t (n * up d * down e)) (mul-comm (down d) (down e)) (scaled t n d (down e));
+    }
 
 -- ---- Where p / k is a / c and q / k is b / c, a test of p and q answers as that of a and b
 module _ (c k : ℕ) (C : 0 < c) (K : 0 < k) where
@@ -92,35 +142,43 @@ level-same : (c k : ℕ) (s : Bool) (p : ℕ) (t : Bool) (q a b : ℕ) → 0 < c
 level-same c k s p t q a b C K h g =
     ap₂ (λ (x y : Bool). x && (Bool·beq s t || y)) (eqb-same c k p q a b C K h g) (eqb-same c k p 0 a 0 C K h (none-same c k))
 
--- ---- two finite values over one denominator
-left : (M E D a c : ℕ) → M * c ≡ a * E → M * D * c ≡ a * (E * D)
-left M E D a c h = mul-right-comm M D c ∙ ap (λ (z : ℕ). z * D) h ∙ mul-assoc a E D
+-- ---- M / E is a / c, and N / D is b / c, so over E * D they are M * D and N * E
+left-same : (M E D a c : ℕ) → M * c ≡ a * E → M * D * c ≡ a * (E * D)
+left-same M E D a c h = mul-right-comm M D c ∙ ap (λ (z : ℕ). z * D) h ∙ mul-assoc a E D
 
-right : (N E D b c : ℕ) → N * c ≡ b * D → N * E * c ≡ b * (E * D)
-right N E D b c h = left N D E b c h ∙ ap (λ (z : ℕ). b * z) (mul-comm D E)
+right-same : (N E D b c : ℕ) → N * c ≡ b * D → N * E * c ≡ b * (E * D)
+right-same N E D b c h = left-same N D E b c h ∙ ap (λ (z : ℕ). b * z) (mul-comm D E)
 
 -- ---- comparisons
 pub lt-value : (x y : Float) (s : Bool) (a : ℕ) (t : Bool) (b c : ℕ) → 0 < c → HasValue x s a c → HasValue y t b c → lt x y ≡ below s a t b
 unfolding lt
-lt-value nan y s a t b c C h g = absurd h
-lt-value (inf u) y s a t b c C h g = absurd h
-lt-value (fin u m e) nan s a t b c C h g = absurd g
-lt-value (fin u m e) (inf v) s a t b c C h g = absurd g
-lt-value (fin u m e) (fin v n d) s a t b c C h g =
-    ap₂ (λ (i j : Bool). below i (m * up e * down d) j (n * up d * down e)) (h .0) (g .0)
+lt-value x y s a t b c C h g =
+    let (m, e, p, v) = opened x s a c h in
+    let (n, d, q, w) = opened y t b c g in
+    ap₂ lt p q
     ∙ below-same c (down e * down d) s (m * up e * down d) t (n * up d * down e) a b C (mul-pos (down-pos e) (down-pos d))
-    (left (m * up e) (down e) (down d) a c (h .1)) (right (n * up d) (down e) (down d) b c (g .1))
+    (left-same (m * up e) (down e) (down d) a c v) (right-same (n * up d) (down e) (down d) b c w)
 
 pub eq-value : (x y : Float) (s : Bool) (a : ℕ) (t : Bool) (b c : ℕ) → 0 < c → HasValue x s a c → HasValue y t b c → eq x y ≡ level s a t b
 unfolding eq
-eq-value nan y s a t b c C h g = absurd h
-eq-value (inf u) y s a t b c C h g = absurd h
-eq-value (fin u m e) nan s a t b c C h g = absurd g
-eq-value (fin u m e) (inf v) s a t b c C h g = absurd g
-eq-value (fin u m e) (fin v n d) s a t b c C h g =
-    ap₂ (λ (i j : Bool). level i (m * up e * down d) j (n * up d * down e)) (h .0) (g .0)
+eq-value x y s a t b c C h g =
+    let (m, e, p, v) = opened x s a c h in
+    let (n, d, q, w) = opened y t b c g in
+    ap₂ eq p q
     ∙ level-same c (down e * down d) s (m * up e * down d) t (n * up d * down e) a b C (mul-pos (down-pos e) (down-pos d))
-    (left (m * up e) (down e) (down d) a c (h .1)) (right (n * up d) (down e) (down d) b c (g .1))
+    (left-same (m * up e) (down e) (down d) a c v) (right-same (n * up d) (down e) (down d) b c w)
+
+zero-level : (s : Bool) → T (level s 0 false 0)
+zero-level true = tt
+zero-level false = tt
+
+pub value-nonzero : (x : Float) (s : Bool) (a c : ℕ) → 0 < c → HasValue x s a c → T (not (eq x (fin false 0 (pos 0)))) → 0 < a
+value-nonzero x s a c C v h = elim (eq-zero-or-pos a) [
+  | inl z ↦
+      absurd (T-not (eq x (fin false 0 (pos 0))) h
+      (subst T (sym (eq-value x (fin false 0 (pos 0)) s a false 0 c C v (refl, zero-mul c))) (subst (λ (n : ℕ). T (level s n false 0)) (sym z) (zero-level s))))
+  | inr p ↦ p
+]
 
 -- ±a ≤ ±b
 abbrev pub most : Bool → ℕ → Bool → ℕ → Bool
@@ -129,38 +187,38 @@ most false a true b = eqb (a + b) 0
 most true a false b = true
 most true a true b = leb b a
 
-le-of-tests : (a b : ℕ) (q : Bool) → (T q → a ≡ b) → T (ltb a b || q) → a ≤ b
-le-of-tests a b q e t = elim (or-split (ltb a b) q t) [ inl u ↦ le-of-lt (ltb→lt a b u) | inr u ↦ le-of-eq (e u) ]
-
-tests-of-le : (a b : ℕ) (q : Bool) → (a ≡ b → T q) → a ≤ b → T (ltb a b || q)
-tests-of-le a b q e h = elim (eq-or-lt-of-le h) [ inl p ↦ or-r (ltb a b) q (e p) | inr p ↦ or-l (ltb a b) q (lt→ltb a b p) ]
-
-both-zero : (a b : ℕ) → T (eqb a b && eqb a 0) → a + b ≡ 0
-both-zero a b t = go (eqb→eq a b (and-l (eqb a b) (eqb a 0) t)) (eqb→eq a 0 (and-r (eqb a b) (eqb a 0) t))
+lt-or-eq : (a b : ℕ) → (ltb a b || eqb a b) ≡ leb a b
+lt-or-eq a b = same-test (ltb a b || eqb a b) (leb a b) to from
   where
-    go : a ≡ b → a ≡ 0 → a + b ≡ 0
-    go p q = omega arith
+    to : T (ltb a b || eqb a b) → T (leb a b)
+    to t = elim (or-split (ltb a b) (eqb a b) t) [ inl u ↦ le→leb a b (le-of-lt (ltb→lt a b u)) | inr u ↦ le→leb a b (le-of-eq (eqb→eq a b u)) ]
 
-zero-both : (a b : ℕ) → a + b ≡ 0 → T (eqb a b && eqb a 0)
-zero-both a b h = and-i (eqb a b) (eqb a 0) (eq→eqb (alike a b h)) (eq→eqb (none a b h))
+    from : T (leb a b) → T (ltb a b || eqb a b)
+    from t = elim (eq-or-lt-of-le (leb→le a b t)) [ inl e ↦ or-r (ltb a b) (eqb a b) (eq→eqb e) | inr l ↦ or-l (ltb a b) (eqb a b) (lt→ltb a b l) ]
+
+eqb-sym : (a b : ℕ) → eqb a b ≡ eqb b a
+eqb-sym a b = same-test (eqb a b) (eqb b a) (λ t. eq→eqb (sym (eqb→eq a b t))) (λ t. eq→eqb (sym (eqb→eq b a t)))
+
+both-zero : (a b : ℕ) → (eqb a b && eqb a 0) ≡ eqb (a + b) 0
+both-zero a b =
+    same-test (eqb a b && eqb a 0) (eqb (a + b) 0)
+    (λ t. eq→eqb (none a b (eqb→eq a b (and-l (eqb a b) (eqb a 0) t)) (eqb→eq a 0 (and-r (eqb a b) (eqb a 0) t))))
+    (λ t. and-i (eqb a b) (eqb a 0) (eq→eqb (alike a b (eqb→eq (a + b) 0 t))) (eq→eqb (first a b (eqb→eq (a + b) 0 t))))
   where
+    none : (a b : ℕ) → a ≡ b → a ≡ 0 → a + b ≡ 0
+    none a b p q = omega arith
+
     alike : (a b : ℕ) → a + b ≡ 0 → a ≡ b
     alike a b h = omega arith
 
-    none : (a b : ℕ) → a + b ≡ 0 → a ≡ 0
-    none a b h = omega arith
+    first : (a b : ℕ) → a + b ≡ 0 → a ≡ 0
+    first a b h = omega arith
 
 most-is : (s : Bool) (a : ℕ) (t : Bool) (b : ℕ) → (below s a t b || level s a t b) ≡ most s a t b
-most-is false a false b =
-    same-test (ltb a b || (eqb a b && true)) (leb a b)
-    (λ h. le→leb a b (le-of-tests a b (eqb a b && true) (λ u. eqb→eq a b (and-l (eqb a b) true u)) h))
-    (λ h. tests-of-le a b (eqb a b && true) (λ e. and-i (eqb a b) true (eq→eqb e) tt) (leb→le a b h))
-most-is false a true b = same-test (eqb a b && eqb a 0) (eqb (a + b) 0) (λ h. eq→eqb (both-zero a b h)) (λ h. zero-both a b (eqb→eq (a + b) 0 h))
-most-is true a false b = is-true (ltb 0 (a + b) || (eqb a b && eqb a 0)) (tests-of-le 0 (a + b) (eqb a b && eqb a 0) (λ e. zero-both a b (sym e)) zero-le)
-most-is true a true b =
-    same-test (ltb b a || (eqb a b && true)) (leb b a)
-    (λ h. le→leb b a (le-of-tests b a (eqb a b && true) (λ u. sym (eqb→eq a b (and-l (eqb a b) true u))) h))
-    (λ h. tests-of-le b a (eqb a b && true) (λ e. and-i (eqb a b) true (eq→eqb (sym e)) tt) (leb→le b a h))
+most-is false a false b = ap (λ (z : Bool). ltb a b || z) (and-true (eqb a b)) ∙ lt-or-eq a b
+most-is false a true b = both-zero a b
+most-is true a false b = ap (λ (z : Bool). ltb 0 (a + b) || z) (both-zero a b ∙ eqb-sym (a + b) 0) ∙ lt-or-eq 0 (a + b) ∙ leb·zero (a + b)
+most-is true a true b = ap (λ (z : Bool). ltb b a || z) (and-true (eqb a b) ∙ eqb-sym a b) ∙ lt-or-eq b a
 
 pub le-value : (x y : Float) (s : Bool) (a : ℕ) (t : Bool) (b c : ℕ) → 0 < c → HasValue x s a c → HasValue y t b c → le x y ≡ most s a t b
 unfolding le
@@ -187,14 +245,12 @@ sum-is f c k s p t q a b C K h g =
 
 pub add-value : (f : Format) (x y : Float) (s : Bool) (a : ℕ) (t : Bool) (b c : ℕ) → 0 < c → HasValue x s a c → HasValue y t b c → add f x y ≡ sum f s a t b c
 unfolding add
-add-value f nan y s a t b c C h g = absurd h
-add-value f (inf u) y s a t b c C h g = absurd h
-add-value f (fin u m e) nan s a t b c C h g = absurd g
-add-value f (fin u m e) (inf v) s a t b c C h g = absurd g
-add-value f (fin u m e) (fin v n d) s a t b c C h g =
-    ap₂ (λ (i j : Bool). sum f i (m * up e * down d) j (n * up d * down e) (down e * down d)) (h .0) (g .0)
+add-value f x y s a t b c C h g =
+    let (m, e, p, v) = opened x s a c h in
+    let (n, d, q, w) = opened y t b c g in
+    ap₂ (add f) p q
     ∙ sum-is f c (down e * down d) s (m * up e * down d) t (n * up d * down e) a b C (mul-pos (down-pos e) (down-pos d))
-    (left (m * up e) (down e) (down d) a c (h .1)) (right (n * up d) (down e) (down d) b c (g .1))
+    (left-same (m * up e) (down e) (down d) a c v) (right-same (n * up d) (down e) (down d) b c w)
 
 pub neg-value : (x : Float) (s : Bool) (a c : ℕ) → HasValue x s a c → HasValue (neg x) (not s) a c
 unfolding neg
@@ -210,14 +266,12 @@ sub-value f x y s a t b c C h g = add-value f x (neg y) s a (not t) b c C h (neg
 pub mul-value : (f : Format) (x y : Float) (s : Bool) (a c : ℕ) (t : Bool) (b d : ℕ) → 0 < c → 0 < d → HasValue x s a c → HasValue y t b d
     → mul f x y ≡ round f (unlike s t) (a * b) (c * d)
 unfolding mul
-mul-value f nan y s a c t b d C D h g = absurd h
-mul-value f (inf u) y s a c t b d C D h g = absurd h
-mul-value f (fin u m e) nan s a c t b d C D h g = absurd g
-mul-value f (fin u m e) (inf v) s a c t b d C D h g = absurd g
-mul-value f (fin u m e) (fin v n i) s a c t b d C D h g =
-    ap₂ (λ (z w : Bool). round f (unlike z w) (m * up e * (n * up i)) (down e * down i)) (h .0) (g .0)
-    ∙ round-same f (unlike s t) (m * up e * (n * up i)) (down e * down i) (a * b) (c * d) (mul-pos (down-pos e) (down-pos i)) (mul-pos C D)
-    (mul-mul-mul-comm (m * up e) (n * up i) c d ∙ ap₂ (λ (z w : ℕ). z * w) (h .1) (g .1) ∙ mul-mul-mul-comm a (down e) b (down i))
+mul-value f x y s a c t b d C D h g =
+    let (m, e, p, v) = opened x s a c h in
+    let (n, k, q, w) = opened y t b d g in
+    ap₂ (mul f) p q
+    ∙ round-same f (unlike s t) (m * up e * (n * up k)) (down e * down k) (a * b) (c * d) (mul-pos (down-pos e) (down-pos k)) (mul-pos C D)
+    (mul-mul-mul-comm (m * up e) (n * up k) c d ∙ ap₂ (λ (z w : ℕ). z * w) v w ∙ mul-mul-mul-comm a (down e) b (down k))
 
 pub mod-scale : (a b k : ℕ) → 0 < b → 0 < k → a * k % (b * k) ≡ a % b * k
 mod-scale a b k B K =
@@ -233,20 +287,18 @@ not-zero n u c b k g B K = first-pos n u (first-pos (n * u) c (subst (λ (z : �
 pub rem-value : (f : Format) (x y : Float) (s : Bool) (a : ℕ) (t : Bool) (b c : ℕ) → 0 < c → 0 < b → HasValue x s a c → HasValue y t b c
     → rem f x y ≡ round f s (a % b) c
 unfolding rem
-rem-value f nan y s a t b c C B h g = absurd h
-rem-value f (inf u) y s a t b c C B h g = absurd h
-rem-value f (fin u m e) nan s a t b c C B h g = absurd g
-rem-value f (fin u m e) (inf v) s a t b c C B h g = absurd g
-rem-value f (fin u m e) (fin v n d) s a t b c C B h g =
+rem-value f x y s a t b c C B h g =
+    let (m, e, u, v) = opened x s a c h in
+    let (n, d, z, w) = opened y t b c g in
     let p = m * up e * down d in
     let q = n * up d * down e in
     let k = down e * down d in
     let K : 0 < k = mul-pos (down-pos e) (down-pos d) in
-    let N : 0 < n = not-zero n (up d) c b (down d) (g .1) B (down-pos d) in
-    cond-no (eqb n 0) nan (round f u (p % q) k) (not-T (eqb n 0) (λ t. lt-irrefl 0 (subst (λ (z : ℕ). 0 < z) (eqb→eq n 0 t) N)))
-    ∙ ap (λ (z : Bool). round f z (p % q) k) (h .0)
+    let N : 0 < n = not-zero n (up d) c b (down d) w B (down-pos d) in
+    ap₂ (rem f) u z
+    ∙ cond-no (eqb n 0) nan (round f s (p % q) k) (not-T (eqb n 0) (λ t. lt-irrefl 0 (subst (λ (z : ℕ). 0 < z) (eqb→eq n 0 t) N)))
     ∙ round-same f s (p % q) k (a % b) c K C
-    (mod-same c k p q a b C K (mul-pos (mul-pos N (up-pos d)) (down-pos e)) B (left (m * up e) (down e) (down d) a c (h .1)) (right (n * up d) (down e) (down d) b c (g .1)))
+    (mod-same c k p q a b C K (mul-pos (mul-pos N (up-pos d)) (down-pos e)) B (left-same (m * up e) (down e) (down d) a c v) (right-same (n * up d) (down e) (down d) b c w))
 
 -- ---- one value, one float
 

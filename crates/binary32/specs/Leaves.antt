@@ -37,7 +37,7 @@ absOf (inf s) = inf false
 absOf (fin s m e) = fin false m e
 
 -- The sign bit (754, 5.7.2, isSignMinus). A NaN's is never asked for.
-unfoldable pub signOf : Float → Bool
+abbrev pub signOf : Float → Bool
 signOf nan = false
 signOf (inf s) = s
 signOf (fin s m e) = s
