@@ -1,0 +1,4 @@
+pub mod Notes
+pub mod Modes
+pub mod Times
+pub mod Settings

@@ -1,0 +1,4 @@
+pub mod Ends
+pub mod Goodness
+pub mod Numbers
+pub mod Examples

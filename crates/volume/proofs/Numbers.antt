@@ -1,0 +1,30 @@
+-- Number 7 exactly where the definitions say that a call is refused, and 0 elsewhere. Assumes nothing.
+use mathlib.Core.Path.{_≡_, refl}
+use mathlib.Core.Bool.{Bool, true, false, _||_, cond}
+use Prim.Native.Nat.{ℕ, _^_}
+use lib.Dec.{ltb}
+use lib.Ieee.{Float}
+use Rattle.volume.specs.declared.Volume.{Volume}
+use Rattle.volume.specs.declared.LevelAnswer.the-variants as level
+use Rattle.volume.specs.declared.VolumeAnswer.the-variants as volume
+use Rattle.volume.specs.Levels.{levelOf, towardOf, steppedOf, refusedAt, valueOf, toOf, stepOf, levelNumber, volumeNumber}
+
+level-number : (b : Bool) (x : Float) → levelNumber (cond b level.Refused (level.Done x)) ≡ cond b 7 0
+level-number true x = refl
+level-number false x = refl
+
+volume-number : (b : Bool) (v : Volume) → volumeNumber (cond b volume.Refused (volume.Done v)) ≡ cond b 7 0
+volume-number true v = refl
+volume-number false v = refl
+
+pub value-number : (v : Volume) (now : ℕ) → levelNumber (valueOf v now) ≡ cond (refusedAt v now) 7 0
+unfolding valueOf
+value-number v now = level-number (refusedAt v now) (levelOf v now)
+
+pub to-number : (v : Volume) (now duration : ℕ) (target : Float) → volumeNumber (toOf v now duration target) ≡ cond (refusedAt v now || ltb (2 ^ 24) duration) 7 0
+unfolding toOf
+to-number v now duration target = volume-number (refusedAt v now || ltb (2 ^ 24) duration) (towardOf v now duration target)
+
+pub step-number : (v : Volume) (now : ℕ) → volumeNumber (stepOf v now) ≡ cond (refusedAt v now) 7 0
+unfolding stepOf
+step-number v now = volume-number (refusedAt v now) (steppedOf v now)
