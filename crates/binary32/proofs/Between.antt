@@ -1,5 +1,5 @@
--- The order of floats: of two that are not NaN one is at most the other, infinities included, and the order's chains. What lies between two values that are not below zero is a whole number of units between theirs.
--- Assumes nothing.
+-- The order of floats: of two that are not NaN one is at most the other, infinities included, and the order's chains.
+-- What lies between two values that are not below zero is a whole number of units between theirs. Assumes nothing.
 use mathlib.Core.Path.{_≡_, refl, sym, ap, _∙_, subst}
 use mathlib.Core.Logic.{_⊎_, inl, inr}
 use Prim.Native.Nat.{ℕ, _+_, _*_, _^_, _≤_, _<_}
@@ -61,13 +61,9 @@ leb-not : (a b : ℕ) → leb a b ≡ not (ltb b a)
 leb-not a b = same-test (leb a b) (not (ltb b a)) (λ t. le→nltb b a (leb→le a b t)) (λ t. le→leb a b (nltb→le b a t))
 
 none-not : (a b : ℕ) → eqb (a + b) 0 ≡ not (ltb 0 (b + a))
-none-not a b = same-test (eqb (a + b) 0) (not (ltb 0 (b + a))) (λ t. le→nltb 0 (b + a) (down a b (eqb→eq (a + b) 0 t))) (λ t. eq→eqb (none a b (nltb→le 0 (b + a) t)))
-  where
-    down : (a b : ℕ) → a + b ≡ 0 → b + a ≤ 0
-    down a b h = omega arith
-
-    none : (a b : ℕ) → b + a ≤ 0 → a + b ≡ 0
-    none a b h = omega arith
+none-not a b =
+    same-test (eqb (a + b) 0) (not (ltb 0 (b + a))) (λ (t : T (eqb (a + b) 0)). omega (arith, eqb→eq, le→nltb))
+    (λ (t : T (not (ltb 0 (b + a)))). omega (arith, nltb→le, eq→eqb))
 
 most-not-below : (s : Bool) (a : ℕ) (t : Bool) (b : ℕ) → most s a t b ≡ not (below t b s a)
 most-not-below false a false b = leb-not a b
@@ -203,10 +199,7 @@ pub record From (f : Format) (x : Float) (a : ℕ) : Type 0 where
 null-of : (s : Bool) (a : ℕ) (t : Bool) (n : ℕ) → (T s → a ≡ 0) → T (most s a t n) → T t → n ≡ 0
 null-of s a false n z h t = absurd t
 null-of false a true n z h t = omega (arith, eqb→eq)
-null-of true a true n z h t = go (z tt) (leb→le n a h)
-  where
-    go : a ≡ 0 → n ≤ a → n ≡ 0
-    go p q = omega arith
+null-of true a true n z h t = omega (arith, leb→le, z tt)
 
 pub at-least : {f : Format} {x lo : Float} {a : ℕ} → T (fits f x) → T (finite x) → Units f lo a → T (le lo x) → From f x a
 at-least {f} {x} {lo} {a} t q p h =

@@ -3,9 +3,9 @@ use mathlib.Core.Path.{_≡_, refl, sym, ap, _∙_}
 use Prim.Native.Nat.{ℕ, _+_, _-_, _*_, _/_, _^_, _≤_, _<_, min}
 use native.Mathlib.Nat.{one-mul, mul-one, mul-pos, zero-div, le-div-iff-mul-le, zero-lt-suc}
 use native.Mathlib.Omega.{arith}
-use mathlib.Core.Bool.{Bool, true, false, cond, true≢false}
-use borrow.Author.Tests.{ltb-true, ltb-false}
-use lib.Dec.{T, ltb, lt→ltb}
+use mathlib.Core.Bool.{true, false, true≢false}
+use borrow.Author.Tests.{ltb-false}
+use lib.Dec.{T, lt→ltb}
 use lib.IntN.{pos}
 use lib.Pow.{pow-pos, pow-mono}
 use lib.Ieee.{Float, nan, inf, fin, up, down, lt, ne, toUnsigned}

@@ -35,7 +35,6 @@ unfolding minOf maxOf isNan lt
 first-zero = (refl, refl)
 
 size-of-minus-zero : absOf (fin true 0 (pos 0)) ≡ fin false 0 (pos 0)
-unfolding absOf
 size-of-minus-zero = refl
 
 -- from +0 to 1 the sign bit stays and this value is not 0; from -0 it changes

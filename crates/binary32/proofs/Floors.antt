@@ -1,16 +1,16 @@
 -- What `floorOf` is worth: the whole number at or below x, exactly. And a cast to an unsigned type sees no fraction. Assumes nothing.
 use mathlib.Core.Path.{_≡_, refl, sym, ap, _∙_, subst}
 use Prim.Native.Nat.{ℕ, zero, suc, _+_, _-_, _*_, _/_, _%_, _^_, _≤_, _<_, min}
-use native.Mathlib.Nat.{le-trans, le-of-eq, le-of-lt, lt-of-lt-of-le, lt-of-le-of-lt, mul-one, one-mul, mul-assoc, mul-le-mul-left, mul-div-cancel, mul-add-div-right, div-eq-of-lt, div-lt-iff-lt-mul, zero-lt-suc, add-zero, le-of-suc-le-suc, le-antisymm, lt-div-mul-add, div-eq-of-lt-le, div-mul-le-self, add-mul, mul-right-comm, suc-mul, zero-mul}
+use native.Mathlib.Nat.{le-trans, le-of-eq, le-of-lt, lt-of-lt-of-le, lt-of-le-of-lt, mul-one, mul-le-mul-left, mul-div-cancel, mul-add-div-right, div-eq-of-lt, div-lt-iff-lt-mul, zero-lt-suc, add-zero, le-of-suc-le-suc, le-antisymm, lt-div-mul-add, div-eq-of-lt-le, div-mul-le-self, add-mul, mul-right-comm, suc-mul, zero-mul}
 use native.Mathlib.Omega.{arith}
 use mathlib.Core.Bool.{Bool, true, false, _&&_, cond, true≢false}
 use borrow.Author.Tests.{leb-true, leb-false, ltb-true, ltb-false}
 use lib.IntN.{ℤ, pos, negsuc}
 use lib.Dec.{T, leb, ltb, eqb, ltb→lt, lt→ltb, lit≤, lit<}
-use lib.Pow.{pow-add, pow-pos, pow-mono}
+use lib.Pow.{pow-pos, pow-mono}
 use lib.Ieee.{Float, nan, inf, fin, Format, binary32, binary64, prec, emax, low, up, down, round, lt, neg, add, sum, fits, ofInt, toUnsigned, inUnsigned}
-use lib.Ieee.Fits.{and-l, and-r, down-pos, round-fits}
-use lib.Ieee.Exact.{HasValue, round-exact}
+use lib.Ieee.Fits.{and-l, and-r, down-pos}
+use lib.Ieee.Exact.{HasValue}
 use lib.Ieee.Back.{round-whole, unsigned-back}
 use lib.Ieee.Nearest.{div-same}
 use Rattle.binary32.specs.Leaves.{floorOf}

@@ -1,9 +1,9 @@
 -- Bit patterns and values, there and back. Assumes nothing.
-use mathlib.Core.Path.{_≡_, refl, ap, _∙_}
+use mathlib.Core.Path.{_≡_, refl, ap}
 use Prim.Native.Nat.{ℕ, _^_, _<_}
 use mathlib.Core.Bool.{Bool, true, false, cond}
 use lib.Dec.{T}
-use lib.Ieee.{Float, binary32, fits, isNan, toBits, ofBits}
+use lib.Ieee.{Float, binary32, fits, isNan, toBits}
 use lib.Ieee.Bits.{ofBits-toBits, toBits-ofBits}
 use Rattle.binary32.specs.Leaves.{bitsOf, floatOf}
 use Rattle.binary32.proofs.Truth.{no}

@@ -15,7 +15,7 @@ use lib.Ieee.Exact.{HasValue}
 use lib.Ieee.Positive.{first-pos}
 use lib.Ieee.Scale.{finite, overflow}
 use Rattle.binary32.proofs.Truth.{yes-or-no}
-use Rattle.binary32.specs.Leaves.{signOf}
+use Rattle.binary32.specs.Leaves.{signOf, absOf}
 use Rattle.binary32.proofs.Values.{value-nonzero, Common, common, lt-value, le-value, most, mod-scale, rem-value, sub-value}
 use Rattle.binary32.proofs.Units.{Grid, grid-multiple, grid-double, pow-over, on-grid, value-grid, value-under, Units, lt-units, grid-of, under-of, units-above-value, zero-units}
 use Rattle.binary32.proofs.Rounding.{rd, rd-ge, round-grid, round-held, round-sign, round-not-nan, round-zero}
@@ -42,7 +42,8 @@ rem-grid {f} {a} {b} g h B = elim (yes-or-no (leb j k)) [ inl t ↦ fine (leb→
 
     fine : j ≤ k → Grid f (a % b)
     fine l =
-        let e : a % b ≡ q % (r * 2 ^ (k - j)) * 2 ^ j = ap₂ (λ (x y : ℕ). x % y) (g .is) (h .is ∙ pow-over r k j l) ∙ mod-scale q (r * 2 ^ (k - j)) (2 ^ j) (mul-pos R (pow-pos (k - j))) (pow-pos j) in
+        let e : a % b ≡ q % (r * 2 ^ (k - j)) * 2 ^ j =
+        ap₂ (λ (x y : ℕ). x % y) (g .is) (h .is ∙ pow-over r k j l) ∙ mod-scale q (r * 2 ^ (k - j)) (2 ^ j) (mul-pos R (pow-pos (k - j))) (pow-pos j) in
         subst (Grid f) (sym e) (grid-multiple f (q % (r * 2 ^ (k - j))) j (le-trans (mod-le q (r * 2 ^ (k - j))) (le-of-lt (g .few))))
 
     coarse : k ≤ j → Grid f (a % b)
@@ -68,7 +69,8 @@ rem-units {f} {x} {y} {a} {b} t u B p q =
 -- ---- sign and size. The remainder is a NaN just where x is not finite, or y is 0 or a NaN
 rem-common : (f : Format) (x y : Float) (c : Common x y) → T (not (eq y (fin false 0 (pos 0)))) → rem f x y ≡ round f (signOf x) (c .left % c .right) (c .over)
 rem-common f x y c h =
-    rem-value f x y (signOf x) (c .left) (signOf y) (c .right) (c .over) (c .over-pos) (value-nonzero y (signOf y) (c .right) (c .over) (c .over-pos) (c .is-right) h) (c .is-left) (c .is-right)
+    rem-value f x y (signOf x) (c .left) (signOf y) (c .right) (c .over) (c .over-pos)
+    (value-nonzero y (signOf y) (c .right) (c .over) (c .over-pos) (c .is-right) h) (c .is-left) (c .is-right)
 
 pub rem-not-nan : (f : Format) (x y : Float) → T (finite x) → T (not (isNan y)) → T (not (eq y (fin false 0 (pos 0)))) → T (not (isNan (rem f x y)))
 unfolding rem isNan
@@ -87,7 +89,7 @@ rem-operands f (inf s) y h = absurd h
 rem-operands f (fin s m e) nan h = absurd h
 rem-operands f (fin s m e) (inf t) h = (tt, tt, tt)
 rem-operands f (fin s m e) (fin t zero d) h = absurd h
-rem-operands f (fin s m e) (fin t (suc n) d) h = (tt, tt, not-T (level t a false b) (λ (z : T (level t a false b)). lt-irrefl 0 (lt-of-lt-of-le A (le-of-eq (eqb→eq a b (and-l (eqb a b) (Bool·beq t false || eqb a 0) z) ∙ zero-mul (down d))))))
+rem-operands f (fin s m e) (fin t (suc n) d) h = (tt, tt, not-T (level t a false b) (λ (z : T (level t a false b)). lt-irrefl 0 (lt-of-lt-of-le A (le-of-eq (none z)))))
   where
     a : ℕ
     a = suc n * up d * 1
@@ -97,6 +99,9 @@ rem-operands f (fin s m e) (fin t (suc n) d) h = (tt, tt, not-T (level t a false
 
     A : 0 < a
     A = mul-pos (mul-pos (zero-lt-suc n) (up-pos d)) (zero-lt-suc 0)
+
+    none : T (level t a false b) → a ≡ 0
+    none z = eqb→eq a b (and-l (eqb a b) (Bool·beq t false || eqb a 0) z) ∙ zero-mul (down d)
 
 pub rem-sign : (f : Format) (x y : Float) → T (not (isNan (rem f x y))) → signOf (rem f x y) ≡ signOf x
 unfolding rem isNan
@@ -108,13 +113,7 @@ rem-sign f (fin s m e) (fin t n d) h =
     let c = common (fin s m e) (fin t n d) tt tt in
     ap signOf (rem-common f (fin s m e) (fin t n d) c (rem-operands f (fin s m e) (fin t n d) h .2)) ∙ round-sign f s (c .left % c .right) (c .over)
 
--- x without its sign
-abbrev pub magnitude : Float → Float
-magnitude nan = nan
-magnitude (inf s) = inf false
-magnitude (fin s m e) = fin false m e
-
-magnitude-value : (x : Float) (s : Bool) (a c : ℕ) → HasValue x s a c → HasValue (magnitude x) false a c
+magnitude-value : (x : Float) (s : Bool) (a c : ℕ) → HasValue x s a c → HasValue (absOf x) false a c
 magnitude-value nan s a c h = h
 magnitude-value (inf t) s a c h = h
 magnitude-value (fin t m e) s a c h = (refl, h .1)
@@ -141,7 +140,7 @@ rest-of f x y t u q h =
       is-by = b .is;
     }
 
-pub rem-size : (f : Format) (x y : Float) → T (fits f x) → T (fits f y) → T (not (isNan (rem f x y))) → T (lt (magnitude (rem f x y)) (magnitude y))
+pub rem-size : (f : Format) (x y : Float) → T (fits f x) → T (fits f y) → T (not (isNan (rem f x y))) → T (lt (absOf (rem f x y)) (absOf y))
 unfolding rem isNan lt
 rem-size f nan y t u h = absurd h
 rem-size f (inf s) y t u h = absurd h
@@ -151,22 +150,16 @@ rem-size f (fin s m e) (fin r n d) t u h =
     let x = fin s m e in
     let y = fin r n d in
     let z = rest-of f x y t u tt h in
-    subst T (sym (lt-value (magnitude (rem f x y)) (magnitude y) false (z .rest) false (z .by) (2 ^ low f) (pow-pos (low f))
+    subst T (sym (lt-value (absOf (rem f x y)) (absOf y) false (z .rest) false (z .by) (2 ^ low f) (pow-pos (low f))
     (magnitude-value (rem f x y) s (z .rest) (2 ^ low f) (z .is-rest)) (magnitude-value y r (z .by) (2 ^ low f) (z .is-by))))
     (lt→ltb (z .rest) (z .by) (z .less))
 
 -- a value of smaller size than y is between -y and y
 below-of : (s : Bool) (a b : ℕ) → a < b → T (below s a false b) × T (below true b s a)
-below-of true a b h = (lt→ltb 0 (a + b) (go a b h), lt→ltb a b h)
-  where
-    go : (a b : ℕ) → a < b → 0 < a + b
-    go a b h = omega arith
-below-of false a b h = (lt→ltb a b h, lt→ltb 0 (b + a) (go a b h))
-  where
-    go : (a b : ℕ) → a < b → 0 < b + a
-    go a b h = omega arith
+below-of true a b h = (lt→ltb 0 (a + b) (omega arith), lt→ltb a b h)
+below-of false a b h = (lt→ltb a b h, lt→ltb 0 (b + a) (omega arith))
 
-pub magnitude-lt : (x y : Float) → signOf y ≡ false → T (lt (magnitude x) (magnitude y)) → T (lt x y) × T (lt (neg y) x)
+pub magnitude-lt : (x y : Float) → signOf y ≡ false → T (lt (absOf x) (absOf y)) → T (lt x y) × T (lt (neg y) x)
 unfolding lt neg
 magnitude-lt nan y e h = absurd h
 magnitude-lt (inf s) nan e h = absurd h
@@ -181,11 +174,11 @@ magnitude-lt (fin s m i) (fin false n d) e h = below-of s (m * up i * down d) (n
 -- ---- where no division is needed
 
 -- by any fractions: a dividend smaller than the divisor comes back
-rem-less : (f : Format) (x y : Float) (s : Bool) (a : ℕ) (t : Bool) (b c : ℕ) → 0 < c → T (fits f x) → HasValue x s a c → HasValue y t b c → a < b → rem f x y ≡ x
+pub rem-less : (f : Format) (x y : Float) (s : Bool) (a : ℕ) (t : Bool) (b c : ℕ) → 0 < c → T (fits f x) → HasValue x s a c → HasValue y t b c → a < b → rem f x y ≡ x
 rem-less f x y s a t b c C p v w h =
     rem-value f x y s a t b c C (lt-of-le-of-lt zero-le h) v w ∙ ap (λ (z : ℕ). round f s z c) (mod-eq-of-lt h) ∙ round-held f x s a c C p v
 
-pub rem-small : (f : Format) (x y : Float) → T (fits f x) → T (lt (magnitude x) (magnitude y)) → rem f x y ≡ x
+pub rem-small : (f : Format) (x y : Float) → T (fits f x) → T (lt (absOf x) (absOf y)) → rem f x y ≡ x
 unfolding lt rem
 rem-small f nan y p h = absurd h
 rem-small f (inf s) nan p h = absurd h
@@ -197,7 +190,10 @@ rem-small f (fin s m e) (fin t n d) p h =
     let c = common (fin s m e) (fin t n d) tt tt in
     rem-less f (fin s m e) (fin t n d) s (c .left) t (c .right) (c .over) (c .over-pos) p (c .is-left) (c .is-right)
     (ltb→lt (c .left) (c .right)
-    (subst T (lt-value (fin false m e) (fin false n d) false (c .left) false (c .right) (c .over) (c .over-pos) (magnitude-value (fin s m e) s (c .left) (c .over) (c .is-left)) (magnitude-value (fin t n d) t (c .right) (c .over) (c .is-right))) h))
+    (subst T
+    (lt-value (fin false m e) (fin false n d) false (c .left) false (c .right) (c .over) (c .over-pos)
+    (magnitude-value (fin s m e) s (c .left) (c .over) (c .is-left)) (magnitude-value (fin t n d) t (c .right) (c .over) (c .is-right)))
+    h))
 
 nonnegative-below : (s : Bool) (a : ℕ) (t : Bool) (b : ℕ) → T (most false 0 s a) → T (below s a t b) → a < b
 nonnegative-below false a false b h k = ltb→lt a b k
@@ -220,24 +216,19 @@ rem-below f (fin s m e) (fin t n d) p lo hi =
     let y = fin t n d in
     let c = common x y tt tt in
     rem-less f x y s (c .left) t (c .right) (c .over) (c .over-pos) p (c .is-left) (c .is-right)
-    (nonnegative-below s (c .left) t (c .right) (subst T (le-value (fin false 0 (pos 0)) x false 0 s (c .left) (c .over) (c .over-pos) (refl, zero-mul (c .over)) (c .is-left)) lo)
+    (nonnegative-below s (c .left) t (c .right)
+    (subst T (le-value (fin false 0 (pos 0)) x false 0 s (c .left) (c .over) (c .over-pos) (refl, zero-mul (c .over)) (c .is-left)) lo)
     (subst T (lt-value x y s (c .left) t (c .right) (c .over) (c .over-pos) (c .is-left) (c .is-right)) hi))
 
 -- b ≤ a < 2 * b
 once : (a b : ℕ) → b ≤ a → a < b + b → a % b ≡ a - b
-once a b l h = mod-eq-sub-mod l ∙ mod-eq-of-lt (less a b l h)
-  where
-    less : (a b : ℕ) → b ≤ a → a < b + b → a - b < b
-    less a b l h = omega arith
+once a b l h = mod-eq-sub-mod l ∙ mod-eq-of-lt (omega arith)
 
 pub rem-once : (f : Format) (x y : Float) (a b c : ℕ) → 0 < c → HasValue x false a c → HasValue y false b c → b ≤ a → a < b + b → rem f x y ≡ sub f x y
 rem-once f x y a b c C v w l h =
-    rem-value f x y false a false b c C (pos-of a b l h) v w
+    rem-value f x y false a false b c C (omega arith) v w
     ∙ ap (λ (z : ℕ). round f false z c) (once a b l h)
     ∙ sym (sub-value f x y false a false b c C v w ∙ sum-under f false a b c l)
-  where
-    pos-of : (a b : ℕ) → b ≤ a → a < b + b → 0 < b
-    pos-of a b l h = omega arith
 
 -- a multiple of the divisor leaves 0, of the dividend's sign
 pub rem-multiple : (f : Format) (x y : Float) (s : Bool) (k : ℕ) (t : Bool) (b c : ℕ) → 0 < c → 0 < b → HasValue x s (k * b) c → HasValue y t b c → rem f x y ≡ fin s 0 (pos 0)

@@ -1,5 +1,5 @@
--- A number of units rounded to the format, as a function of natural numbers: what is on the grid stays, order is kept, and `round` of n units is `rd f n` units, or an infinity from `overflow f` on.
--- Assumes nothing.
+-- A number of units rounded to the format, as a function of natural numbers: what is on the grid stays, and the order is kept.
+-- `round` of n units is `rd f n` units, or an infinity from `overflow f` on. Assumes nothing.
 use mathlib.Core.Path.{_≡_, refl, sym, ap, ap₂, _∙_, subst}
 use mathlib.Core.Logic.{inl, inr}
 use Prim.Native.Nat.{ℕ, zero, suc, _+_, _-_, _*_, _/_, _%_, _^_, _≤_, _<_, zero-le, compare, Ordering·lt, compare·zero-suc}
@@ -35,16 +35,13 @@ pub closest-exact : (r u : ℕ) → 0 < u → closest (r * u) u ≡ r
 closest-exact r u h =
     ap₂ (λ (x y : ℕ). nearest x (compare (y * 2) u)) (mul-div-cancel r h) (mul-mod-left r u) ∙ ap (nearest r) (above-zero u h)
 
-spare : (z p l : ℕ) → z ≤ p + l → z - p ≤ l
-spare z p l h = omega arith
-
 pub rd-exact : {f : Format} {n : ℕ} → Grid f n → rd f n ≡ n
 unfolding rd
 rd-exact {f} {n} g =
     let q = g .digits in
     let j = g .shift in
     let k = size n - prec f in
-    let fewer : k ≤ j = spare (size n) (prec f) j (size-le n (prec f + j) (subst (λ (z : ℕ). z < 2 ^ (prec f + j)) (sym (g .is)) (shl-lt (prec f) j (g .few)))) in
+    let fewer : k ≤ j = omega (arith, size-le n (prec f + j) (subst (λ (z : ℕ). z < 2 ^ (prec f + j)) (sym (g .is)) (shl-lt (prec f) j (g .few)))) in
     let r = q * 2 ^ (j - k) in
     let e : n ≡ r * 2 ^ k = g .is ∙ pow-over q j k fewer in
     ap (λ (z : ℕ). z * 2 ^ k) (ap (λ (z : ℕ). closest z (2 ^ k)) e ∙ closest-exact r (2 ^ k) (pow-pos k)) ∙ sym e
@@ -55,25 +52,16 @@ kept-le p n =
     let u = 2 ^ (size n - p) in
     le-trans (nearest-le (n / u) (compare (n % u * 2) u)) (kept-lt p n)
 
-all-in-use : (z p : ℕ) → 0 < p → 0 < z - p → p - 1 + (z - p) < z
-all-in-use z p P h = omega arith
-
 -- where digits are dropped, p digits are kept
 kept-ge : (p n : ℕ) → 0 < p → 0 < size n - p → 2 ^ (p - 1) ≤ closest n (2 ^ (size n - p))
 kept-ge p n P K =
     let k = size n - p in
     let u = 2 ^ k in
-    le-trans (le-div-iff-mul-le (pow-pos k) .1 (le-trans (le-of-eq (sym (pow-add 2 (p - 1) k))) (size-reaches n (p - 1 + k) (all-in-use (size n) p P K))))
+    le-trans (le-div-iff-mul-le (pow-pos k) .1 (le-trans (le-of-eq (sym (pow-add 2 (p - 1) k))) (size-reaches n (p - 1 + k) (omega arith))))
     (nearest-ge (n / u) (compare (n % u * 2) u))
 
 drop-mono : (a b p : ℕ) → a ≤ b → size a - p ≤ size b - p
-drop-mono a b p h = fewer (size a) (size b) p (size-le a (size b) (lt-of-le-of-lt h (size-lt b)))
-  where
-    fewer : (x y p : ℕ) → x ≤ y → x - p ≤ y - p
-    fewer x y p h = omega arith
-
-room : (p j k : ℕ) → 0 < p → j < k → p + j ≤ p - 1 + k
-room p j k P h = omega arith
+drop-mono a b p h = omega (arith, size-le a (size b) (lt-of-le-of-lt h (size-lt b)))
 
 -- Either both drop as many digits, or a power of two lies between the two results.
 pub rd-mono : (f : Format) {a b : ℕ} → a ≤ b → rd f a ≤ rd f b
@@ -90,7 +78,7 @@ rd-mono f {a} {b} h =
       | inr l ↦
           le-trans (mul-le-mul-right (2 ^ j) (kept-le p a))
           (le-trans (le-of-eq (sym (pow-add 2 p j)))
-          (le-trans (pow-mono (room p j k P l))
+          (le-trans (pow-mono {i = p + j} {j = p - 1 + k} (omega arith))
           (le-trans (le-of-eq (pow-add 2 (p - 1) k)) (mul-le-mul-right (2 ^ k) (kept-ge p b P (lt-of-le-of-lt zero-le l))))))
     ]
 
@@ -145,14 +133,8 @@ unfolding rd
 rd-at f n k lo hi =
     let p = prec f in
     let P : 0 < p = two-le-pos p (two f) in
-    ap (λ (i : ℕ). closest n (2 ^ i) * 2 ^ i)
-    (rest p k (size n) P (size-is n (p - 1 + k) lo (lt-of-lt-of-le hi (le-of-eq (ap (λ (i : ℕ). 2 ^ i) (one-up p k P))))))
-  where
-    one-up : (p k : ℕ) → 0 < p → p + k ≡ suc (p - 1 + k)
-    one-up p k P = omega arith
-
-    rest : (p k z : ℕ) → 0 < p → z ≡ suc (p - 1 + k) → z - p ≡ k
-    rest p k z P e = omega arith
+    let z : p + k ≡ suc (p - 1 + k) = omega arith in
+    ap (λ (i : ℕ). closest n (2 ^ i) * 2 ^ i) (omega (arith, size-is n (p - 1 + k) lo (subst (λ (i : ℕ). n < 2 ^ i) z hi)))
 
 -- ---- `round` of n units
 abbrev dropped : Format → ℕ → ℕ

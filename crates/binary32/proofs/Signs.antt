@@ -1,5 +1,5 @@
 -- The sign bit of a value is the highest bit of its pattern, in any format. Assumes nothing.
-use mathlib.Core.Path.{_≡_, refl, sym, ap, _∙_, subst}
+use mathlib.Core.Path.{_≡_, refl, sym, ap, _∙_}
 use Prim.Native.Nat.{ℕ, zero, suc, _+_, _-_, _*_, _/_, _%_, _≤_, _<_}
 use native.Mathlib.Nat.{div-eq-of-lt, div-eq-of-lt-le, mul-pos, zero-lt-suc}
 use native.Mathlib.Omega.{arith}

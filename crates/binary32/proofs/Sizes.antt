@@ -1,11 +1,11 @@
 -- A value's size, by the tests with which `binary32::abs` tells its sign. Assumes nothing.
-use mathlib.Core.Path.{_≡_, refl, sym, ap, subst}
+use mathlib.Core.Path.{_≡_, refl, sym}
 use Prim.Native.Nat.{ℕ, zero, suc, _+_, _*_, _≤_, _<_}
 use native.Mathlib.Nat.{zero-mul, mul-pos, zero-lt-suc}
 use native.Mathlib.Omega.{arith}
 use mathlib.Core.Bool.{Bool, true, false, _&&_, _||_, Bool·beq, true≢false}
 use borrow.Author.Tests.{ltb-true, ltb-false}
-use lib.IntN.{ℤ, pos}
+use lib.IntN.{pos}
 use lib.Dec.{T, eqb, eqb→eq}
 use lib.Ieee.{Float, nan, inf, fin, binary32, up, down, lt, eq, neg, fits}
 use lib.Ieee.Fits.{and-l, up-pos}
@@ -20,7 +20,7 @@ none-below : (a d : ℕ) → a < 0 * d → ⊥
 none-below a d h = omega arith
 
 pub abs-below : (x : Float) → lt x zero32 ≡ true → neg x ≡ absOf x
-unfolding lt neg absOf
+unfolding lt neg
 abs-below nan h = absurd (true≢false (sym h))
 abs-below (inf true) h = refl
 abs-below (inf false) h = absurd (true≢false (sym h))
@@ -31,7 +31,7 @@ not-zero : (a b : ℕ) (s : Bool) → 0 < a → (eqb a b && (s || eqb a 0)) ≡ 
 not-zero a b s p h z = let e : a ≡ b = eqb→eq a b (and-l (eqb a b) (s || eqb a 0) (yes h)) in omega arith
 
 pub abs-zero : (x : Float) → T (fits binary32 x) → eq x zero32 ≡ true → zero32 ≡ absOf x
-unfolding eq absOf fits
+unfolding eq fits
 abs-zero nan f h = absurd (true≢false (sym h))
 abs-zero (inf s) f h = absurd (true≢false (sym h))
 abs-zero (fin s zero e) f h = whole-unique binary32 zero32 (fin false 0 e) false 0 tt f (refl, refl) (refl, simp zero-mul)
@@ -43,7 +43,7 @@ rest zero (suc b) p h = omega arith
 rest (suc a) b p h = omega arith
 
 pub abs-above : (x : Float) → lt x zero32 ≡ false → eq x zero32 ≡ false → x ≡ absOf x
-unfolding lt eq absOf
+unfolding lt eq
 abs-above nan h k = refl
 abs-above (inf true) h k = absurd (true≢false h)
 abs-above (inf false) h k = refl

@@ -1,8 +1,8 @@
 -- Adding 2 ^ (prec - 1) and taking it away again leaves the whole number nearest to x, a tie to the even one, for 0 ≤ x < 2 ^ (prec - 1).
--- One comparison makes of it the greatest whole number that is no more than x, or the least that is no less. Assumes nothing.
+-- One comparison makes x's whole part of it. Assumes nothing.
 use mathlib.Core.Path.{_≡_, refl, sym, ap, ap₂, _∙_, subst}
 use Prim.Native.Nat.{ℕ, suc, _+_, _-_, _*_, _/_, _%_, _^_, _≤_, _<_, compare, Ordering, Ordering·lt, Ordering·eq, Ordering·gt}
-use native.Mathlib.Nat.{lt-div-mul-add, le-trans, le-of-eq, le-of-lt, lt-of-mul-lt-mul-right, le-antisymm, lt-of-lt-of-le, lt-of-le-of-lt, add-mul, add-le-add, add-lt-add-of-lt-of-le, add-sub-cancel, le-add-left, suc-mul, suc-add, two-pow-succ, div-lt-iff-lt-mul, le-div-iff-mul-le, add-mul-div-right, add-mul-mod-self-right, mul-le-mul-right}
+use native.Mathlib.Nat.{le-trans, le-of-eq, le-antisymm, lt-of-lt-of-le, lt-of-le-of-lt, add-mul, add-le-add, add-lt-add-of-lt-of-le, add-sub-cancel, le-add-left, suc-mul, suc-add, two-pow-succ, div-lt-iff-lt-mul, le-div-iff-mul-le, add-mul-div-right, add-mul-mod-self-right, mul-le-mul-right}
 use native.Mathlib.Omega.{arith}
 use mathlib.Core.Bool.{Bool, true, false, not, _&&_, cond, and-false}
 use lib.IntN.{pos}
@@ -10,13 +10,13 @@ use lib.Dec.{T, ltb→lt, nltb→le}
 use lib.Pow.{pow-add, pow-pos}
 use lib.Ieee.{Float, fin, Format, binary32, binary64, prec, low, nearest, round, add, sub, lt, fits}
 use lib.Ieee.Fits.{two, two-le-pos, nearest-le, cond-fits, add-fits, sub-fits}
-use lib.Ieee.Nearest.{closest, closest-mono, nearest-ge}
+use lib.Ieee.Nearest.{closest, nearest-ge}
 use lib.Ieee.Scale.{overflow}
 use Rattle.binary32.proofs.Truth.{cond-split}
 use Rattle.binary32.specs.Leaves.{signOf}
 use Rattle.binary32.proofs.Units.{Grid, grid-multiple, whole-under, Units, lt-units, power-units, one, one-units}
-use Rattle.binary32.proofs.Rounding.{rd, rd-at, closest-exact, up-reaches, up-least, whole-round}
-use Rattle.binary32.proofs.Sums.{add-sign, sub-sign, add-units, add-exact, sub-exact, less-one}
+use Rattle.binary32.proofs.Rounding.{rd, rd-at, whole-round}
+use Rattle.binary32.proofs.Sums.{add-sign, sub-sign, add-units, sub-exact, less-one}
 
 -- From this value on, up to 2 ^ prec, the format holds just the whole numbers.
 abbrev pub wholes : Format → Float
@@ -27,9 +27,6 @@ snapped f x = sub f (add f x (wholes f)) (wholes f)
 
 abbrev pub floored : Format → Float → Float
 floored f x = cond (lt x (snapped f x)) (sub f (snapped f x) one) (snapped f x)
-
-abbrev pub ceiled : Format → Float → Float
-ceiled f x = cond (lt (snapped f x) x) (add f (snapped f x) one) (snapped f x)
 
 -- ---- numbers
 nearest-add : (q m : ℕ) (o : Ordering) → m % 2 ≡ 0 → nearest (q + m) o ≡ nearest q o + m
@@ -59,6 +56,9 @@ module _ {f : Format} {x : Float} {n : ℕ} (p : Units f x n) (h : n < 2 ^ (prec
   abbrev L : ℕ
   L = 2 ^ low f
 
+  unit-pos : 0 < L
+  unit-pos = pow-pos (low f)
+
   abbrev P : ℕ
   P = 2 ^ (prec f - 1)
 
@@ -72,7 +72,7 @@ module _ {f : Format} {x : Float} {n : ℕ} (p : Units f x n) (h : n < 2 ^ (prec
   near = nearest-le (n / L) (compare (n % L * 2) L)
 
   small : c ≤ P
-  small = le-trans near (div-lt-iff-lt-mul (pow-pos (low f)) .1 h)
+  small = le-trans near (div-lt-iff-lt-mul unit-pos .1 h)
 
   few : c ≤ 2 ^ prec f
   few = le-trans small (le-trans (le-add-left P P) (le-of-eq (twice f)))
@@ -81,7 +81,7 @@ module _ {f : Format} {x : Float} {n : ℕ} (p : Units f x n) (h : n < 2 ^ (prec
   rounded =
       rd-at f (n + P * L) (low f) (le-trans (le-of-eq (pow-add 2 (prec f - 1) (low f))) (le-add-left (P * L) n))
       (lt-of-lt-of-le (add-lt-add-of-lt-of-le h (le-of-eq refl)) (le-of-eq (sym (add-mul P P L) ∙ ap (λ (z : ℕ). z * L) (twice f) ∙ sym (pow-add 2 (prec f) (low f)))))
-      ∙ ap (λ (z : ℕ). z * L) (closest-add n P L (pow-pos (low f)) (even f))
+      ∙ ap (λ (z : ℕ). z * L) (closest-add n P L unit-pos (even f))
 
   fits-in : (c + P) * L < overflow f
   fits-in = whole-under f (c + P) (le-trans (add-le-add small (le-of-eq refl)) (le-of-eq (twice f)))
@@ -114,7 +114,7 @@ module _ {f : Format} {x : Float} {n : ℕ} (p : Units f x n) (h : n < 2 ^ (prec
   -- ---- the whole part
   over-is : T (lt x (snapped f x)) → c * L ≡ n / L * L + L
   over-is t =
-      ap (λ (z : ℕ). z * L) (le-antisymm near (div-lt-iff-lt-mul (pow-pos (low f)) .1 (ltb→lt n (c * L) (subst T (lt-units p snap-units) t)))) ∙ suc-mul (n / L) L
+      ap (λ (z : ℕ). z * L) (le-antisymm near (div-lt-iff-lt-mul unit-pos .1 (ltb→lt n (c * L) (subst T (lt-units p snap-units) t)))) ∙ suc-mul (n / L) L
 
   one-in : T (lt x (snapped f x)) → L ≤ c * L
   one-in t = le-trans (le-add-left L (n / L * L)) (le-of-eq (sym (over-is t)))
@@ -126,7 +126,7 @@ module _ {f : Format} {x : Float} {n : ℕ} (p : Units f x n) (h : n < 2 ^ (prec
 
   pub floor-under : T (not (lt x (snapped f x))) → Units f (snapped f x) (n / 2 ^ low f * 2 ^ low f)
   floor-under t =
-      let down : c ≤ n / L = le-div-iff-mul-le (pow-pos (low f)) .1 (nltb→le n (c * L) (subst (λ (b : Bool). T (not b)) (lt-units p snap-units) t)) in
+      let down : c ≤ n / L = le-div-iff-mul-le unit-pos .1 (nltb→le n (c * L) (subst (λ (b : Bool). T (not b)) (lt-units p snap-units) t)) in
       subst (λ (w : ℕ). Units f (snapped f x) (w * L)) (le-antisymm down above) snap-units
 
   pub floor-units : Units f (floored f x) (n / 2 ^ low f * 2 ^ low f)
@@ -139,40 +139,4 @@ module _ {f : Format} {x : Float} {n : ℕ} (p : Units f x n) (h : n < 2 ^ (prec
       sign =
           cond-split (λ (z : Float). signOf z ≡ false) (lt x (snapped f x)) (sub f (snapped f x) one) (snapped f x)
           (λ t. sub-sign snap-units (one-units f) (one-in t) ∙ ap (λ (s : Bool). s && true) snap-sign)
-          (λ t. snap-sign)
-
-  -- ---- the least whole number that is no less
-  abbrev K : ℕ
-  K = (n + (L - 1)) / L
-
-  unit-pos : 0 < L
-  unit-pos = pow-pos (low f)
-
-  most-snapped : c ≤ K
-  most-snapped = le-trans (closest-mono n L (K * L) L unit-pos unit-pos (mul-le-mul-right L (up-reaches n L unit-pos))) (le-of-eq (closest-exact K L unit-pos))
-
-  pub ceil-under : T (not (lt (snapped f x) x)) → Units f (snapped f x) ((n + (2 ^ low f - 1)) / 2 ^ low f * 2 ^ low f)
-  ceil-under t =
-      subst (λ (w : ℕ). Units f (snapped f x) (w * L)) (le-antisymm most-snapped (up-least n L c unit-pos (nltb→le (c * L) n (subst (λ (b : Bool). T (not b)) (lt-units snap-units p) t)))) snap-units
-
-  pub ceil-over : T (lt (snapped f x) x) → Units f (add f (snapped f x) one) ((n + (2 ^ low f - 1)) / 2 ^ low f * 2 ^ low f)
-  ceil-over t =
-      let under : c * L < n = ltb→lt (c * L) n (subst T (lt-units snap-units p) t) in
-      let k : suc c ≤ 2 ^ prec f = le-trans (lt-of-mul-lt-mul-right L (lt-of-lt-of-le under (le-of-lt h))) (le-trans (le-add-left P P) (le-of-eq (twice f))) in
-      let next : c * L + L ≡ suc c * L = sym (suc-mul c L) in
-      let up : n ≤ suc c * L = le-trans (le-of-lt (lt-div-mul-add unit-pos)) (le-trans (add-le-add (mul-le-mul-right L above) (le-of-eq refl)) (le-of-eq next)) in
-      let e : suc c ≡ K = le-antisymm (lt-of-mul-lt-mul-right L (lt-of-lt-of-le under (up-reaches n L unit-pos))) (up-least n L (suc c) unit-pos up) in
-      subst (Units f (add f (snapped f x) one)) (next ∙ ap (λ (w : ℕ). w * L) e)
-      (add-exact snap-units (one-units f) (subst (Grid f) (sym next) (grid-multiple f (suc c) (low f) k)) (lt-of-le-of-lt (le-of-eq next) (whole-under f (suc c) k)))
-
-  pub ceil-units : Units f (ceiled f x) ((n + (2 ^ low f - 1)) / 2 ^ low f * 2 ^ low f)
-  ceil-units = cond-split (λ (z : Float). Units f z (K * L)) (lt (snapped f x) x) (add f (snapped f x) one) (snapped f x) ceil-over ceil-under
-
-  pub ceil-is : ceiled f x ≡ round f false ((n + (2 ^ low f - 1)) / 2 ^ low f) 1
-  ceil-is = whole-round K (cond-fits f (lt (snapped f x) x) (add f (snapped f x) one) (snapped f x) (add-fits f (snapped f x) one) snap-fits) sign ceil-units
-    where
-      sign : signOf (ceiled f x) ≡ false
-      sign =
-          cond-split (λ (z : Float). signOf z ≡ false) (lt (snapped f x) x) (add f (snapped f x) one) (snapped f x)
-          (λ t. add-sign snap-units (one-units f) ∙ and-false (signOf (snapped f x)))
           (λ t. snap-sign)

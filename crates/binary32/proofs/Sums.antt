@@ -2,7 +2,7 @@
 -- `less-one`: from 1 to 2 ^ prec, l - 1 is exact. `sub-near` is Sterbenz' lemma: x - y is exact where neither is more than twice the other. Assumes nothing.
 use mathlib.Core.Path.{_≡_, refl, sym, ap, ap₂, _∙_, subst}
 use mathlib.Core.Logic.{inl, inr}
-use Prim.Native.Nat.{ℕ, zero, _+_, _-_, _*_, _^_, _≤_, _<_, zero-le}
+use Prim.Native.Nat.{ℕ, _+_, _-_, _*_, _^_, _≤_, _<_}
 use native.Mathlib.Nat.{le-trans, le-of-eq, le-of-lt, lt-of-le-of-lt, eq-or-lt-of-le, mul-comm, mul-sub, mul-le-mul-right, zero-sub, one-mul, two-mul, sub-le, le-of-mul-le-mul-right}
 use native.Mathlib.Omega.{arith}
 use mathlib.Core.Bool.{Bool, true, false, not, _&&_, cond, Bool·not-not}
@@ -40,58 +40,41 @@ sum-under f false a b c h = ap (λ (t : Bool). cond t (round f true (b - a) c) (
 -- -a + b for a ≤ b is not signOf, and +0 at a = b
 sum-back : (f : Format) (a b c : ℕ) → a ≤ b → sum f true a false b c ≡ round f false (b - a) c
 sum-back f a b c h = elim (eq-or-lt-of-le h) [
-  | inl e ↦ sum-under f true a b c (le-of-eq (sym e)) ∙ ap₂ (λ (t : Bool) (z : ℕ). round f t z c) (le-ltb b a h) (none a b e)
+  | inl e ↦ sum-under f true a b c (le-of-eq (sym e)) ∙ ap₂ (λ (t : Bool) (n : ℕ). round f t n c) (le-ltb b a h) (omega (arith, e))
   | inr l ↦ sum-over f true a b c l
 ]
-  where
-    none : (a b : ℕ) → a ≡ b → a - b ≡ b - a
-    none a b e = omega arith
 
 -- ---- where a signOf sign stands only at 0
 signless-sum : (f : Format) (s : Bool) (a : ℕ) (t : Bool) (b c : ℕ) → (T s → a ≡ 0) → (T t → b ≡ 0) → sum f s a t b c ≡ round f (s && t) (a + b) c
 signless-sum f false a false b c p q = sum-like f false a b c
-signless-sum f false a true b c p q = sum-under f false a b c (le-trans (le-of-eq (q tt)) zero-le) ∙ ap (λ (z : ℕ). round f false z c) (go a b (q tt))
-  where
-    go : (a b : ℕ) → b ≡ 0 → a - b ≡ a + b
-    go a b e = omega arith
-signless-sum f true a false b c p q = sum-back f a b c (le-trans (le-of-eq (p tt)) zero-le) ∙ ap (λ (z : ℕ). round f false z c) (go a b (p tt))
-  where
-    go : (a b : ℕ) → a ≡ 0 → b - a ≡ a + b
-    go a b e = omega arith
+signless-sum f false a true b c p q = let z : b ≡ 0 = q tt in sum-under f false a b c (omega arith) ∙ ap (λ (n : ℕ). round f false n c) (omega arith)
+signless-sum f true a false b c p q = let z : a ≡ 0 = p tt in sum-back f a b c (omega arith) ∙ ap (λ (n : ℕ). round f false n c) (omega arith)
 signless-sum f true a true b c p q = sum-like f true a b c
 
 signless-diff : (f : Format) (s : Bool) (a : ℕ) (t : Bool) (b c : ℕ) → (T s → a ≡ 0) → (T t → b ≡ 0) → b ≤ a → sum f s a (not t) b c ≡ round f (s && not t) (a - b) c
 signless-diff f false a false b c p q h = sum-under f false a b c h
-signless-diff f false a true b c p q h = sum-like f false a b c ∙ ap (λ (z : ℕ). round f false z c) (go a b (q tt))
-  where
-    go : (a b : ℕ) → b ≡ 0 → a + b ≡ a - b
-    go a b e = omega arith
-signless-diff f true a false b c p q h = sum-like f true a b c ∙ ap (λ (z : ℕ). round f true z c) (go a b (p tt) h)
-  where
-    go : (a b : ℕ) → a ≡ 0 → b ≤ a → a + b ≡ a - b
-    go a b e h = omega arith
-signless-diff f true a true b c p q h =
-    sum-under f true a b c h ∙ ap (λ (t : Bool). round f t (a - b) c) (le-ltb b a (le-trans (le-of-eq (p tt)) zero-le))
+signless-diff f false a true b c p q h = let z : b ≡ 0 = q tt in sum-like f false a b c ∙ ap (λ (n : ℕ). round f false n c) (omega arith)
+signless-diff f true a false b c p q h = let z : a ≡ 0 = p tt in sum-like f true a b c ∙ ap (λ (n : ℕ). round f true n c) (omega arith)
+signless-diff f true a true b c p q h = let z : a ≡ 0 = p tt in sum-under f true a b c h ∙ ap (λ (t : Bool). round f t (a - b) c) (le-ltb b a (omega arith))
 
 signless-over : (f : Format) (s : Bool) (a : ℕ) (t : Bool) (b c : ℕ) → (T s → a ≡ 0) → (T t → b ≡ 0) → a < b → sum f s a (not t) b c ≡ round f true (b - a) c
-signless-over f s a true b c p q h = absurd (go a b (q tt) h)
-  where
-    go : (a b : ℕ) → b ≡ 0 → a < b → ⊥
-    go a b e h = omega arith
+signless-over f s a true b c p q h = let z : b ≡ 0 = q tt in absurd (omega arith)
 signless-over f false a false b c p q h = sum-over f false a b c h
-signless-over f true a false b c p q h = sum-like f true a b c ∙ ap (λ (z : ℕ). round f true z c) (go a b (p tt))
-  where
-    go : (a b : ℕ) → a ≡ 0 → a + b ≡ b - a
-    go a b e = omega arith
+signless-over f true a false b c p q h = let z : a ≡ 0 = p tt in sum-like f true a b c ∙ ap (λ (n : ℕ). round f true n c) (omega arith)
 
 module _ {f : Format} {x y : Float} {a b : ℕ} (p : Units f x a) (q : Units f y b) where
+  difference : sub f x y ≡ sum f (p .sign) a (not (q .sign)) b (2 ^ low f)
+  difference = sub-value f x y (p .sign) a (q .sign) b (2 ^ low f) (pow-pos (low f)) (p .is) (q .is)
+
   -- the sum is -0 only of two -0
   pub add-round : add f x y ≡ round f (p .sign && q .sign) (a + b) (2 ^ low f)
-  add-round = add-value f x y (p .sign) a (q .sign) b (2 ^ low f) (pow-pos (low f)) (p .is) (q .is) ∙ signless-sum f (p .sign) a (q .sign) b (2 ^ low f) (p .null) (q .null)
+  add-round =
+      add-value f x y (p .sign) a (q .sign) b (2 ^ low f) (pow-pos (low f)) (p .is) (q .is)
+      ∙ signless-sum f (p .sign) a (q .sign) b (2 ^ low f) (p .null) (q .null)
 
   -- the difference is -0 only of -0 and +0
   pub sub-round : b ≤ a → sub f x y ≡ round f (p .sign && not (q .sign)) (a - b) (2 ^ low f)
-  sub-round h = sub-value f x y (p .sign) a (q .sign) b (2 ^ low f) (pow-pos (low f)) (p .is) (q .is) ∙ signless-diff f (p .sign) a (q .sign) b (2 ^ low f) (p .null) (q .null) h
+  sub-round h = difference ∙ signless-diff f (p .sign) a (q .sign) b (2 ^ low f) (p .null) (q .null) h
 
   pub add-sign : signOf (add f x y) ≡ (signOf x && signOf y)
   add-sign = ap signOf add-round ∙ round-sign f (p .sign && q .sign) (a + b) (2 ^ low f) ∙ sym (ap₂ (λ (s t : Bool). s && t) (units-sign p) (units-sign q))
@@ -103,10 +86,7 @@ module _ {f : Format} {x y : Float} {a b : ℕ} (p : Units f x a) (q : Units f y
   add-units h = subst (λ (z : Float). Units f z (rd f (a + b))) (sym add-round) (round-units f (p .sign && q .sign) (a + b) null h)
     where
       null : T (p .sign && q .sign) → a + b ≡ 0
-      null t = go a b (p .null (and-l (p .sign) (q .sign) t)) (q .null (and-r (p .sign) (q .sign) t))
-        where
-          go : (a b : ℕ) → a ≡ 0 → b ≡ 0 → a + b ≡ 0
-          go a b d e = omega arith
+      null t = omega (arith, p .null (and-l (p .sign) (q .sign) t), q .null (and-r (p .sign) (q .sign) t))
 
   pub add-exact : Grid f (a + b) → a + b < overflow f → Units f (add f x y) (a + b)
   add-exact g h = subst (Units f (add f x y)) (rd-exact g) (add-units (lt-of-le-of-lt (le-of-eq (rd-exact g)) h))
@@ -124,7 +104,7 @@ module _ {f : Format} {x y : Float} {a b : ℕ} (p : Units f x a) (q : Units f y
 
   -- ---- a difference below zero
   pub sub-over : a < b → sub f x y ≡ round f true (b - a) (2 ^ low f)
-  sub-over h = sub-value f x y (p .sign) a (q .sign) b (2 ^ low f) (pow-pos (low f)) (p .is) (q .is) ∙ signless-over f (p .sign) a (q .sign) b (2 ^ low f) (p .null) (q .null) h
+  sub-over h = difference ∙ signless-over f (p .sign) a (q .sign) b (2 ^ low f) (p .null) (q .null) h
 
   pub sub-over-value : T (fits f y) → a < b → HasValue (sub f x y) true (rd f (b - a)) (2 ^ low f)
   sub-over-value t h =

@@ -1,4 +1,4 @@
--- Values as whole numbers of the format's smallest value, 2 ^ -low: so a value that is not below zero is a natural number of units, and a test of two such values is one of natural numbers.
+-- Values as whole numbers of units, the format's smallest value 2 ^ -low: a value that is not below zero is a natural number of units, and a test of two such values is one of natural numbers.
 -- 1 is 2 ^ low units. -0 counts as 0 units. Assumes nothing.
 use mathlib.Core.Path.{_≡_, refl, sym, ap, ap₂, _∙_, subst}
 use mathlib.Core.Logic.{inl, inr}

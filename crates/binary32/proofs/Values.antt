@@ -1,8 +1,9 @@
--- Comparisons and operations by any fractions that the operands equal, of all signs. `HasValue x s a c` of lib.Ieee.Exact says that x is finite, has the sign s, and is a / c in size.
+-- Comparisons and operations by any fractions that the operands equal, of all signs.
+-- `HasValue x s a c` of lib.Ieee.Exact says that x is finite, has the sign s, and is a / c in size.
 -- Two values that a format holds, of one sign and one size, are equal as data. Assumes nothing.
 use mathlib.Core.Path.{_≡_, refl, sym, ap, ap₂, _∙_, subst}
 use mathlib.Core.Logic.{inl, inr}
-use Prim.Native.Nat.{ℕ, _+_, _-_, _*_, _/_, _%_, _^_, _≤_, _<_, zero-le, min}
+use Prim.Native.Nat.{ℕ, _+_, _-_, _*_, _/_, _%_, _^_, _<_, min}
 use native.Mathlib.Nat.{le-of-eq, le-of-lt, lt-of-lt-of-le, lt-of-le-of-lt, eq-or-lt-of-le, eq-zero-or-pos, mul-comm, mul-assoc, mul-right-comm, mul-lt-mul-of-pos-right, lt-of-mul-lt-mul-right, eq-of-mul-eq-mul-right, zero-mul, add-mul, mul-sub, mul-pos, lt-irrefl, mul-mul-mul-comm, mul-div-cancel, mul-mod-left, add-zero}
 use native.Mathlib.Omega.{arith}
 use mathlib.Core.Bool.{Bool, true, false, not, _&&_, _||_, Bool·beq, cond, true≢false, and-true}
@@ -11,7 +12,7 @@ use lib.Dec.{T, leb, ltb, eqb, lt→ltb, ltb→lt, eqb→eq, le→leb, leb→le,
 use lib.Arith.{mod-mul}
 use lib.Ieee.{Float, nan, inf, fin, Format, prec, low, unlike, up, down, size, round, sum, add, sub, mul, rem, neg, lt, eq, le, below, level, fits, isNan, hid, top, ofBits, toBits, toUnsigned}
 use lib.Ieee.Fits.{eq→eqb, up-pos, down-pos, and-i, and-l, and-r}
-use lib.Ieee.Bits.{is-true, cond-no, ofBits-toBits}
+use lib.Ieee.Bits.{cond-no, ofBits-toBits}
 use lib.Ieee.Exact.{HasValue}
 use lib.Ieee.Nearest.{div-same}
 use lib.Ieee.Scale.{round-same, finite}
@@ -19,6 +20,7 @@ use lib.Ieee.Positive.{first-pos}
 use Rattle.binary32.specs.Leaves.{signOf}
 use Rattle.binary32.proofs.Truth.{same-test, or-l, or-r, or-split}
 
+-- ---- what `HasValue` says
 pub finite-not-nan : (x : Float) → T (finite x) → T (not (isNan x))
 unfolding isNan
 finite-not-nan nan t = absurd t
@@ -202,17 +204,8 @@ eqb-sym a b = same-test (eqb a b) (eqb b a) (λ t. eq→eqb (sym (eqb→eq a b t
 both-zero : (a b : ℕ) → (eqb a b && eqb a 0) ≡ eqb (a + b) 0
 both-zero a b =
     same-test (eqb a b && eqb a 0) (eqb (a + b) 0)
-    (λ t. eq→eqb (none a b (eqb→eq a b (and-l (eqb a b) (eqb a 0) t)) (eqb→eq a 0 (and-r (eqb a b) (eqb a 0) t))))
-    (λ t. and-i (eqb a b) (eqb a 0) (eq→eqb (alike a b (eqb→eq (a + b) 0 t))) (eq→eqb (first a b (eqb→eq (a + b) 0 t))))
-  where
-    none : (a b : ℕ) → a ≡ b → a ≡ 0 → a + b ≡ 0
-    none a b p q = omega arith
-
-    alike : (a b : ℕ) → a + b ≡ 0 → a ≡ b
-    alike a b h = omega arith
-
-    first : (a b : ℕ) → a + b ≡ 0 → a ≡ 0
-    first a b h = omega arith
+    (λ (t : T (eqb a b && eqb a 0)). omega (arith, eqb→eq a b (and-l (eqb a b) (eqb a 0) t), eqb→eq a 0 (and-r (eqb a b) (eqb a 0) t), eq→eqb))
+    (λ (t : T (eqb (a + b) 0)). and-i (eqb a b) (eqb a 0) (omega (arith, eqb→eq, eq→eqb)) (omega (arith, eqb→eq, eq→eqb)))
 
 most-is : (s : Bool) (a : ℕ) (t : Bool) (b : ℕ) → (below s a t b || level s a t b) ≡ most s a t b
 most-is false a false b = ap (λ (z : Bool). ltb a b || z) (and-true (eqb a b)) ∙ lt-or-eq a b

@@ -31,7 +31,7 @@ unfoldable pub maxOf : Float → Float → Float
 maxOf a b = cond (isNan a) b (cond (lt a b) b a)
 
 -- The value with its sign cleared (754, 5.5.1, abs; f32::abs).
-unfoldable pub absOf : Float → Float
+abbrev pub absOf : Float → Float
 absOf nan = nan
 absOf (inf s) = inf false
 absOf (fin s m e) = fin false m e

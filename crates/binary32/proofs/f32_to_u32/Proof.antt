@@ -1,5 +1,4 @@
 -- `binary32::f32_to_u32` meets its contract: `narrow` from 64 bits to 32. Assumes nothing.
-use mathlib.Core.Path.{_≡_, sym, _∙_}
 use native.Mathlib.Omega.{arith}
 use lib.Dec.{lit≤}
 use borrow.Author.Needs.{needs}

@@ -1,5 +1,5 @@
 -- `binary32::from_bits` meets its contract: the test is that of a NaN pattern (`nanBits-above`), and such a pattern reads as NaN. Assumes nothing.
-use mathlib.Core.Path.{_≡_, sym, _∙_}
+use mathlib.Core.Path.{sym, _∙_}
 use lib.Ieee.{binary32, ofBits, div}
 use lib.Ieee.Bits.{nanBits-above, nanBits-is}
 use borrow.Author.Tests.{lt-ltb, le-ltb}

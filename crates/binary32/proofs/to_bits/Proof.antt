@@ -1,6 +1,6 @@
 -- `binary32::to_bits` meets its contract: a NaN has the pattern that `toBits` gives it, and any other value has one of its own. Assumes nothing.
 use mathlib.Core.Path.{sym, ap}
-use lib.Ieee.{binary32, isNan, toBits}
+use lib.Ieee.{binary32, toBits}
 use borrow.Author.Needs.{needs}
 use Rattle.binary32.proofs.Truth.{no}
 use Rattle.binary32.proofs.Nans.{is-nan, no-nan}

@@ -1,5 +1,5 @@
 -- `binary32::whole_part` meets its contract: `small-floor` says what its two steps and its test come to. Assumes nothing.
-use mathlib.Core.Path.{_≡_, sym, ap, _∙_}
+use mathlib.Core.Path.{sym, ap, _∙_}
 use mathlib.Core.Bool.{Bool, cond}
 use lib.Ieee.{binary32, ofBits, sub}
 use borrow.Author.Needs.{needs}
