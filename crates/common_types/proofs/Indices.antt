@@ -7,7 +7,7 @@ use native.Mathlib.Omega.{arith}
 use lib.Dec.{lit<}
 use lib.Ieee.{Float, nan, inf, fin, binary32, up, down, add, mul, div, ofInt, toUnsigned}
 use Rattle.binary32.specs.Leaves.{asFloat, floorOf}
-use Rattle.binary32.proofs.Values.{negative}
+use Rattle.binary32.specs.Leaves.{signOf}
 use Rattle.binary32.proofs.Rounding.{round-sign}
 use Rattle.common_types.specs.declared.LoopMode.{LoopMode}
 use Rattle.common_types.specs.declared.LoopMode.the-variants.{PlayOnce, Loop, PingPong}
@@ -62,7 +62,7 @@ pub index-of-nan : indexFromF32Of nan 3 ≡ 0
 unfolding indexFromF32Of floorOf mul toUnsigned
 index-of-nan = refl
 
-product-sign : (x : Float) → negative x ≡ true → negative (mul binary32 x (asFloat 3)) ≡ true
+product-sign : (x : Float) → signOf x ≡ true → signOf (mul binary32 x (asFloat 3)) ≡ true
 unfolding mul ofInt
 product-sign nan h = absurd (true≢false (sym h))
 product-sign (inf true) h = refl
@@ -70,7 +70,7 @@ product-sign (inf false) h = absurd (true≢false (sym h))
 product-sign (fin true m e) h = round-sign binary32 true (m * up e * 3) (down e * 1)
 product-sign (fin false m e) h = absurd (true≢false (sym h))
 
-floor-sign : (x : Float) → negative x ≡ true → negative (floorOf x) ≡ true
+floor-sign : (x : Float) → signOf x ≡ true → signOf (floorOf x) ≡ true
 unfolding floorOf
 floor-sign nan h = absurd (true≢false (sym h))
 floor-sign (inf true) h = refl
@@ -78,7 +78,7 @@ floor-sign (inf false) h = absurd (true≢false (sym h))
 floor-sign (fin true m e) h = round-sign binary32 true ((m * up e + (down e - 1)) / down e) 1
 floor-sign (fin false m e) h = absurd (true≢false (sym h))
 
-cast-sign : (w : ℕ) (x : Float) → negative x ≡ true → toUnsigned w x ≡ 0
+cast-sign : (w : ℕ) (x : Float) → signOf x ≡ true → toUnsigned w x ≡ 0
 unfolding toUnsigned
 cast-sign w nan h = refl
 cast-sign w (inf true) h = refl
@@ -86,6 +86,6 @@ cast-sign w (inf false) h = absurd (true≢false (sym h))
 cast-sign w (fin true m e) h = refl
 cast-sign w (fin false m e) h = absurd (true≢false (sym h))
 
-pub index-of-negative : (x : Float) → negative x ≡ true → indexFromF32Of x 3 ≡ 0
+pub index-of-negative : (x : Float) → signOf x ≡ true → indexFromF32Of x 3 ≡ 0
 unfolding indexFromF32Of
 index-of-negative x h = cast-sign 64 _ (floor-sign _ (product-sign x h))
