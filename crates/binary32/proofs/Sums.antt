@@ -44,7 +44,7 @@ sum-back f a b c h = elim (eq-or-lt-of-le h) [
   | inr l ↦ sum-over f true a b c l
 ]
 
--- ---- where a signOf sign stands only at 0
+-- ---- where a negative sign stands only at 0
 signless-sum : (f : Format) (s : Bool) (a : ℕ) (t : Bool) (b c : ℕ) → (T s → a ≡ 0) → (T t → b ≡ 0) → sum f s a t b c ≡ round f (s && t) (a + b) c
 signless-sum f false a false b c p q = sum-like f false a b c
 signless-sum f false a true b c p q = let z : b ≡ 0 = q tt in sum-under f false a b c (omega arith) ∙ ap (λ (n : ℕ). round f false n c) (omega arith)

@@ -20,6 +20,7 @@ ghost use Rattle.recorder.specs.Recording.{
   dataAfter,
   lastRecordedOffsetOf,
   isRecordingOf,
+  goodRecorder,
 };
 
 pub enum State {
@@ -175,6 +176,17 @@ impl Recorder {
         match state {
             State::Triggered { write: _ } => true,
             State::Idle => false,
+        }
+    }
+
+    // Whether the write place doesn't exceed the length of the data, nor that the capacity.
+    pub fn good(self, data_len: usize, capacity: usize) -> bool
+        ensures { λ r. ⌜ r ≡ goodRecorder self «data_len» capacity ⌝ }
+    {
+        let state = self.state;
+        match state {
+            State::Triggered { write } => (write <= data_len) & (data_len <= capacity),
+            State::Idle => data_len <= capacity,
         }
     }
 
