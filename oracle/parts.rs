@@ -5,8 +5,12 @@
 
 #[path = "parts/compare.rs"]
 mod compare;
+#[path = "parts/defaults.rs"]
+mod defaults;
 #[path = "parts/leaves.rs"]
 mod leaves;
+#[path = "parts/levels.rs"]
+mod levels;
 #[path = "parts/part.rs"]
 mod part;
 #[path = "parts/random.rs"]
@@ -15,6 +19,8 @@ mod random;
 mod record;
 #[path = "parts/sample.rs"]
 mod sample;
+#[path = "parts/settings.rs"]
+mod settings;
 #[path = "parts/values.rs"]
 mod values;
 
@@ -22,7 +28,7 @@ use part::Part;
 use std::process::ExitCode;
 
 /// The parts by their numbers.
-pub const PARTS: &[Part] = &[leaves::PART];
+pub const PARTS: &[Part] = &[leaves::PART, settings::PART, levels::PART, defaults::PART];
 
 fn main() -> ExitCode {
     let words: Vec<String> = std::env::args().skip(1).collect();

@@ -1,6 +1,6 @@
 //! Runs the port on records, and compares its lines with the Rust's answers.
 
-use crate::part::{Function, Line};
+use crate::part::{Function, Line, Part};
 use crate::random::Random;
 use crate::record::{Record, SIZE};
 use crate::PARTS;
@@ -22,13 +22,18 @@ struct Difference {
     port: String,
 }
 
-/// A run's records, each with the index of its part: the edges of each part, then `count` hostile and `count` ordinary inputs.
+/// A run's records, each with the index of its part: the edges of each part, then `count` random inputs of each kind.
 fn records(seed: u64, count: usize) -> impl Iterator<Item = (usize, Record)> {
     PARTS.iter().enumerate().flat_map(move |(number, part)| {
         let mut r = Random::new(seed.wrapping_mul(0x1_0000).wrapping_add(number as u64));
-        let random = (0..2 * count).map(move |k| if k < count { (part.hostile)(&mut r) } else { (part.ordinary)(&mut r) });
+        let kinds = part.random.iter().flat_map(move |kind| std::iter::repeat(kind.1).take(count));
+        let random = kinds.map(move |make| make(&mut r));
         (part.edges)().into_iter().chain(random).map(move |record| (number, record))
     })
+}
+
+fn size_of(part: &Part, count: usize) -> usize {
+    (part.edges)().len() + part.random.len() * count
 }
 
 /// Whether all answers are equal.
@@ -60,7 +65,7 @@ fn ask(seed: u64, count: usize, input: impl Write) -> std::io::Result<()> {
 fn compare(seed: u64, count: usize, mut output: impl BufRead) -> Result<Vec<Vec<Tally>>, String> {
     let mut tallies: Vec<Vec<Tally>> = PARTS.iter().map(|p| p.functions.iter().map(|_| Tally::default()).collect()).collect();
     let (mut rust, mut port) = (Line::default(), Vec::new());
-    let total: usize = PARTS.iter().map(|p| (p.edges)().len() + 2 * count).sum();
+    let total: usize = PARTS.iter().map(|p| size_of(p, count)).sum();
     for (done, (number, record)) in records(seed, count).enumerate() {
         if done % 500_000 == 0 {
             eprintln!("{done} of {total} records");
@@ -119,9 +124,9 @@ fn size(function: &Function, record: &Record) -> (u32, Vec<u8>) {
 fn report(count: usize, tallies: &[Vec<Tally>]) -> bool {
     let (mut records, mut equal, mut differ) = (0, 0, 0);
     for (part, tallies) in PARTS.iter().zip(tallies) {
-        let edges = (part.edges)().len();
-        records += edges + 2 * count;
-        println!("{}: {edges} edges, {count} hostile and {count} ordinary inputs", part.name);
+        records += size_of(part, count);
+        let random: String = part.random.iter().map(|kind| format!(", {count} {}", kind.0)).collect();
+        println!("{}: {} edges{random}", part.name, (part.edges)().len());
         for (function, tally) in part.functions.iter().zip(tallies) {
             equal += tally.equal;
             differ += tally.differ;
@@ -136,7 +141,7 @@ fn print_tally(function: &Function, tally: &Tally) {
     let refused = if tally.refused > 0 { format!(", {} of them refusals", tally.refused) } else { String::new() };
     println!("  {:<40} {} equal{refused}", function.name, tally.equal);
     if let Some(d) = &tally.smallest {
-        println!("  {:<40} {} DIFFER, the smallest at{}: Rust {}, port {}", "", tally.differ, args(function, &d.record), d.rust, d.port);
+        println!("  {:<40} {} DIFFER, the smallest at{}: Rust {}, port {}", function.name, tally.differ, args(function, &d.record), d.rust, d.port);
     }
 }
 

@@ -3,7 +3,7 @@
 use crate::part::{Arg, Function, Line, Part};
 use crate::random::Random;
 use crate::record::Record;
-use crate::values::{edge_floats, edge_wholes, hostile_float, hostile_whole, ordinary_float, ordinary_whole, special_floats};
+use crate::values::{edge_floats, edge_wholes, hostile_float, hostile_whole, ordinary_float, ordinary_whole, quiet, special_floats};
 
 const A: Arg = Arg("a", 4, 4);
 const B: Arg = Arg("b", 8, 4);
@@ -26,8 +26,7 @@ pub const PART: Part = Part {
         Function { name: "to_bits(from_bits)", args: &[A] },
     ],
     edges,
-    hostile,
-    ordinary,
+    random: &[("hostile", hostile), ("ordinary", ordinary)],
     answer,
 };
 
@@ -77,10 +76,8 @@ fn answer(record: &Record, line: &mut Line) {
     line.float(f32::from_bits(a.to_bits()));
 }
 
-/// Rust's minimum or maximum, but for two cases. On Arm it is wrong at a signaling NaN, so a NaN is made quiet first. Of two zeros
-/// Rust may give either, and the port gives the first.
+/// Rust's minimum or maximum. Of two zeros it may give either, and the port gives the first.
 fn of_two(f: fn(f32, f32) -> f32, a: f32, b: f32) -> f32 {
-    let quiet = |x: f32| if x.is_nan() { f32::NAN } else { x };
     let r = f(quiet(a), quiet(b));
     if a == 0.0 && b == 0.0 && r == 0.0 { a } else { r }
 }

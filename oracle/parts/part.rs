@@ -9,8 +9,8 @@ pub struct Part {
     pub functions: &'static [Function],
     /// Inputs that every run has.
     pub edges: fn() -> Vec<Record>,
-    pub hostile: fn(&mut Random) -> Record,
-    pub ordinary: fn(&mut Random) -> Record,
+    /// Further inputs from a seed, by their kind.
+    pub random: &'static [(&'static str, fn(&mut Random) -> Record)],
     pub answer: fn(&Record, &mut Line),
 }
 
@@ -23,7 +23,7 @@ pub struct Function {
 #[derive(Clone, Copy)]
 pub struct Arg(pub &'static str, pub usize, pub usize);
 
-/// The answers to a record: words with a space between them. Each word is a function's answer.
+/// The answers to a record: words with a space between them, each a function's answer.
 #[derive(Default)]
 pub struct Line {
     pub text: Vec<u8>,
@@ -39,36 +39,45 @@ impl Line {
         self.refused = 0;
     }
 
-    pub fn u32(&mut self, n: u32) {
-        self.begin();
-        self.hex(n as u64, 8);
-    }
-
-    pub fn u64(&mut self, n: u64) {
-        self.begin();
-        self.hex(n, 16);
-    }
-
-    pub fn flag(&mut self, b: bool) {
-        self.begin();
-        self.hex(b as u64, 1);
-    }
-
-    /// One NaN counts as any other.
-    pub fn float(&mut self, x: f32) {
-        self.u32(if x.is_nan() { 0x7fc0_0000 } else { x.to_bits() });
-    }
-
-    fn begin(&mut self) {
-        if self.words > 0 {
-            self.text.push(b' ');
+    /// An answer: numbers with a colon between them, each with its count of digits.
+    pub fn word(&mut self, numbers: &[(u32, u64)]) {
+        for (k, &(digits, n)) in numbers.iter().enumerate() {
+            if k > 0 {
+                self.text.push(b':');
+            } else if self.words > 0 {
+                self.text.push(b' ');
+            }
+            self.text.extend((0..digits).rev().map(|d| b"0123456789ABCDEF"[(n >> (4 * d)) as usize % 16]));
         }
         self.words += 1;
     }
 
-    fn hex(&mut self, n: u64, digits: u32) {
-        for k in (0..digits).rev() {
-            self.text.push(b"0123456789ABCDEF"[(n >> (4 * k)) as usize % 16]);
-        }
+    /// An answer that begins with document 01's number for it: that of done, or of the refusal of a bad argument, which has no value.
+    pub fn answer(&mut self, done: bool, value: &[(u32, u64)]) {
+        let mut numbers = vec![(1, if done { 0 } else { 7 })];
+        numbers.extend(value.iter().map(|&(digits, n)| (digits, if done { n } else { 0 })));
+        self.refused |= (!done as u64) << self.words;
+        self.word(&numbers);
     }
+
+    pub fn u32(&mut self, n: u32) {
+        self.word(&[(8, n as u64)]);
+    }
+
+    pub fn u64(&mut self, n: u64) {
+        self.word(&[(16, n)]);
+    }
+
+    pub fn flag(&mut self, b: bool) {
+        self.word(&[(1, b as u64)]);
+    }
+
+    pub fn float(&mut self, x: f32) {
+        self.word(&[bits(x)]);
+    }
+}
+
+/// A float by its bits. One NaN counts as any other.
+pub fn bits(x: f32) -> (u32, u64) {
+    (8, if x.is_nan() { 0x7fc0_0000 } else { x.to_bits() as u64 })
 }

@@ -5,7 +5,7 @@ use crate::random::Random;
 use crate::record::{Record, SIZE};
 use crate::PARTS;
 
-/// Of each part, about 100 edges, 50 hostile and 50 ordinary inputs; last a record that names no part, after which nothing is answered.
+/// Of each part, about 100 edges and 50 random inputs of each kind; last a record that names no part, after which nothing is answered.
 pub fn write(dir: &str) -> Result<(), String> {
     let (mut asked, mut answers, mut line) = (Vec::new(), Vec::new(), Line::default());
     for (number, part) in PARTS.iter().enumerate() {
@@ -29,8 +29,9 @@ fn records(number: usize) -> Vec<Record> {
     let mut r = Random::new(number as u64);
     let edges = (part.edges)();
     let mut records: Vec<Record> = edges.iter().step_by(edges.len() / 100 + 1).copied().collect();
-    records.extend((0..50).map(|_| (part.hostile)(&mut r)));
-    records.extend((0..50).map(|_| (part.ordinary)(&mut r)));
+    for (_, make) in part.random {
+        records.extend((0..50).map(|_| make(&mut r)));
+    }
     records
 }
 

@@ -73,6 +73,11 @@ fn tie(digits: u64, gap: u32) -> u64 {
     digits << gap | 1 << (gap - 1)
 }
 
+/// The same float, but a quiet NaN for every NaN. On Arm, Rust's minimum and maximum are wrong at a signaling one.
+pub fn quiet(x: f32) -> f32 {
+    if x.is_nan() { f32::NAN } else { x }
+}
+
 pub fn hostile_float(r: &mut Random) -> u32 {
     let sign = r.pick(&[0, SIGN]);
     match r.below(6) {

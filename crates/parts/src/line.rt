@@ -1,10 +1,10 @@
-// A line of answers: words of upper-case hexadecimal digits with a space between them. Each function puts its text at a place of
-// `out`, and answers the place after it.
+// A line of answers: words with a space between them, each an answer. A word is one number in upper-case hexadecimal digits, or several
+// with a colon between them. Each function puts its text at a place of `out`, and answers the place after it.
 ghost use mathlib.Core.Path.{_≡_};
 ghost use Prim.Native.Nat.{_+_, _≤_, _<_};
 
-// The last `count` digits of n, and a space.
-pub fn put(out: &mut [u8; 65536], at: usize, count: usize, n: u64) -> usize
+// The last `count` digits of n, and the byte `after` them.
+fn digits(out: &mut [u8; 65536], at: usize, count: usize, n: u64, after: u8) -> usize
     requires { ⌜ at + count < 65536 ⌝ }
     ensures { λ r. ⌜ r ≡ at + count + 1 ⌝ }
 {
@@ -15,8 +15,24 @@ pub fn put(out: &mut [u8; 65536], at: usize, count: usize, n: u64) -> usize
         out[at + i] = digit(rest % 16);
         rest /= 16;
     }
-    out[at + count] = b' ';
+    out[at + count] = after;
     at + count + 1
+}
+
+// The last number of a word.
+pub fn put(out: &mut [u8; 65536], at: usize, count: usize, n: u64) -> usize
+    requires { ⌜ at + count < 65536 ⌝ }
+    ensures { λ r. ⌜ r ≡ at + count + 1 ⌝ }
+{
+    digits(out, at, count, n, b' ')
+}
+
+// A number of a word that goes on.
+pub fn begin(out: &mut [u8; 65536], at: usize, count: usize, n: u64) -> usize
+    requires { ⌜ at + count < 65536 ⌝ }
+    ensures { λ r. ⌜ r ≡ at + count + 1 ⌝ }
+{
+    digits(out, at, count, n, b':')
 }
 
 pub fn put_u32(out: &mut [u8; 65536], at: usize, n: u32) -> usize
@@ -38,6 +54,13 @@ pub fn put_f32(out: &mut [u8; 65536], at: usize, x: f32) -> usize
     ensures { λ r. ⌜ r ≡ at + 9 ⌝ }
 {
     put_u32(out, at, binary32::to_bits(x))
+}
+
+pub fn begin_f32(out: &mut [u8; 65536], at: usize, x: f32) -> usize
+    requires { ⌜ at + 8 < 65536 ⌝ }
+    ensures { λ r. ⌜ r ≡ at + 9 ⌝ }
+{
+    begin(out, at, 8, binary32::to_bits(x) as u64)
 }
 
 pub fn put_bool(out: &mut [u8; 65536], at: usize, b: bool) -> usize

@@ -6,9 +6,12 @@ ghost use lib.ListN.{length};
 use libc::STDIN_FILENO;
 use libc::STDOUT_FILENO;
 
+mod defaults;
 mod field;
 mod leaves;
+mod levels;
 mod line;
+mod settings;
 
 // How many bytes of text there are, and whether every record was answered.
 struct Answered {
@@ -81,6 +84,9 @@ fn answer(fields: &[u8], out: &mut [u8; 65536], at: usize) -> usize
 {
     match fields[0] {
         0 => leaves::answer(fields, out, at),
+        1 => settings::answer(fields, out, at),
+        2 => levels::answer(fields, out, at),
+        3 => defaults::answer(out, at),
         _ => at,
     }
 }

@@ -1,15 +1,15 @@
--- `parts::line::put` meets its contract. The invariant: no more digits are left than were asked for. The measure is how many are left.
+-- `parts::line::digits` meets its contract. The invariant: no more digits are left than were asked for. The measure is how many are left.
 -- Assumes nothing.
 use Prim.Native.Nat.{_≤_}
 use borrow.Author.Needs.{needs}
-use Rattle.parts.proofs.line.put.Statement.{statement}
-use Rattle.parts.proofs.line.put.Tie as tie
+use Rattle.parts.proofs.line.digits.Statement.{statement}
+use Rattle.parts.proofs.line.digits.Tie as tie
 
 abbrev Inv-loop : tie.InvT-loop
-Inv-loop out₀ at count n i₀ rest₀ out i rest = i ≤ count
+Inv-loop out₀ at count n after i₀ rest₀ out i rest = i ≤ count
 
 abbrev μ-loop : tie.MeasureT-loop
-μ-loop out₀ at count n i₀ rest₀ out i rest = i
+μ-loop out₀ at count n after i₀ rest₀ out i rest = i
 
 loop-holds : tie.Need-loop-holds Inv-loop μ-loop
 loop-holds c = search needs
@@ -47,8 +47,8 @@ add-result-2 c = search needs
 returns : tie.Need-returns Inv-loop μ-loop
 returns c = search needs
 
-pub put-spec : {M : Type 1} → statement M
-put-spec =
+pub digits-spec : {M : Type 1} → statement M
+digits-spec =
     tie.close
     (tie.spec
     Inv-loop
