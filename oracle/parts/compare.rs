@@ -96,8 +96,9 @@ fn count_words(tallies: &mut [Tally], functions: &[Function], record: &Record, r
         }
         return;
     }
-    let mut rusts = rust.text.split(|b| *b == b' ');
-    let mut ports = port.split(|b| *b == b' ');
+    // What a line has beyond its functions' answers belongs to the last.
+    let mut rusts = rust.text.splitn(functions.len(), |b| *b == b' ');
+    let mut ports = port.splitn(functions.len(), |b| *b == b' ');
     for (tally, function) in tallies.iter_mut().zip(functions) {
         let (r, p) = (text(rusts.next()), text(ports.next()));
         if r == p {
