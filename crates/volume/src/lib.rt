@@ -47,12 +47,7 @@ impl Volume {
     {
         match self {
             Volume::Static(_) => true,
-            Volume::Linear {
-                time_start: _,
-                time_end: _,
-                value_start: _,
-                value_end: _,
-            } => false,
+            Volume::Linear { .. } => false,
         }
     }
 
@@ -61,12 +56,7 @@ impl Volume {
     {
         match self {
             Volume::Static(value) => value == 0.0,
-            Volume::Linear {
-                time_start: _,
-                time_end: _,
-                value_start: _,
-                value_end: _,
-            } => false,
+            Volume::Linear { .. } => false,
         }
     }
 
@@ -116,7 +106,7 @@ impl Volume {
                 time_end,
                 value_start,
                 value_end,
-            } => { value_start + (value_end - value_start) * progress(time_start, time_end, now) }
+            } => value_start + (value_end - value_start) * progress(time_start, time_end, now),
         }
     }
 
@@ -168,8 +158,7 @@ impl Volume {
             Volume::Linear {
                 time_start,
                 time_end,
-                value_start: _,
-                value_end: _,
+                ..
             } => good_ramp(time_start, time_end, now),
         }
     }
