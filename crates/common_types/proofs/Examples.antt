@@ -1,13 +1,16 @@
--- Document 01's K7 and K8 by computation, for every parameters with such a length. Assumes nothing.
+-- Document 01's K7 and K8, for all parameters with such a length, and the end of a dial, which is refused. Each holds by computation. Assumes nothing.
 use mathlib.Core.Path.{_≡_, refl}
 use mathlib.Core.Bool.{false}
 use Prim.Native.Nat.{ℕ}
 use lib.IntN.{negsuc}
-use lib.Ieee.{nan, fin, isNan, lt, mul, div, ofInt}
-use Rattle.binary32.specs.Leaves.{asFloat, maxOf}
+use lib.Ieee.{nan, fin, isNan, lt, mul, div, ofInt, ofBits, toUnsigned}
+use Rattle.binary32.specs.Leaves.{asFloat, floatOf, floorOf, maxOf}
 use Rattle.common_types.specs.declared.Params.{Params}
+use Rattle.common_types.specs.declared.LoopMode.the-variants.{PingPong}
+use Rattle.common_types.specs.declared.LoopModeAnswer.the-variants.{Done, Refused}
 use Rattle.common_types.specs.declared.time_value.TimeOrRatio.the-variants.{Time}
 use Rattle.common_types.specs.declared.time_value.TimeValue.the-variants.{Samples, Bars}
+use Rattle.common_types.specs.Modes.{indexFromF32Of, loopModeFromF32Of}
 use Rattle.common_types.specs.Times.{quarterNotesPerBarOf, samplesPerQuarterNoteOf, samplesPerBarOf, asSamplesOf}
 use Rattle.common_types.specs.Settings.{defaultTransport, timeLengthOf, lengthOf, loopLengthOf}
 
@@ -27,3 +30,8 @@ module _ (p : Params) (n : ℕ) where
 pub k8-as-samples : asSamplesOf (Bars (asFloat 1)) defaultTransport ≡ asFloat 88200
 unfolding asSamplesOf samplesPerBarOf samplesPerQuarterNoteOf quarterNotesPerBarOf mul div ofInt
 k8-as-samples = refl
+
+-- 1 reaches 3, and the float below it does not
+pub dial-end : (loopModeFromF32Of (floatOf 0x3f80_0000) ≡ Refused) × (loopModeFromF32Of (floatOf 0x3f7f_ffff) ≡ Done PingPong)
+unfolding indexFromF32Of floorOf mul ofBits ofInt toUnsigned
+dial-end = (refl, refl)

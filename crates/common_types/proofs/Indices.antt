@@ -1,13 +1,13 @@
--- The modes by index and by float: what an index from 3 on picks, that each mode comes back from its index and from its float,
+-- The modes by index and by float: that an index is refused from 3 on, that each mode comes back from its index and from its float,
 -- and that NaN and every float with a negative sign stand for index 0. Assumes nothing.
 use mathlib.Core.Path.{_≡_, refl, sym, ap, _∙_}
-use mathlib.Core.Bool.{true, false, true≢false}
+use mathlib.Core.Bool.{true, false, cond, true≢false}
 use Prim.Native.Nat.{ℕ, zero, suc, _+_, _-_, _*_, _/_, _<_}
 use native.Mathlib.Omega.{arith}
-use lib.Dec.{lit<}
+use lib.Dec.{ltb, lit<}
+use borrow.Author.Tests.{le-ltb}
 use lib.Ieee.{Float, nan, inf, fin, binary32, up, down, add, mul, div, ofInt, toUnsigned}
-use Rattle.binary32.specs.Leaves.{asFloat, floorOf}
-use Rattle.binary32.specs.Leaves.{signOf}
+use Rattle.binary32.specs.Leaves.{asFloat, floorOf, signOf}
 use Rattle.binary32.proofs.Rounding.{round-sign}
 use Rattle.common_types.specs.declared.LoopMode.{LoopMode}
 use Rattle.common_types.specs.declared.LoopMode.the-variants.{PlayOnce, Loop, PingPong}
@@ -15,13 +15,33 @@ use Rattle.common_types.specs.declared.LoopModeAnswer.the-variants as lo
 use Rattle.common_types.specs.declared.NoteOffBehaviour.{NoteOffBehaviour}
 use Rattle.common_types.specs.declared.NoteOffBehaviour.the-variants.{Decay, ZeroCrossing, DecayAndZeroCrossing}
 use Rattle.common_types.specs.declared.NoteOffBehaviourAnswer.the-variants as note-off
-use Rattle.common_types.specs.Modes.{byIndex, indexToF32Of, indexFromF32Of, loopModeToIndexOf, loopModeFromIndexOf, loopModeToF32Of, loopModeFromF32Of, noteOffToIndexOf, noteOffFromIndexOf, noteOffToF32Of, noteOffFromF32Of}
+use Rattle.common_types.specs.Modes.{byIndex, indexToF32Of, indexFromF32Of, loopModeToIndexOf, loopModeFromIndexOf, loopModeToF32Of, loopModeFromF32Of, noteOffToIndexOf, noteOffFromIndexOf, noteOffToF32Of, noteOffFromF32Of, loopModeNumber, noteOffNumber}
 
 pub by-index-other : {A : Type 0} (a b c other : A) (i : ℕ) → (i ≡ 0 → ⊥) → (i ≡ 1 → ⊥) → (i ≡ 2 → ⊥) → byIndex a b c other i ≡ other
 by-index-other a b c other zero p q r = absurd (p refl)
 by-index-other a b c other (suc zero) p q r = absurd (q refl)
 by-index-other a b c other (suc (suc zero)) p q r = absurd (r refl)
 by-index-other a b c other (suc (suc (suc i))) p q r = refl
+
+-- ---- number 7 from 3 on
+by-index-of : {A B : Type 0} (f : A → B) (a b c other : A) (i : ℕ) → f (byIndex a b c other i) ≡ byIndex (f a) (f b) (f c) (f other) i
+by-index-of f a b c other zero = refl
+by-index-of f a b c other (suc zero) = refl
+by-index-of f a b c other (suc (suc zero)) = refl
+by-index-of f a b c other (suc (suc (suc i))) = refl
+
+seven-from-three : (i : ℕ) → byIndex {A = ℕ} 0 0 0 7 i ≡ cond (ltb i 3) 0 7
+seven-from-three zero = refl
+seven-from-three (suc zero) = refl
+seven-from-three (suc (suc zero)) = refl
+seven-from-three (suc (suc (suc i))) = rw (le-ltb (suc (suc (suc i))) 3 (omega arith))
+
+pub loop-mode-number : (i : ℕ) → loopModeNumber (loopModeFromIndexOf i) ≡ cond (ltb i 3) 0 7
+loop-mode-number i = by-index-of loopModeNumber (loop-mode.Done PlayOnce) (loop-mode.Done Loop) (loop-mode.Done PingPong) loop-mode.Refused i ∙ seven-from-three i
+
+pub note-off-number : (i : ℕ) → noteOffNumber (noteOffFromIndexOf i) ≡ cond (ltb i 3) 0 7
+note-off-number i =
+    by-index-of noteOffNumber (note-off.Done Decay) (note-off.Done ZeroCrossing) (note-off.Done DecayAndZeroCrossing) note-off.Refused i ∙ seven-from-three i
 
 -- ---- back from the index and from the float
 pub index-back : (i : ℕ) → i < 3 → indexFromF32Of (indexToF32Of i 3) 3 ≡ i

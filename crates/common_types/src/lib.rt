@@ -9,6 +9,7 @@ pub mod time_value;
 
 use time_value::TimeOrRatio;
 use time_value::TimeValue;
+use time_value::calc_samples_per_quarter_note;
 
 pub struct Note {
     pub note: u8,
@@ -131,6 +132,7 @@ impl NoteOffBehaviour {
     }
 }
 
+// The middle of an index's part of 0 to 1.
 fn index_to_f32(index: usize, length: usize) -> f32
     ensures { λ r. ⌜ r ≡ indexToF32Of index length ⌝ }
 {
@@ -139,6 +141,7 @@ fn index_to_f32(index: usize, length: usize) -> f32
     (i / l + (i + 1.0) / l) * 0.5
 }
 
+// The index whose part of 0 to 1 holds x.
 fn index_from_f32(x: f32, length: usize) -> usize
     ensures { λ r. ⌜ r ≡ indexFromF32Of x length ⌝ }
 {
@@ -167,6 +170,7 @@ impl Transport {
     }
 }
 
+// The fields stand in another order than in the Rust, so that the record has little padding.
 pub struct Params {
     pub attack_samples: usize,
     pub decay_samples: usize,
@@ -180,7 +184,8 @@ pub struct Params {
     pub note_off_behavior: NoteOffBehaviour,
 }
 
-const MOST_RAMP: usize = 16777216;
+// The longest attack or decay.
+const LONGEST_RAMP: usize = 16777216;
 
 impl Params {
     pub fn default() -> Self
@@ -218,10 +223,10 @@ impl Params {
     pub fn beyond_limits(self) -> bool
         ensures { λ r. ⌜ r ≡ beyondLimits self ⌝ }
     {
-        if self.attack_samples > MOST_RAMP {
+        if self.attack_samples > LONGEST_RAMP {
             return true;
         }
-        if self.decay_samples > MOST_RAMP {
+        if self.decay_samples > LONGEST_RAMP {
             return true;
         }
         let transport = self.transport;
@@ -230,6 +235,7 @@ impl Params {
     }
 }
 
+// NaN is not above a limit.
 fn length_beyond(length: TimeOrRatio, transport: Transport) -> bool
     ensures { λ r. ⌜ r ≡ lengthBeyond length transport ⌝ }
 {
@@ -249,6 +255,7 @@ fn length(length: TimeOrRatio, transport: Transport, data_len: usize) -> f32
     }
 }
 
+// A bar here is numerator / denominator quarter notes: `TimeValue::as_samples` has four times that.
 fn time_length(value: TimeValue, transport: Transport) -> f32
     ensures { λ r. ⌜ r ≡ timeLengthOf value transport ⌝ }
 {
@@ -256,11 +263,11 @@ fn time_length(value: TimeValue, transport: Transport) -> f32
         TimeValue::Samples(samples) => samples,
         TimeValue::Seconds(seconds) => seconds * transport.sample_rate,
         TimeValue::QuarterNotes(quarter_notes) => quarter_notes
-            * time_value::calc_samples_per_quarter_note(transport),
+            * calc_samples_per_quarter_note(transport),
         TimeValue::Bars(bars) => {
             let numerator = binary32::u32_to_f32(transport.time_sig_numerator);
             let denominator = binary32::u32_to_f32(transport.time_sig_denominator);
-            bars * (time_value::calc_samples_per_quarter_note(transport) * numerator / denominator)
+            bars * (calc_samples_per_quarter_note(transport) * numerator / denominator)
         }
     }
 }

@@ -1,10 +1,9 @@
 -- A volume at and past its end, and a change that takes no time. Assumes nothing.
 use mathlib.Core.Path.{_≡_, refl}
-use mathlib.Core.Bool.{true}
+use mathlib.Core.Bool.{true, false}
 use Prim.Native.Nat.{ℕ, _≤_}
 use lib.IntN.{pos}
 use lib.Ieee.{Float, fin, eq}
-use mathlib.Core.Bool.{false}
 use borrow.Author.Tests.{le-leb}
 use Rattle.volume.specs.declared.Volume.{Volume}
 use Rattle.volume.specs.declared.Volume.the-variants.{Static, Linear}

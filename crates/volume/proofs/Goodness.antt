@@ -1,17 +1,17 @@
 -- A good volume stays good as the clock moves on, after a step, and after a change, and the end of a ramp that is made then is the sum of its start and its duration.
 -- Assumes nothing.
-use mathlib.Core.Path.{_≡_, refl, subst}
+use mathlib.Core.Path.{_≡_}
 use mathlib.Core.Bool.{Bool, true, false, _&&_, cond}
 use Prim.Native.Nat.{ℕ, _+_, _-_, _^_, _≤_, _<_, zero, suc}
 use native.Mathlib.Nat.{le-trans}
 use native.Mathlib.Omega.{arith}
-use lib.Dec.{T, leb, ltb, eqb, leb→le, le→leb, ltb→lt, lt→ltb}
+use lib.Dec.{T, leb, ltb, leb→le, le→leb, ltb→lt, lt→ltb}
 use lib.Ieee.{Float}
 use lib.Ieee.Fits.{and-i, and-l, and-r}
 use borrow.Author.Tests.{ne-eqb}
 use Rattle.volume.specs.declared.Volume.{Volume}
 use Rattle.volume.specs.declared.Volume.the-variants.{Static, Linear}
-use Rattle.volume.specs.Levels.{levelOf, laterOf, towardOf, steppedOf, goodRamp, goodVolume}
+use Rattle.volume.specs.Levels.{laterOf, towardOf, steppedOf, goodRamp, goodVolume}
 
 -- what a good ramp from a to b has at a time
 pub record GoodRamp (a b now : ℕ) : Type 0 where

@@ -1,13 +1,20 @@
 -- Number 7 exactly where the definitions say that a call is refused, and 0 elsewhere. Assumes nothing.
 use mathlib.Core.Path.{_≡_, refl}
 use mathlib.Core.Bool.{Bool, true, false, _||_, cond}
-use Prim.Native.Nat.{ℕ, _^_}
-use lib.Dec.{ltb}
+use Prim.Native.Nat.{ℕ, _^_, _≤_}
+use lib.Dec.{T, ltb}
 use lib.Ieee.{Float}
+use lib.Ieee.Bits.{is-true}
+use borrow.Author.Tests.{le-ltb}
 use Rattle.volume.specs.declared.Volume.{Volume}
 use Rattle.volume.specs.declared.LevelAnswer.the-variants as level
 use Rattle.volume.specs.declared.VolumeAnswer.the-variants as volume
-use Rattle.volume.specs.Levels.{levelOf, towardOf, steppedOf, refusedAt, valueOf, toOf, stepOf, levelNumber, volumeNumber}
+use Rattle.volume.specs.Levels.{levelOf, towardOf, steppedOf, goodVolume, refusedAt, valueOf, toOf, stepOf, levelNumber, volumeNumber}
+
+-- a good volume within the clock's limit is not refused
+pub not-refused : (v : Volume) (now : ℕ) → now ≤ 2 ^ 48 → T (goodVolume now v) → refusedAt v now ≡ false
+unfolding refusedAt
+not-refused v now h g = simp (le-ltb (2 ^ 48) now h, is-true (goodVolume now v) g)
 
 level-number : (b : Bool) (x : Float) → levelNumber (cond b level.Refused (level.Done x)) ≡ cond b 7 0
 level-number true x = refl
