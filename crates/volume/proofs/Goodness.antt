@@ -1,6 +1,4 @@
--- A good volume stays good as the clock moves on, after a step, and after a change, and the end of a ramp that is made then is the sum of its start and its duration.
--- Assumes nothing.
-use mathlib.Core.Path.{_≡_}
+-- A good volume stays good as the clock moves on, after a step, and after a change within the limits. Assumes nothing.
 use mathlib.Core.Bool.{Bool, true, false, _&&_, cond}
 use Prim.Native.Nat.{ℕ, _+_, _-_, _^_, _≤_, _<_, zero, suc}
 use native.Mathlib.Nat.{le-trans}
@@ -8,10 +6,10 @@ use native.Mathlib.Omega.{arith}
 use lib.Dec.{T, leb, ltb, leb→le, le→leb, ltb→lt, lt→ltb}
 use lib.Ieee.{Float}
 use lib.Ieee.Fits.{and-i, and-l, and-r}
-use borrow.Author.Tests.{ne-eqb}
 use Rattle.volume.specs.declared.Volume.{Volume}
 use Rattle.volume.specs.declared.Volume.the-variants.{Static, Linear}
-use Rattle.volume.specs.Levels.{laterOf, towardOf, steppedOf, goodRamp, goodVolume}
+use Rattle.volume.specs.Levels.{towardOf, steppedOf, goodRamp, goodVolume}
+use Rattle.volume.proofs.Changes.{toward-at-once, toward-ramp}
 
 -- what a good ramp from a to b has at a time
 pub record GoodRamp (a b now : ℕ) : Type 0 where
@@ -38,6 +36,10 @@ ramp-good a b now g =
     let q : Bool = leb (b - a) (2 ^ 24) in
     and-i (p && q) (leb a now) (and-i p q (lt→ltb a b (g .some)) (le→leb (b - a) (2 ^ 24) (g .short))) (le→leb a now (g .begun))
 
+pub good-static : (x : Float) (now : ℕ) → T (goodVolume now (Static x))
+unfolding goodVolume
+good-static x now = tt
+
 -- the clock moves on
 pub good-later : (v : Volume) (now then : ℕ) → now ≤ then → T (goodVolume now v) → T (goodVolume then v)
 unfolding goodVolume
@@ -56,13 +58,10 @@ good-stepped (Linear a b x y) now t g = go (leb b t)
     go true = tt
     go false = g
 
--- within the limits the sum is not cut
-pub later-sum : (now duration : ℕ) → now ≤ 2 ^ 48 → duration ≤ 2 ^ 24 → laterOf now duration ≡ now + duration
-later-sum now duration h k = omega arith
-
+-- a change within the limits
 pub good-toward : (v : Volume) (now duration : ℕ) (target : Float) → now ≤ 2 ^ 48 → duration ≤ 2 ^ 24 → T (goodVolume now (towardOf v now duration target))
-unfolding goodVolume towardOf
-good-toward v now zero target h k = tt
+unfolding goodVolume
+good-toward v now zero target h k = rw (toward-at-once v now target) tt
 good-toward v now (suc d) target h k =
-    rw (ne-eqb (suc d) 0 (λ e. omega arith), later-sum now (suc d) h k)
+    rw (toward-ramp v now (suc d) target (omega arith) h k)
     (ramp-good now (now + suc d) now (record { some = omega arith; short = omega arith; begun = omega arith }))

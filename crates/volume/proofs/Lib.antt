@@ -1,4 +1,5 @@
-pub mod Ends
+pub mod Changes
 pub mod Goodness
+pub mod Ends
 pub mod Numbers
 pub mod Examples
