@@ -1,5 +1,6 @@
 pub mod Packing
 pub mod Indices
-pub mod Examples
+pub mod Limits
 pub mod Largest
 pub mod LoopLengths
+pub mod Examples

@@ -1,6 +1,6 @@
 -- What row 4 lets through has a loop length from 1 to 2 ^ 22, for every data length up to 2 ^ 22. Assumes nothing.
 use mathlib.Core.Path.{_≡_, refl, sym, subst}
-use mathlib.Core.Bool.{Bool, true, false, not, _||_, cond, true≢false}
+use mathlib.Core.Bool.{Bool, true, false, not, cond, true≢false}
 use Prim.Native.Nat.{ℕ, _+_, _*_, _^_, _≤_, _<_}
 use native.Mathlib.Nat.{mul-le-mul, mul-pos, zero-lt-suc, le-trans}
 use native.Mathlib.Omega.{arith}
@@ -22,6 +22,7 @@ use Rattle.common_types.specs.declared.time_value.TimeValue.the-variants
 use Rattle.common_types.specs.declared.time_value.TimeOrRatio.{TimeOrRatio}
 use Rattle.common_types.specs.declared.time_value.TimeOrRatio.the-variants.{Time, Ratio}
 use Rattle.common_types.specs.Settings.{timeLengthOf, lengthOf, loopLengthOf, lengthBeyond, beyondLimits}
+use Rattle.common_types.proofs.Limits.{within}
 use Rattle.common_types.proofs.Largest.{max-reaches, max-under, max-fits}
 
 abbrev one : Float
@@ -85,21 +86,14 @@ unfolding lengthBeyond lengthOf
 length-under (Time v) t n h b p = total (timeLengthOf v t) most p (unfold isNan in tt) b
 length-under (Ratio r) t n h b p = product-under (asFloat n) r n (ofInt-whole binary32 n (le-trans h (lit≤ tt))) h b p
 
-neither : (a b : Bool) → T (not (a || b)) → T (not b)
-neither true b t = absurd t
-neither false b t = t
-
 pub loop-length-from-one : (p : Params) (n : ℕ) → T (le (fin false 1 (pos 0)) (loopLengthOf p n))
 unfolding loopLengthOf
 loop-length-from-one p n = max-reaches (lengthOf (p .«loop_length») (p .transport) n) one (unfold isNan in tt)
 
 pub loop-length-to-most : (p : Params) (n : ℕ) → T (not (beyondLimits p)) → n ≤ 2 ^ 22 → T (le (loopLengthOf p n) (fin false 1 (pos 22)))
-unfolding loopLengthOf beyondLimits
+unfolding loopLengthOf
 loop-length-to-most p n b h =
-    let l = p .«loop_length» in
-    let t = p .transport in
-    max-under (lengthOf l t n) one most
-    (length-under l t n h (neither (ltb 16777216 (p .«attack_samples») || ltb 16777216 (p .«decay_samples»)) (lengthBeyond l t) b)) (unfold le in tt)
+    max-under (lengthOf (p .«loop_length») (p .transport) n) one most (length-under (p .«loop_length») (p .transport) n h (within p b .length)) (unfold le in tt)
 
 -- ---- in binary32
 
