@@ -13,6 +13,7 @@ use lib.Ieee.Order.{round-mono}
 use Rattle.binary32.specs.Leaves.{asFloat, signOf}
 use Rattle.binary32.proofs.Truth.{or-l}
 use Rattle.binary32.proofs.Values.{mul-value}
+use Rattle.binary32.proofs.Units.{one}
 use Rattle.binary32.proofs.Rounding.{round-sign}
 use Rattle.binary32.proofs.Halves.{ofInt-whole}
 use Rattle.binary32.proofs.Between.{total}
@@ -24,9 +25,6 @@ use Rattle.common_types.specs.declared.time_value.TimeOrRatio.the-varian
 use Rattle.common_types.specs.Settings.{timeLengthOf, lengthOf, loopLengthOf, lengthBeyond, beyondLimits}
 use Rattle.common_types.proofs.Limits.{within}
 use Rattle.common_types.proofs.Largest.{max-reaches, max-under, max-fits}
-
-abbrev one : Float
-one = fin false 1 (pos 0)
 
 abbrev most : Float
 most = fin false 1 (pos 22)
@@ -86,7 +84,7 @@ unfolding lengthBeyond lengthOf
 length-under (Time v) t n h b p = total (timeLengthOf v t) most p (unfold isNan in tt) b
 length-under (Ratio r) t n h b p = product-under (asFloat n) r n (ofInt-whole binary32 n (le-trans h (lit≤ tt))) h b p
 
-pub loop-length-from-one : (p : Params) (n : ℕ) → T (le (fin false 1 (pos 0)) (loopLengthOf p n))
+pub loop-length-from-one : (p : Params) (n : ℕ) → T (le one (loopLengthOf p n))
 unfolding loopLengthOf
 loop-length-from-one p n = max-reaches (lengthOf (p .«loop_length») (p .transport) n) one (unfold isNan in tt)
 
