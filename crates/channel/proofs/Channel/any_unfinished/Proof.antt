@@ -1,0 +1,61 @@
+-- `Channel::any_unfinished` meets its contract, by the law of loops. Assumes nothing.
+use Prim.Native.Nat.{_-_}
+use Rattle.walks.specs.Walks.{any}
+use Rattle.walks.proofs.Loops.{Walk, turns, stops, ends, long}
+use Rattle.channel.specs.Channels.{live, unfinishedOf, anyUnfinishedOf}
+use Rattle.channel.proofs.Slots.{none, places-walk}
+use borrow.Author.Needs.{needs}
+use Rattle.channel.proofs.Channel.any_unfinished.Statement.{statement}
+use Rattle.channel.proofs.Channel.any_unfinished.Tie as tie
+
+abbrev Inv-loop : tie.InvT-loop
+Inv-loop self n i₀ i = Walk (any unfinishedOf (live self)) (any unfinishedOf) (self .voices) n i
+
+abbrev μ-loop : tie.MeasureT-loop
+μ-loop self n i₀ i = n - i
+
+places-requires : tie.Need-places-requires Inv-loop μ-loop
+places-requires c κs = search needs
+
+loop-holds : tie.Need-loop-holds Inv-loop μ-loop
+loop-holds c = places-walk (any unfinishedOf) (c .before .args .t1) _ (long _ (c .before .args .t1 .voices) 32 (c .before .good .0 .1 .1 .0 .1 .0 .1)) (c .places .ensures)
+
+mul-if1 : tie.Need-mul-if1 Inv-loop μ-loop
+mul-if1 c = search needs
+
+element-copy-out-if1 : tie.Need-element-copy-out-if1 Inv-loop μ-loop
+element-copy-out-if1 c = search needs
+
+returns : tie.Need-returns Inv-loop μ-loop
+unfolding anyUnfinishedOf any
+returns c = stops none (c .before .before .loop .inv) (search needs) (λ xs. simp (c .if1 .taken))
+
+add-i : tie.Need-add-i Inv-loop μ-loop
+add-i c = search needs
+
+loop-less : tie.Need-loop-less Inv-loop μ-loop
+loop-less c = search needs
+
+loop-again : tie.Need-loop-again Inv-loop μ-loop
+unfolding any
+loop-again c = turns none (c .before .before .loop .inv) (search needs) (λ xs. simp (c .if1 .left))
+
+returns-2 : tie.Need-returns-2 Inv-loop μ-loop
+unfolding anyUnfinishedOf any
+returns-2 c = ends (c .before .loop .inv) (c .loop-test .left)
+
+pub any-unfinished-spec : {M : Type 1} → statement M
+any-unfinished-spec =
+    tie.close
+    (tie.spec
+    Inv-loop
+    μ-loop
+    places-requires
+    loop-holds
+    mul-if1
+    element-copy-out-if1
+    returns
+    add-i
+    loop-less
+    loop-again
+    returns-2)

@@ -1,0 +1,164 @@
+-- What each call does to one channel (document 01, module 6, and the Rust's Channel). The voices are the first `count` of 32 places; what stands in the others
+-- is kept as it was. `m` is the channel's part of the lent memory. Definitions only.
+use Prim.Native.Nat.{ℕ, _+_}
+use mathlib.Core.Bool.{Bool, true, false, not, _&&_, cond}
+use mathlib.Core.List.{List, [], _∷_, map}
+use lib.Dec.{leb, ltb, eqb}
+use lib.ListN.{length, take, getD, set, replicate}
+use lib.Seq.{sets}
+use lib.Ieee.{Float, binary32, add, mul, div, rem}
+use Rattle.binary32.specs.Leaves.{asFloat, bitsOf}
+use Rattle.walks.specs.Walks.{any, every, without, fold, seek}
+use Rattle.common_types.specs.declared.InitParams.{InitParams}
+use Rattle.common_types.specs.declared.Params.{Params}
+use Rattle.common_types.specs.declared.Note.{Note}
+use Rattle.volume.specs.Levels.{levelOf}
+use Rattle.clip.specs.Positions.{zero32, one32}
+use Rattle.recorder.specs.Recording.{startOf, stopOf, recordedOf, dataAfter}
+use Rattle.voice.specs.declared.Voice.{Voice}
+use Rattle.voice.specs.declared.Tick.{Tick}
+use Rattle.voice.specs.Voices.{tickOf, shouldRemoveOf, productOf, turnOf, finishOf, freshOf, goodVoice, blankVoice, atSpeedOf}
+use Rattle.channel.specs.Heads.{headOf, withRecorded, passthruOf, closedOf, goodHead}
+use Rattle.channel.specs.declared.Head.{Head}
+use Rattle.channel.specs.declared.Channel.{Channel}
+use Rattle.channel.specs.declared.Change.{Change}
+use Rattle.channel.specs.declared.Change.the-variants as change
+use Rattle.channel.specs.declared.Played.{Played}
+use Rattle.channel.specs.declared.Found.{Found}
+use Rattle.channel.specs.declared.Found.the-variants.{At, Nothing}
+
+abbrev pub withHead : Head → Channel → Channel
+withHead h c = record { voices = c .voices; count = c .count; head = h }
+
+abbrev pub withVoices : List Voice → ℕ → Channel → Channel
+withVoices vs n c = record { voices = vs; count = n; head = c .head }
+
+-- the voices that there are
+abbrev pub live : Channel → List Voice
+live c = take (c .count) (c .voices)
+
+-- ---- set-up and reset
+unfoldable pub channelOf : InitParams → Channel
+channelOf p = record { voices = replicate 32 blankVoice; count = 0; head = headOf (cond (p .«auto_passthru») one32 zero32) }
+
+unfoldable pub resetOf : Channel → Channel
+resetOf c = record { voices = c .voices; count = 0; head = headOf zero32 }
+
+-- ---- keys
+abbrev pub unfinishedOf : Voice → Bool
+unfinishedOf v = not (v .finished)
+
+unfoldable pub anyUnfinishedOf : Channel → Bool
+anyUnfinishedOf c = any unfinishedOf (live c)
+
+-- pass-through follows whether a voice is unfinished
+unfoldable pub handledOf : Params → Channel → Channel
+handledOf p c = withHead (passthruOf p (anyUnfinishedOf c) (c .head)) c
+
+-- one voice more, at the end, where there is a place
+unfoldable pub pushedOf : Voice → Channel → Channel
+pushedOf v c = cond (ltb (c .count) 32) (withVoices (set (c .voices) (c .count) v) (c .count + 1) c) c
+
+-- an empty recording takes no voice
+unfoldable pub startPlayingOf : Params → Float → Note → Float → Channel → Channel
+startPlayingOf p position note velocity c =
+    cond (eqb (c .head .«data_len») 0) c (handledOf p (pushedOf (freshOf p position note velocity (c .head .now) (c .head .«data_len»)) c))
+
+abbrev pub sameNote : Note → Note → Bool
+sameNote a b = eqb (a .note) (b .note) && eqb (a .channel) (b .channel)
+
+-- the place of the first unfinished voice with that note
+unfoldable pub wantedOf : Note → Voice → Bool
+wantedOf note v = sameNote (v .note) note && unfinishedOf v
+
+unfoldable pub findOf : Note → Channel → Found
+findOf note c = seek At Nothing (wantedOf note) 0 (live c)
+
+-- the voice at one of the 32 places is finished now
+unfoldable pub finishedAtOf : Params → Channel → Found → Channel
+finishedAtOf p c Nothing = c
+finishedAtOf p c (At i) =
+    cond (ltb i 32)
+    (handledOf p (withVoices (set (c .voices) i (finishOf (c .head .now) (p .«decay_samples») (getD (c .voices) i blankVoice))) (c .count) c))
+    c
+
+unfoldable pub stopPlayingOf : Params → Note → Channel → Channel
+stopPlayingOf p note c = finishedAtOf p c (findOf note c)
+
+-- every voice with that note, finished or not
+unfoldable pub spedOf : Note → Float → Voice → Voice
+spedOf note speed v = cond (sameNote (v .note) note) (atSpeedOf speed v) v
+
+unfoldable pub setNoteSpeedOf : Note → Float → Channel → Channel
+setNoteSpeedOf note speed c = withVoices (sets (c .voices) 0 (map (spedOf note speed) (live c))) (c .count) c
+
+-- ---- recording
+unfoldable pub startRecordingOf : Channel → Channel
+startRecordingOf c = withHead (withRecorded (record { recorder = startOf (c .head .recorder); «data_len» = c .head .«data_len» }) (c .head)) c
+
+unfoldable pub stopRecordingOf : Channel → Channel
+stopRecordingOf c = withHead (withRecorded (stopOf (c .head .recorder) (c .head .«data_len»)) (c .head)) c
+
+-- ---- a sample
+
+-- what is left of the voices after their turns
+unfoldable pub keptOf : Tick → List ℕ → List Voice → List Voice
+keptOf t m vs = without (shouldRemoveOf t) (map (turnOf t m) vs)
+
+-- each product added in turn; a voice that is to be removed is silent
+unfoldable pub addedOf : Bool → Float → Float → Float
+addedOf silent out value = cond silent out (add binary32 out value)
+
+unfoldable pub heardOf : Tick → List ℕ → List Voice → Float
+heardOf t m vs = fold (λ (out : Float) (v : Voice). addedOf (shouldRemoveOf t v) out (productOf t m v)) zero32 vs
+
+unfoldable pub playedOf : Tick → List ℕ → Channel → Played
+playedOf t m c = record {
+  channel = withVoices (sets (c .voices) 0 (keptOf t m (live c))) (length (keptOf t m (live c))) c;
+  output = heardOf t m (live c);
+}
+
+-- the voices play if the recording isn't empty
+unfoldable pub playedIfOf : Params → List ℕ → Channel → Played
+playedIfOf p m c =
+    cond (eqb (c .head .«data_len») 0) (record { channel = c; output = zero32 })
+    (playedOf (tickOf p (c .head .now) (c .head .«data_len»)) m c)
+
+-- the channel once the sample x has been recorded, and its memory
+unfoldable pub takenOf : List ℕ → Channel → Channel
+takenOf m c = withHead (withRecorded (recordedOf (c .head .recorder) (c .head .«data_len») (length m)) (c .head)) c
+
+unfoldable pub memoryOf : Float → Channel → List ℕ → List ℕ
+memoryOf x c m = dataAfter (c .head .recorder) (bitsOf x) m
+
+-- records first, then plays, then adds the input at its level, and closes
+unfoldable pub processSampleOf : Params → Float → Channel → List ℕ → Played
+processSampleOf p x c m =
+    let r = playedIfOf p (memoryOf x c m) (takenOf m c) in
+    let h = takenOf m c .head in
+    record {
+      channel = withHead (closedOf p (anyUnfinishedOf (r .channel)) h) (r .channel);
+      output = add binary32 (add binary32 zero32 (r .output)) (mul binary32 x (levelOf (h .«passthru_volume») (h .now)));
+    }
+
+-- ---- what a call other than a sample does
+unfoldable pub changedOf : Change → Channel → Channel
+changedOf (change.Start p position note velocity) c = startPlayingOf p position note velocity c
+changedOf (change.Stop p note) c = stopPlayingOf p note c
+changedOf (change.Speed note speed) c = setNoteSpeedOf note speed c
+changedOf change.StartRecording c = startRecordingOf c
+changedOf change.StopRecording c = stopRecordingOf c
+changedOf change.Reset c = resetOf c
+
+-- ---- questions
+
+-- row 5 by this channel: a recording that isn't empty, and 32 voices
+unfoldable pub fullOf : Channel → Bool
+fullOf c = not (eqb (c .head .«data_len») 0) && leb 32 (c .count)
+
+-- ---- a channel that may stand in a record of that capacity
+unfoldable pub goodVoicesOf : Channel → Bool
+goodVoicesOf c = every (goodVoice (c .head .now)) (live c)
+
+unfoldable pub goodChannel : ℕ → Channel → Bool
+goodChannel capacity c = leb (c .count) 32 && goodHead capacity (c .head) && goodVoicesOf c

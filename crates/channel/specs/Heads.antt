@@ -1,0 +1,55 @@
+-- What of a channel is not its voices: clock, recording and pass-through (document 01, module 6, and the Rust's Channel). Definitions only.
+use Prim.Native.Nat.{ℕ, _+_, _^_}
+use mathlib.Core.Bool.{Bool, true, false, not, _&&_, Bool·beq, cond}
+use lib.Dec.{leb, ltb}
+use lib.Ieee.{Float}
+use Rattle.common_types.specs.declared.Params.{Params}
+use Rattle.volume.specs.declared.Volume.{Volume}
+use Rattle.volume.specs.declared.Volume.the-variants.{Static}
+use Rattle.volume.specs.Levels.{towardOf, steppedOf, goodVolume}
+use Rattle.clip.specs.Positions.{zero32, one32}
+use Rattle.recorder.specs.declared.Recorder.{Recorder}
+use Rattle.recorder.specs.declared.Recorded.{Recorded}
+use Rattle.recorder.specs.Recording.{newOf, goodRecorder}
+use Rattle.channel.specs.declared.Head.{Head}
+
+-- ---- parts of a head changed
+abbrev pub withRecorded : Recorded → Head → Head
+withRecorded r h = record { now = h .now; «data_len» = r .«data_len»; «passthru_volume» = h .«passthru_volume»; recorder = r .recorder; «passthru_on» = h .«passthru_on» }
+
+abbrev pub withPassthru : Bool → Volume → Head → Head
+withPassthru on volume h = record { now = h .now; «data_len» = h .«data_len»; «passthru_volume» = volume; recorder = h .recorder; «passthru_on» = on }
+
+-- ---- the clock: it ends at 2 ^ 48, and a sample then is refused (row 6)
+abbrev pub lastTime : ℕ
+lastTime = 2 ^ 48
+
+unfoldable pub nextTime : ℕ → ℕ
+nextTime now = cond (ltb now lastTime) (now + 1) now
+
+-- ---- a new head, and what a reset leaves: pass-through at 0 whatever set-up had
+unfoldable pub headOf : Float → Head
+headOf level = record { now = 0; «data_len» = 0; «passthru_volume» = Static level; recorder = newOf; «passthru_on» = false }
+
+-- ---- handle_passthru: the input passes while it is asked for and no voice is unfinished; a change of that begins a ramp
+abbrev pub passesOf : Params → Bool → Bool
+passesOf p unfinished = p .«auto_passthru» && not unfinished
+
+unfoldable pub rampOf : Volume → ℕ → Params → Bool → Volume
+rampOf v now p true = towardOf v now (p .«attack_samples») one32
+rampOf v now p false = towardOf v now (p .«decay_samples») zero32
+
+unfoldable pub passthruOf : Params → Bool → Head → Head
+passthruOf p unfinished h =
+    let on = passesOf p unfinished in
+    cond (Bool·beq on (h .«passthru_on»)) h (withPassthru on (rampOf (h .«passthru_volume») (h .now) p on) h)
+
+-- the end of a sample: the level's step, the change of state, and the clock
+unfoldable pub closedOf : Params → Bool → Head → Head
+closedOf p unfinished h =
+    let g = passthruOf p unfinished (withPassthru (h .«passthru_on») (steppedOf (h .«passthru_volume») (h .now)) h) in
+    record { now = nextTime (g .now); «data_len» = g .«data_len»; «passthru_volume» = g .«passthru_volume»; recorder = g .recorder; «passthru_on» = g .«passthru_on» }
+
+-- ---- a head that may stand in a record of that capacity
+unfoldable pub goodHead : ℕ → Head → Bool
+goodHead capacity h = leb (h .now) lastTime && goodVolume (h .now) (h .«passthru_volume») && goodRecorder (h .recorder) (h .«data_len») capacity

@@ -1,0 +1,518 @@
+// One channel: up to 32 voices over a recording in lent memory. Each function takes every value of its arguments, and equals a definition
+// in specs/. A sample is its 32-bit pattern, and `data` is the channel's part of the lent memory.
+ghost use mathlib.Core.Path.{_≡_};
+ghost use Prim.Native.Nat.{min};
+ghost use mathlib.Core.Bool.{cond};
+ghost use Rattle.clip.specs.Positions.{zero32, one32};
+ghost use Rattle.voice.specs.Voices.{shouldRemoveOf};
+ghost use Rattle.channel.specs.Heads.{nextTime, headOf, withRecorded, withPassthru, rampOf, passthruOf, closedOf, goodHead};
+ghost use Rattle.channel.specs.Channels.{
+  sameNote,
+  anyUnfinishedOf,
+  channelOf,
+  resetOf,
+  handledOf,
+  pushedOf,
+  startPlayingOf,
+  wantedOf,
+  findOf,
+  finishedAtOf,
+  stopPlayingOf,
+  spedOf,
+  setNoteSpeedOf,
+  startRecordingOf,
+  stopRecordingOf,
+  addedOf,
+  playedOf,
+  playedIfOf,
+  takenOf,
+  memoryOf,
+  processSampleOf,
+  changedOf,
+  fullOf,
+  goodVoicesOf,
+  goodChannel,
+};
+use common_types::InitParams;
+use common_types::Note;
+use common_types::Params;
+use recorder::Recorded;
+use recorder::Recorder;
+use voice::Tick;
+use voice::Voice;
+use volume::Volume;
+
+// The clock's end: a sample then is refused.
+pub const LAST_TIME: usize = 0x1_0000_0000_0000;
+
+// What of a channel is not its voices. It holds the enums, and is stored whole.
+pub struct Head {
+    pub now: usize,
+    pub data_len: usize,
+    pub passthru_volume: Volume,
+    pub recorder: Recorder,
+    pub passthru_on: bool,
+}
+
+// The voices are the first `count` of the 32.
+pub struct Channel {
+    pub voices: [Voice; 32],
+    pub count: usize,
+    pub head: Head,
+}
+
+pub struct Played {
+    pub channel: Channel,
+    pub output: f32,
+}
+
+pub enum Found {
+    At(usize),
+    Nothing,
+}
+
+// What a call other than a sample does to each channel.
+pub enum Change {
+    Start {
+        params: Params,
+        position: f32,
+        note: Note,
+        velocity: f32,
+    },
+    Stop {
+        params: Params,
+        note: Note,
+    },
+    Speed {
+        note: Note,
+        speed: f32,
+    },
+    StartRecording,
+    StopRecording,
+    Reset,
+}
+
+impl Head {
+    pub fn new(level: f32) -> Self
+        ensures { λ r. ⌜ r ≡ headOf level ⌝ }
+    {
+        Self {
+            now: 0,
+            data_len: 0,
+            passthru_volume: Volume::new(level),
+            recorder: Recorder::new(),
+            passthru_on: false,
+        }
+    }
+
+    fn with_recorded(self, r: Recorded) -> Self
+        ensures { λ x. ⌜ x ≡ withRecorded r self ⌝ }
+    {
+        let volume = self.passthru_volume;
+        let recorder = r.recorder;
+        Self {
+            now: self.now,
+            data_len: r.data_len,
+            passthru_volume: volume,
+            recorder,
+            passthru_on: self.passthru_on,
+        }
+    }
+
+    fn with_passthru(self, on: bool, volume: Volume) -> Self
+        ensures { λ r. ⌜ r ≡ withPassthru on volume self ⌝ }
+    {
+        let recorder = self.recorder;
+        Self {
+            now: self.now,
+            data_len: self.data_len,
+            passthru_volume: volume,
+            recorder,
+            passthru_on: on,
+        }
+    }
+
+    // The input passes while it is asked for and no voice is unfinished. A change of that begins a ramp.
+    fn handle_passthru(self, params: Params, unfinished: bool) -> Self
+        ensures { λ r. ⌜ r ≡ passthruOf params unfinished self ⌝ }
+    {
+        let wanted = params.auto_passthru & !unfinished;
+        if wanted == self.passthru_on {
+            return self;
+        }
+        let volume = self.passthru_volume;
+        self.with_passthru(wanted, ramp(volume, self.now, params, wanted))
+    }
+
+    // The end of a sample: the level's step, the change of state, and the clock.
+    fn closed(self, params: Params, unfinished: bool) -> Self
+        ensures { λ r. ⌜ r ≡ closedOf params unfinished self ⌝ }
+    {
+        let volume = self.passthru_volume;
+        let stepped = self.with_passthru(self.passthru_on, volume.stepped(self.now));
+        let mut head = stepped.handle_passthru(params, unfinished);
+        head.now = next_time(head.now);
+        head
+    }
+
+    fn good(self, capacity: usize) -> bool
+        ensures { λ r. ⌜ r ≡ goodHead capacity self ⌝ }
+    {
+        if LAST_TIME < self.now {
+            return false;
+        }
+        let volume = self.passthru_volume;
+        if !volume.good(self.now) {
+            return false;
+        }
+        let recorder = self.recorder;
+        recorder.good(self.data_len, capacity)
+    }
+}
+
+fn ramp(volume: Volume, now: usize, params: Params, wanted: bool) -> Volume
+    ensures { λ r. ⌜ r ≡ rampOf volume now params wanted ⌝ }
+{
+    if wanted {
+        volume.toward(now, params.attack_samples, 1.0)
+    } else {
+        volume.toward(now, params.decay_samples, 0.0)
+    }
+}
+
+fn first_level(params: InitParams) -> f32
+    ensures { λ r. ⌜ r ≡ cond (params .«auto_passthru») one32 zero32 ⌝ }
+{
+    if params.auto_passthru { 1.0 } else { 0.0 }
+}
+
+fn next_time(now: usize) -> usize
+    ensures { λ r. ⌜ r ≡ nextTime now ⌝ }
+{
+    if now < LAST_TIME { now + 1 } else { now }
+}
+
+fn same_note(a: Note, b: Note) -> bool
+    ensures { λ r. ⌜ r ≡ sameNote a b ⌝ }
+{
+    if a.note == b.note {
+        a.channel == b.channel
+    } else {
+        false
+    }
+}
+
+fn wanted(v: Voice, note: Note) -> bool
+    ensures { λ r. ⌜ r ≡ wantedOf note v ⌝ }
+{
+    let own = v.note;
+    if same_note(own, note) {
+        !v.finished
+    } else {
+        false
+    }
+}
+
+// How many places there are to walk: the count, and never more than the array has.
+fn places(count: usize) -> usize
+    ensures { λ r. ⌜ r ≡ min count 32 ⌝ }
+{
+    if count < 32 { count } else { 32 }
+}
+
+impl Channel {
+    pub fn new(params: InitParams) -> Self
+        ensures { λ r. ⌜ r ≡ channelOf params ⌝ }
+    {
+        let blank = Voice::blank();
+        Self {
+            voices: [blank; 32],
+            count: 0,
+            head: Head::new(first_level(params)),
+        }
+    }
+
+    pub fn reset(mut self) -> Self
+        ensures { λ r. ⌜ r ≡ resetOf self ⌝ }
+    {
+        self.count = 0;
+        self.head = Head::new(0.0);
+        self
+    }
+
+    fn any_unfinished(self) -> bool
+        ensures { λ r. ⌜ r ≡ anyUnfinishedOf self ⌝ }
+    {
+        let n = places(self.count);
+        let mut i = 0;
+        while i < n {
+            if !self.voices[i].finished {
+                return true;
+            }
+            i += 1;
+        }
+        false
+    }
+
+    fn handle_passthru(mut self, params: Params) -> Self
+        ensures { λ r. ⌜ r ≡ handledOf params self ⌝ }
+    {
+        let unfinished = self.any_unfinished();
+        let head = self.head;
+        self.head = head.handle_passthru(params, unfinished);
+        self
+    }
+
+    // One voice more, at the end, where there is a place.
+    fn push(mut self, v: Voice) -> Self
+        ensures { λ r. ⌜ r ≡ pushedOf v self ⌝ }
+    {
+        let n = self.count;
+        if 32 <= n {
+            return self;
+        }
+        self.voices[n] = v;
+        self.count = n + 1;
+        self
+    }
+
+    // A channel with no recording takes no voice.
+    pub fn start_playing(self, params: Params, position: f32, note: Note, velocity: f32) -> Self
+        ensures { λ r. ⌜ r ≡ startPlayingOf params position note velocity self ⌝ }
+    {
+        let head = self.head;
+        if head.data_len == 0 {
+            return self;
+        }
+        let v = Voice::new(params, position, note, velocity, head.now, head.data_len);
+        self.push(v).handle_passthru(params)
+    }
+
+    // The place of the first unfinished voice with that note.
+    fn find(self, note: Note) -> Found
+        ensures { λ r. ⌜ r ≡ findOf note self ⌝ }
+    {
+        let n = places(self.count);
+        let mut i = 0;
+        let found = loop {
+            if n <= i {
+                break Found::Nothing;
+            }
+            let v = self.voices[i];
+            if wanted(v, note) {
+                break Found::At(i);
+            }
+            i += 1;
+        };
+        found
+    }
+
+    fn finish_voice(mut self, params: Params, found: Found) -> Self
+        ensures { λ r. ⌜ r ≡ finishedAtOf params self found ⌝ }
+    {
+        let Found::At(i) = found else {
+            return self;
+        };
+        if 32 <= i {
+            return self;
+        }
+        let v = self.voices[i];
+        let head = self.head;
+        self.voices[i] = v.finish(head.now, params.decay_samples);
+        self.handle_passthru(params)
+    }
+
+    pub fn stop_playing(self, params: Params, note: Note) -> Self
+        ensures { λ r. ⌜ r ≡ stopPlayingOf params note self ⌝ }
+    {
+        let found = self.find(note);
+        self.finish_voice(params, found)
+    }
+
+    // Every voice with that note, finished or not.
+    pub fn set_note_speed(mut self, note: Note, speed: f32) -> Self
+        ensures { λ r. ⌜ r ≡ setNoteSpeedOf note speed self ⌝ }
+    {
+        let n = places(self.count);
+        let mut i = 0;
+        while i < n {
+            let v = self.voices[i];
+            self.voices[i] = sped(v, note, speed);
+            i += 1;
+        }
+        self
+    }
+
+    pub fn start_recording(mut self) -> Self
+        ensures { λ r. ⌜ r ≡ startRecordingOf self ⌝ }
+    {
+        let head = self.head;
+        let recorder = head.recorder;
+        self.head = head.with_recorded(Recorded {
+            recorder: recorder.start(),
+            data_len: head.data_len,
+        });
+        self
+    }
+
+    pub fn stop_recording(mut self) -> Self
+        ensures { λ r. ⌜ r ≡ stopRecordingOf self ⌝ }
+    {
+        let head = self.head;
+        let recorder = head.recorder;
+        self.head = head.with_recorded(recorder.stop(head.data_len));
+        self
+    }
+
+    // The channel once the sample has been recorded.
+    fn record(mut self, input: f32, data: &mut [u32]) -> Self
+        ensures { λ r. ⌜ r ≡ takenOf (now («data» .entry)) self ⌝ }
+        ensures { λ r. ⌜ now («data» .exit) ≡ memoryOf input self (now («data» .entry)) ⌝ }
+    {
+        let head = self.head;
+        let recorder = head.recorder;
+        self.head = head.with_recorded(recorder.process_sample(
+            binary32::to_bits(input),
+            data,
+            head.data_len,
+        ));
+        self
+    }
+
+    // Each voice takes its turn; those that are then to be removed leave, and the others move up in order.
+    fn play(mut self, t: Tick, data: &[u32]) -> Played
+        ensures { λ r. ⌜ r ≡ playedOf t (now («data» .entry)) self ⌝ }
+    {
+        let n = places(self.count);
+        let mut output = 0.0;
+        let mut k = 0;
+        let mut i = 0;
+        while i < n {
+            let v = self.voices[i];
+            let w = v.turn(t, data);
+            output = sound(output, v, w, t);
+            if !w.should_remove(t) {
+                self.voices[k] = w;
+                k += 1;
+            }
+            i += 1;
+        }
+        self.count = k;
+        Played {
+            channel: self,
+            output,
+        }
+    }
+
+    fn play_voices(self, params: Params, data: &[u32]) -> Played
+        ensures { λ r. ⌜ r ≡ playedIfOf params (now («data» .entry)) self ⌝ }
+    {
+        let head = self.head;
+        if head.data_len == 0 {
+            return Played {
+                channel: self,
+                output: 0.0,
+            };
+        }
+        self.play(Tick::new(params, head.now, head.data_len), data)
+    }
+
+    pub fn process_sample(self, params: Params, input: f32, data: &mut [u32]) -> Played
+        ensures { λ r. ⌜ r ≡ processSampleOf params input self (now («data» .entry)) ⌝ }
+        ensures { λ r. ⌜ now («data» .exit) ≡ memoryOf input self (now («data» .entry)) ⌝ }
+    {
+        let recorded = self.record(input, data);
+        let head = recorded.head;
+        let volume = head.passthru_volume;
+        let level = volume.level(head.now);
+        let played = recorded.play_voices(params, data);
+        let mut channel = played.channel;
+        let unfinished = channel.any_unfinished();
+        channel.head = head.closed(params, unfinished);
+        Played {
+            channel,
+            output: 0.0 + played.output + input * level,
+        }
+    }
+
+    pub fn changed(self, change: Change) -> Self
+        ensures { λ r. ⌜ r ≡ changedOf change self ⌝ }
+    {
+        match change {
+            Change::Start {
+                params,
+                position,
+                note,
+                velocity,
+            } => self.start_playing(params, position, note, velocity),
+            Change::Stop { params, note } => self.stop_playing(params, note),
+            Change::Speed { note, speed } => self.set_note_speed(note, speed),
+            Change::StartRecording => self.start_recording(),
+            Change::StopRecording => self.stop_recording(),
+            Change::Reset => self.reset(),
+        }
+    }
+
+    // Whether the channel takes no further voice: a recording that isn't empty, and 32 voices.
+    pub fn full(self) -> bool
+        ensures { λ r. ⌜ r ≡ fullOf self ⌝ }
+    {
+        let head = self.head;
+        if head.data_len == 0 {
+            return false;
+        }
+        32 <= self.count
+    }
+
+    fn good_voices(self) -> bool
+        ensures { λ r. ⌜ r ≡ goodVoicesOf self ⌝ }
+    {
+        let head = self.head;
+        let n = places(self.count);
+        let mut i = 0;
+        while i < n {
+            let v = self.voices[i];
+            if !v.good(head.now) {
+                return false;
+            }
+            i += 1;
+        }
+        true
+    }
+
+    // Whether the channel may stand in a record of that capacity.
+    pub fn good(self, capacity: usize) -> bool
+        ensures { λ r. ⌜ r ≡ goodChannel capacity self ⌝ }
+    {
+        if 32 < self.count {
+            return false;
+        }
+        let head = self.head;
+        if !head.good(capacity) {
+            return false;
+        }
+        self.good_voices()
+    }
+}
+
+fn sped(v: Voice, note: Note, speed: f32) -> Voice
+    ensures { λ r. ⌜ r ≡ spedOf note speed v ⌝ }
+{
+    let own = v.note;
+    if same_note(own, note) {
+        v.at_speed(speed)
+    } else {
+        v
+    }
+}
+
+// The output with the value of voice `v`, after its turn `w`. One that was to be removed is silent.
+fn sound(output: f32, v: Voice, w: Voice, t: Tick) -> f32
+    ensures { λ r. ⌜ r ≡ addedOf (shouldRemoveOf t v) output (w .«last_sample_value») ⌝ }
+{
+    if v.should_remove(t) {
+        output
+    } else {
+        output + w.last_sample_value
+    }
+}

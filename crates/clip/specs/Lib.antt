@@ -1,0 +1,5 @@
+pub mod Positions
+pub mod Updates
+pub mod Refusals
+pub mod Bounds
+pub mod Table

@@ -1,0 +1,70 @@
+-- Where a clip is at a time (document 01, module 4). Floats are binary32, and operations go in the Rust's order. Each definition takes every clip and every time.
+-- Definitions only. Assumes nothing.
+use Prim.Native.Nat.{ℕ, _-_}
+use mathlib.Core.Bool.{false, cond}
+use lib.IntN.{pos}
+use lib.Ieee.{Float, fin, binary32, add, sub, mul, rem, lt, le}
+use Rattle.binary32.specs.Leaves.{asFloat, asWhole, floorOf, minOf, maxOf, absOf}
+use Rattle.clip.specs.declared.Mode.{Mode}
+use Rattle.clip.specs.declared.Mode.the-variants.{Loop, PingPong}
+use Rattle.clip.specs.declared.Clip.{Clip}
+
+abbrev pub zero32 : Float
+zero32 = fin false 0 (pos 0)
+
+abbrev pub one32 : Float
+one32 = fin false 1 (pos 0)
+
+abbrev pub two32 : Float
+two32 = fin false 1 (pos 1)
+
+-- the samples since the clip's last change; 0 at a time before it
+abbrev pub elapsedAt : Clip → ℕ → ℕ
+elapsedAt c now = now - c .since
+
+-- r: 1 for negative speed, else 0
+unfoldable pub leadOf : Float → Float
+leadOf speed = cond (lt speed zero32) one32 zero32
+
+-- x = shift + (elapsed + r) * speed
+unfoldable pub travelAt : Clip → ℕ → Float
+travelAt c now =
+    add binary32 (c .shift) (mul binary32 (add binary32 (asFloat (elapsedAt c now)) (leadOf (c .speed))) (c .speed))
+
+-- loop: x % length, plus length if that isn't >= 0
+unfoldable pub loopedOf : Float → Float → Float
+loopedOf x length = let y = rem binary32 x length in cond (le zero32 y) y (add binary32 y length)
+
+-- |x| % (2 * length): how far on a way of 2 * length, there and back
+unfoldable pub roundTripOf : Float → Float → Float
+roundTripOf x length = rem binary32 (absOf x) (mul binary32 two32 length)
+
+-- 2 * length - y - 1: the place that y on the way back comes to
+unfoldable pub mirroredOf : Float → Float → Float
+mirroredOf y length = sub binary32 (sub binary32 (mul binary32 two32 length) y) one32
+
+-- ping-pong: y on the way there, otherwise (NaN too) its mirror place, at least 0
+unfoldable pub bouncedOf : Float → Float → Float
+bouncedOf x length = let y = roundTripOf x length in cond (lt y length) y (maxOf (mirroredOf y length) zero32)
+
+unfoldable pub wrappedOf : Mode → Float → Float → Float
+wrappedOf Loop x length = loopedOf x length
+wrappedOf PingPong x length = bouncedOf x length
+
+-- then the smaller of it and length - 1, where NaN yields the other
+unfoldable pub placedOf : Mode → Float → Float → Float
+placedOf mode x length = minOf (wrappedOf mode x length) (sub binary32 length one32)
+
+unfoldable pub clipOffsetAt : Clip → ℕ → Float
+clipOffsetAt c now = placedOf (c .mode) (travelAt c now) (c .length)
+
+-- the place in the data of a place in the clip: (start + that) % data length
+unfoldable pub clipToDataOf : Clip → Float → Float
+clipToDataOf c place = rem binary32 (add binary32 (c .start) place) (c .«data_length»)
+
+unfoldable pub offsetAt : Clip → ℕ → Float
+offsetAt c now = clipToDataOf c (clipOffsetAt c now)
+
+-- the whole part of the offset: the sample that sounds
+unfoldable pub indexAt : Clip → ℕ → ℕ
+indexAt c now = asWhole 64 (floorOf (offsetAt c now))

@@ -1,0 +1,94 @@
+-- Document 01's number 7 for a clip, and each call under the Rust's name: refused, or what the definitions of Positions and Updates say.
+-- Definitions only. Assumes nothing.
+use Prim.Native.Nat.{ℕ, _^_}
+use mathlib.Core.Bool.{Bool, false, not, _&&_, _||_, cond}
+use lib.Dec.{leb}
+use lib.IntN.{pos}
+use lib.Ieee.{Float, fin, le, lt}
+use Rattle.clip.specs.Positions.{zero32, one32, elapsedAt, clipOffsetAt, offsetAt}
+use Rattle.clip.specs.Updates.{madeOf, foundAt, reversingAt, withSpeed, withMode, withLength, withDataLength}
+use Rattle.clip.specs.declared.Mode.{Mode}
+use Rattle.clip.specs.declared.Clip.{Clip}
+use Rattle.clip.specs.declared.ClipAnswer.{ClipAnswer}
+use Rattle.clip.specs.declared.ClipAnswer.the-variants as clip
+use Rattle.clip.specs.declared.FoundAnswer.{FoundAnswer}
+use Rattle.clip.specs.declared.FoundAnswer.the-variants as found
+use Rattle.clip.specs.declared.PositionAnswer.{PositionAnswer}
+use Rattle.clip.specs.declared.PositionAnswer.the-variants as position
+use Rattle.clip.specs.declared.ElapsedAnswer.{ElapsedAnswer}
+use Rattle.clip.specs.declared.ElapsedAnswer.the-variants as elapsed
+use Rattle.clip.specs.declared.ReversingAnswer.{ReversingAnswer}
+use Rattle.clip.specs.declared.ReversingAnswer.the-variants as reversing
+
+-- 2 ^ 22
+abbrev pub most32 : Float
+most32 = fin false 1 (pos 22)
+
+-- a length or data length from 1 to 2 ^ 22, which a NaN is not
+unfoldable pub goodLength : Float → Bool
+goodLength length = le one32 length && le length most32
+
+-- shift and speed may be anything
+unfoldable pub goodClip : Clip → Bool
+goodClip c = goodLength (c .length) && goodLength (c .«data_length») && (le zero32 (c .start) && le (c .start) most32)
+
+-- a bad clip, or a time before `since` or above 2 ^ 48
+unfoldable pub refusedAt : Clip → ℕ → Bool
+refusedAt c now = not (goodClip c && leb (c .since) now && leb now (2 ^ 48))
+
+-- ---- the calls
+
+-- a clip made above 2 ^ 48 would be refused at every time
+unfoldable pub newOf : ℕ → Float → Float → Float → Float → Mode → ClipAnswer
+newOf since start speed length data-length mode =
+    let c = madeOf since start speed length data-length mode in
+    cond (refusedAt c since) clip.Refused (clip.Done c)
+
+-- the place has to be in 0 to below the data length
+unfoldable pub dataToClipOf : Clip → Float → FoundAnswer
+dataToClipOf c x = cond (goodClip c && (le zero32 x && lt x (c .«data_length»))) (found.Done (foundAt c x)) found.Refused
+
+unfoldable pub isPingpongReversingOf : Clip → ℕ → ReversingAnswer
+isPingpongReversingOf c now = cond (refusedAt c now) reversing.Refused (reversing.Done (reversingAt c now))
+
+unfoldable pub elapsedOf : Clip → ℕ → ElapsedAnswer
+elapsedOf c now = cond (refusedAt c now) elapsed.Refused (elapsed.Done (elapsedAt c now))
+
+unfoldable pub clipOffsetOf : Clip → ℕ → PositionAnswer
+clipOffsetOf c now = cond (refusedAt c now) position.Refused (position.Done (clipOffsetAt c now))
+
+unfoldable pub offsetOf : Clip → ℕ → PositionAnswer
+offsetOf c now = cond (refusedAt c now) position.Refused (position.Done (offsetAt c now))
+
+unfoldable pub updateSpeedOf : Clip → ℕ → Float → ClipAnswer
+updateSpeedOf c now speed = cond (refusedAt c now) clip.Refused (clip.Done (withSpeed c now speed))
+
+unfoldable pub updateModeOf : Clip → ℕ → Mode → ClipAnswer
+updateModeOf c now mode = cond (refusedAt c now) clip.Refused (clip.Done (withMode c now mode))
+
+unfoldable pub updateLengthOf : Clip → ℕ → Float → ClipAnswer
+updateLengthOf c now length = cond (refusedAt c now || not (goodLength length)) clip.Refused (clip.Done (withLength c now length))
+
+unfoldable pub updateDataLengthOf : Clip → ℕ → Float → ClipAnswer
+updateDataLengthOf c now length = cond (refusedAt c now || not (goodLength length)) clip.Refused (clip.Done (withDataLength c now length))
+
+-- ---- document 01's number for each answer
+abbrev pub clipNumber : ClipAnswer → ℕ
+clipNumber (clip.Done c) = 0
+clipNumber clip.Refused = 7
+
+abbrev pub foundNumber : FoundAnswer → ℕ
+foundNumber (found.Done f) = 0
+foundNumber found.Refused = 7
+
+abbrev pub positionNumber : PositionAnswer → ℕ
+positionNumber (position.Done x) = 0
+positionNumber position.Refused = 7
+
+abbrev pub elapsedNumber : ElapsedAnswer → ℕ
+elapsedNumber (elapsed.Done n) = 0
+elapsedNumber elapsed.Refused = 7
+
+abbrev pub reversingNumber : ReversingAnswer → ℕ
+reversingNumber (reversing.Done b) = 0
+reversingNumber reversing.Refused = 7

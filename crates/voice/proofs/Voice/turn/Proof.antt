@@ -1,0 +1,40 @@
+-- `Voice::turn` meets its contract: its test is that of `turnOf`. Assumes nothing.
+use Rattle.voice.specs.Voices.{turnOf}
+use borrow.Author.Needs.{needs}
+use Rattle.voice.proofs.Voice.turn.Statement.{statement}
+use Rattle.voice.proofs.Voice.turn.Tie as tie
+
+should-remove-requires : tie.Need-should-remove-requires
+should-remove-requires c κs = search needs
+
+volume-stepped-requires : tie.Need-volume-stepped-requires
+volume-stepped-requires c κs = search needs
+
+returns : tie.Need-returns
+unfolding turnOf
+returns c = simp (c .volume-stepped .ensures, ← (c .before .before .should-remove .ensures), c .before .if1 .taken)
+
+sounded-requires : tie.Need-sounded-requires
+sounded-requires c κs = search needs
+
+ended-requires : tie.Need-ended-requires
+ended-requires c κs = search needs
+
+volume-stepped-requires-2 : tie.Need-volume-stepped-requires-2
+volume-stepped-requires-2 c κs = search needs
+
+returns-2 : tie.Need-returns-2
+unfolding turnOf
+returns-2 c = simp (c .volume-stepped2 .ensures, c .before .ended .ensures, c .before .before .sounded .ensures, ← (c .before .before .before .before .should-remove .ensures), c .before .before .before .if1 .left)
+
+pub turn-spec : {M : Type 1} → statement M
+turn-spec =
+    tie.close
+    (tie.spec
+    should-remove-requires
+    volume-stepped-requires
+    returns
+    sounded-requires
+    ended-requires
+    volume-stepped-requires-2
+    returns-2)

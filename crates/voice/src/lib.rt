@@ -1,0 +1,337 @@
+// One voice, and what it does in one sample. Each function takes every value of its arguments, and equals a definition in specs/Voices.antt.
+ghost use mathlib.Core.Path.{_≡_};
+ghost use Prim.Native.Nat.{_-_};
+ghost use Rattle.voice.specs.Voices.{tickOf, clipModeOf, playsOnceOf, lateOf, overOf, shouldRemoveOf, recordedOf, movedOf, soundedOf, finishOf, playedOutOf, endedOf, volumeStepped, turnOf, freshOf, blankVoice, atSpeedOf, goodVoice};
+use clip::Clip;
+use clip::Mode;
+use common_types::LoopMode;
+use common_types::Note;
+use common_types::NoteOffBehaviour;
+use common_types::Params;
+use volume::Volume;
+
+// The fields stand in an order that leaves no gaps between them.
+pub struct Voice {
+    pub finished_at: usize,
+    pub last_sample_index: usize,
+    pub clip2: Clip,
+    pub volume: Volume,
+    pub loop_start_percent: f32,
+    pub played: f32,
+    pub last_sample_value: f32,
+    pub speed: f32,
+    pub note: Note,
+    pub finished: bool,
+    pub is_at_zero_crossing: bool,
+}
+
+// What all voices of a channel share in one sample, worked out once.
+pub struct Tick {
+    pub now: usize,
+    pub decay_samples: usize,
+    pub length: f32,
+    pub whole_length: f32,
+    pub data_length: f32,
+    pub speed: f32,
+    pub mode: Mode,
+    pub once: bool,
+    pub note_off_behavior: NoteOffBehaviour,
+}
+
+impl Tick {
+    pub fn new(params: Params, now: usize, data_len: usize) -> Self
+        ensures { λ r. ⌜ r ≡ tickOf params now «data_len» ⌝ }
+    {
+        let length = params.loop_length(data_len);
+        let loop_mode = params.loop_mode;
+        let note_off_behavior = params.note_off_behavior;
+        Self {
+            now,
+            decay_samples: params.decay_samples,
+            length,
+            whole_length: binary32::floor(length),
+            data_length: binary32::usize_to_f32(data_len),
+            speed: params.speed(),
+            mode: clip_mode(loop_mode),
+            once: plays_once(loop_mode),
+            note_off_behavior,
+        }
+    }
+}
+
+// Play-once moves as a loop does.
+fn clip_mode(mode: LoopMode) -> Mode
+    ensures { λ r. ⌜ r ≡ clipModeOf mode ⌝ }
+{
+    match mode {
+        LoopMode::PlayOnce => Mode::Loop,
+        LoopMode::Loop => Mode::Loop,
+        LoopMode::PingPong => Mode::PingPong,
+    }
+}
+
+fn plays_once(mode: LoopMode) -> bool
+    ensures { λ r. ⌜ r ≡ playsOnceOf mode ⌝ }
+{
+    match mode {
+        LoopMode::PlayOnce => true,
+        LoopMode::Loop => false,
+        LoopMode::PingPong => false,
+    }
+}
+
+// The value recorded at a place of the channel's memory.
+fn recorded(data: &[u32], index: usize) -> f32
+    ensures { λ r. ⌜ r ≡ recordedOf (now («data» .entry)) index ⌝ }
+{
+    if index < data.len() {
+        binary32::from_bits(data[index])
+    } else {
+        0.0
+    }
+}
+
+impl Voice {
+    // A voice that starts now, on a recording of `data_len` samples.
+    pub fn new(
+        params: Params,
+        position: f32,
+        note: Note,
+        velocity: f32,
+        now: usize,
+        data_len: usize,
+    ) -> Self
+        ensures { λ r. ⌜ r ≡ freshOf params position note velocity now «data_len» ⌝ }
+    {
+        let data_length = binary32::usize_to_f32(data_len);
+        let loop_mode = params.loop_mode;
+        let clip2 = Clip {
+            since: now,
+            start: position * data_length,
+            speed: params.speed(),
+            length: params.loop_length(data_len),
+            data_length,
+            shift: 0.0,
+            mode: clip_mode(loop_mode),
+        };
+        Self {
+            finished_at: 0,
+            last_sample_index: 0,
+            clip2,
+            volume: Volume::new(0.0).toward(now, params.attack_samples, velocity),
+            loop_start_percent: position,
+            played: 0.0,
+            last_sample_value: 0.0,
+            speed: 1.0,
+            note,
+            finished: false,
+            is_at_zero_crossing: false,
+        }
+    }
+
+    // What stands in a place that no voice has taken yet.
+    pub fn blank() -> Self
+        ensures { λ r. ⌜ r ≡ blankVoice ⌝ }
+    {
+        let clip2 = Clip {
+            since: 0,
+            start: 0.0,
+            speed: 0.0,
+            length: 1.0,
+            data_length: 1.0,
+            shift: 0.0,
+            mode: Mode::Loop,
+        };
+        Self {
+            finished_at: 0,
+            last_sample_index: 0,
+            clip2,
+            volume: Volume::Static(0.0),
+            loop_start_percent: 0.0,
+            played: 0.0,
+            last_sample_value: 0.0,
+            speed: 0.0,
+            note: Note {
+                note: 0,
+                channel: 0,
+            },
+            finished: true,
+            is_at_zero_crossing: false,
+        }
+    }
+
+    pub fn at_speed(mut self, speed: f32) -> Self
+        ensures { λ r. ⌜ r ≡ atSpeedOf speed self ⌝ }
+    {
+        self.speed = speed;
+        self
+    }
+
+    pub fn should_remove(self, t: Tick) -> bool
+        ensures { λ r. ⌜ r ≡ shouldRemoveOf t self ⌝ }
+    {
+        if !self.finished {
+            return false;
+        }
+        let volume = self.volume;
+        let behavior = t.note_off_behavior;
+        over(behavior, volume.is_static_and_mute(), self.late(t))
+    }
+
+    // Its decay is over by the clock, or it stands at a crossing.
+    fn late(self, t: Tick) -> bool
+        ensures { λ r. ⌜ r ≡ lateOf t self ⌝ }
+    {
+        if t.decay_samples <= since(self.finished_at, t.now) {
+            return true;
+        }
+        self.is_at_zero_crossing
+    }
+
+    // The clip, brought up to this sample's length, speed, data length and mode.
+    fn moved(self, t: Tick) -> Clip
+        ensures { λ r. ⌜ r ≡ movedOf t self ⌝ }
+    {
+        let clip2 = self.clip2;
+        let mode = t.mode;
+        clip2
+            .with_length(t.now, t.length)
+            .with_speed(t.now, self.speed * t.speed)
+            .with_data_length(t.now, t.data_length)
+            .with_mode(t.now, mode)
+    }
+
+    fn sounded(self, t: Tick, data: &[u32]) -> Self
+        ensures { λ r. ⌜ r ≡ soundedOf t (now («data» .entry)) self ⌝ }
+    {
+        let clip2 = self.moved(t);
+        let index = clip2.index_at(t.now);
+        let volume = self.volume;
+        let note = self.note;
+        let value = recorded(data, index) * volume.level(t.now);
+        Self {
+            finished_at: self.finished_at,
+            last_sample_index: index,
+            clip2,
+            volume,
+            loop_start_percent: self.loop_start_percent,
+            played: self.played + self.speed * t.speed,
+            last_sample_value: value,
+            speed: self.speed,
+            note,
+            finished: self.finished,
+            is_at_zero_crossing: binary32::crossing(value, self.last_sample_value),
+        }
+    }
+
+    // From here its level goes to 0 over the decay.
+    pub fn finish(self, now: usize, decay_samples: usize) -> Self
+        ensures { λ r. ⌜ r ≡ finishOf now «decay_samples» self ⌝ }
+    {
+        let clip2 = self.clip2;
+        let volume = self.volume;
+        let note = self.note;
+        Self {
+            finished_at: now,
+            last_sample_index: self.last_sample_index,
+            clip2,
+            volume: volume.toward(now, decay_samples, 0.0),
+            loop_start_percent: self.loop_start_percent,
+            played: self.played,
+            last_sample_value: self.last_sample_value,
+            speed: self.speed,
+            note,
+            finished: true,
+            is_at_zero_crossing: self.is_at_zero_crossing,
+        }
+    }
+
+    // Whether play-once has played a whole loop length.
+    fn played_out(self, t: Tick) -> bool
+        ensures { λ r. ⌜ r ≡ playedOutOf t self ⌝ }
+    {
+        if !t.once {
+            return false;
+        }
+        if self.finished {
+            return false;
+        }
+        t.whole_length <= binary32::abs(self.played)
+    }
+
+    fn ended(self, t: Tick) -> Self
+        ensures { λ r. ⌜ r ≡ endedOf t self ⌝ }
+    {
+        if self.played_out(t) {
+            self.finish(t.now, t.decay_samples)
+        } else {
+            self
+        }
+    }
+
+    fn volume_stepped(self, now: usize) -> Self
+        ensures { λ r. ⌜ r ≡ volumeStepped now self ⌝ }
+    {
+        let clip2 = self.clip2;
+        let volume = self.volume;
+        let note = self.note;
+        Self {
+            finished_at: self.finished_at,
+            last_sample_index: self.last_sample_index,
+            clip2,
+            volume: volume.stepped(now),
+            loop_start_percent: self.loop_start_percent,
+            played: self.played,
+            last_sample_value: self.last_sample_value,
+            speed: self.speed,
+            note,
+            finished: self.finished,
+            is_at_zero_crossing: self.is_at_zero_crossing,
+        }
+    }
+
+    // The voice's whole sample. One that is to be removed is skipped, but for its level.
+    pub fn turn(self, t: Tick, data: &[u32]) -> Self
+        ensures { λ r. ⌜ r ≡ turnOf t (now («data» .entry)) self ⌝ }
+    {
+        if self.should_remove(t) {
+            return self.volume_stepped(t.now);
+        }
+        self.sounded(t, data).ended(t).volume_stepped(t.now)
+    }
+
+    // Whether the voice may stand in a record whose clock is at `now`.
+    pub fn good(self, now: usize) -> bool
+        ensures { λ r. ⌜ r ≡ goodVoice now self ⌝ }
+    {
+        let clip2 = self.clip2;
+        if now < clip2.since {
+            return false;
+        }
+        if now < self.finished_at {
+            return false;
+        }
+        let volume = self.volume;
+        if !volume.good(now) {
+            return false;
+        }
+        clip2.good()
+    }
+}
+
+// Whether a finished voice goes, by what its note-off behaviour waits for.
+fn over(behavior: NoteOffBehaviour, mute: bool, late: bool) -> bool
+    ensures { λ r. ⌜ r ≡ overOf behavior mute late ⌝ }
+{
+    match behavior {
+        NoteOffBehaviour::Decay => mute,
+        NoteOffBehaviour::ZeroCrossing => late,
+        NoteOffBehaviour::DecayAndZeroCrossing => mute | late,
+    }
+}
+
+fn since(start: usize, now: usize) -> usize
+    ensures { λ r. ⌜ r ≡ now - start ⌝ }
+{
+    if now < start { 0 } else { now - start }
+}
