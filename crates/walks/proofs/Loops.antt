@@ -2,11 +2,15 @@
 -- Over any element type and any result. Assumes nothing.
 use mathlib.Core.Path.{_≡_, refl, sym, ap, _∙_}
 use mathlib.Core.List.{List, [], _∷_, map}
-use Prim.Native.Nat.{ℕ, zero, suc, _+_, _≤_, _<_}
+use Prim.Native.Nat.{ℕ, zero, suc, _+_, _≤_, _<_, min, zero-le}
+use native.Mathlib.Nat.{le-trans, le-of-eq, le-of-lt}
+use borrow.Author.Tests.{leb-true, leb-false}
+use mathlib.Core.Bool.{Bool, true, false}
+use lib.Dec.{leb}
 use native.Mathlib.Omega.{arith}
 use native.Mathlib.Numerals.{add-one}
-use lib.ListN.{length, getD, set, length-set, length-map}
-use lib.Seq.{slice, slice-cons, slice-empty}
+use lib.ListN.{length, take, getD, set, length-set, length-map}
+use lib.Seq.{slice, slice-cons, slice-empty, take-all}
 
 -- ---- a loop that counts i up to n over the list l: what is left to walk is `slice i n l`
 
@@ -64,3 +68,32 @@ module _ {A : Type 0} where
     ends {go = go} {l = l} {n = n} {i = i} w h =
         let e : i ≡ n = omega arith in
         sym (ap go (ap (λ (j : ℕ). slice j n l) e ∙ slice-empty n l)) ∙ w .same
+
+-- ---- a loop over an array of which the first `count` are in use: it walks that many, and never more than the array has
+pub take-most : {A : Type 0} (l : List A) (count size : ℕ) → length l ≡ size → take (min count size) l ≡ take count l
+take-most l count size h = go (leb count size) refl
+  where
+    short : count ≤ size → min count size ≡ count
+    short k = omega arith
+
+    long : size ≤ count → min count size ≡ size
+    long k = omega arith
+
+    go : (b : Bool) → leb count size ≡ b → take (min count size) l ≡ take count l
+    go true e = ap (λ (k : ℕ). take k l) (short (leb-true count size e))
+    go false e =
+        let k : size ≤ count = le-of-lt (leb-false count size e) in
+        ap (λ (j : ℕ). take j l) (long k) ∙ take-all size l (le-of-eq h) ∙ sym (take-all count l (le-trans (le-of-eq h) k))
+
+pub begins : {A R : Type 0} (go : List A → R) (l : List A) (count n size : ℕ) → length l ≡ size → n ≡ min count size → Walk (go (take count l)) go l n 0
+begins go l count n size h e = record {
+  upto = zero-le;
+  within = omega arith;
+  same = ap (λ (k : ℕ). go (take k l)) e ∙ ap go (take-most l count size h);
+}
+
+-- ---- within a list it does not matter what stands past its end
+pub getD-any : {A : Type 0} (l : List A) (i : ℕ) (d e : A) → i < length l → getD l i d ≡ getD l i e
+getD-any [] i d e h = absurd (omega arith)
+getD-any (x ∷ xs) zero d e h = refl
+getD-any (x ∷ xs) (suc i) d e h = getD-any xs i d e (omega arith)

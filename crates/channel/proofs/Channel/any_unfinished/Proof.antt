@@ -1,9 +1,9 @@
 -- `Channel::any_unfinished` meets its contract, by the law of loops. Assumes nothing.
 use Prim.Native.Nat.{_-_}
 use Rattle.walks.specs.Walks.{any}
-use Rattle.walks.proofs.Loops.{Walk, turns, stops, ends, long}
+use Rattle.walks.proofs.Loops.{Walk, turns, stops, ends, long, begins}
 use Rattle.channel.specs.Channels.{live, unfinishedOf, anyUnfinishedOf}
-use Rattle.channel.proofs.Slots.{none, places-walk}
+use Rattle.channel.proofs.Slots.{none}
 use borrow.Author.Needs.{needs}
 use Rattle.channel.proofs.Channel.any_unfinished.Statement.{statement}
 use Rattle.channel.proofs.Channel.any_unfinished.Tie as tie
@@ -18,7 +18,7 @@ places-requires : tie.Need-places-requires Inv-loop μ-loop
 places-requires c κs = search needs
 
 loop-holds : tie.Need-loop-holds Inv-loop μ-loop
-loop-holds c = places-walk (any unfinishedOf) (c .before .args .t1) _ (long _ (c .before .args .t1 .voices) 32 (c .before .good .0 .1 .1 .0 .1 .0 .1)) (c .places .ensures)
+loop-holds c = begins (any unfinishedOf) (c .before .args .t1 .voices) (c .before .args .t1 .count) _ 32 (long _ (c .before .args .t1 .voices) 32 (c .before .good .0 .1 .1 .0 .1 .0 .1)) (c .places .ensures)
 
 mul-if1 : tie.Need-mul-if1 Inv-loop μ-loop
 mul-if1 c = search needs

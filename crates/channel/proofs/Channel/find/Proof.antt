@@ -4,11 +4,11 @@ use Prim.Native.Nat.{ℕ, _-_}
 use Rattle.common_types.specs.declared.Note.{Note}
 use Rattle.voice.specs.declared.Voice.{Voice}
 use Rattle.walks.specs.Walks.{seek}
-use Rattle.walks.proofs.Loops.{Walk, turns, stops, ends, long}
+use Rattle.walks.proofs.Loops.{Walk, turns, stops, ends, long, begins}
 use Rattle.channel.specs.Channels.{live, wantedOf, findOf}
 use Rattle.channel.specs.declared.Found.{Found}
 use Rattle.channel.specs.declared.Found.the-variants.{At, Nothing}
-use Rattle.channel.proofs.Slots.{none, places-walk}
+use Rattle.channel.proofs.Slots.{none}
 use borrow.Author.Needs.{needs}
 use Rattle.channel.proofs.Channel.find.Statement.{statement}
 use Rattle.channel.proofs.Channel.find.Tie as tie
@@ -26,7 +26,7 @@ places-requires : tie.Need-places-requires Inv-loop μ-loop
 places-requires c κs = search needs
 
 loop-holds : tie.Need-loop-holds Inv-loop μ-loop
-loop-holds c = places-walk (from (c .before .args .note) 0) (c .before .args .t1) _ (long _ (c .before .args .t1 .voices) 32 (c .before .good .0 .1 .1 .0 .1 .0 .1)) (c .places .ensures)
+loop-holds c = begins (from (c .before .args .note) 0) (c .before .args .t1 .voices) (c .before .args .t1 .count) _ 32 (long _ (c .before .args .t1 .voices) 32 (c .before .good .0 .1 .1 .0 .1 .0 .1)) (c .places .ensures)
 
 mul-v : tie.Need-mul-v Inv-loop μ-loop
 mul-v c = search needs

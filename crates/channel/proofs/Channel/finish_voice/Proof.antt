@@ -2,9 +2,9 @@
 use mathlib.Core.Path.{_≡_}
 use borrow.Author.Tests.{lt-ltb, le-ltb}
 use Rattle.voice.specs.Voices.{blankVoice}
-use Rattle.walks.proofs.Loops.{long}
+use Rattle.walks.proofs.Loops.{long, getD-any}
 use Rattle.channel.specs.Channels.{finishedAtOf}
-use Rattle.channel.proofs.Slots.{none, getD-any}
+use Rattle.channel.proofs.Slots.{none}
 use borrow.Author.Needs.{needs}
 use native.Mathlib.Omega.{arith}
 use Rattle.channel.proofs.Channel.finish_voice.Statement.{statement}

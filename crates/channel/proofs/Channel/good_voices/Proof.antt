@@ -2,10 +2,10 @@
 use Prim.Native.Nat.{_-_}
 use borrow.Author.Tests.{not-true, not-false}
 use Rattle.walks.specs.Walks.{every}
-use Rattle.walks.proofs.Loops.{Walk, turns, stops, ends, long}
+use Rattle.walks.proofs.Loops.{Walk, turns, stops, ends, long, begins}
 use Rattle.voice.specs.Voices.{goodVoice}
 use Rattle.channel.specs.Channels.{live, goodVoicesOf}
-use Rattle.channel.proofs.Slots.{none, places-walk}
+use Rattle.channel.proofs.Slots.{none}
 use borrow.Author.Needs.{needs}
 use Rattle.channel.proofs.Channel.good_voices.Statement.{statement}
 use Rattle.channel.proofs.Channel.good_voices.Tie as tie
@@ -20,7 +20,7 @@ places-requires : tie.Need-places-requires Inv-loop μ-loop
 places-requires c κs = search needs
 
 loop-holds : tie.Need-loop-holds Inv-loop μ-loop
-loop-holds c = places-walk (every (goodVoice (c .before .before .args .t1 .head .now))) (c .before .before .args .t1) _ (long _ (c .before .before .args .t1 .voices) 32 (c .before .before .good .0 .1 .1 .0 .1 .0 .1)) (c .places .ensures)
+loop-holds c = begins (every (goodVoice (c .before .before .args .t1 .head .now))) (c .before .before .args .t1 .voices) (c .before .before .args .t1 .count) _ 32 (long _ (c .before .before .args .t1 .voices) 32 (c .before .before .good .0 .1 .1 .0 .1 .0 .1)) (c .places .ensures)
 
 mul-v : tie.Need-mul-v Inv-loop μ-loop
 mul-v c = search needs

@@ -3,9 +3,9 @@ use mathlib.Core.Path.{_≡_, sym, _∙_}
 use mathlib.Core.Logic.{⊎-elim}
 use Prim.Native.Nat.{_≤_, _-_}
 use lib.Ieee.{ofBits}
-use Rattle.walks.proofs.Loops.{Walk, turns, stores, ends, long}
+use Rattle.walks.proofs.Loops.{Walk, turns, stores, ends, long, begins}
 use Rattle.channel.specs.Channels.{live}
-use Rattle.channel.proofs.Slots.{none, places-walk}
+use Rattle.channel.proofs.Slots.{none}
 use Rattle.channel.proofs.Turns.{restOf, rest-start, rest-end, rest-keep, rest-gone}
 use borrow.Author.Needs.{needs}
 use native.Mathlib.Omega.{arith}
@@ -23,7 +23,7 @@ places-requires c κs = search needs
 
 loop-holds : tie.Need-loop-holds Inv-loop μ-loop
 unfolding ofBits
-loop-holds c = (places-walk (restOf (c .before .before .args .t) (c .before .before .args .«data» .now) (c .before .before .args .t1) 0 _) (c .before .before .args .t1) _ (long _ (c .before .before .args .t1 .voices) 32 (c .before .before .good .0 .1 .1 .0 .1 .0 .1)) (c .places .ensures), search needs)
+loop-holds c = (begins (restOf (c .before .before .args .t) (c .before .before .args .«data» .now) (c .before .before .args .t1) 0 _) (c .before .before .args .t1 .voices) (c .before .before .args .t1 .count) _ 32 (long _ (c .before .before .args .t1 .voices) 32 (c .before .before .good .0 .1 .1 .0 .1 .0 .1)) (c .places .ensures), search needs)
 
 mul-v : tie.Need-mul-v Inv-loop μ-loop
 mul-v c = search needs

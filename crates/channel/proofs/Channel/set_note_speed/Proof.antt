@@ -1,9 +1,9 @@
 -- `Channel::set_note_speed` meets its contract, by the law of loops that store. Assumes nothing.
 use Prim.Native.Nat.{_-_}
 use native.Mathlib.Nat.{le-refl}
-use Rattle.walks.proofs.Loops.{Walk, stores, ends, long}
+use Rattle.walks.proofs.Loops.{Walk, stores, ends, long, begins}
 use Rattle.channel.specs.Channels.{live, spedOf, setNoteSpeedOf}
-use Rattle.channel.proofs.Slots.{none, places-walk, mapFrom, map-on}
+use Rattle.channel.proofs.Slots.{none, mapFrom, map-on}
 use borrow.Author.Needs.{needs}
 use Rattle.channel.proofs.Channel.set_note_speed.Statement.{statement}
 use Rattle.channel.proofs.Channel.set_note_speed.Tie as tie
@@ -18,7 +18,7 @@ places-requires : tie.Need-places-requires Inv-loop μ-loop
 places-requires c κs = search needs
 
 loop-holds : tie.Need-loop-holds Inv-loop μ-loop
-loop-holds c = places-walk (mapFrom (spedOf (c .before .args .note) (c .before .args .speed)) (c .before .args .t1) 0) (c .before .args .t1) _ (long _ (c .before .args .t1 .voices) 32 (c .before .good .0 .1 .1 .0 .1 .0 .1)) (c .places .ensures)
+loop-holds c = begins (mapFrom (spedOf (c .before .args .note) (c .before .args .speed)) (c .before .args .t1) 0) (c .before .args .t1 .voices) (c .before .args .t1 .count) _ 32 (long _ (c .before .args .t1 .voices) 32 (c .before .good .0 .1 .1 .0 .1 .0 .1)) (c .places .ensures)
 
 mul-v : tie.Need-mul-v Inv-loop μ-loop
 mul-v c = search needs
