@@ -195,7 +195,7 @@ pub record From (f : Format) (x : Float) (a : ℕ) : Type 0 where
   pub grid : Grid f count
   pub from : a ≤ count
 
--- a signOf value that is at least one that is not below zero is -0
+-- a negative value that is at least one that is not below zero is -0
 null-of : (s : Bool) (a : ℕ) (t : Bool) (n : ℕ) → (T s → a ≡ 0) → T (most s a t n) → T t → n ≡ 0
 null-of s a false n z h t = absurd t
 null-of false a true n z h t = omega (arith, eqb→eq)

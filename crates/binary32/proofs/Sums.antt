@@ -111,7 +111,7 @@ module _ {f : Format} {x y : Float} {a b : ℕ} (p : Units f x a) (q : Units f y
       subst (λ (z : Float). HasValue z true (rd f (b - a)) (2 ^ low f)) (sym (sub-over h))
       (round-value f true (b - a) (lt-of-le-of-lt (rd-le (grid-of q t) (sub-le b a)) (under-of q t)))
 
--- ---- a signOf value and one that is larger in size: the sum is not signOf
+-- ---- a negative value and one that is larger in size: the sum is not signOf
 pub add-back : (f : Format) (x y : Float) (a b c : ℕ) → 0 < c → HasValue x true a c → HasValue y false b c → a ≤ b → add f x y ≡ round f false (b - a) c
 add-back f x y a b c C v w h = add-value f x y true a false b c C v w ∙ sum-back f a b c h
 

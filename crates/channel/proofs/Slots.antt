@@ -1,21 +1,16 @@
 -- The loops over a channel's 32 places: where they begin, and the turns of those that store. Assumes nothing.
-use mathlib.Core.Path.{_≡_, refl, sym, ap, _∙_}
-use mathlib.Core.Bool.{Bool, true, false}
-use mathlib.Core.List.{List, [], _∷_, map}
-use Prim.Native.Nat.{ℕ, zero, suc, _+_, _≤_, _<_, min, zero-le}
-use native.Mathlib.Nat.{le-trans, le-of-eq, le-of-lt}
+use mathlib.Core.Path.{_≡_}
+use mathlib.Core.Bool.{false}
+use mathlib.Core.List.{List, _∷_, map}
+use Prim.Native.Nat.{ℕ, _+_}
 use native.Mathlib.Numerals.{add-one}
-use native.Mathlib.Omega.{arith}
-use borrow.Author.Tests.{leb-true, leb-false}
-use lib.Dec.{leb}
-use lib.ListN.{length, take, getD, set}
-use lib.Seq.{sets, take-all}
+use lib.ListN.{length, set}
+use lib.Seq.{sets}
 use lib.Ieee.{nan}
 use Rattle.clip.specs.declared.Mode.the-variants.{Loop}
 use Rattle.volume.specs.declared.Volume.the-variants.{Static}
 use Rattle.voice.specs.declared.Voice.{Voice}
-use Rattle.walks.proofs.Loops.{Walk}
-use Rattle.channel.specs.Channels.{live, withVoices}
+use Rattle.channel.specs.Channels.{withVoices}
 use Rattle.channel.specs.declared.Channel.{Channel}
 
 -- what the language's lists give past their end

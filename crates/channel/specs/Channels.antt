@@ -1,13 +1,13 @@
 -- What each call does to one channel (document 01, module 6, and the Rust's Channel). The voices are the first `count` of 32 places; what stands in the others
 -- is kept as it was. `m` is the channel's part of the lent memory. Definitions only.
 use Prim.Native.Nat.{ℕ, _+_}
-use mathlib.Core.Bool.{Bool, true, false, not, _&&_, cond}
-use mathlib.Core.List.{List, [], _∷_, map}
+use mathlib.Core.Bool.{Bool, not, _&&_, cond}
+use mathlib.Core.List.{List, map}
 use lib.Dec.{leb, ltb, eqb}
 use lib.ListN.{length, take, getD, set, replicate}
 use lib.Seq.{sets}
-use lib.Ieee.{Float, binary32, add, mul, div, rem}
-use Rattle.binary32.specs.Leaves.{asFloat, bitsOf}
+use lib.Ieee.{Float, binary32, add, mul}
+use Rattle.binary32.specs.Leaves.{bitsOf}
 use Rattle.walks.specs.Walks.{any, every, without, fold, seek}
 use Rattle.common_types.specs.declared.InitParams.{InitParams}
 use Rattle.common_types.specs.declared.Params.{Params}

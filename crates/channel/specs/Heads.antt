@@ -8,7 +8,6 @@ use Rattle.volume.specs.declared.Volume.{Volume}
 use Rattle.volume.specs.declared.Volume.the-variants.{Static}
 use Rattle.volume.specs.Levels.{towardOf, steppedOf, goodVolume}
 use Rattle.clip.specs.Positions.{zero32, one32}
-use Rattle.recorder.specs.declared.Recorder.{Recorder}
 use Rattle.recorder.specs.declared.Recorded.{Recorded}
 use Rattle.recorder.specs.Recording.{newOf, goodRecorder}
 use Rattle.channel.specs.declared.Head.{Head}

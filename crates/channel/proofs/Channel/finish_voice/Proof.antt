@@ -1,5 +1,4 @@
 -- `Channel::finish_voice` meets its contract: its tests are those of `finishedAtOf`. Assumes nothing.
-use mathlib.Core.Path.{_≡_}
 use borrow.Author.Tests.{lt-ltb, le-ltb}
 use Rattle.voice.specs.Voices.{blankVoice}
 use Rattle.walks.proofs.Loops.{long, getD-any}

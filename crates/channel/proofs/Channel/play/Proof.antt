@@ -1,5 +1,5 @@
 -- `Channel::play` meets its contract, by the law of loops that store: each turn is a law of `Turns`. Assumes nothing.
-use mathlib.Core.Path.{_≡_, sym, _∙_}
+use mathlib.Core.Path.{sym, _∙_}
 use mathlib.Core.Logic.{⊎-elim}
 use Prim.Native.Nat.{_≤_, _-_}
 use lib.Ieee.{ofBits}

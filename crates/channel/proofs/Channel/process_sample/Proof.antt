@@ -1,5 +1,4 @@
 -- `Channel::process_sample` meets its contract: recording first, then the voices, then the input at its level, then the close. Assumes nothing.
-use mathlib.Core.Path.{_≡_}
 use lib.Ieee.{ofBits}
 use Rattle.channel.specs.Channels.{processSampleOf}
 use borrow.Author.Needs.{needs}

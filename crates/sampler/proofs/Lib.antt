@@ -1,0 +1,4 @@
+pub mod Seats
+pub mod Rows
+pub mod Parts
+pub mod Framing

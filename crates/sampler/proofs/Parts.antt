@@ -1,0 +1,48 @@
+-- A sample on channel j's part of the memory: what the call on the part leaves of the whole. Assumes nothing.
+use mathlib.Core.Path.{_≡_, ap, _∙_}
+use mathlib.Core.List.{List, _++_}
+use Prim.Native.Nat.{ℕ, _+_, _-_, _*_}
+use native.Mathlib.Nat.{add-sub-cancel-left}
+use lib.ListN.{take, drop, set}
+use lib.Seq.{drop-drop}
+use lib.Ieee.{Float, binary32, mul}
+use Rattle.common_types.specs.declared.Params.{Params}
+use Rattle.channel.specs.declared.Channel.{Channel}
+use Rattle.channel.specs.declared.Played.{Played}
+use Rattle.channel.specs.Channels.{memoryOf}
+use Rattle.channel.specs.Channels.{processSampleOf as channelSampleOf}
+use Rattle.sampler.specs.Refusals.{channelAt}
+use Rattle.sampler.specs.Samplers.{withChannels, partOf, playedAt, steppedOf, outputOf, memoryAt}
+use Rattle.sampler.specs.declared.Sampler.{Sampler}
+
+module _ (s : Sampler) (j a e : ℕ) (m : List ℕ) (starts : a ≡ j * s .capacity) (ends : e ≡ a + s .capacity) where
+  size : e - a ≡ s .capacity
+  size = ap (λ (z : ℕ). z - a) ends ∙ add-sub-cancel-left a (s .capacity)
+
+  pub part-is : take (e - a) (drop a m) ≡ partOf s j m
+  unfolding partOf
+  part-is = ap (λ (n : ℕ). take n (drop a m)) size ∙ ap (λ (i : ℕ). take (s .capacity) (drop i m)) starts
+
+  module _ (p : Params) (x : Float) (c : Channel) (is : c ≡ channelAt s j) (r : Played) (plays : r ≡ channelSampleOf p x c (take (e - a) (drop a m))) where
+    played-is : r ≡ playedAt s j p x m
+    unfolding playedAt
+    played-is = plays ∙ ap (λ (d : Channel). channelSampleOf p x d (take (e - a) (drop a m))) is ∙ ap (channelSampleOf p x (channelAt s j)) part-is
+
+    pub stepped-is : withChannels (set (s .channels) j (r .channel)) s ≡ steppedOf s j p x m
+    unfolding steppedOf
+    stepped-is = ap (λ (q : Played). withChannels (set (s .channels) j (q .channel)) s) played-is
+
+    pub output-is : mul binary32 (p .volume) (r .output) ≡ outputOf s j p x m
+    unfolding outputOf
+    output-is = ap (λ (q : Played). mul binary32 (p .volume) (q .output)) played-is
+
+  pub memory-is : (x : Float) (c : Channel) (last : List ℕ) → c ≡ channelAt s j → last ≡ memoryOf x c (take (e - a) (drop a m))
+      → take a m ++ (last ++ drop (e - a) (drop a m)) ≡ memoryAt s j x m
+  unfolding memoryAt
+  memory-is x c last is h =
+      let rest = drop (e - a) (drop a m) in
+      let part = memoryOf x (channelAt s j) (partOf s j m) in
+      let l : last ≡ part = h ∙ ap (λ (d : Channel). memoryOf x d (take (e - a) (drop a m))) is ∙ ap (memoryOf x (channelAt s j)) part-is in
+      ap (λ (k : List ℕ). take a m ++ (k ++ rest)) l
+      ∙ ap (λ (k : List ℕ). take a m ++ (part ++ k)) (drop-drop (e - a) a m ∙ ap (λ (n : ℕ). drop (a + n) m) size)
+      ∙ ap (λ (i : ℕ). take i m ++ (part ++ drop (i + s .capacity) m)) starts

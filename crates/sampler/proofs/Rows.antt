@@ -1,0 +1,82 @@
+-- What a number of 0 says: the record is good, and what a step asks holds. Assumes nothing.
+use mathlib.Core.Path.{_≡_, refl, sym}
+use mathlib.Core.Bool.{Bool, true, false, not, _&&_, _||_, true≢false}
+use Prim.Native.Nat.{ℕ, suc, _*_, _/_, _≤_, _<_}
+use native.Mathlib.Nat.{le-trans, le-of-eq, mul-comm, mul-le-mul-right, suc-mul, le-div-iff-mul-le}
+use native.Mathlib.Omega.{arith}
+use borrow.Author.Tests.{leb-true, ltb-true, ltb-false, eqb-true}
+use lib.Dec.{leb, ltb, eqb, leb→le, le→leb}
+use Rattle.binary32.proofs.Truth.{same-test}
+use Rattle.common_types.specs.declared.Params.{Params}
+use Rattle.walks.proofs.Every.{both}
+use Rattle.sampler.specs.Refusals.{row, goodSizes, goodSampler, goodWith, sampleNumber, frameNumber}
+use Rattle.sampler.specs.Samplers.{Ready, Steps}
+use Rattle.sampler.specs.declared.Sampler.{Sampler}
+
+-- a row that does not hold leaves the number to the rest
+passed : (test : Bool) (n rest : ℕ) → row test (suc n) rest ≡ 0 → (test ≡ false) × (rest ≡ 0)
+passed true n rest h = absurd (omega arith)
+passed false n rest h = (refl, h)
+
+is-true : (b : Bool) → not b ≡ false → b ≡ true
+is-true true h = refl
+is-true false h = absurd (true≢false h)
+
+-- ---- good sizes
+one-or-two : (n : ℕ) (a b : Bool) → eqb n 1 ≡ a → eqb n 2 ≡ b → (a || b) ≡ true → n ≤ 2
+one-or-two n true b e f h = let k : n ≡ 1 = eqb-true n 1 e in omega arith
+one-or-two n false true e f h = let k : n ≡ 2 = eqb-true n 2 f in omega arith
+one-or-two n false false e f h = absurd (true≢false (sym h))
+
+pub sizes-count : (n capacity : ℕ) → goodSizes n capacity ≡ true → n ≤ 2
+unfolding goodSizes
+sizes-count n capacity h =
+    one-or-two n (eqb n 1) (eqb n 2) refl refl (both (eqb n 1 || eqb n 2) (leb 1 capacity) (both ((eqb n 1 || eqb n 2) && leb 1 capacity) (leb capacity 4194304) h .0) .0)
+
+pub good-sizes : (s : Sampler) → goodSampler s ≡ true → goodSizes (s .count) (s .capacity) ≡ true
+unfolding goodSampler
+good-sizes s h = both (goodSizes (s .count) (s .capacity)) _ h .0
+
+record Fitting (s : Sampler) (size : ℕ) : Type 0 where
+  few : s .count ≤ 2
+  fits : s .count * s .capacity ≤ size
+
+fitting : (s : Sampler) (size : ℕ) → goodWith s size ≡ true → Fitting s size
+unfolding goodWith
+fitting s size h =
+    let g = both (goodSampler s) (leb (s .count * s .capacity) size) h in
+    record { few = sizes-count (s .count) (s .capacity) (good-sizes s (g .0)); fits = leb-true _ _ (g .1) }
+
+-- ---- the steps
+pub sample-ready : (s : Sampler) (j : ℕ) (p : Params) (size : ℕ) → sampleNumber s j p size ≡ 0 → Ready s j size
+unfolding sampleNumber
+sample-ready s j p size h =
+    let g = passed (not (goodWith s size)) 8 _ h in
+    let k = passed (not (ltb j (s .count))) 0 _ (g .1) in
+    let f = fitting s size (is-true (goodWith s size) (g .0)) in
+    let b : j < s .count = ltb-true j (s .count) (is-true (ltb j (s .count)) (k .0)) in
+    record {
+      below = omega (arith, f .few);
+      part = le-trans (le-of-eq (sym (suc-mul j (s .capacity)))) (le-trans (mul-le-mul-right (s .capacity) b) (f .fits));
+    }
+
+pub frame-steps : (s : Sampler) (n : ℕ) (p : Params) (size : ℕ) → frameNumber s n p size ≡ 0 → Steps s n size
+unfolding frameNumber
+frame-steps s n p size h =
+    let g = passed (not (goodWith s size)) 8 _ h in
+    let k = passed (ltb (s .count) n) 0 _ (g .1) in
+    let f = fitting s size (is-true (goodWith s size) (g .0)) in
+    let b : n ≤ s .count = ltb-false (s .count) n (k .0) in
+    record {
+      below = le-trans b (f .few);
+      parts = le-trans (mul-le-mul-right (s .capacity) b) (f .fits);
+    }
+
+-- a product is at most a number exactly where a factor is at most its quotient by the other
+pub quotient-test : (n c size : ℕ) → (n ≡ 0 → ⊥) → leb c (size / n) ≡ leb (n * c) size
+quotient-test n c size h =
+    let d : 0 < n = omega arith in
+    let e : c * n ≡ n * c = mul-comm c n in
+    same-test (leb c (size / n)) (leb (n * c) size)
+    (λ t. le→leb (n * c) size (le-trans (le-of-eq (sym e)) (le-div-iff-mul-le d .0 (leb→le c (size / n) t))))
+    (λ t. le→leb c (size / n) (le-div-iff-mul-le d .1 (le-trans (le-of-eq e) (leb→le (n * c) size t))))

@@ -1,0 +1,35 @@
+-- `Sampler::process_frame` meets its contract: refused where the number is not 0, and otherwise its entries in turn. Assumes nothing.
+use mathlib.Core.Path.{sym, _∙_}
+use Rattle.sampler.proofs.Rows.{frame-steps}
+use Rattle.sampler.proofs.Framing.{frame-refused, frame-done}
+use borrow.Author.Needs.{needs}
+use Rattle.sampler.proofs.Sampler.process_frame.Statement.{statement}
+use Rattle.sampler.proofs.Sampler.process_frame.Tie as tie
+
+frame-number-requires : tie.Need-frame-number-requires
+frame-number-requires c κs = search needs
+
+returns : tie.Need-returns
+returns c =
+    let b = c .before .before .before .before in
+    (c .before .frame-number .ensures, frame-refused (b .args .self) (b .args .frame .now) (b .args .params) (b .args .memory .now) (λ e. c .if1 .taken (c .before .frame-number .ensures ∙ e)))
+
+entries-requires : tie.Need-entries-requires
+entries-requires c κs = frame-steps _ _ _ _ (sym (c .before .before .before .frame-number .ensures) ∙ c .before .before .if1 .left)
+
+same-length : tie.Need-same-length
+same-length c = search needs
+
+same-length-2 : tie.Need-same-length-2
+same-length-2 c = search needs
+
+returns-2 : tie.Need-returns-2
+returns-2 c =
+    let b = c .before .before .before .before .before .before .before .before .before .before .before in
+    let e = sym (c .before .before .before .before .before .before .before .before .frame-number .ensures) ∙ c .before .before .before .before .before .before .before .if1 .left in
+    (sym e, frame-done (b .args .self) (b .args .frame .now) (b .args .params) (b .args .memory .now) e (c .before .before .before .before .entries .ensures))
+
+pub process-frame-spec : {M : Type 1} → statement M
+process-frame-spec =
+    tie.close
+    (tie.spec frame-number-requires returns entries-requires same-length same-length-2 returns-2)

@@ -1,0 +1,16 @@
+-- `Sampler::reset` meets its contract. Assumes nothing.
+use borrow.Author.Needs.{needs}
+use Rattle.sampler.proofs.Sampler.reset.Statement.{statement}
+use Rattle.sampler.proofs.Sampler.reset.Tie as tie
+
+plain-number-requires : tie.Need-plain-number-requires
+plain-number-requires c κs = search needs
+
+answer-requires : tie.Need-answer-requires
+answer-requires c κs = search needs
+
+returns : tie.Need-returns
+returns c = simp (c .answer .ensures, c .before .plain-number .ensures)
+
+pub reset-spec : {M : Type 1} → statement M
+reset-spec = tie.close (tie.spec plain-number-requires answer-requires returns)

@@ -1,0 +1,90 @@
+-- Document 01's table: which number each call answers, in the table's order, and 0 where none of its rows holds. Definitions only.
+use Prim.Native.Nat.{ℕ, _*_, _/_, _^_, min}
+use mathlib.Core.Bool.{Bool, false, not, _&&_, _||_, cond}
+use mathlib.Core.List.{List}
+use lib.Dec.{leb, ltb, eqb}
+use lib.ListN.{take, getD}
+use lib.Ieee.{Float, le}
+use Rattle.walks.specs.Walks.{any, every}
+use Rattle.clip.specs.Positions.{zero32, one32}
+use Rattle.common_types.specs.declared.Params.{Params}
+use Rattle.common_types.specs.declared.Note.{Note}
+use Rattle.common_types.specs.Settings.{beyondLimits}
+use Rattle.channel.specs.declared.Channel.{Channel}
+use Rattle.channel.specs.Heads.{lastTime}
+use Rattle.channel.specs.Channels.{channelOf, fullOf, goodChannel}
+use Rattle.sampler.specs.declared.Sampler.{Sampler}
+
+-- the channels that there are
+abbrev pub present : Sampler → List Channel
+present s = take (s .count) (s .channels)
+
+-- channel j; past the last it is one that set-up makes
+abbrev pub channelAt : Sampler → ℕ → Channel
+channelAt s j = getD (s .channels) j (channelOf (record { «auto_passthru» = false }))
+
+-- ---- row 9: what set-up can give, and records
+unfoldable pub goodSizes : ℕ → ℕ → Bool
+goodSizes count capacity = (eqb count 1 || eqb count 2) && leb 1 capacity && leb capacity (2 ^ 22)
+
+unfoldable pub goodSampler : Sampler → Bool
+goodSampler s = goodSizes (s .count) (s .capacity) && every (goodChannel (s .capacity)) (present s)
+
+-- the lent memory's length divided by the channel count, rounded down, at most 2 ^ 22
+unfoldable pub capacityOf : ℕ → ℕ → ℕ
+capacityOf count size = min (size / count) (2 ^ 22)
+
+-- a good record, and memory that is long enough for it
+unfoldable pub goodWith : Sampler → ℕ → Bool
+goodWith s size = goodSampler s && leb (s .count * s .capacity) size
+
+-- ---- the other rows
+abbrev pub noChannel : Sampler → ℕ → Bool
+noChannel s j = not (ltb j (s .count))
+
+abbrev pub badNote : Note → Bool
+badNote note = ltb 15 (note .channel)
+
+-- NaN is not in 0 to 1
+abbrev pub badPosition : Float → Bool
+badPosition position = not (le zero32 position && le position one32)
+
+abbrev pub anyFull : Sampler → Bool
+anyFull s = any fullOf (present s)
+
+-- the clock of a channel that would be stepped stands at its end
+abbrev pub atEnd : Channel → Bool
+atEnd c = leb lastTime (c .head .now)
+
+-- ---- the number of each call: `firstOf` the row whose test holds, and 0 at the end of a chain
+abbrev pub row : Bool → ℕ → ℕ → ℕ
+row test number rest = cond test number rest
+
+unfoldable pub setUpNumber : ℕ → ℕ → ℕ
+setUpNumber count size = row (not (goodSizes count (capacityOf count size))) 9 0
+
+unfoldable pub startNumber : Sampler → Float → Note → Params → ℕ
+startNumber s position note p =
+    row (not (goodSampler s)) 9 (row (badNote note) 2 (row (badPosition position) 3 (row (beyondLimits p) 4 (row (anyFull s) 5 0))))
+
+unfoldable pub stopNumber : Sampler → Note → Params → ℕ
+stopNumber s note p = row (not (goodSampler s)) 9 (row (badNote note) 2 (row (beyondLimits p) 4 0))
+
+unfoldable pub speedNumber : Sampler → Note → ℕ
+speedNumber s note = row (not (goodSampler s)) 9 (row (badNote note) 2 0)
+
+-- start and stop of recording, and reset
+unfoldable pub plainNumber : Sampler → ℕ
+plainNumber s = row (not (goodSampler s)) 9 0
+
+unfoldable pub sampleNumber : Sampler → ℕ → Params → ℕ → ℕ
+sampleNumber s j p size = row (not (goodWith s size)) 9 (row (noChannel s j) 1 (row (beyondLimits p) 4 (row (atEnd (channelAt s j)) 6 0)))
+
+-- a frame of n entries
+unfoldable pub frameNumber : Sampler → ℕ → Params → ℕ → ℕ
+frameNumber s n p size =
+    row (not (goodWith s size)) 9 (row (ltb (s .count) n) 1 (row (beyondLimits p) 4 (row (any atEnd (take n (s .channels))) 6 0)))
+
+-- a question of one channel
+unfoldable pub channelNumber : Sampler → ℕ → ℕ
+channelNumber s j = row (not (goodSampler s)) 9 (row (noChannel s j) 1 0)

@@ -1,0 +1,136 @@
+-- What each call does to the record and the memory lent with it (document 01, module 6). On a refusal both hold what they held. Definitions only.
+use mathlib.Core.Path.{_≡_}
+use Prim.Native.Nat.{ℕ, zero, suc, _+_, _*_, _≤_, _<_}
+use mathlib.Core.Bool.{cond}
+use mathlib.Core.List.{List, [], _∷_, _++_, map}
+use lib.Dec.{eqb}
+use lib.ListN.{length, take, drop, getD, set}
+use lib.Seq.{sets}
+use lib.Ieee.{Float, binary32, mul}
+use Rattle.clip.specs.Positions.{zero32}
+use Rattle.common_types.specs.declared.InitParams.{InitParams}
+use Rattle.common_types.specs.declared.Params.{Params}
+use Rattle.common_types.specs.declared.Note.{Note}
+use Rattle.channel.specs.declared.Change.{Change}
+use Rattle.channel.specs.declared.Change.the-variants as change
+use Rattle.channel.specs.declared.Channel.{Channel}
+use Rattle.channel.specs.declared.Played.{Played}
+use Rattle.channel.specs.Channels.{channelOf, changedOf, memoryOf}
+use Rattle.channel.specs.Channels.{processSampleOf as channelSampleOf}
+use Rattle.sampler.specs.Refusals.{present, channelAt, capacityOf, setUpNumber, startNumber, stopNumber, speedNumber, plainNumber, sampleNumber, frameNumber}
+use Rattle.sampler.specs.declared.Sampler.{Sampler}
+use Rattle.sampler.specs.declared.Answer.{Answer}
+use Rattle.sampler.specs.declared.SampleAnswer.{SampleAnswer}
+
+abbrev pub withChannels : List Channel → Sampler → Sampler
+withChannels cs s = record { channels = cs; count = s .count; capacity = s .capacity }
+
+-- ---- set-up
+abbrev pub samplerOf : ℕ → InitParams → ℕ → Sampler
+samplerOf count p capacity = record { channels = channelOf p ∷ channelOf p ∷ []; count = count; capacity = capacity }
+
+-- refused, it hands back a record of no channels, which every call answers with 9
+unfoldable pub setUpOf : ℕ → InitParams → ℕ → Answer
+setUpOf count p size = record {
+  sampler = cond (eqb (setUpNumber count size) 0) (samplerOf count p (capacityOf count size)) (samplerOf 0 p 0);
+  number = setUpNumber count size;
+}
+
+-- ---- calls that change every channel, all or none
+unfoldable pub eachOf : Change → Sampler → Sampler
+eachOf change s = withChannels (sets (s .channels) 0 (map (changedOf change) (present s))) s
+
+-- the change where the number is 0
+unfoldable pub answerOf : ℕ → Change → Sampler → Answer
+answerOf number change s = record { sampler = cond (eqb number 0) (eachOf change s) s; number = number }
+
+abbrev pub startPlayingOf : Sampler → Float → Note → Float → Params → Answer
+startPlayingOf s position note velocity p = answerOf (startNumber s position note p) (change.Start p position note velocity) s
+
+abbrev pub stopPlayingOf : Sampler → Note → Params → Answer
+stopPlayingOf s note p = answerOf (stopNumber s note p) (change.Stop p note) s
+
+abbrev pub setNoteSpeedOf : Sampler → Note → Float → Answer
+setNoteSpeedOf s note speed = answerOf (speedNumber s note) (change.Speed note speed) s
+
+abbrev pub startRecordingOf : Sampler → Answer
+startRecordingOf s = answerOf (plainNumber s) change.StartRecording s
+
+abbrev pub stopRecordingOf : Sampler → Answer
+stopRecordingOf s = answerOf (plainNumber s) change.StopRecording s
+
+abbrev pub resetOf : Sampler → Answer
+resetOf s = answerOf (plainNumber s) change.Reset s
+
+-- ---- a sample of one channel
+
+-- what a step of channel j asks: it is one of the two, and its part lies within memory of that size
+pub record Ready (s : Sampler) (j size : ℕ) : Type 0 where
+  pub below : j < 2
+  pub part : j * s .capacity + s .capacity ≤ size
+
+-- the same of the first n channels
+pub record Steps (s : Sampler) (n size : ℕ) : Type 0 where
+  pub below : n ≤ 2
+  pub parts : n * s .capacity ≤ size
+
+-- the j-th part of the memory, of the capacity's size
+unfoldable pub partOf : Sampler → ℕ → List ℕ → List ℕ
+partOf s j m = take (s .capacity) (drop (j * s .capacity) m)
+
+unfoldable pub playedAt : Sampler → ℕ → Params → Float → List ℕ → Played
+playedAt s j p x m = channelSampleOf p x (channelAt s j) (partOf s j m)
+
+unfoldable pub steppedOf : Sampler → ℕ → Params → Float → List ℕ → Sampler
+steppedOf s j p x m = withChannels (set (s .channels) j (playedAt s j p x m .channel)) s
+
+unfoldable pub outputOf : Sampler → ℕ → Params → Float → List ℕ → Float
+outputOf s j p x m = mul binary32 (p .volume) (playedAt s j p x m .output)
+
+-- the memory with channel j's part as the sample leaves it
+unfoldable pub memoryAt : Sampler → ℕ → Float → List ℕ → List ℕ
+memoryAt s j x m = take (j * s .capacity) m ++ (memoryOf x (channelAt s j) (partOf s j m) ++ drop (j * s .capacity + s .capacity) m)
+
+unfoldable pub processSampleOf : Sampler → ℕ → Float → Params → List ℕ → SampleAnswer
+processSampleOf s j x p m =
+    let number = sampleNumber s j p (length m) in
+    record {
+      sampler = cond (eqb number 0) (steppedOf s j p x m) s;
+      output = cond (eqb number 0) (outputOf s j p x m) zero32;
+      number = number;
+    }
+
+unfoldable pub sampleMemory : Sampler → ℕ → Float → Params → List ℕ → List ℕ
+sampleMemory s j x p m = cond (eqb (sampleNumber s j p (length m)) 0) (memoryAt s j x m) m
+
+-- ---- a frame: a sample of each channel in turn, each entry replaced by its output
+pub record Framed : Type 0 where
+  pub sampler : Sampler
+  pub frame : List Float
+  pub memory : List ℕ
+
+abbrev pub framed : Sampler → List Float → List ℕ → Framed
+framed s frame m = record { sampler = s; frame = frame; memory = m }
+
+-- the record, the frame and the memory are those
+pub record Frames (f : Framed) (s : Sampler) (entries : List Float) (m : List ℕ) : Type 0 where
+  pub sampler : s ≡ f .sampler
+  pub frame : entries ≡ f .frame
+  pub memory : m ≡ f .memory
+
+unfoldable pub entryOf : Params → ℕ → Framed → Framed
+entryOf p j f = record {
+  sampler = steppedOf (f .sampler) j p (getD (f .frame) j zero32) (f .memory);
+  frame = set (f .frame) j (outputOf (f .sampler) j p (getD (f .frame) j zero32) (f .memory));
+  memory = memoryAt (f .sampler) j (getD (f .frame) j zero32) (f .memory);
+}
+
+-- n entries from j on
+unfoldable pub entriesOf : Params → ℕ → ℕ → Framed → Framed
+entriesOf p zero j f = f
+entriesOf p (suc n) j f = entriesOf p n (j + 1) (entryOf p j f)
+
+unfoldable pub framedOf : Sampler → List Float → Params → List ℕ → Framed
+framedOf s frame p m =
+    let f = framed s frame m in
+    cond (eqb (frameNumber s (length frame) p (length m)) 0) (entriesOf p (length frame) 0 f) f

@@ -1,0 +1,463 @@
+// The sampler by value: every public call, with the refusals of document 01's table. Each takes every value of its arguments, and equals a
+// definition in specs/. On a refusal the record and what is lent with it hold what they held.
+ghost use mathlib.Core.Path.{_≡_};
+ghost use Prim.Native.Nat.{_+_, _*_, _≤_, _<_, min};
+ghost use mathlib.Core.Bool.{_&&_};
+ghost use lib.Dec.{leb};
+ghost use lib.Ieee.{le};
+ghost use lib.ListN.{length, take};
+ghost use Rattle.clip.specs.Positions.{zero32, one32};
+ghost use Rattle.walks.specs.Walks.{any, every};
+ghost use Rattle.channel.specs.Channels.{fullOf, goodChannel};
+ghost use Rattle.sampler.specs.Refusals.{
+  present,
+  channelAt,
+  row,
+  goodSizes,
+  goodSampler,
+  capacityOf,
+  goodWith,
+  atEnd,
+  setUpNumber,
+  startNumber,
+  stopNumber,
+  speedNumber,
+  plainNumber,
+  sampleNumber,
+  frameNumber,
+  channelNumber,
+};
+ghost use Rattle.sampler.specs.Samplers.{
+  setUpOf,
+  eachOf,
+  answerOf,
+  startPlayingOf,
+  stopPlayingOf,
+  setNoteSpeedOf,
+  startRecordingOf,
+  stopRecordingOf,
+  resetOf,
+  steppedOf,
+  outputOf,
+  memoryAt,
+  processSampleOf,
+  sampleMemory,
+  Ready,
+  Steps,
+  Frames,
+  framed,
+  entriesOf,
+  framedOf,
+};
+use channel::Change;
+use channel::Channel;
+use common_types::InitParams;
+use common_types::Note;
+use common_types::Params;
+
+// The most samples a channel holds.
+const MOST_SAMPLES: usize = 0x40_0000;
+
+// The channels are the first `count` of the two; each owns a part of the lent memory of `capacity` samples.
+pub struct Sampler {
+    pub channels: [Channel; 2],
+    pub count: usize,
+    pub capacity: usize,
+}
+
+// What a call leaves, and its number.
+pub struct Answer {
+    pub sampler: Sampler,
+    pub number: u8,
+}
+
+pub struct SampleAnswer {
+    pub sampler: Sampler,
+    pub output: f32,
+    pub number: u8,
+}
+
+struct Stepped {
+    sampler: Sampler,
+    output: f32,
+}
+
+fn good_sizes(count: usize, capacity: usize) -> bool
+    ensures { λ r. ⌜ r ≡ goodSizes count capacity ⌝ }
+{
+    if (count == 1) | (count == 2) {
+        (1 <= capacity) & (capacity <= MOST_SAMPLES)
+    } else {
+        false
+    }
+}
+
+// How many channels there are to walk: the count, and never more than the array has.
+fn places(count: usize) -> usize
+    ensures { λ r. ⌜ r ≡ min count 2 ⌝ }
+{
+    if count < 2 { count } else { 2 }
+}
+
+fn capacity_of(count: usize, size: usize) -> usize
+    ensures { λ r. ⌜ r ≡ capacityOf count size ⌝ }
+{
+    if count == 0 {
+        return 0;
+    }
+    let share = size / count;
+    if share < MOST_SAMPLES {
+        share
+    } else {
+        MOST_SAMPLES
+    }
+}
+
+// Where channel j's part of the memory begins.
+fn part_start(j: usize, capacity: usize) -> usize
+    requires { ⌜ j < 2 ⌝ }
+    ensures { λ r. ⌜ r ≡ j * capacity ⌝ }
+{
+    if j == 0 { 0 } else { capacity }
+}
+
+impl Sampler {
+    pub fn new(channel_count: usize, params: InitParams, memory: &[u32]) -> Answer
+        ensures { λ r. ⌜ r ≡ setUpOf «channel_count» params (length (now (memory .entry))) ⌝ }
+    {
+        let c = Channel::new(params);
+        let capacity = capacity_of(channel_count, memory.len());
+        if good_sizes(channel_count, capacity) {
+            Answer {
+                sampler: Sampler {
+                    channels: [c, c],
+                    count: channel_count,
+                    capacity,
+                },
+                number: 0,
+            }
+        } else {
+            Answer {
+                sampler: Sampler {
+                    channels: [c, c],
+                    count: 0,
+                    capacity: 0,
+                },
+                number: 9,
+            }
+        }
+    }
+
+    fn good_channels(self) -> bool
+        ensures { λ r. ⌜ r ≡ every (goodChannel (self .capacity)) (present self) ⌝ }
+    {
+        let capacity = self.capacity;
+        let n = places(self.count);
+        let mut j = 0;
+        while j < n {
+            let c = self.channels[j];
+            if !c.good(capacity) {
+                return false;
+            }
+            j += 1;
+        }
+        true
+    }
+
+    fn good(self) -> bool
+        ensures { λ r. ⌜ r ≡ goodSampler self ⌝ }
+    {
+        if good_sizes(self.count, self.capacity) {
+            self.good_channels()
+        } else {
+            false
+        }
+    }
+
+    fn any_full(self) -> bool
+        ensures { λ r. ⌜ r ≡ any fullOf (present self) ⌝ }
+    {
+        let n = places(self.count);
+        let mut j = 0;
+        while j < n {
+            let c = self.channels[j];
+            if c.full() {
+                return true;
+            }
+            j += 1;
+        }
+        false
+    }
+
+    // Whether the clock of one of the first n channels stands at its end.
+    fn any_at_end(self, n: usize) -> bool
+        ensures { λ r. ⌜ r ≡ any atEnd (take n (self .channels)) ⌝ }
+    {
+        let m = places(n);
+        let mut j = 0;
+        while j < m {
+            if channel::LAST_TIME <= self.channels[j].head.now {
+                return true;
+            }
+            j += 1;
+        }
+        false
+    }
+
+    fn each(mut self, change: Change) -> Sampler
+        ensures { λ r. ⌜ r ≡ eachOf change self ⌝ }
+    {
+        let n = places(self.count);
+        let mut j = 0;
+        while j < n {
+            let c = self.channels[j];
+            self.channels[j] = c.changed(change);
+            j += 1;
+        }
+        self
+    }
+
+    fn answer(self, number: u8, change: Change) -> Answer
+        ensures { λ r. ⌜ r ≡ answerOf number change self ⌝ }
+    {
+        if number == 0 {
+            Answer {
+                sampler: self.each(change),
+                number: 0,
+            }
+        } else {
+            Answer {
+                sampler: self,
+                number,
+            }
+        }
+    }
+
+    fn start_number(self, position: f32, note: Note, params: Params) -> u8
+        ensures { λ r. ⌜ r ≡ startNumber self position note params ⌝ }
+    {
+        let full = first_of(self.any_full(), 5, 0);
+        let beyond = first_of(params.beyond_limits(), 4, full);
+        let position = first_of(!in_range(position), 3, beyond);
+        first_of(!self.good(), 9, first_of(note.channel > 15, 2, position))
+    }
+
+    fn stop_number(self, note: Note, params: Params) -> u8
+        ensures { λ r. ⌜ r ≡ stopNumber self note params ⌝ }
+    {
+        let beyond = first_of(params.beyond_limits(), 4, 0);
+        first_of(!self.good(), 9, first_of(note.channel > 15, 2, beyond))
+    }
+
+    fn speed_number(self, note: Note) -> u8
+        ensures { λ r. ⌜ r ≡ speedNumber self note ⌝ }
+    {
+        first_of(!self.good(), 9, first_of(note.channel > 15, 2, 0))
+    }
+
+    fn plain_number(self) -> u8
+        ensures { λ r. ⌜ r ≡ plainNumber self ⌝ }
+    {
+        first_of(!self.good(), 9, 0)
+    }
+
+    // Whether the record is good, and memory of that size long enough for it.
+    fn good_with(self, size: usize) -> bool
+        ensures { λ r. ⌜ r ≡ goodWith self size ⌝ }
+    {
+        if self.good() {
+            enough(self.count, self.capacity, size)
+        } else {
+            false
+        }
+    }
+
+    fn at_end(self, channel: usize) -> bool
+        ensures { λ r. ⌜ r ≡ atEnd (channelAt self channel) ⌝ }
+    {
+        if channel < 2 {
+            channel::LAST_TIME <= self.channels[channel].head.now
+        } else {
+            false
+        }
+    }
+
+    fn sample_number(self, channel: usize, params: Params, size: usize) -> u8
+        ensures { λ r. ⌜ r ≡ sampleNumber self channel params size ⌝ }
+    {
+        let end = first_of(self.at_end(channel), 6, 0);
+        let beyond = first_of(params.beyond_limits(), 4, end);
+        first_of(
+            !self.good_with(size),
+            9,
+            first_of(!(channel < self.count), 1, beyond),
+        )
+    }
+
+    fn frame_number(self, entries: usize, params: Params, size: usize) -> u8
+        ensures { λ r. ⌜ r ≡ frameNumber self entries params size ⌝ }
+    {
+        let end = first_of(self.any_at_end(entries), 6, 0);
+        let beyond = first_of(params.beyond_limits(), 4, end);
+        first_of(
+            !self.good_with(size),
+            9,
+            first_of(self.count < entries, 1, beyond),
+        )
+    }
+
+    pub fn start_playing(self, position: f32, note: Note, velocity: f32, params: Params) -> Answer
+        ensures { λ r. ⌜ r ≡ startPlayingOf self position note velocity params ⌝ }
+    {
+        let number = self.start_number(position, note, params);
+        self.answer(
+            number,
+            Change::Start {
+                params,
+                position,
+                note,
+                velocity,
+            },
+        )
+    }
+
+    pub fn stop_playing(self, note: Note, params: Params) -> Answer
+        ensures { λ r. ⌜ r ≡ stopPlayingOf self note params ⌝ }
+    {
+        let number = self.stop_number(note, params);
+        self.answer(number, Change::Stop { params, note })
+    }
+
+    pub fn set_note_speed(self, note: Note, speed: f32) -> Answer
+        ensures { λ r. ⌜ r ≡ setNoteSpeedOf self note speed ⌝ }
+    {
+        let number = self.speed_number(note);
+        self.answer(number, Change::Speed { note, speed })
+    }
+
+    pub fn start_recording(self) -> Answer
+        ensures { λ r. ⌜ r ≡ startRecordingOf self ⌝ }
+    {
+        let number = self.plain_number();
+        self.answer(number, Change::StartRecording)
+    }
+
+    pub fn stop_recording(self) -> Answer
+        ensures { λ r. ⌜ r ≡ stopRecordingOf self ⌝ }
+    {
+        let number = self.plain_number();
+        self.answer(number, Change::StopRecording)
+    }
+
+    pub fn reset(self) -> Answer
+        ensures { λ r. ⌜ r ≡ resetOf self ⌝ }
+    {
+        let number = self.plain_number();
+        self.answer(number, Change::Reset)
+    }
+
+    // A sample of channel j, on its part of the memory.
+    fn step(mut self, j: usize, params: Params, input: f32, memory: &mut [u32]) -> Stepped
+        requires { ⌜ Ready self j (length (now memory)) ⌝ }
+        ensures { λ r. ⌜ (r .sampler ≡ steppedOf self j params input (now (memory .entry))) × (r .output ≡ outputOf self j params input (now (memory .entry))) ⌝ }
+        ensures { λ r. ⌜ now (memory .exit) ≡ memoryAt self j input (now (memory .entry)) ⌝ }
+    {
+        let c = self.channels[j];
+        let capacity = self.capacity;
+        let start = part_start(j, capacity);
+        let end = start + capacity;
+        let played = c.process_sample(params, input, &mut memory[start..end]);
+        let channel = played.channel;
+        self.channels[j] = channel;
+        Stepped {
+            sampler: self,
+            output: params.volume * played.output,
+        }
+    }
+
+    pub fn process_sample(
+        self,
+        channel: usize,
+        input: f32,
+        params: Params,
+        memory: &mut [u32],
+    ) -> SampleAnswer
+        ensures { λ r. ⌜ r ≡ processSampleOf self channel input params (now (memory .entry)) ⌝ }
+        ensures { λ r. ⌜ now (memory .exit) ≡ sampleMemory self channel input params (now (memory .entry)) ⌝ }
+    {
+        let number = self.sample_number(channel, params, memory.len());
+        if number != 0 {
+            return SampleAnswer {
+                sampler: self,
+                output: 0.0,
+                number,
+            };
+        }
+        let stepped = self.step(channel, params, input, memory);
+        let sampler = stepped.sampler;
+        SampleAnswer {
+            sampler,
+            output: stepped.output,
+            number: 0,
+        }
+    }
+
+    // A sample of each channel in turn, each entry of the frame replaced by its output.
+    fn entries(mut self, frame: &mut [f32], params: Params, memory: &mut [u32]) -> Sampler
+        requires { ⌜ Steps self (length (now frame)) (length (now memory)) ⌝ }
+        ensures { λ r. ⌜ Frames (entriesOf params (length (now (frame .entry))) 0 (framed self (now (frame .entry)) (now (memory .entry)))) r (now (frame .exit)) (now (memory .exit)) ⌝ }
+    {
+        let n = frame.len();
+        let mut j = 0;
+        while j < n {
+            let stepped = self.step(j, params, frame[j], memory);
+            let sampler = stepped.sampler;
+            self = sampler;
+            frame[j] = stepped.output;
+            j += 1;
+        }
+        self
+    }
+
+    pub fn process_frame(self, frame: &mut [f32], params: Params, memory: &mut [u32]) -> Answer
+        ensures { λ r. ⌜ r .number ≡ frameNumber self (length (now (frame .entry))) params (length (now (memory .entry))) ⌝ }
+        ensures { λ r. ⌜ Frames (framedOf self (now (frame .entry)) params (now (memory .entry))) (r .sampler) (now (frame .exit)) (now (memory .exit)) ⌝ }
+    {
+        let number = self.frame_number(frame.len(), params, memory.len());
+        if number != 0 {
+            return Answer {
+                sampler: self,
+                number,
+            };
+        }
+        Answer {
+            sampler: self.entries(frame, params, memory),
+            number: 0,
+        }
+    }
+}
+
+// A row of the table: its number where its test holds, else what the rows after it give.
+fn first_of(test: bool, number: u8, rest: u8) -> u8
+    ensures { λ r. ⌜ r ≡ row test number rest ⌝ }
+{
+    if test { number } else { rest }
+}
+
+// From 0 to 1, which NaN is not.
+fn in_range(position: f32) -> bool
+    ensures { λ r. ⌜ r ≡ (le zero32 position && le position one32) ⌝ }
+{
+    (0.0 <= position) & (position <= 1.0)
+}
+
+// Whether memory of that size holds so many parts.
+fn enough(count: usize, capacity: usize, size: usize) -> bool
+    ensures { λ r. ⌜ r ≡ leb (count * capacity) size ⌝ }
+{
+    if count == 0 {
+        true
+    } else {
+        capacity <= size / count
+    }
+}
