@@ -164,7 +164,8 @@ impl Sampler {
         true
     }
 
-    fn good(self) -> bool
+    // Whether the record is not broken (row 9).
+    pub fn good(self) -> bool
         ensures { λ r. ⌜ r ≡ goodSampler self ⌝ }
     {
         if good_sizes(self.count, self.capacity) {
@@ -438,7 +439,7 @@ impl Sampler {
 }
 
 // A row of the table: its number where its test holds, else what the rows after it give.
-fn first_of(test: bool, number: u8, rest: u8) -> u8
+pub fn first_of(test: bool, number: u8, rest: u8) -> u8
     ensures { λ r. ⌜ r ≡ row test number rest ⌝ }
 {
     if test { number } else { rest }
