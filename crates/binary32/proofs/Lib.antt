@@ -13,5 +13,6 @@ pub mod Casts
 pub mod Floors
 pub mod Sizes
 pub mod Signs
+pub mod Extremes
 pub mod Patterns
 pub mod Examples

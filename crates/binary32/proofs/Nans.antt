@@ -1,7 +1,8 @@
--- A NaN told by comparing a value with itself, as the programs here do. Assumes nothing.
+-- A NaN told by comparing a value with itself, as the programs here do, and what a NaN does to a sum. Assumes nothing.
 use mathlib.Core.Path.{_≡_, refl, sym}
 use mathlib.Core.Bool.{true, false, true≢false}
-use lib.Ieee.{Float, nan, inf, fin, isNan, ne, lt}
+use lib.Dec.{T}
+use lib.Ieee.{Float, nan, inf, fin, Format, isNan, ne, lt, add}
 use lib.Ieee.Compare.{differs-from-itself}
 use Rattle.binary32.proofs.Truth.{yes}
 
@@ -25,3 +26,9 @@ unfolding lt isNan
 below-no-nan nan y h = absurd (true≢false (sym h))
 below-no-nan (inf s) y h = refl
 below-no-nan (fin s m e) y h = refl
+
+pub nan-sum : (f : Format) (x y : Float) → T (isNan x) → T (isNan (add f x y))
+unfolding isNan add
+nan-sum f nan y h = tt
+nan-sum f (inf s) y h = absurd h
+nan-sum f (fin s m e) y h = absurd h

@@ -1,16 +1,18 @@
--- The sign bit of a value is the highest bit of its pattern, in any format. Assumes nothing.
-use mathlib.Core.Path.{_≡_, refl, sym, ap, _∙_}
-use Prim.Native.Nat.{ℕ, zero, suc, _+_, _-_, _*_, _/_, _%_, _≤_, _<_}
-use native.Mathlib.Nat.{div-eq-of-lt, div-eq-of-lt-le, mul-pos, zero-lt-suc}
+-- The sign bit of a value is the highest bit of its pattern, in any format, and says whether the value lies below zero. Assumes nothing.
+use mathlib.Core.Path.{_≡_, refl, sym, ap, _∙_, subst}
+use Prim.Native.Nat.{ℕ, zero, suc, _+_, _-_, _*_, _/_, _%_, _≤_, _<_, zero-le}
+use native.Mathlib.Nat.{div-eq-of-lt, div-eq-of-lt-le, mul-pos, zero-mul, zero-lt-suc}
 use native.Mathlib.Omega.{arith}
 use mathlib.Core.Bool.{Bool, true, false, not, _||_, cond, Bool·beq, true≢false}
 use borrow.Author.Tests.{leb-true, leb-false}
-use lib.Dec.{T, leb, eqb}
+use lib.Dec.{T, leb, eqb, le→leb, T-not}
 use lib.Pow.{pow-pos}
 use lib.IntN.{pos}
-use lib.Ieee.{Float, nan, inf, fin, Format, binary32, eq, prec, low, hid, ones, top, odd, fits, isNan, ofFields, ofBits, toBits}
+use lib.Ieee.{Float, nan, inf, fin, Format, binary32, eq, le, up, down, prec, low, hid, ones, top, odd, fits, isNan, ofFields, ofBits, toBits}
+use lib.Ieee.Fits.{down-pos}
 use lib.Ieee.Bits.{ofBits-toBits, toBits-lt}
 use Rattle.binary32.specs.Leaves.{signOf, crossingOf}
+use Rattle.binary32.proofs.Values.{le-value}
 
 odd-sign : (d : ℕ) (s : Bool) (q k l : ℕ) → signOf (odd d s q k l) ≡ s
 unfolding odd
@@ -62,3 +64,22 @@ crossing-signs x y F G N M Z = simp (sign-bit binary32 x F N, sign-bit binary32 
     go true false = refl
     go false true = refl
     go false false = refl
+
+-- with no sign bit a value is not below zero
+pub unsigned : (x : Float) → T (not (isNan x)) → signOf x ≡ false → T (le (fin false 0 (pos 0)) x)
+unfolding isNan
+unsigned nan n s = absurd n
+unsigned (inf true) n s = absurd (true≢false s)
+unsigned (inf false) n s = unfold le in tt
+unsigned (fin true m e) n s = absurd (true≢false s)
+unsigned (fin false m e) n s =
+    subst T (sym (le-value (fin false 0 (pos 0)) (fin false m e) false 0 false (m * up e) (down e) (down-pos e) (refl, zero-mul (down e)) (refl, refl)))
+    (le→leb 0 (m * up e) zero-le)
+
+-- and what is below zero has one
+pub signed : (x : Float) → T (not (isNan x)) → T (not (le (fin false 0 (pos 0)) x)) → signOf x ≡ true
+signed x n h = go (signOf x) refl
+  where
+    go : (s : Bool) → signOf x ≡ s → s ≡ true
+    go true e = refl
+    go false e = absurd (T-not (le (fin false 0 (pos 0)) x) h (unsigned x n e))

@@ -7,10 +7,10 @@ use mathlib.Core.Bool.{Bool, true, false, _&&_, _||_, Bool·beq, true≢false}
 use borrow.Author.Tests.{ltb-true, ltb-false}
 use lib.IntN.{pos}
 use lib.Dec.{T, eqb, eqb→eq}
-use lib.Ieee.{Float, nan, inf, fin, binary32, up, down, lt, eq, neg, fits}
+use lib.Ieee.{Format, Float, nan, inf, fin, binary32, up, down, lt, eq, neg, fits}
 use lib.Ieee.Fits.{and-l, up-pos}
 use lib.Ieee.Back.{whole-unique}
-use Rattle.binary32.specs.Leaves.{absOf}
+use Rattle.binary32.specs.Leaves.{absOf, signOf}
 use Rattle.binary32.proofs.Truth.{yes}
 
 abbrev zero32 : Float
@@ -49,3 +49,15 @@ abs-above (inf true) h k = absurd (true≢false h)
 abs-above (inf false) h k = refl
 abs-above (fin true m e) h k = absurd (rest (m * up e * 1) (0 * 1 * down e) (ltb-false _ _ h) k)
 abs-above (fin false m e) h k = refl
+
+pub size-sign : (x : Float) → signOf (absOf x) ≡ false
+size-sign nan = refl
+size-sign (inf s) = refl
+size-sign (fin s m e) = refl
+
+pub size-fits : (f : Format) (x : Float) → T (fits f x) → T (fits f (absOf x))
+unfolding fits
+size-fits f nan t = tt
+size-fits f (inf s) t = tt
+size-fits f (fin s zero e) t = t
+size-fits f (fin s (suc m) e) t = t

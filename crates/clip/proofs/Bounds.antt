@@ -23,7 +23,10 @@ use Rattle.clip.specs.Refusals.{goodLength}
 use Rattle.clip.specs.Bounds.{Inside}
 use Rattle.clip.specs.declared.Mode.{Mode}
 use Rattle.clip.specs.declared.Mode.the-variants.{Loop, PingPong}
-use Rattle.clip.proofs.Leaves.{smaller-of, larger-of, size-sign, size-fits, unsigned, signed, nan-sum}
+use Rattle.binary32.proofs.Extremes.{smaller-of, larger-of}
+use Rattle.binary32.proofs.Sizes.{size-sign, size-fits}
+use Rattle.binary32.proofs.Signs.{unsigned, signed}
+use Rattle.binary32.proofs.Nans.{nan-sum}
 use Rattle.clip.proofs.Lengths.{units-le, units-lt, length-units, last-units}
 
 -- ---- the rules give NaN, or a value that is not below zero

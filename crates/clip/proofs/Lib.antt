@@ -1,4 +1,3 @@
-pub mod Leaves
 pub mod Lengths
 pub mod Bounds
 pub mod Offsets

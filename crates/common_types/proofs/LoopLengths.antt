@@ -24,7 +24,7 @@ use Rattle.common_types.specs.declared.time_value.TimeOrRatio.{TimeOrRat
 use Rattle.common_types.specs.declared.time_value.TimeOrRatio.the-variants.{Time, Ratio}
 use Rattle.common_types.specs.Settings.{timeLengthOf, lengthOf, loopLengthOf, lengthBeyond, beyondLimits}
 use Rattle.common_types.proofs.Limits.{within}
-use Rattle.common_types.proofs.Largest.{max-reaches, max-under, max-fits}
+use Rattle.binary32.proofs.Extremes.{max-reaches, max-under, max-fits}
 
 abbrev most : Float
 most = fin false 1 (pos 22)
