@@ -1,1 +1,3 @@
 pub mod Volumes
+pub mod Starts
+pub mod Moves
