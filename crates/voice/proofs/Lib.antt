@@ -1,3 +1,4 @@
 pub mod Volumes
 pub mod Starts
 pub mod Moves
+pub mod Kept

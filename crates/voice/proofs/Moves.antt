@@ -1,8 +1,8 @@
--- A sound clip, brought up to a sample's length, speed, data length and mode, is sound, and its index is one of the samples recorded. Assumes nothing.
-use mathlib.Core.Path.{_≡_, refl, sym, ap, _∙_, subst}
-use Prim.Native.Nat.{ℕ, _*_, _^_, _≤_, _<_}
+-- A sound clip, brought up to a sample's length, speed, data length and mode, is sound at the data length that it was told. Assumes nothing.
+use mathlib.Core.Path.{_≡_, refl, _∙_, subst}
+use Prim.Native.Nat.{ℕ, _*_, _^_, _≤_}
 use native.Mathlib.Nat.{lt-of-lt-of-le}
-use mathlib.Core.Bool.{Bool, true, false, not, cond}
+use mathlib.Core.Bool.{Bool, true, false, cond}
 use lib.Dec.{T, eqb→eq}
 use lib.Pow.{pow-pos}
 use lib.IntN.{pos}
@@ -16,13 +16,12 @@ use Rattle.common_types.specs.Settings.{loopLengthOf, speedOf}
 use Rattle.common_types.proofs.LoopLengths.{loop-length-from-one, loop-length-to-most, loop-length-fits}
 use Rattle.clip.specs.declared.Clip.{Clip}
 use Rattle.clip.specs.declared.Mode.{Mode}
-use Rattle.clip.specs.Positions.{zero32, one32, offsetAt, indexAt}
+use Rattle.clip.specs.Positions.{zero32, one32, offsetAt}
 use Rattle.clip.specs.Updates.{atMode, atDataLength, resumed, settledOf, sameMode, withSpeed, withMode, withLength, withDataLength}
 use Rattle.clip.specs.Refusals.{most32, goodLength}
 use Rattle.clip.specs.Bounds.{Sound}
 use Rattle.clip.proofs.Lengths.{good-parts, length-units, float-units, float-length}
 use Rattle.clip.proofs.Kept.{with-speed-sound, with-mode-sound, with-length-sound, with-data-length-sound, with-speed-since, with-mode-since, with-length-since, with-data-length-since}
-use Rattle.clip.proofs.Indices.{index-below}
 use Rattle.voice.specs.Voices.{clipModeOf, tickOf, movedOf}
 use Rattle.voice.specs.Soundness.{Fits, SoundParams}
 use Rattle.voice.specs.declared.Voice.{Voice}
@@ -94,7 +93,3 @@ module _ (p : Params) (now n : ℕ) (ok : SoundParams p) (some : 1 ≤ n) (short
       with-mode-since told now
       (with-data-length-since sped now (with-speed-since sized now (with-length-since (v .clip2) now k (loopLengthOf p n)) (mul binary32 (v .speed) (speedOf p))) (asFloat n))
       (clipModeOf (p .«loop_mode»))
-
-  -- so the value that sounds is one recorded
-  pub moved-index : indexAt (movedOf (tickOf p now n) v) now < n
-  moved-index = index-below (movedOf (tickOf p now n) v) now n moved-sound moved-data-length short

@@ -1,12 +1,11 @@
 -- A start position from 0 to 1 of up to 2 ^ 22 samples is a place from 0 to 2 ^ 22. Assumes nothing.
-use mathlib.Core.Path.{_≡_, refl, sym, ap, _∙_, subst}
-use Prim.Native.Nat.{ℕ, _*_, _^_, _≤_, _<_, zero-le}
+use mathlib.Core.Path.{_≡_, sym, ap, _∙_, subst}
+use Prim.Native.Nat.{ℕ, _*_, _^_, _≤_, zero-le}
 use native.Mathlib.Nat.{le-trans, lt-of-le-of-lt, mul-le-mul, mul-one, mul-comm, zero-mul, zero-lt-suc}
 use mathlib.Core.Bool.{Bool, true, false}
 use lib.Dec.{T, lit≤, lit<}
 use lib.Pow.{pow-pos}
 use lib.Ieee.{Float, binary32, round, mul, le, unlike}
-use lib.Ieee.Scale.{overflow}
 use Rattle.binary32.specs.Leaves.{asFloat}
 use Rattle.binary32.proofs.Values.{mul-value}
 use Rattle.binary32.proofs.Units.{Units, grid-multiple, zero-units, one-units, power-units}
