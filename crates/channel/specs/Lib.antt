@@ -1,2 +1,3 @@
 pub mod Heads
 pub mod Channels
+pub mod Soundness

@@ -1,0 +1,111 @@
+-- A sound head stays sound through a recording, a change of pass-through and the end of a sample, and a new one is sound. Assumes nothing.
+use mathlib.Core.Path.{_≡_, refl}
+use Prim.Native.Nat.{ℕ, _+_, _^_, _≤_, _<_, zero-le}
+use native.Mathlib.Omega.{arith}
+use mathlib.Core.Bool.{Bool, true, false, _&&_, Bool·beq, cond}
+use lib.Dec.{T, leb, ltb, leb→le, le→leb}
+use lib.Ieee.{Float, fits}
+use lib.Ieee.Bits.{is-true}
+use lib.Ieee.Fits.{and-i, and-l, and-r}
+use borrow.Author.Tests.{ltb-true, lt-ltb}
+use Rattle.binary32.proofs.Truth.{yes, cond-split}
+use Rattle.common_types.specs.declared.Params.{Params}
+use Rattle.common_types.proofs.Limits.{within}
+use Rattle.volume.specs.Levels.{steppedOf, goodVolume}
+use Rattle.clip.specs.Positions.{zero32, one32}
+use Rattle.recorder.specs.declared.Recorded.{Recorded}
+use Rattle.recorder.specs.Recording.{goodRecorder, goodRecorded}
+use Rattle.recorder.proofs.Good.{new-good}
+use Rattle.voice.specs.Soundness.{Fits, SoundParams, FittingVolume, SoundVolume}
+use Rattle.voice.proofs.Volumes.{static-sound, volume-later, volume-stepped, volume-toward}
+use Rattle.channel.specs.Heads.{withRecorded, withPassthru, lastTime, nextTime, headOf, passesOf, rampOf, passthruOf, closedOf, goodHead}
+use Rattle.channel.specs.declared.Head.{Head}
+
+pub record SoundHead (capacity : ℕ) (h : Head) : Type 0 where
+  pub time : h .now ≤ 2 ^ 48
+  pub volume : SoundVolume (h .now) (h .«passthru_volume»)
+  pub recorder : goodRecorder (h .recorder) (h .«data_len») capacity ≡ true
+
+-- ---- good and fitting
+module _ (capacity : ℕ) (h : Head) where
+  pub head-parts : goodHead capacity h ≡ true → FittingVolume (h .«passthru_volume») → SoundHead capacity h
+  unfolding goodHead
+  head-parts good fit =
+      let a : Bool = leb (h .now) lastTime in
+      let b : Bool = goodVolume (h .now) (h .«passthru_volume») in
+      let c : Bool = goodRecorder (h .recorder) (h .«data_len») capacity in
+      let t : T (a && b && c) = yes good in
+      record {
+        time = leb→le (h .now) lastTime (and-l a b (and-l (a && b) c t));
+        volume = record { good = and-r a b (and-l (a && b) c t); fitting = fit };
+        recorder = is-true c (and-r (a && b) c t);
+      }
+
+  pub head-good : SoundHead capacity h → goodHead capacity h ≡ true
+  unfolding goodHead
+  head-good s =
+      let a : Bool = leb (h .now) lastTime in
+      let b : Bool = goodVolume (h .now) (h .«passthru_volume») in
+      let c : Bool = goodRecorder (h .recorder) (h .«data_len») capacity in
+      is-true (a && b && c) (and-i (a && b) c (and-i a b (le→leb (h .now) lastTime (s .time)) (s .volume .good)) (yes (s .recorder)))
+
+pub new-sound : (capacity : ℕ) (level : Float) → Fits level → SoundHead capacity (headOf level)
+unfolding headOf
+new-sound capacity level t = record { time = zero-le; volume = static-sound level 0 t; recorder = new-good capacity }
+
+-- ---- changes
+pub passthru-now : (p : Params) (unfinished : Bool) (h : Head) → passthruOf p unfinished h .now ≡ h .now
+unfolding passthruOf
+passthru-now p unfinished h = go (Bool·beq (passesOf p unfinished) (h .«passthru_on»))
+  where
+    go : (b : Bool) → cond b h (withPassthru (passesOf p unfinished) (rampOf (h .«passthru_volume») (h .now) p (passesOf p unfinished)) h) .now ≡ h .now
+    go true = refl
+    go false = refl
+
+module _ (capacity : ℕ) (h : Head) (s : SoundHead capacity h) where
+  pub recorded-sound : (r : Recorded) → goodRecorded r capacity ≡ true → SoundHead capacity (withRecorded r h)
+  recorded-sound r g = record { time = s .time; volume = s .volume; recorder = g }
+
+  ramp-sound : (p : Params) → SoundParams p → (on : Bool) → SoundVolume (h .now) (rampOf (h .«passthru_volume») (h .now) p on)
+  unfolding rampOf fits
+  ramp-sound p ok true = volume-toward (h .«passthru_volume») (h .now) (s .volume) (p .«attack_samples») one32 (s .time) (within p (ok .within) .attack) tt
+  ramp-sound p ok false = volume-toward (h .«passthru_volume») (h .now) (s .volume) (p .«decay_samples») zero32 (s .time) (within p (ok .within) .decay) tt
+
+  pub passthru-sound : (p : Params) → SoundParams p → (unfinished : Bool) → SoundHead capacity (passthruOf p unfinished h)
+  unfolding passthruOf
+  passthru-sound p ok unfinished =
+      let on = passesOf p unfinished in
+      cond-split (SoundHead capacity) (Bool·beq on (h .«passthru_on»)) h (withPassthru on (rampOf (h .«passthru_volume») (h .now) p on) h) (λ e. s)
+      (λ e. record { time = s .time; volume = ramp-sound p ok on; recorder = s .recorder })
+
+  stepped-sound : SoundHead capacity (withPassthru (h .«passthru_on») (steppedOf (h .«passthru_volume») (h .now)) h)
+  stepped-sound = record { time = s .time; volume = volume-stepped (h .«passthru_volume») (h .now) (s .volume) (h .now); recorder = s .recorder }
+
+-- ---- the end of a sample: the clock moves on, and not past its end
+pub next-later : (now : ℕ) → now ≤ nextTime now
+unfolding nextTime
+next-later now = cond-split (λ (n : ℕ). now ≤ n) (ltb now lastTime) (now + 1) now (λ t. omega arith) (λ t. omega arith)
+
+next-last : (now : ℕ) → now ≤ 2 ^ 48 → nextTime now ≤ 2 ^ 48
+unfolding nextTime
+next-last now h = go (ltb now lastTime) refl
+  where
+    go : (b : Bool) → ltb now lastTime ≡ b → cond b (now + 1) now ≤ 2 ^ 48
+    go true e = let k = ltb-true now lastTime e in omega arith
+    go false e = h
+
+pub next-one : (now : ℕ) → now < 2 ^ 48 → nextTime now ≡ now + 1
+unfolding nextTime
+next-one now h = simp (lt-ltb now (2 ^ 48) h)
+
+module _ (p : Params) (unfinished : Bool) (h : Head) where
+  pub closed-now : closedOf p unfinished h .now ≡ nextTime (h .now)
+  unfolding closedOf
+  closed-now = simp passthru-now
+
+  pub closed-sound : (capacity : ℕ) → SoundParams p → SoundHead capacity h → SoundHead capacity (closedOf p unfinished h)
+  unfolding closedOf
+  closed-sound capacity ok s =
+      let k = stepped-sound capacity h s in
+      let g = passthru-sound capacity _ k p ok unfinished in
+      record { time = next-last _ (g .time); volume = volume-later _ _ (g .volume) _ (next-later _); recorder = g .recorder }

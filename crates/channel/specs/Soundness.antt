@@ -1,0 +1,39 @@
+-- What the theorems call sound of a channel and of a change. Definitions only. Assumes nothing.
+use mathlib.Core.Path.{_≡_}
+use Prim.Native.Nat.{ℕ}
+use mathlib.Core.Bool.{true}
+use lib.Dec.{T}
+use lib.ListN.{length}
+use lib.Ieee.{Float, le}
+use Rattle.walks.specs.Each.{Each}
+use Rattle.clip.specs.Positions.{zero32, one32}
+use Rattle.voice.specs.Soundness.{Fits, SoundParams, FittingVolume, FittingVoice}
+use Rattle.channel.specs.Channels.{live, goodChannel}
+use Rattle.channel.specs.declared.Channel.{Channel}
+use Rattle.channel.specs.declared.Change.{Change}
+use Rattle.channel.specs.declared.Change.the-variants as change
+
+-- 32 places, and each float one of binary32, as in every channel of a program
+pub record FittingChannel (c : Channel) : Type 0 where
+  pub places : length (c .voices) ≡ 32
+  pub voices : Each FittingVoice (live c)
+  pub passthru : FittingVolume (c .head .«passthru_volume»)
+
+pub record SoundChannel (capacity : ℕ) (c : Channel) : Type 0 where
+  pub good : goodChannel capacity c ≡ true
+  pub fitting : FittingChannel c
+
+-- from 0 to 1
+pub record SoundPosition (x : Float) : Type 0 where
+  pub fitting : Fits x
+  pub low : T (le zero32 x)
+  pub high : T (le x one32)
+
+-- a change that rows 3 and 4 let through; that row 5 does isn't asked for
+unfoldable pub SoundChange : Change → Type 0
+SoundChange (change.Start p position note velocity) = SoundParams p × SoundPosition position × Fits velocity
+SoundChange (change.Stop p note) = SoundParams p
+SoundChange (change.Speed note speed) = Fits speed
+SoundChange change.StartRecording = Unit {0}
+SoundChange change.StopRecording = Unit {0}
+SoundChange change.Reset = Unit {0}
