@@ -1,0 +1,109 @@
+-- A sound channel by its parts, and with another head, recording or voices. Assumes nothing.
+use mathlib.Core.Path.{_≡_, sym, _∙_, subst}
+use Prim.Native.Nat.{ℕ, zero, suc, _≤_, _<_}
+use native.Mathlib.Nat.{le-refl, le-trans, le-of-eq}
+use native.Mathlib.Omega.{arith}
+use mathlib.Core.Bool.{Bool, true, not, _&&_}
+use mathlib.Core.List.{List}
+use lib.Dec.{T, leb, eqb, leb→le, le→leb}
+use lib.ListN.{length, take, getD}
+use lib.Seq.{getD-take, length-take-le}
+use lib.Ieee.Bits.{is-true}
+use lib.Ieee.Fits.{and-i, and-l, and-r}
+use Rattle.binary32.proofs.Truth.{yes}
+use Rattle.walks.specs.Walks.{every}
+use Rattle.walks.specs.Each.{Each}
+use Rattle.walks.proofs.Each.{each-at, each-every, each-weaker, every-each}
+use Rattle.recorder.specs.declared.Recorded.{Recorded}
+use Rattle.recorder.specs.Recording.{goodRecorded}
+use Rattle.recorder.proofs.Good.{good-length}
+use Rattle.voice.specs.declared.Voice.{Voice}
+use Rattle.voice.specs.Voices.{goodVoice}
+use Rattle.voice.specs.Soundness.{FittingVoice, SoundVoice}
+use Rattle.voice.proofs.Kept.{voice-later}
+use Rattle.channel.specs.Heads.{withRecorded, goodHead}
+use Rattle.channel.specs.Channels.{withHead, withVoices, live, goodVoicesOf, goodChannel}
+use Rattle.channel.specs.Soundness.{SoundChannel}
+use Rattle.channel.specs.declared.Head.{Head}
+use Rattle.channel.specs.declared.Channel.{Channel}
+use Rattle.channel.proofs.Heads.{SoundHead, head-parts, head-good, recorded-sound}
+
+-- ---- a sound channel by its parts
+pub record Parts (capacity : ℕ) (c : Channel) : Type 0 where
+  pub few : c .count ≤ 32
+  pub places : length (c .voices) ≡ 32
+  pub voices : Each (SoundVoice (c .head .now)) (live c)
+  pub head : SoundHead capacity (c .head)
+
+pub parts : {capacity : ℕ} {c : Channel} → SoundChannel capacity c → Parts capacity c
+unfolding goodChannel goodVoicesOf
+parts {capacity} {c} h =
+    let a : Bool = leb (c .count) 32 in
+    let b : Bool = goodHead capacity (c .head) in
+    let d : Bool = every (goodVoice (c .head .now)) (live c) in
+    let t : T (a && b && d) = yes (h .good) in
+    record {
+      few = leb→le (c .count) 32 (and-l a b (and-l (a && b) d t));
+      places = h .fitting .places;
+      voices = every-each FittingVoice (SoundVoice (c .head .now)) (goodVoice (c .head .now)) (λ v g f. record { good = g; fitting = f }) (live c) (is-true d (and-r (a && b) d t)) (h .fitting .voices);
+      head = head-parts capacity (c .head) (is-true b (and-r a b (and-l (a && b) d t))) (h .fitting .passthru);
+    }
+
+pub joined : {capacity : ℕ} {c : Channel} → Parts capacity c → SoundChannel capacity c
+unfolding goodChannel goodVoicesOf
+joined {capacity} {c} g =
+    let a : Bool = leb (c .count) 32 in
+    let b : Bool = goodHead capacity (c .head) in
+    let d : Bool = every (goodVoice (c .head .now)) (live c) in
+    let S = SoundVoice (c .head .now) in
+    record {
+      good = is-true (a && b && d)
+          (and-i (a && b) d (and-i a b (le→leb (c .count) 32 (g .few)) (yes (head-good capacity (c .head) (g .head))))
+          (yes (each-every S (goodVoice (c .head .now)) (live c) (λ v s. s .good) (g .voices))));
+      fitting = record {
+        places = g .places;
+        voices = each-weaker S FittingVoice (λ v s. s .fitting) (live c) (g .voices);
+        passthru = g .head .volume .fitting;
+      };
+    }
+
+-- ---- another head, whose clock isn't earlier; another recording; other voices
+module _ (capacity : ℕ) (c : Channel) (s : SoundChannel capacity c) where
+  pub head-changed : (h : Head) → SoundHead capacity h → c .head .now ≤ h .now → SoundChannel capacity (withHead h c)
+  head-changed h k later =
+      let g = parts s in
+      joined (record {
+        few = g .few;
+        places = g .places;
+        voices = each-weaker (SoundVoice (c .head .now)) (SoundVoice (h .now)) (λ v w. voice-later (c .head .now) v w (h .now) later) (live c) (g .voices);
+        head = k;
+      })
+
+  pub recording-changed : (r : Recorded) → goodRecorded r capacity ≡ true → SoundChannel capacity (withHead (withRecorded r (c .head)) c)
+  recording-changed r good = head-changed (withRecorded r (c .head)) (recorded-sound capacity (c .head) (parts s .head) r good) (le-refl (c .head .now))
+
+  pub voices-changed : (vs : List Voice) (n : ℕ) → n ≤ 32 → length vs ≡ length (c .voices) → Each (SoundVoice (c .head .now)) (take n vs) → SoundChannel capacity (withVoices vs n c)
+  voices-changed vs n few same sound =
+      let g = parts s in
+      joined (record { few = few; places = same ∙ g .places; voices = sound; head = g .head })
+
+  -- a recording is within its memory
+  pub data-within : c .head .«data_len» ≤ capacity
+  data-within = good-length (c .head .recorder) (c .head .«data_len») capacity (parts s .head .recorder)
+
+  pub room : c .count ≤ length (c .voices)
+  room = le-trans (parts s .few) (le-of-eq (sym (parts s .places)))
+
+  pub live-count : length (live c) ≡ c .count
+  live-count = length-take-le (c .count) (c .voices) room
+
+  -- each voice that there is
+  pub voice-at : (i : ℕ) (d : Voice) → i < c .count → SoundVoice (c .head .now) (getD (c .voices) i d)
+  voice-at i d below =
+      subst (SoundVoice (c .head .now)) (getD-take (c .count) (c .voices) i d below)
+      (each-at (SoundVoice (c .head .now)) (live c) i d (parts s .voices) (subst (λ (n : ℕ). i < n) (sym live-count) below))
+
+-- a recording that isn't empty
+pub some : (n : ℕ) → T (not (eqb n 0)) → 1 ≤ n
+some zero e = absurd e
+some (suc n) e = omega arith

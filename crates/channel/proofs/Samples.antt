@@ -1,0 +1,100 @@
+-- A sound channel stays sound through a sample, whose clock is then one more; its memory keeps its length; and each voice sounds by a value recorded. Assumes nothing.
+use mathlib.Core.Path.{_≡_, refl, sym, _∙_, subst}
+use Prim.Native.Nat.{ℕ, _+_, _^_, _≤_, _<_}
+use native.Mathlib.Nat.{le-trans, le-of-eq}
+use mathlib.Core.Bool.{Bool, true, false, cond}
+use mathlib.Core.List.{List, map}
+use lib.Dec.{eqb}
+use lib.ListN.{length, getD, length-map}
+use lib.Seq.{sets, length-sets}
+use lib.Ieee.{Float}
+use Rattle.binary32.specs.Leaves.{bitsOf}
+use Rattle.binary32.proofs.Truth.{cond-split}
+use Rattle.walks.specs.Walks.{without}
+use Rattle.walks.specs.Each.{Each}
+use Rattle.walks.proofs.Each.{each-without, each-map, front-sets, fewer}
+use Rattle.common_types.specs.declared.Params.{Params}
+use Rattle.clip.specs.Positions.{zero32, indexAt}
+use Rattle.recorder.specs.Recording.{recordedOf, goodRecorded}
+use Rattle.recorder.proofs.Good.{sample-good}
+use Rattle.recorder.proofs.Memory.{memory-length}
+use Rattle.voice.specs.declared.Voice.{Voice}
+use Rattle.voice.specs.Voices.{tickOf, movedOf, shouldRemoveOf, turnOf}
+use Rattle.voice.specs.Soundness.{SoundParams, SoundVoice}
+use Rattle.voice.proofs.Kept.{index-recorded, turn-sound}
+use Rattle.channel.specs.Heads.{closedOf}
+use Rattle.channel.specs.Channels.{live, anyUnfinishedOf, keptOf, playedOf, playedIfOf, takenOf, memoryOf, processSampleOf}
+use Rattle.channel.specs.Soundness.{SoundChannel}
+use Rattle.channel.specs.declared.Head.{Head}
+use Rattle.channel.specs.declared.Channel.{Channel}
+use Rattle.channel.specs.declared.Played.{Played}
+use Rattle.channel.proofs.Heads.{next-later, next-one, closed-now, closed-sound}
+use Rattle.channel.proofs.Parts.{parts, head-changed, recording-changed, voices-changed, data-within, room, live-count, voice-at, some}
+
+-- ---- recorded first
+pub taken-sound : (capacity : ℕ) (c : Channel) → SoundChannel capacity c → (m : List ℕ) → length m ≡ capacity → SoundChannel capacity (takenOf m c)
+unfolding takenOf
+taken-sound capacity c s m size =
+    let r = recordedOf (c .head .recorder) (c .head .«data_len») in
+    recording-changed capacity c s (r (length m))
+    (subst (λ (n : ℕ). goodRecorded (r n) capacity ≡ true) (sym size) (sample-good (c .head .recorder) (c .head .«data_len») capacity (parts s .head .recorder)))
+
+pub memory-kept : (x : Float) (c : Channel) (m : List ℕ) → length (memoryOf x c m) ≡ length m
+unfolding memoryOf
+memory-kept x c m = memory-length (c .head .recorder) (bitsOf x) m
+
+-- ---- then played
+played-if-head : (p : Params) (m : List ℕ) (c : Channel) → playedIfOf p m c .channel .head ≡ c .head
+unfolding playedIfOf playedOf
+played-if-head p m c = go (eqb (c .head .«data_len») 0)
+  where
+    go : (b : Bool) → cond b (record { channel = c; output = zero32 }) (playedOf (tickOf p (c .head .now) (c .head .«data_len»)) m c) .channel .head ≡ c .head
+    go true = refl
+    go false = refl
+
+module _ (capacity : ℕ) (c : Channel) (s : SoundChannel capacity c) (p : Params) (ok : SoundParams p) (small : capacity ≤ 2 ^ 22) where
+  -- the value that a voice sounds by is one recorded
+  pub voice-recorded : (i : ℕ) (d : Voice) → i < c .count → 1 ≤ c .head .«data_len»
+      → indexAt (movedOf (tickOf p (c .head .now) (c .head .«data_len»)) (getD (c .voices) i d)) (c .head .now) < c .head .«data_len»
+  voice-recorded i d below full =
+      index-recorded p (c .head .now) (c .head .«data_len») ok (parts s .head .time) full (le-trans (data-within capacity c s) small) (getD (c .voices) i d) (voice-at capacity c s i d below)
+
+  module _ (m : List ℕ) where
+    played-sound : 1 ≤ c .head .«data_len» → SoundChannel capacity (playedOf (tickOf p (c .head .now) (c .head .«data_len»)) m c .channel)
+    unfolding playedOf keptOf
+    played-sound full =
+        let g = parts s in
+        let S = SoundVoice (c .head .now) in
+        let t = tickOf p (c .head .now) (c .head .«data_len») in
+        let us = map (turnOf t m) (live c) in
+        let vs = without (shouldRemoveOf t) us in
+        let few : length vs ≤ c .count = le-trans (fewer (shouldRemoveOf t) us) (le-of-eq (length-map (live c) (turnOf t m) ∙ live-count capacity c s)) in
+        voices-changed capacity c s (sets (c .voices) 0 vs) (length vs) (le-trans few (g .few)) (length-sets (c .voices) 0 vs)
+        (subst (Each S) (sym (front-sets (c .voices) vs (le-trans few (room capacity c s))))
+        (each-without S (shouldRemoveOf t) us
+        (each-map S S (turnOf t m) (λ v h. turn-sound p (c .head .now) (c .head .«data_len») ok (g .head .time) full (le-trans (data-within capacity c s) small) m v h) (live c) (g .voices))))
+
+    -- an empty recording plays none
+    played-if-sound : SoundChannel capacity (playedIfOf p m c .channel)
+    unfolding playedIfOf
+    played-if-sound =
+        let n = c .head .«data_len» in
+        cond-split (λ (r : Played). SoundChannel capacity (r .channel)) (eqb n 0) (record { channel = c; output = zero32 }) (playedOf (tickOf p (c .head .now) n) m c)
+        (λ e. s) (λ e. played-sound (some n e))
+
+-- ---- and closed
+module _ (capacity : ℕ) (c : Channel) (s : SoundChannel capacity c) (p : Params) (ok : SoundParams p) (small : capacity ≤ 2 ^ 22) (x : Float) (m : List ℕ) (size : length m ≡ capacity) where
+  pub sample-sound : SoundChannel capacity (processSampleOf p x c m .channel)
+  unfolding processSampleOf
+  sample-sound =
+      let d = takenOf m c in
+      let k = taken-sound capacity c s m size in
+      let r = playedIfOf p (memoryOf x c m) d .channel in
+      let u = anyUnfinishedOf r in
+      head-changed capacity r (played-if-sound capacity d k p ok small (memoryOf x c m)) (closedOf p u (d .head)) (closed-sound p u (d .head) capacity ok (parts k .head))
+      (subst (λ (h : Head). h .now ≤ closedOf p u (d .head) .now) (sym (played-if-head p (memoryOf x c m) d))
+      (subst (λ (n : ℕ). d .head .now ≤ n) (sym (closed-now p u (d .head))) (next-later (d .head .now))))
+
+pub sample-clock : (p : Params) (x : Float) (c : Channel) (m : List ℕ) → c .head .now < 2 ^ 48 → processSampleOf p x c m .channel .head .now ≡ c .head .now + 1
+unfolding processSampleOf takenOf
+sample-clock p x c m h = closed-now p (anyUnfinishedOf (playedIfOf p (memoryOf x c m) (takenOf m c) .channel)) (takenOf m c .head) ∙ next-one (c .head .now) h
