@@ -20,6 +20,12 @@ module _ {A : Type 0} (P : A → Type 0) where
   each-at (x ∷ xs) zero d h k = h .0
   each-at (x ∷ xs) (suc i) d h k = each-at xs i d (h .1) (omega arith)
 
+  pub each-front : (l : List A) (n : ℕ) → Each P l → Each P (take n l)
+  unfolding Each
+  each-front l zero h = tt
+  each-front [] (suc n) h = tt
+  each-front (x ∷ xs) (suc n) h = (h .0, each-front xs n (h .1))
+
   -- what a walk keeps
   pub each-without : (p : A → Bool) (l : List A) → Each P l → Each P (without p l)
   unfolding Each without

@@ -1,0 +1,142 @@
+-- A sound record stays sound through every call, refused or not, and set-up makes one. Assumes nothing.
+use mathlib.Core.Path.{_≡_, refl, sym, _∙_, subst}
+use Prim.Native.Nat.{ℕ, _^_, _≤_, _<_}
+use native.Mathlib.Nat.{le-trans, le-of-eq}
+use mathlib.Core.Bool.{true, false, not, _&&_, _||_}
+use mathlib.Core.List.{List, [], _∷_, map}
+use borrow.Author.Tests.{leb-true}
+use lib.Dec.{leb, eqb, eqb→eq}
+use lib.ListN.{length, take, getD, set, length-set}
+use lib.Seq.{sets, length-sets, getD-take, length-take-le}
+use lib.Ieee.{Float, le}
+use Rattle.binary32.proofs.Truth.{yes, no, cond-split}
+use Rattle.walks.specs.Walks.{every}
+use Rattle.walks.specs.Each.{Each}
+use Rattle.walks.proofs.Every.{both}
+use Rattle.walks.proofs.Each.{each-at, each-front, each-set, each-every, each-map, each-weaker, every-each, front-map}
+use Rattle.clip.specs.Positions.{zero32, one32}
+use Rattle.common_types.specs.declared.InitParams.{InitParams}
+use Rattle.common_types.specs.declared.Params.{Params}
+use Rattle.common_types.specs.Settings.{beyondLimits}
+use Rattle.voice.specs.Soundness.{SoundParams}
+use Rattle.channel.specs.declared.Channel.{Channel}
+use Rattle.channel.specs.declared.Change.{Change}
+use Rattle.channel.specs.declared.Change.the-variants as change
+use Rattle.channel.specs.Channels.{channelOf, changedOf, goodChannel}
+use Rattle.channel.specs.Soundness.{FittingChannel, SoundChannel, SoundChange}
+use Rattle.channel.proofs.Kept.{new-channel-sound, change-sound}
+use Rattle.channel.proofs.Samples.{sample-sound}
+use Rattle.sampler.specs.Refusals.{present, channelAt, goodSizes, goodSampler, badNote, badPosition, startNumber, stopNumber, setUpNumber, sampleNumber, capacityOf}
+use Rattle.sampler.specs.Samplers.{withChannels, samplerOf, setUpOf, eachOf, answerOf, partOf, playedAt, steppedOf, processSampleOf, Framed, entryOf, framedOf}
+use Rattle.sampler.specs.Soundness.{SoundSampler, changeNumber, FittingParams, FittingChange}
+use Rattle.sampler.specs.declared.Sampler.{Sampler}
+use Rattle.sampler.proofs.Rows.{passed, is-true, sizes-count}
+use Rattle.sampler.proofs.Entries.{Reaches, sample-reaches, part-length, frame-keeps}
+
+-- ---- a sound record by its parts
+record Parts (s : Sampler) : Type 0 where
+  sizes : goodSizes (s .count) (s .capacity) ≡ true
+  seats : length (s .channels) ≡ 2
+  channels : Each (SoundChannel (s .capacity)) (present s)
+
+parts : {s : Sampler} → SoundSampler s → Parts s
+unfolding goodSampler
+parts {s} h =
+    let g = both (goodSizes (s .count) (s .capacity)) (every (goodChannel (s .capacity)) (present s)) (h .good) in
+    record {
+      sizes = g .0;
+      seats = h .fitting .seats;
+      channels = every-each FittingChannel (SoundChannel (s .capacity)) (goodChannel (s .capacity)) (λ c a b. record { good = a; fitting = b }) (present s) (g .1) (h .fitting .channels);
+    }
+
+joined : {s : Sampler} → Parts s → SoundSampler s
+unfolding goodSampler
+joined {s} g =
+    let S = SoundChannel (s .capacity) in
+    record {
+      good = rw (g .sizes) (each-every S (goodChannel (s .capacity)) (present s) (λ c k. k .good) (g .channels));
+      fitting = record { seats = g .seats; channels = each-weaker S FittingChannel (λ c k. k .fitting) (present s) (g .channels) };
+    }
+
+module _ (s : Sampler) (h : SoundSampler s) where
+  small : s .capacity ≤ 2 ^ 22
+  unfolding goodSizes
+  small =
+      let n = s .count in
+      leb-true (s .capacity) (2 ^ 22) (both ((eqb n 1 || eqb n 2) && leb 1 (s .capacity)) (leb (s .capacity) (2 ^ 22)) (parts h .sizes) .1)
+
+  room : s .count ≤ length (s .channels)
+  room = le-trans (sizes-count (s .count) (s .capacity) (parts h .sizes)) (le-of-eq (sym (parts h .seats)))
+
+  channels-changed : (cs : List Channel) → length cs ≡ length (s .channels) → Each (SoundChannel (s .capacity)) (take (s .count) cs) → SoundSampler (withChannels cs s)
+  channels-changed cs same k = joined (record { sizes = parts h .sizes; seats = same ∙ parts h .seats; channels = k })
+
+  each-sound : (x : Change) → SoundChange x → SoundSampler (eachOf x s)
+  unfolding eachOf
+  each-sound x ok =
+      let S = SoundChannel (s .capacity) in
+      let cs = map (changedOf x) (present s) in
+      channels-changed (sets (s .channels) 0 cs) (length-sets (s .channels) 0 cs)
+      (subst (Each S) (sym (front-map (changedOf x) (s .channels) (s .count) room))
+      (each-map S S (changedOf x) (λ c k. change-sound (s .capacity) c k small x ok) (present s) (parts h .channels)))
+
+-- ---- set-up
+pub set-up-sound : (count : ℕ) (p : InitParams) (size : ℕ) → setUpNumber count size ≡ 0 → SoundSampler (setUpOf count p size .sampler)
+unfolding setUpOf setUpNumber Each
+set-up-sound count p size h =
+    let capacity = capacityOf count size in
+    let good = is-true (goodSizes count capacity) (passed (not (goodSizes count capacity)) 8 0 h .0) in
+    let c = new-channel-sound capacity p in
+    rw good (joined {s = samplerOf count p capacity} (record { sizes = good; seats = refl; channels = each-front (SoundChannel capacity) (channelOf p ∷ channelOf p ∷ []) count (c, (c, tt)) }))
+
+-- ---- calls that change every channel
+
+-- what the number 0 says of a change
+change-let-through : (s : Sampler) (x : Change) → changeNumber s x ≡ 0 → FittingChange x → SoundChange x
+unfolding startNumber stopNumber FittingChange SoundChange
+change-let-through s (change.Start p position note velocity) h f =
+    let a = passed (not (goodSampler s)) 8 _ h .1 in
+    let b = passed (badPosition position) 2 _ (passed (badNote note) 1 _ a .1) in
+    let c = passed (beyondLimits p) 3 _ (b .1) .0 in
+    let d = both (le zero32 position) (le position one32) (is-true (le zero32 position && le position one32) (b .0)) in
+    (record { within = no c; length = f .0 }, record { fitting = f .1; low = yes (d .0); high = yes (d .1) }, f .2)
+change-let-through s (change.Stop p note) h f =
+    let a = passed (badNote note) 1 _ (passed (not (goodSampler s)) 8 _ h .1) in
+    record { within = no (passed (beyondLimits p) 3 _ (a .1) .0); length = f }
+change-let-through s (change.Speed note speed) h f = f
+change-let-through s change.StartRecording h f = tt
+change-let-through s change.StopRecording h f = tt
+change-let-through s change.Reset h f = tt
+
+pub change-kept : (s : Sampler) → SoundSampler s → (x : Change) → FittingChange x → SoundSampler (answerOf (changeNumber s x) x s .sampler)
+unfolding answerOf
+change-kept s h x f =
+    cond-split SoundSampler (eqb (changeNumber s x) 0) (eachOf x s) s
+    (λ t. each-sound s h x (change-let-through s x (eqb→eq (changeNumber s x) 0 t) f)) (λ t. h)
+
+-- ---- a sample, and a frame
+step-kept : (p : Params) → SoundParams p → (s : Sampler) → SoundSampler s → (j : ℕ) (x : Float) (m : List ℕ) → Reaches s j (length m) → SoundSampler (steppedOf s j p x m)
+unfolding steppedOf playedAt
+step-kept p ok s h j x m r =
+    let S = SoundChannel (s .capacity) in
+    let c = playedAt s j p x m .channel in
+    let d = channelOf (record { «auto_passthru» = false }) in
+    let old : S (channelAt s j) = subst S (getD-take (s .count) (s .channels) j d (r .below))
+    (each-at S (present s) j d (parts h .channels) (subst (λ (n : ℕ). j < n) (sym (length-take-le (s .count) (s .channels) (room s h))) (r .below))) in
+    channels-changed s h (set (s .channels) j c) (length-set (s .channels) j c)
+    (each-set S (s .channels) (s .count) j c (parts h .channels) (sample-sound (s .capacity) (channelAt s j) old p ok (small s h) x (partOf s j m) (part-length s j m r)))
+
+pub sample-kept : (s : Sampler) → SoundSampler s → (j : ℕ) (x : Float) (p : Params) (m : List ℕ) → FittingParams p → SoundSampler (processSampleOf s j x p m .sampler)
+unfolding processSampleOf
+sample-kept s h j x p m f =
+    let n = sampleNumber s j p (length m) in
+    cond-split SoundSampler (eqb n 0) (steppedOf s j p x m) s
+    (λ t. let k = sample-reaches s p (length m) j (eqb→eq n 0 t) in
+    step-kept p (record { within = k .1; length = f }) s h j x m (k .0))
+    (λ t. h)
+
+pub frame-kept : (s : Sampler) → SoundSampler s → (frame : List Float) (p : Params) (m : List ℕ) → FittingParams p → SoundSampler (framedOf s frame p m .sampler)
+unfolding entryOf
+frame-kept s h frame p m f =
+    frame-keeps (λ (g : Framed). SoundSampler (g .sampler)) p
+    (λ k j g r i. step-kept p (record { within = k; length = f }) (g .sampler) i j (getD (g .frame) j zero32) (g .memory) r) s frame m h

@@ -1,0 +1,66 @@
+-- What the theorems call sound of a record, and the records that set-up and calls reach. Definitions only. Assumes nothing.
+use mathlib.Core.Path.{_≡_}
+use mathlib.Core.Logic.{_≢_}
+use mathlib.Core.Bool.{true}
+use mathlib.Core.List.{List}
+use Prim.Native.Nat.{ℕ}
+use lib.ListN.{length}
+use lib.Ieee.{Float}
+use Rattle.walks.specs.Each.{Each}
+use Rattle.common_types.specs.declared.InitParams.{InitParams}
+use Rattle.common_types.specs.declared.Params.{Params}
+use Rattle.common_types.proofs.LoopLengths.{carried}
+use Rattle.voice.specs.Soundness.{Fits}
+use Rattle.channel.specs.declared.Change.{Change}
+use Rattle.channel.specs.declared.Change.the-variants as change
+use Rattle.channel.specs.Soundness.{FittingChannel}
+use Rattle.sampler.specs.Refusals.{present, goodSampler, setUpNumber, startNumber, stopNumber, speedNumber, plainNumber, sampleNumber, frameNumber, channelNumber}
+use Rattle.sampler.specs.Samplers.{setUpOf, answerOf, processSampleOf, framedOf}
+use Rattle.sampler.specs.declared.Sampler.{Sampler}
+
+-- two channels, as in every sampler of a program
+pub record FittingSampler (s : Sampler) : Type 0 where
+  pub seats : length (s .channels) ≡ 2
+  pub channels : Each FittingChannel (present s)
+
+pub record SoundSampler (s : Sampler) : Type 0 where
+  pub good : goodSampler s ≡ true
+  pub fitting : FittingSampler s
+
+-- ---- the calls that change every channel, by their change
+
+-- so `answerOf (changeNumber s x) x s` is, for each change x, the call of its name
+abbrev pub changeNumber : Sampler → Change → ℕ
+changeNumber s (change.Start p position note velocity) = startNumber s position note p
+changeNumber s (change.Stop p note) = stopNumber s note p
+changeNumber s (change.Speed note speed) = speedNumber s note
+changeNumber s change.StartRecording = plainNumber s
+changeNumber s change.StopRecording = plainNumber s
+changeNumber s change.Reset = plainNumber s
+
+-- of parameters only the loop length's float comes into a record as it is
+abbrev pub FittingParams : Params → Type 0
+FittingParams p = Fits (carried (p .«loop_length»))
+
+-- the floats that a change carries
+unfoldable pub FittingChange : Change → Type 0
+FittingChange (change.Start p position note velocity) = FittingParams p × Fits position × Fits velocity
+FittingChange (change.Stop p note) = FittingParams p
+FittingChange (change.Speed note speed) = Fits speed
+FittingChange change.StartRecording = Unit {0}
+FittingChange change.StopRecording = Unit {0}
+FittingChange change.Reset = Unit {0}
+
+-- ---- what set-up with memory of that size, and then any calls, refused or not and with any memory lent to them, leave as the record
+pub data Reached (size : ℕ) : Sampler → Type 0 where
+  new : (count : ℕ) (p : InitParams) → setUpNumber count size ≡ 0 → Reached size (setUpOf count p size .sampler)
+  changed : (s : Sampler) (x : Change) → Reached size s → FittingChange x → Reached size (answerOf (changeNumber s x) x s .sampler)
+  sampled : (s : Sampler) (j : ℕ) (x : Float) (p : Params) (m : List ℕ) → Reached size s → FittingParams p → Reached size (processSampleOf s j x p m .sampler)
+  framed : (s : Sampler) (frame : List Float) (p : Params) (m : List ℕ) → Reached size s → FittingParams p → Reached size (framedOf s frame p m .sampler)
+
+-- row 9 answers no call, with memory of that size
+pub record Unbroken (s : Sampler) (size : ℕ) : Type 0 where
+  pub change : (x : Change) → changeNumber s x ≢ 9
+  pub sample : (j : ℕ) (p : Params) → sampleNumber s j p size ≢ 9
+  pub frame : (n : ℕ) (p : Params) → frameNumber s n p size ≢ 9
+  pub question : (j : ℕ) → channelNumber s j ≢ 9
