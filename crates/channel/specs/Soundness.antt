@@ -7,7 +7,7 @@ use lib.ListN.{length}
 use lib.Ieee.{Float, le}
 use Rattle.walks.specs.Each.{Each}
 use Rattle.clip.specs.Positions.{zero32, one32}
-use Rattle.voice.specs.Soundness.{Fits, SoundParams, FittingVolume, FittingVoice}
+use Rattle.voice.specs.Soundness.{Fits, FittingParams, SoundParams, FittingVolume, FittingVoice}
 use Rattle.channel.specs.Channels.{live, goodChannel}
 use Rattle.channel.specs.declared.Channel.{Channel}
 use Rattle.channel.specs.declared.Change.{Change}
@@ -23,13 +23,22 @@ pub record SoundChannel (capacity : ℕ) (c : Channel) : Type 0 where
   pub good : goodChannel capacity c ≡ true
   pub fitting : FittingChannel c
 
+-- the floats that a change carries
+unfoldable pub FittingChange : Change → Type 0
+FittingChange (change.Start p position note velocity) = FittingParams p × Fits position × Fits velocity
+FittingChange (change.Stop p note) = FittingParams p
+FittingChange (change.Speed note speed) = Fits speed
+FittingChange change.StartRecording = Unit {0}
+FittingChange change.StopRecording = Unit {0}
+FittingChange change.Reset = Unit {0}
+
 -- from 0 to 1
 pub record SoundPosition (x : Float) : Type 0 where
   pub fitting : Fits x
   pub low : T (le zero32 x)
   pub high : T (le x one32)
 
--- a change that rows 3 and 4 let through; that row 5 does isn't asked for
+-- a change that fits, and that rows 3 and 4 let through; row 5 isn't asked for
 unfoldable pub SoundChange : Change → Type 0
 SoundChange (change.Start p position note velocity) = SoundParams p × SoundPosition position × Fits velocity
 SoundChange (change.Stop p note) = SoundParams p

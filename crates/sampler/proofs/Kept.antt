@@ -18,17 +18,17 @@ use Rattle.clip.specs.Positions.{zero32, one32}
 use Rattle.common_types.specs.declared.InitParams.{InitParams}
 use Rattle.common_types.specs.declared.Params.{Params}
 use Rattle.common_types.specs.Settings.{beyondLimits}
-use Rattle.voice.specs.Soundness.{SoundParams}
+use Rattle.voice.specs.Soundness.{FittingParams, SoundParams}
 use Rattle.channel.specs.declared.Channel.{Channel}
 use Rattle.channel.specs.declared.Change.{Change}
 use Rattle.channel.specs.declared.Change.the-variants as change
 use Rattle.channel.specs.Channels.{channelOf, changedOf, goodChannel}
-use Rattle.channel.specs.Soundness.{FittingChannel, SoundChannel, SoundChange}
+use Rattle.channel.specs.Soundness.{FittingChannel, SoundChannel, FittingChange, SoundChange}
 use Rattle.channel.proofs.Kept.{new-channel-sound, change-sound}
 use Rattle.channel.proofs.Samples.{sample-sound}
 use Rattle.sampler.specs.Refusals.{present, channelAt, goodSizes, goodSampler, badNote, badPosition, startNumber, stopNumber, setUpNumber, sampleNumber, capacityOf}
 use Rattle.sampler.specs.Samplers.{withChannels, samplerOf, setUpOf, eachOf, answerOf, partOf, playedAt, steppedOf, processSampleOf, Framed, entryOf, framedOf}
-use Rattle.sampler.specs.Soundness.{SoundSampler, changeNumber, FittingParams, FittingChange}
+use Rattle.sampler.specs.Soundness.{SoundSampler, changeNumber}
 use Rattle.sampler.specs.declared.Sampler.{Sampler}
 use Rattle.sampler.proofs.Rows.{passed, is-true, sizes-count}
 use Rattle.sampler.proofs.Entries.{Reaches, sample-reaches, part-length, frame-keeps}
@@ -99,10 +99,10 @@ change-let-through s (change.Start p position note velocity) h f =
     let b = passed (badPosition position) 2 _ (passed (badNote note) 1 _ a .1) in
     let c = passed (beyondLimits p) 3 _ (b .1) .0 in
     let d = both (le zero32 position) (le position one32) (is-true (le zero32 position && le position one32) (b .0)) in
-    (record { within = no c; length = f .0 }, record { fitting = f .1; low = yes (d .0); high = yes (d .1) }, f .2)
+    (record { within = no c; fitting = f .0 }, record { fitting = f .1; low = yes (d .0); high = yes (d .1) }, f .2)
 change-let-through s (change.Stop p note) h f =
     let a = passed (badNote note) 1 _ (passed (not (goodSampler s)) 8 _ h .1) in
-    record { within = no (passed (beyondLimits p) 3 _ (a .1) .0); length = f }
+    record { within = no (passed (beyondLimits p) 3 _ (a .1) .0); fitting = f }
 change-let-through s (change.Speed note speed) h f = f
 change-let-through s change.StartRecording h f = tt
 change-let-through s change.StopRecording h f = tt
@@ -132,11 +132,11 @@ sample-kept s h j x p m f =
     let n = sampleNumber s j p (length m) in
     cond-split SoundSampler (eqb n 0) (steppedOf s j p x m) s
     (λ t. let k = sample-reaches s p (length m) j (eqb→eq n 0 t) in
-    step-kept p (record { within = k .1; length = f }) s h j x m (k .0))
+    step-kept p (record { within = k .1; fitting = f }) s h j x m (k .0))
     (λ t. h)
 
 pub frame-kept : (s : Sampler) → SoundSampler s → (frame : List Float) (p : Params) (m : List ℕ) → FittingParams p → SoundSampler (framedOf s frame p m .sampler)
 unfolding entryOf
 frame-kept s h frame p m f =
     frame-keeps (λ (g : Framed). SoundSampler (g .sampler)) p
-    (λ k j g r i. step-kept p (record { within = k; length = f }) (g .sampler) i j (getD (g .frame) j zero32) (g .memory) r) s frame m h
+    (λ k j g r i. step-kept p (record { within = k; fitting = f }) (g .sampler) i j (getD (g .frame) j zero32) (g .memory) r) s frame m h

@@ -9,11 +9,10 @@ use lib.Ieee.{Float}
 use Rattle.walks.specs.Each.{Each}
 use Rattle.common_types.specs.declared.InitParams.{InitParams}
 use Rattle.common_types.specs.declared.Params.{Params}
-use Rattle.common_types.proofs.LoopLengths.{carried}
-use Rattle.voice.specs.Soundness.{Fits}
+use Rattle.voice.specs.Soundness.{FittingParams}
 use Rattle.channel.specs.declared.Change.{Change}
 use Rattle.channel.specs.declared.Change.the-variants as change
-use Rattle.channel.specs.Soundness.{FittingChannel}
+use Rattle.channel.specs.Soundness.{FittingChannel, FittingChange}
 use Rattle.sampler.specs.Refusals.{present, goodSampler, setUpNumber, startNumber, stopNumber, speedNumber, plainNumber, sampleNumber, frameNumber, channelNumber}
 use Rattle.sampler.specs.Samplers.{setUpOf, answerOf, processSampleOf, framedOf}
 use Rattle.sampler.specs.declared.Sampler.{Sampler}
@@ -37,19 +36,6 @@ changeNumber s (change.Speed note speed) = speedNumber s note
 changeNumber s change.StartRecording = plainNumber s
 changeNumber s change.StopRecording = plainNumber s
 changeNumber s change.Reset = plainNumber s
-
--- of parameters only the loop length's float comes into a record as it is
-abbrev pub FittingParams : Params → Type 0
-FittingParams p = Fits (carried (p .«loop_length»))
-
--- the floats that a change carries
-unfoldable pub FittingChange : Change → Type 0
-FittingChange (change.Start p position note velocity) = FittingParams p × Fits position × Fits velocity
-FittingChange (change.Stop p note) = FittingParams p
-FittingChange (change.Speed note speed) = Fits speed
-FittingChange change.StartRecording = Unit {0}
-FittingChange change.StopRecording = Unit {0}
-FittingChange change.Reset = Unit {0}
 
 -- ---- what set-up with memory of that size, and then any calls, refused or not and with any memory lent to them, leave as the record
 pub data Reached (size : ℕ) : Sampler → Type 0 where

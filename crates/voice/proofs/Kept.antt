@@ -76,6 +76,9 @@ joined {now} {v} g =
       };
     }
 
+pub clip-sound : (now : ℕ) (v : Voice) → SoundVoice now v → Sound (v .clip2)
+clip-sound now v h = parts h .clip
+
 -- ---- what is done to a voice
 module _ (now : ℕ) (v : Voice) (h : SoundVoice now v) where
   -- the clock moves on
@@ -131,7 +134,7 @@ module _ (p : Params) (now n : ℕ) (ok : SoundParams p) (time : now ≤ 2 ^ 48)
   -- the value that sounds is one recorded
   pub index-recorded : (v : Voice) → SoundVoice now v → indexAt (movedOf (tickOf p now n) v) now < n
   index-recorded v h =
-      let c = parts h .clip in
+      let c = clip-sound now v h in
       index-below (movedOf (tickOf p now n) v) now n (moved-sound p now n ok some short v c) (moved-data-length p now n ok some short v c) short
 
   module _ (m : List ℕ) (v : Voice) (h : SoundVoice now v) where
@@ -170,7 +173,7 @@ module _ (p : Params) (now n : ℕ) (ok : SoundParams p) (time : now ≤ 2 ^ 48)
         ended = zero-le;
         volume = volume-toward (Static zero32) now (static-sound zero32 now tt) (p .«attack_samples») velocity time (within p (ok .within) .attack) u;
         clip = made-sound now (mul binary32 position (asFloat n)) (speedOf p) l (asFloat n) (clipModeOf (p .«loop_mode»))
-            (mul-fits binary32 position (asFloat n)) (mul-fits binary32 (p .speed) (p .«reverse_speed»)) (loop-length-fits p n (ok .length)) (ofInt-fits binary32 (pos n))
+            (mul-fits binary32 position (asFloat n)) (mul-fits binary32 (p .speed) (p .«reverse_speed»)) (loop-length-fits p n (ok .fitting)) (ofInt-fits binary32 (pos n))
             (start-low position n t low high short) (start-top position n t low high short) (loop-length-good p n ok short) (float-length n some short);
         floats = (t, tt, tt, tt);
       })

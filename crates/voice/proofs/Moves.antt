@@ -66,7 +66,7 @@ module _ (p : Params) (now n : ℕ) (ok : SoundParams p) (some : 1 ≤ n) (short
   sized = withLength (v .clip2) now (loopLengthOf p n)
 
   sized-sound : Sound sized
-  sized-sound = with-length-sound (v .clip2) now (loopLengthOf p n) (loop-length-fits p n (ok .length)) (loop-length-good p n ok short) h
+  sized-sound = with-length-sound (v .clip2) now (loopLengthOf p n) (loop-length-fits p n (ok .fitting)) (loop-length-good p n ok short) h
 
   abbrev sped : Clip
   sped = withSpeed sized now (mul binary32 (v .speed) (speedOf p))

@@ -18,10 +18,14 @@ use Rattle.voice.specs.declared.Voice.{Voice}
 abbrev pub Fits : Float → Type 0
 Fits x = T (fits binary32 x)
 
--- Parameters that row 4 lets through. Of their floats only the loop length's comes into a record as it is; each other one goes through an operation, which rounds.
+-- Of the floats of parameters only the loop length's comes into a record as it is: each other one goes through an operation, which rounds.
+abbrev pub FittingParams : Params → Type 0
+FittingParams p = Fits (carried (p .«loop_length»))
+
+-- parameters that row 4 lets through
 pub record SoundParams (p : Params) : Type 0 where
   pub within : T (not (beyondLimits p))
-  pub length : Fits (carried (p .«loop_length»))
+  pub fitting : FittingParams p
 
 -- the levels of a volume
 unfoldable pub FittingVolume : Volume → Type 0
