@@ -23,11 +23,11 @@ use Rattle.recorder.specs.Recording.{startOf, stopOf}
 use Rattle.recorder.proofs.Good.{start-good, stop-good}
 use Rattle.voice.specs.declared.Voice.{Voice}
 use Rattle.voice.specs.Voices.{finishOf, freshOf, atSpeedOf, blankVoice}
-use Rattle.voice.specs.Soundness.{Fits, SoundParams, SoundVoice}
+use Rattle.voice.specs.Soundness.{Fits, SoundParams, SoundPosition, SoundVoice}
 use Rattle.voice.proofs.Kept.{finish-sound, at-speed-sound, fresh-sound}
 use Rattle.channel.specs.Heads.{passthruOf}
 use Rattle.channel.specs.Channels.{withVoices, live, channelOf, resetOf, anyUnfinishedOf, handledOf, pushedOf, startPlayingOf, sameNote, findOf, finishedAtOf, stopPlayingOf, spedOf, setNoteSpeedOf, startRecordingOf, stopRecordingOf, changedOf}
-use Rattle.channel.specs.Soundness.{SoundChannel, SoundPosition, SoundChange}
+use Rattle.channel.specs.Soundness.{SoundChannel, SoundChange}
 use Rattle.channel.specs.declared.Channel.{Channel}
 use Rattle.channel.specs.declared.Change.{Change}
 use Rattle.channel.specs.declared.Change.the-variants as change
@@ -107,7 +107,7 @@ module _ (capacity : ℕ) (c : Channel) (s : SoundChannel capacity c) where
       let v = freshOf p position note velocity (c .head .now) n in
       cond-split (SoundChannel capacity) (eqb n 0) c (handledOf p (pushedOf v c)) (λ e. s)
       (λ e. handled-sound capacity (pushedOf v c)
-      (pushed-sound v (fresh-sound p (c .head .now) n ok (parts s .head .time) (some n e) (le-trans (data-within capacity c s) small) position note velocity (at .fitting) (at .low) (at .high) t)) p ok)
+      (pushed-sound v (fresh-sound p (c .head .now) n ok (some n e) (le-trans (data-within capacity c s) small) (parts s .head .time) position note velocity at t)) p ok)
 
   -- ---- every change
   pub change-sound : capacity ≤ 2 ^ 22 → (x : Change) → SoundChange x → SoundChannel capacity (changedOf x c)

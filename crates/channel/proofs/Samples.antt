@@ -57,7 +57,7 @@ module _ (capacity : ℕ) (c : Channel) (s : SoundChannel capacity c) (p : Param
   pub voice-recorded : (i : ℕ) (d : Voice) → i < c .count → 1 ≤ c .head .«data_len»
       → indexAt (movedOf (tickOf p (c .head .now) (c .head .«data_len»)) (getD (c .voices) i d)) (c .head .now) < c .head .«data_len»
   voice-recorded i d below full =
-      index-recorded p (c .head .now) (c .head .«data_len») ok (parts s .head .time) full (le-trans (data-within capacity c s) small) (getD (c .voices) i d) (voice-at capacity c s i d below)
+      index-recorded p (c .head .now) (c .head .«data_len») ok full (le-trans (data-within capacity c s) small) (getD (c .voices) i d) (voice-at capacity c s i d below)
 
   module _ (m : List ℕ) where
     played-sound : 1 ≤ c .head .«data_len» → SoundChannel capacity (playedOf (tickOf p (c .head .now) (c .head .«data_len»)) m c .channel)
@@ -72,7 +72,7 @@ module _ (capacity : ℕ) (c : Channel) (s : SoundChannel capacity c) (p : Param
         voices-changed capacity c s (sets (c .voices) 0 vs) (length vs) (le-trans few (g .few)) (length-sets (c .voices) 0 vs)
         (subst (Each S) (sym (front-sets (c .voices) vs (le-trans few (room capacity c s))))
         (each-without S (shouldRemoveOf t) us
-        (each-map S S (turnOf t m) (λ v h. turn-sound p (c .head .now) (c .head .«data_len») ok (g .head .time) full (le-trans (data-within capacity c s) small) m v h) (live c) (g .voices))))
+        (each-map S S (turnOf t m) (λ v h. turn-sound p (c .head .now) (c .head .«data_len») ok full (le-trans (data-within capacity c s) small) (g .head .time) m v h) (live c) (g .voices))))
 
     -- an empty recording plays none
     played-if-sound : SoundChannel capacity (playedIfOf p m c .channel)

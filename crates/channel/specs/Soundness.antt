@@ -2,12 +2,9 @@
 use mathlib.Core.Path.{_≡_}
 use Prim.Native.Nat.{ℕ}
 use mathlib.Core.Bool.{true}
-use lib.Dec.{T}
 use lib.ListN.{length}
-use lib.Ieee.{Float, le}
 use Rattle.walks.specs.Each.{Each}
-use Rattle.clip.specs.Positions.{zero32, one32}
-use Rattle.voice.specs.Soundness.{Fits, FittingParams, SoundParams, FittingVolume, FittingVoice}
+use Rattle.voice.specs.Soundness.{Fits, FittingParams, SoundParams, SoundPosition, FittingVolume, FittingVoice}
 use Rattle.channel.specs.Channels.{live, goodChannel}
 use Rattle.channel.specs.declared.Channel.{Channel}
 use Rattle.channel.specs.declared.Change.{Change}
@@ -31,12 +28,6 @@ FittingChange (change.Speed note speed) = Fits speed
 FittingChange change.StartRecording = Unit {0}
 FittingChange change.StopRecording = Unit {0}
 FittingChange change.Reset = Unit {0}
-
--- from 0 to 1
-pub record SoundPosition (x : Float) : Type 0 where
-  pub fitting : Fits x
-  pub low : T (le zero32 x)
-  pub high : T (le x one32)
 
 -- a change that fits, and that rows 3 and 4 let through; row 5 isn't asked for
 unfoldable pub SoundChange : Change → Type 0

@@ -3,7 +3,7 @@ use mathlib.Core.Path.{_≡_, sym, _∙_}
 use mathlib.Core.Logic.{_≢_}
 use mathlib.Core.Bool.{Bool, true, false, not, true≢false}
 use Prim.Native.Nat.{ℕ, zero, suc, _*_, _/_, _^_, _≤_, min, zero-le}
-use native.Mathlib.Nat.{le-trans, le-of-eq, zero-mul}
+use native.Mathlib.Nat.{le-trans, le-of-eq, zero-mul, min-le-left}
 use native.Mathlib.Omega.{arith}
 use borrow.Author.Tests.{leb-true, le-leb}
 use lib.Dec.{T, leb, ltb, eqb, T-not}
@@ -38,10 +38,7 @@ unfolding capacityOf
 capacity-within zero size = le-trans (le-of-eq (zero-mul _)) zero-le
 capacity-within (suc n) size =
     let c = min (size / suc n) (2 ^ 22) in
-    leb-true (suc n * c) size (sym (quotient-test (suc n) c size (λ e. omega arith)) ∙ le-leb c (size / suc n) (least (size / suc n) (2 ^ 22)))
-  where
-    least : (a b : ℕ) → min a b ≤ a
-    least a b = omega arith
+    leb-true (suc n * c) size (sym (quotient-test (suc n) c size (λ e. omega arith)) ∙ le-leb c (size / suc n) (min-le-left (size / suc n) (2 ^ 22)))
 
 reached-within : (size : ℕ) (s : Sampler) → Reached size s → Within size s
 unfolding setUpOf answerOf eachOf processSampleOf steppedOf entryOf

@@ -5,7 +5,7 @@ use mathlib.Core.Bool.{Bool, _&&_}
 use mathlib.Core.List.{List}
 use lib.Dec.{T, leb, leb→le, le→leb}
 use lib.IntN.{pos}
-use lib.Ieee.{Float, binary32, fits, mul, le}
+use lib.Ieee.{Float, binary32, fits, mul}
 use lib.Ieee.Bits.{is-true}
 use lib.Ieee.Fits.{and-i, and-l, and-r, add-fits, mul-fits, ofInt-fits}
 use Rattle.binary32.specs.Leaves.{asFloat}
@@ -17,7 +17,7 @@ use Rattle.common_types.proofs.Limits.{within}
 use Rattle.common_types.proofs.LoopLengths.{loop-length-fits}
 use Rattle.volume.specs.declared.Volume.the-variants.{Static}
 use Rattle.volume.specs.Levels.{levelOf, goodVolume}
-use Rattle.clip.specs.Positions.{zero32, one32, indexAt}
+use Rattle.clip.specs.Positions.{zero32, indexAt}
 use Rattle.clip.specs.Updates.{madeOf}
 use Rattle.clip.specs.Refusals.{goodClip}
 use Rattle.clip.specs.Bounds.{Sound}
@@ -25,7 +25,7 @@ use Rattle.clip.proofs.Lengths.{float-length}
 use Rattle.clip.proofs.Kept.{made-sound}
 use Rattle.clip.proofs.Indices.{index-below}
 use Rattle.voice.specs.Voices.{clipModeOf, tickOf, shouldRemoveOf, movedOf, recordedOf, productOf, soundedOf, finishOf, playedOutOf, endedOf, volumeStepped, turnOf, freshOf, atSpeedOf, goodVoice}
-use Rattle.voice.specs.Soundness.{Fits, SoundParams, SoundVolume, SoundVoice}
+use Rattle.voice.specs.Soundness.{Fits, SoundParams, SoundPosition, SoundVolume, SoundVoice}
 use Rattle.voice.specs.declared.Voice.{Voice}
 use Rattle.voice.proofs.Volumes.{static-sound, volume-later, volume-stepped, volume-toward}
 use Rattle.voice.proofs.Starts.{start-low, start-top}
@@ -130,50 +130,50 @@ module _ (now : ℕ) (v : Voice) (h : SoundVoice now v) where
       })
 
 -- ---- a sample at `now`, with n samples recorded
-module _ (p : Params) (now n : ℕ) (ok : SoundParams p) (time : now ≤ 2 ^ 48) (some : 1 ≤ n) (short : n ≤ 2 ^ 22) where
+module _ (p : Params) (now n : ℕ) (ok : SoundParams p) (some : 1 ≤ n) (short : n ≤ 2 ^ 22) where
   -- the value that sounds is one recorded
   pub index-recorded : (v : Voice) → SoundVoice now v → indexAt (movedOf (tickOf p now n) v) now < n
   index-recorded v h =
       let c = clip-sound now v h in
       index-below (movedOf (tickOf p now n) v) now n (moved-sound p now n ok some short v c) (moved-data-length p now n ok some short v c) short
 
-  module _ (m : List ℕ) (v : Voice) (h : SoundVoice now v) where
-    sounded-sound : SoundVoice now (soundedOf (tickOf p now n) m v)
-    unfolding soundedOf productOf tickOf
-    sounded-sound =
-        let g = parts h in
-        let t = tickOf p now n in
-        joined {v = soundedOf t m v} (record {
-          since = moved-since p now n ok some short v (g .clip) (g .since);
-          ended = g .ended;
-          volume = g .volume;
-          clip = moved-sound p now n ok some short v (g .clip);
-          floats = (g .floats .0, add-fits binary32 (v .played) (mul binary32 (v .speed) (t .speed)), mul-fits binary32 (recordedOf m (indexAt (movedOf t v) now)) (levelOf (v .volume) now), g .floats .3);
+  module _ (time : now ≤ 2 ^ 48) where
+    module _ (m : List ℕ) (v : Voice) (h : SoundVoice now v) where
+      sounded-sound : SoundVoice now (soundedOf (tickOf p now n) m v)
+      unfolding soundedOf productOf tickOf
+      sounded-sound =
+          let g = parts h in
+          let t = tickOf p now n in
+          joined {v = soundedOf t m v} (record {
+            since = moved-since p now n ok some short v (g .clip) (g .since);
+            ended = g .ended;
+            volume = g .volume;
+            clip = moved-sound p now n ok some short v (g .clip);
+            floats = (g .floats .0, add-fits binary32 (v .played) (mul binary32 (v .speed) (t .speed)), mul-fits binary32 (recordedOf m (indexAt (movedOf t v) now)) (levelOf (v .volume) now), g .floats .3);
+          })
+
+      pub turn-sound : SoundVoice now (turnOf (tickOf p now n) m v)
+      unfolding turnOf endedOf tickOf
+      turn-sound =
+          let t = tickOf p now n in
+          let w = soundedOf t m v in
+          let k = sounded-sound in
+          stepped-sound now _
+          (cond-split (SoundVoice now) (shouldRemoveOf t v) v (endedOf t w) (λ e. h)
+          (λ e. cond-split (SoundVoice now) (playedOutOf t w) (finishOf now (p .«decay_samples») w) w (λ f. finish-sound now w k (p .«decay_samples») time (within p (ok .within) .decay)) (λ f. k)))
+          now
+
+    -- a new voice, at a place from 0 to 1 of the recording
+    pub fresh-sound : (position : Float) (note : Note) (velocity : Float) → SoundPosition position → Fits velocity → SoundVoice now (freshOf p position note velocity now n)
+    unfolding freshOf madeOf speedOf fits
+    fresh-sound position note velocity at u =
+        let l = loopLengthOf p n in
+        joined (record {
+          since = le-refl now;
+          ended = zero-le;
+          volume = volume-toward (Static zero32) now (static-sound zero32 now tt) (p .«attack_samples») velocity time (within p (ok .within) .attack) u;
+          clip = made-sound now (mul binary32 position (asFloat n)) (speedOf p) l (asFloat n) (clipModeOf (p .«loop_mode»))
+              (mul-fits binary32 position (asFloat n)) (mul-fits binary32 (p .speed) (p .«reverse_speed»)) (loop-length-fits p n (ok .fitting)) (ofInt-fits binary32 (pos n))
+              (start-low position n at short) (start-top position n at short) (loop-length-good p n ok short) (float-length n some short);
+          floats = (at .fitting, tt, tt, tt);
         })
-
-    pub turn-sound : SoundVoice now (turnOf (tickOf p now n) m v)
-    unfolding turnOf endedOf tickOf
-    turn-sound =
-        let t = tickOf p now n in
-        let w = soundedOf t m v in
-        let k = sounded-sound in
-        stepped-sound now _
-        (cond-split (SoundVoice now) (shouldRemoveOf t v) v (endedOf t w) (λ e. h)
-        (λ e. cond-split (SoundVoice now) (playedOutOf t w) (finishOf now (p .«decay_samples») w) w (λ f. finish-sound now w k (p .«decay_samples») time (within p (ok .within) .decay)) (λ f. k)))
-        now
-
-  -- a new voice, at a place from 0 to 1 of the recording
-  pub fresh-sound : (position : Float) (note : Note) (velocity : Float) → Fits position → T (le zero32 position) → T (le position one32) → Fits velocity
-      → SoundVoice now (freshOf p position note velocity now n)
-  unfolding freshOf madeOf speedOf fits
-  fresh-sound position note velocity t low high u =
-      let l = loopLengthOf p n in
-      joined (record {
-        since = le-refl now;
-        ended = zero-le;
-        volume = volume-toward (Static zero32) now (static-sound zero32 now tt) (p .«attack_samples») velocity time (within p (ok .within) .attack) u;
-        clip = made-sound now (mul binary32 position (asFloat n)) (speedOf p) l (asFloat n) (clipModeOf (p .«loop_mode»))
-            (mul-fits binary32 position (asFloat n)) (mul-fits binary32 (p .speed) (p .«reverse_speed»)) (loop-length-fits p n (ok .fitting)) (ofInt-fits binary32 (pos n))
-            (start-low position n t low high short) (start-top position n t low high short) (loop-length-good p n ok short) (float-length n some short);
-        floats = (t, tt, tt, tt);
-      })

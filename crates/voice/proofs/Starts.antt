@@ -12,15 +12,15 @@ use Rattle.binary32.proofs.Units.{Units, grid-multiple, zero-units, one-units, 
 use Rattle.binary32.proofs.Rounding.{rd, rd-le, round-units}
 use Rattle.binary32.proofs.Halves.{ofInt-whole}
 use Rattle.binary32.proofs.Between.{Whole, whole}
-use Rattle.clip.specs.Positions.{zero32, one32}
+use Rattle.clip.specs.Positions.{zero32}
 use Rattle.clip.specs.Refusals.{most32}
 use Rattle.clip.proofs.Lengths.{units-le}
-use Rattle.voice.specs.Soundness.{Fits}
+use Rattle.voice.specs.Soundness.{SoundPosition}
 
-module _ (position : Float) (n : ℕ) (t : Fits position) (low : T (le zero32 position)) (high : T (le position one32)) (short : n ≤ 2 ^ 22) where
+module _ (position : Float) (n : ℕ) (at : SoundPosition position) (short : n ≤ 2 ^ 22) where
   -- the position in units
   share : Whole binary32 position 0 (2 ^ 149)
-  share = whole t (zero-units binary32 false) (one-units binary32) low high
+  share = whole (at .fitting) (zero-units binary32 false) (one-units binary32) (at .low) (at .high)
 
   product-most : share .count * n ≤ 2 ^ 22 * 2 ^ 149
   product-most = subst (λ (z : ℕ). share .count * n ≤ z) (mul-comm (2 ^ 149) (2 ^ 22)) (mul-le-mul (share .to) short)

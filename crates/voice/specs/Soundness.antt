@@ -4,13 +4,14 @@ use mathlib.Core.Path.{_≡_}
 use Prim.Native.Nat.{ℕ}
 use mathlib.Core.Bool.{true, not}
 use lib.Dec.{T}
-use lib.Ieee.{Float, binary32, fits}
+use lib.Ieee.{Float, binary32, le, fits}
 use Rattle.common_types.specs.declared.Params.{Params}
 use Rattle.common_types.specs.Settings.{beyondLimits}
 use Rattle.common_types.proofs.LoopLengths.{carried}
 use Rattle.volume.specs.declared.Volume.{Volume}
 use Rattle.volume.specs.declared.Volume.the-variants.{Static, Linear}
 use Rattle.volume.specs.Levels.{goodVolume}
+use Rattle.clip.specs.Positions.{zero32, one32}
 use Rattle.clip.specs.Bounds.{Fitting}
 use Rattle.voice.specs.Voices.{goodVoice}
 use Rattle.voice.specs.declared.Voice.{Voice}
@@ -26,6 +27,12 @@ FittingParams p = Fits (carried (p .«loop_length»))
 pub record SoundParams (p : Params) : Type 0 where
   pub within : T (not (beyondLimits p))
   pub fitting : FittingParams p
+
+-- a start position from 0 to 1
+pub record SoundPosition (x : Float) : Type 0 where
+  pub fitting : Fits x
+  pub low : T (le zero32 x)
+  pub high : T (le x one32)
 
 -- the levels of a volume
 unfoldable pub FittingVolume : Volume → Type 0
