@@ -16,6 +16,7 @@ pub record FittingChannel (c : Channel) : Type 0 where
   pub voices : Each FittingVoice (live c)
   pub passthru : FittingVolume (c .head .«passthru_volume»)
 
+-- a channel that may stand in a record of that capacity
 pub record SoundChannel (capacity : ℕ) (c : Channel) : Type 0 where
   pub good : goodChannel capacity c ≡ true
   pub fitting : FittingChannel c

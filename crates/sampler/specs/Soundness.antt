@@ -22,6 +22,7 @@ pub record FittingSampler (s : Sampler) : Type 0 where
   pub seats : length (s .channels) ≡ 2
   pub channels : Each FittingChannel (present s)
 
+-- a record that row 9 doesn't answer
 pub record SoundSampler (s : Sampler) : Type 0 where
   pub good : goodSampler s ≡ true
   pub fitting : FittingSampler s

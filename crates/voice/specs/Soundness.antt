@@ -44,6 +44,7 @@ pub record SoundVolume (now : ℕ) (v : Volume) : Type 0 where
   pub good : T (goodVolume now v)
   pub fitting : FittingVolume v
 
+-- every float of a voice
 pub record FittingVoice (v : Voice) : Type 0 where
   pub clip : Fitting (v .clip2)
   pub volume : FittingVolume (v .volume)
@@ -52,7 +53,7 @@ pub record FittingVoice (v : Voice) : Type 0 where
   pub last-value : Fits (v .«last_sample_value»)
   pub speed : Fits (v .speed)
 
--- the same of a voice
+-- a voice that may stand in such a record
 pub record SoundVoice (now : ℕ) (v : Voice) : Type 0 where
   pub good : goodVoice now v ≡ true
   pub fitting : FittingVoice v
