@@ -1,0 +1,5 @@
+pub mod Looks
+pub mod Lives
+pub mod Stops
+pub mod Housing
+pub mod Tracks
