@@ -3,3 +3,4 @@ pub mod Lives
 pub mod Stops
 pub mod Housing
 pub mod Tracks
+pub mod Order

@@ -1,12 +1,12 @@
 -- The voices that there are after each event, and that the 32 places stay. Assumes nothing.
 use mathlib.Core.Path.{_≡_, refl, sym, ap, _∙_, subst}
-use mathlib.Core.Bool.{Bool, true, false, cond}
-use mathlib.Core.List.{List, [], _∷_, _++_, map}
+use mathlib.Core.Bool.{Bool, true, false, not, _||_, cond}
+use mathlib.Core.List.{List, [], _∷_, _++_, map, append-nil}
 use Prim.Native.Nat.{ℕ, zero, suc, _+_, _≤_, _<_}
 use native.Mathlib.Nat.{le-trans, le-of-eq}
 use native.Mathlib.Numerals.{add-one}
 use native.Mathlib.Omega.{arith}
-use borrow.Author.Tests.{ltb-true, ltb-false, lt-ltb, le-ltb}
+use borrow.Author.Tests.{ltb-true}
 use lib.Dec.{eqb, ltb}
 use lib.ListN.{length, take, getD, set, length-set, length-take, length-map}
 use lib.Seq.{sets, length-sets, take-at, take-suc-set, take-set-lt, length-take-le}
@@ -25,6 +25,7 @@ use Rattle.channel.specs.declared.Found.{Found}
 use Rattle.channel.specs.declared.Found.the-variants.{At, Nothing}
 use Rattle.channel.specs.Channels.{
   live,
+  withVoices,
   handledOf,
   pushedOf,
   startPlayingOf,
@@ -40,25 +41,28 @@ use Rattle.channel.specs.Channels.{
   memoryOf,
   processSampleOf,
 }
-use Rattle.promises.specs.Events.{Event, act, emptyAt, tickAt}
-use Rattle.promises.specs.Places.{Housed}
+use Rattle.channel.specs.declared.Change.the-variants as change
+use Rattle.promises.specs.Events.{changes, emptyAt, tickAt}
+use Rattle.promises.specs.Places.{Housed, newOf}
 use Rattle.promises.proofs.Looks.{without-length}
 
 pub live-length : (c : Channel) → Housed c → length (live c) ≡ c .count
 live-length c h = length-take-le (c .count) (c .voices) (omega (arith, h .places, h .room))
 
 -- ---- a start
-pub live-pushed : (v : Voice) (c : Channel) → Housed c → c .count < 32 → live (pushedOf v c) ≡ live c ++ (v ∷ [])
-unfolding pushedOf
-live-pushed v c h k =
-    rw (lt-ltb (c .count) 32 k, add-one (c .count)) (take-suc-set (c .voices) (c .count) v (omega (arith, h .places)))
-
 pub live-started : (p : Params) (position : Float) (note : Note) (velocity : Float) (c : Channel) → Housed c
-    → eqb (c .head .«data_len») 0 ≡ false → c .count < 32
-    → live (startPlayingOf p position note velocity c) ≡ live c ++ (freshOf p position note velocity (c .head .now) (c .head .«data_len») ∷ [])
-unfolding startPlayingOf handledOf
-live-started p position note velocity c h e k =
-    rw e (live-pushed (freshOf p position note velocity (c .head .now) (c .head .«data_len»)) c h k)
+    → live (startPlayingOf p position note velocity c) ≡ live c ++ newOf (changes (change.Start p position note velocity)) c
+unfolding startPlayingOf handledOf pushedOf newOf
+live-started p position note velocity c h = go (eqb (c .head .«data_len») 0) (ltb (c .count) 32) refl
+  where
+    v : Voice
+    v = freshOf p position note velocity (c .head .now) (c .head .«data_len»)
+
+    go : (a b : Bool) → ltb (c .count) 32 ≡ b
+        → live (cond a c (handledOf p (cond b (withVoices (set (c .voices) (c .count) v) (c .count + 1) c) c))) ≡ live c ++ cond (a || not b) [] (v ∷ [])
+    go true b e = sym (append-nil (live c))
+    go false true e = rw (add-one (c .count)) (take-suc-set (c .voices) (c .count) v (omega (arith, h .places, ltb-true (c .count) 32 e)))
+    go false false e = sym (append-nil (live c))
 
 -- ---- note speed
 pub live-sped : (note : Note) (speed : Float) (c : Channel) → Housed c → live (setNoteSpeedOf note speed c) ≡ map (spedOf note speed) (live c)

@@ -38,7 +38,7 @@ use Rattle.channel.specs.Channels.{
 use Rattle.promises.specs.Events.{Event, idle, changes, sounds, act, isReset, emptyAt, tickAt}
 use Rattle.promises.specs.Places.{Housed, voiceAt, Place, at, gone, fateOf, follow, foundAt, becomes}
 use Rattle.promises.proofs.Looks.{look-front, look-map, look-set-same, look-set-other, take-map, keep-look}
-use Rattle.promises.proofs.Lives.{live-pushed, live-sped, live-sounded}
+use Rattle.promises.proofs.Lives.{live-started, live-sped, live-sounded}
 use Rattle.promises.proofs.Stops.{Finds, found, stopped-none, live-stopped}
 
 -- ---- no place is two places
@@ -49,21 +49,10 @@ pub gone-never : (k : ℕ) → gone ≡ at k → ⊥
 gone-never k h = let z : _≡_ {A = ℕ} 0 1 = cc in omega arith
 
 -- ---- a start
-pub look-started : (p : Params) (position : Float) (note : Note) (velocity : Float) (c : Channel) → Housed c → (n : ℕ) (v : Voice) → voiceAt c n ≡ some v
+look-started : (p : Params) (position : Float) (note : Note) (velocity : Float) (c : Channel) → Housed c → (n : ℕ) (v : Voice) → voiceAt c n ≡ some v
     → voiceAt (startPlayingOf p position note velocity c) n ≡ some v
-unfolding startPlayingOf handledOf pushedOf
-look-started p position note velocity c h n v k = go (eqb (c .head .«data_len») 0)
-  where
-    w : Voice
-    w = freshOf p position note velocity (c .head .now) (c .head .«data_len»)
-
-    pushed : (b : Bool) → ltb (c .count) 32 ≡ b → voiceAt (pushedOf w c) n ≡ some v
-    pushed true e = subst (λ (l : List Voice). getElem? l n ≡ some v) (sym (live-pushed w c h (ltb-true (c .count) 32 e))) (look-front (live c) (w ∷ []) n v k)
-    pushed false e = rw e k
-
-    go : (b : Bool) → voiceAt (cond b c (handledOf p (pushedOf w c))) n ≡ some v
-    go true = k
-    go false = pushed (ltb (c .count) 32) refl
+look-started p position note velocity c h n v k =
+    subst (λ (l : List Voice). getElem? l n ≡ some v) (sym (live-started p position note velocity c h)) (look-front (live c) _ n v k)
 
 -- ---- a stop
 pub look-stopped : (p : Params) (note : Note) (c : Channel) → Housed c → (n : ℕ) (v : Voice) → voiceAt c n ≡ some v

@@ -5,11 +5,11 @@ use Prim.Native.Nat.{ℕ, _≤_}
 use mathlib.Core.Bool.{Bool, true, false, not, _&&_, _||_, cond}
 use mathlib.Core.List.{List, [], _∷_}
 use mathlib.Core.Option.{Option, none, some}
-use lib.Dec.{eqb}
+use lib.Dec.{eqb, ltb}
 use lib.ListN.{length, take, getElem?}
 use Rattle.voice.specs.declared.Voice.{Voice}
 use Rattle.voice.specs.declared.Tick.{Tick}
-use Rattle.voice.specs.Voices.{shouldRemoveOf, soundedOf, playedOutOf, turnOf, finishOf}
+use Rattle.voice.specs.Voices.{shouldRemoveOf, soundedOf, playedOutOf, turnOf, finishOf, freshOf}
 use Rattle.channel.specs.declared.Channel.{Channel}
 use Rattle.channel.specs.declared.Change.{Change}
 use Rattle.channel.specs.declared.Change.the-variants as change
@@ -70,6 +70,18 @@ becomes (changes change.StartRecording) c n v = v
 becomes (changes change.StopRecording) c n v = v
 becomes (changes change.Reset) c n v = v
 becomes (sounds p x m) c n v = cond (emptyAt m c) v (turnOf (tickAt p m c) (memoryOf x c m) v)
+
+-- the voice that the event adds, at the end: a start's own, unless the recording is empty
+unfoldable pub newOf : Event → Channel → List Voice
+newOf idle c = []
+newOf (changes (change.Start p position note velocity)) c =
+    cond (eqb (c .head .«data_len») 0 || not (ltb (c .count) 32)) [] (freshOf p position note velocity (c .head .now) (c .head .«data_len») ∷ [])
+newOf (changes (change.Stop p note)) c = []
+newOf (changes (change.Speed note speed)) c = []
+newOf (changes change.StartRecording) c = []
+newOf (changes change.StopRecording) c = []
+newOf (changes change.Reset) c = []
+newOf (sounds p x m) c = []
 
 -- ---- whether the event finishes it
 
