@@ -4,3 +4,4 @@ pub mod Stops
 pub mod Housing
 pub mod Tracks
 pub mod Order
+pub mod Stays
