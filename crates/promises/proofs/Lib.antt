@@ -5,3 +5,5 @@ pub mod Housing
 pub mod Tracks
 pub mod Order
 pub mod Stays
+pub mod Ending
+pub mod Goes
