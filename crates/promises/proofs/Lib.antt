@@ -1,3 +1,4 @@
+pub mod Cases
 pub mod Looks
 pub mod Lives
 pub mod Stops
@@ -7,3 +8,5 @@ pub mod Order
 pub mod Stays
 pub mod Ending
 pub mod Goes
+pub mod Terms
+pub mod Clocks

@@ -37,12 +37,9 @@ use Rattle.promises.specs.Places.{
   somewhere,
   finishedIn,
 }
+use Rattle.promises.proofs.Cases.{neither, either}
 use Rattle.promises.proofs.Housing.{housed}
 use Rattle.promises.proofs.Tracks.{gone-never, tracks}
-
-pub neither : (a b : Bool) → (a || b) ≡ false → (a ≡ false) × (b ≡ false)
-neither true b h = absurd (true≢false h)
-neither false b h = (refl, h)
 
 -- ---- one turn
 pub unfinished-stays : (t : Tick) (v : Voice) → v .finished ≡ false → shouldRemoveOf t v ≡ false
@@ -55,11 +52,7 @@ turn-unfinished t m v h k = rw (unfinished-stays t v h, k) h
 
 sped-finished : (note : Note) (speed : Float) (v : Voice) → spedOf note speed v .finished ≡ v .finished
 unfolding spedOf atSpeedOf
-sped-finished note speed v = go (sameNote (v .note) note)
-  where
-    go : (b : Bool) → cond b (atSpeedOf speed v) v .finished ≡ v .finished
-    go true = refl
-    go false = refl
+sped-finished note speed v = either (λ (w : Voice). w .finished) (sameNote (v .note) note) (atSpeedOf speed v) v (v .finished) refl refl
 
 -- ---- one event
 pub record Stays (e : Event) (c : Channel) (n : ℕ) (v : Voice) : Type 0 where

@@ -60,6 +60,11 @@ isReset (changes change.StopRecording) = false
 isReset (changes change.Reset) = true
 isReset (sounds p x m) = false
 
+unfoldable pub isSample : Event → Bool
+isSample idle = false
+isSample (changes change) = false
+isSample (sounds p x m) = true
+
 -- the decay that comes with an event: that of a stop, or of a sample, in which play-once may finish a voice
 unfoldable pub decayOf : Event → ℕ
 decayOf idle = 0
