@@ -10,3 +10,4 @@ pub mod Ending
 pub mod Goes
 pub mod Terms
 pub mod Clocks
+pub mod OnTime

@@ -62,15 +62,27 @@ heard : (p : Params) (x : Float) (m : List ℕ) (c : Channel) → emptyAt m c �
 unfolding processSampleOf playedIfOf playedOf takenOf
 heard p x m c e = rw e
 
-pub sounds-each : (p : Params) (x : Float) (m : List ℕ) (c : Channel) (n : ℕ) (v : Voice) → voiceAt c n ≡ some v → v .finished ≡ false → emptyAt m c ≡ false → Sounds p x m c n
+pub sounds-each : (p : Params) (x : Float) (m : List ℕ) (c : Channel) (n : ℕ) (v : Voice) → voiceAt c n ≡ some v → v .finished ≡ false → emptyAt m c ≡ false → Sounds p x m c n v
 sounds-each p x m c n v s u e =
     let t : Tick = tickAt p m c in
     let mem : List ℕ = memoryOf x c m in
     record {
-      voice = v;
       stands = s;
       unfinished = u;
       output = heard p x m c e
           ∙ ap (λ (y : Float). add binary32 (add binary32 zero32 y) (mul binary32 x (levelOf (c .head .«passthru_volume») (c .head .now))))
           (heard-total t mem (live c) ∙ ap totalOf (terms-split t mem (live c) n v s (unfinished-stays t v u)));
     }
+
+-- and so until it is finished, at whatever place it then has
+pub record Later (p : Params) (x : Float) (m : List ℕ) (es : List Event) (c : Channel) (n : ℕ) : Type 0 where
+  pub place : ℕ
+  pub voice : Voice
+  pub follows : followAll es c n ≡ at place
+  pub sounds : Sounds p x m (acts es c) place voice
+
+pub sounds-later : (es : List Event) (c : Channel) → Housed c → any isReset es ≡ false → (n : ℕ) (v : Voice) → voiceAt c n ≡ some v → v .finished ≡ false → finishedIn es c n ≡ false
+    → (p : Params) (x : Float) (m : List ℕ) → emptyAt m (acts es c) ≡ false → Later p x m es c n
+sounds-later es c h r n v s u f p x m e =
+    let w = stays-all es c h r n v s u f in
+    record { place = w .place; voice = w .voice; follows = w .follows; sounds = sounds-each p x m (acts es c) (w .place) (w .voice) (w .stands) (w .unfinished) e }

@@ -12,7 +12,7 @@ use Rattle.volume.specs.Levels.{levelOf}
 use Rattle.clip.specs.Positions.{zero32}
 use Rattle.voice.specs.declared.Voice.{Voice}
 use Rattle.voice.specs.declared.Tick.{Tick}
-use Rattle.voice.specs.Voices.{shouldRemoveOf, productOf}
+use Rattle.voice.specs.Voices.{shouldRemoveOf, productOf, atSpeedOf}
 use Rattle.channel.specs.declared.Channel.{Channel}
 use Rattle.channel.specs.Channels.{live, memoryOf, processSampleOf}
 use Rattle.promises.specs.Events.{tickAt}
@@ -27,16 +27,22 @@ termsOf t m (v ∷ vs) = cond (shouldRemoveOf t v) (termsOf t m vs) (productOf t
 unfoldable pub totalOf : List Float → Float
 totalOf xs = fold (add binary32) zero32 xs
 
--- The voice at place n sounds in the sample x, on the memory m with the parameters p: `productOf` of it, its recorded value times its level, is an operand of the sum, behind those of the voices before it.
+-- The voice v at place n sounds in the sample x, on the memory m with the parameters p: `productOf` of it, its recorded value times its level, is an operand of the sum, behind those of the voices before it.
 -- That the number can be read off the output is not said: a float sum may absorb it.
-pub record Sounds (p : Params) (x : Float) (m : List ℕ) (c : Channel) (n : ℕ) : Type 0 where
-  pub voice : Voice
-  pub stands : voiceAt c n ≡ some voice
-  pub unfinished : voice .finished ≡ false
+pub record Sounds (p : Params) (x : Float) (m : List ℕ) (c : Channel) (n : ℕ) (v : Voice) : Type 0 where
+  pub stands : voiceAt c n ≡ some v
+  pub unfinished : v .finished ≡ false
   pub output : processSampleOf p x c m .output
       ≡ add binary32
       (add binary32 zero32
       (totalOf
       (termsOf (tickAt p m c) (memoryOf x c m) (take n (live c))
-      ++ (productOf (tickAt p m c) (memoryOf x c m) voice ∷ termsOf (tickAt p m c) (memoryOf x c m) (drop (suc n) (live c))))))
+      ++ (productOf (tickAt p m c) (memoryOf x c m) v ∷ termsOf (tickAt p m c) (memoryOf x c m) (drop (suc n) (live c))))))
       (mul binary32 x (levelOf (c .head .«passthru_volume») (c .head .now)))
+
+-- The voice at place n, which a start made as `fresh`, sounds in its first sample: it is as the start made it, but for a speed that was set for its note meanwhile, and its clip began at the count of this sample.
+pub record First (p : Params) (x : Float) (m : List ℕ) (c : Channel) (n : ℕ) (fresh : Voice) : Type 0 where
+  pub voice : Voice
+  pub as-started : voice ≡ atSpeedOf (voice .speed) fresh
+  pub since : voice .clip2 .since ≡ c .head .now
+  pub sounds : Sounds p x m c n voice
