@@ -11,3 +11,5 @@ pub mod Goes
 pub mod Terms
 pub mod Clocks
 pub mod OnTime
+pub mod Apart
+pub mod Calls

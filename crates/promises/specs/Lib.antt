@@ -1,3 +1,4 @@
 pub mod Events
 pub mod Places
 pub mod Sounding
+pub mod Runs
