@@ -1,6 +1,6 @@
 -- A call is, on each channel, one event: what it leaves of channel j is what the event makes of it. So a run of calls is, on each channel, a run of events. Assumes nothing.
 use mathlib.Core.Path.{_≡_, refl, sym, ap, _∙_, subst}
-use mathlib.Core.Bool.{Bool, true, false, cond}
+use mathlib.Core.Bool.{Bool, true, false, not, cond}
 use mathlib.Core.Logic.{_≢_}
 use mathlib.Core.List.{List, [], _∷_, _++_, map}
 use Prim.Native.Nat.{ℕ, zero, suc, _+_, _*_, _≤_, _<_}
@@ -20,9 +20,9 @@ use Rattle.channel.specs.declared.Change.{Change}
 use Rattle.channel.specs.Channels.{channelOf, changedOf}
 use Rattle.channel.specs.Channels.{processSampleOf as channelSampleOf}
 use Rattle.sampler.specs.declared.Sampler.{Sampler}
-use Rattle.sampler.specs.Refusals.{present, channelAt, capacityOf, setUpNumber, sampleNumber, frameNumber}
+use Rattle.sampler.specs.Refusals.{present, channelAt, goodSizes, capacityOf, setUpNumber, sampleNumber, frameNumber}
 use Rattle.sampler.specs.Samplers.{samplerOf, setUpOf, eachOf, answerOf, partOf, playedAt, steppedOf, processSampleOf, sampleMemory, Framed, framed, entryOf, entriesOf, framedOf}
-use Rattle.sampler.proofs.Rows.{sample-ready, frame-steps}
+use Rattle.sampler.proofs.Rows.{sizes-count, frame-steps}
 use Rattle.promises.specs.Events.{Event, idle, changes, sounds, act, acts}
 use Rattle.promises.specs.Places.{Housed}
 use Rattle.promises.specs.Runs.{World, setUp, Call, start, stop, speed, startRecording, stopRecording, reset, sample, frame, asks, code, after, run, chan, doneTo, event, events}
@@ -112,3 +112,94 @@ module _ (w : World) (two : length (w .sampler .channels) ≡ 2) (few : w .sampl
   chan-after (sample i x p) = sample-channel i x p
   chan-after (frame xs p) = frame-channels xs p
   chan-after asks = refl
+
+-- ---- what no call changes
+pub record Kept (s r : Sampler) : Type 0 where
+  pub channels : length (r .channels) ≡ length (s .channels)
+  pub count : r .count ≡ s .count
+  pub capacity : r .capacity ≡ s .capacity
+
+kept-refl : (s : Sampler) → Kept s s
+kept-refl s = record { channels = refl; count = refl; capacity = refl }
+
+kept-trans : (s r q : Sampler) → Kept s r → Kept r q → Kept s q
+kept-trans s r q h k = record { channels = k .channels ∙ h .channels; count = k .count ∙ h .count; capacity = k .capacity ∙ h .capacity }
+
+kept-if : (s r q : Sampler) (b : Bool) → Kept s r → Kept s q → Kept s (cond b r q)
+kept-if s r q true h k = h
+kept-if s r q false h k = k
+
+kept-answer : (number : ℕ) (d : Change) (s : Sampler) → Kept s (answerOf number d s .sampler)
+unfolding answerOf eachOf
+kept-answer number d s =
+    kept-if s (eachOf d s) s (eqb number 0) (record { channels = length-sets (s .channels) 0 (map (changedOf d) (present s)); count = refl; capacity = refl }) (kept-refl s)
+
+kept-step : (s : Sampler) (j : ℕ) (p : Params) (x : Float) (m : List ℕ) → Kept s (steppedOf s j p x m)
+unfolding steppedOf
+kept-step s j p x m = record { channels = length-set (s .channels) j (playedAt s j p x m .channel); count = refl; capacity = refl }
+
+kept-entries : (p : Params) (n j : ℕ) (f : Framed) → Kept (f .sampler) (entriesOf p n j f .sampler)
+unfolding entriesOf entryOf
+kept-entries p zero j f = kept-refl (f .sampler)
+kept-entries p (suc n) j f =
+    kept-trans (f .sampler) (entryOf p j f .sampler) _ (kept-step (f .sampler) j p (getD (f .frame) j zero32) (f .memory)) (kept-entries p n (j + 1) (entryOf p j f))
+
+pub kept : (w : World) (c : Call) → Kept (w .sampler) (after w c .sampler)
+unfolding after processSampleOf framedOf
+kept w (start position note velocity p) = kept-answer _ _ (w .sampler)
+kept w (stop note p) = kept-answer _ _ (w .sampler)
+kept w (speed note s) = kept-answer _ _ (w .sampler)
+kept w startRecording = kept-answer _ _ (w .sampler)
+kept w stopRecording = kept-answer _ _ (w .sampler)
+kept w reset = kept-answer _ _ (w .sampler)
+kept w (sample j x p) = kept-if (w .sampler) _ _ (eqb (sampleNumber (w .sampler) j p (length (w .memory))) 0) (kept-step (w .sampler) j p x (w .memory)) (kept-refl (w .sampler))
+kept w (frame xs p) = go (eqb (frameNumber (w .sampler) (length xs) p (length (w .memory))) 0)
+  where
+    f : Framed
+    f = framed (w .sampler) xs (w .memory)
+
+    go : (b : Bool) → Kept (w .sampler) (cond b (entriesOf p (length xs) 0 f) f .sampler)
+    go true = kept-entries p (length xs) 0 f
+    go false = kept-refl (w .sampler)
+kept w asks = kept-refl (w .sampler)
+
+-- ---- from set-up on
+pub standing-after : (w : World) (c : Call) → Standing w → Standing (after w c)
+standing-after w c s =
+    let k = kept w c in
+    record {
+      two = k .channels ∙ s .two;
+      few = omega (arith, k .count, s .few);
+      housing = λ j h.
+          let i : j < w .sampler .count = omega (arith, k .count) in
+          subst Housed (sym (chan-after w (s .two) (s .few) j i c)) (housed (event w c j) (chan w j) (s .housing j i));
+    }
+
+pub standing-run : (w : World) (cs : List Call) → Standing w → Standing (run w cs)
+unfolding run
+standing-run w [] s = s
+standing-run w (c ∷ cs) s = standing-run (after w c) cs (standing-after w c s)
+
+pub standing-new : (count : ℕ) (p : InitParams) (m : List ℕ) → Standing (setUp count p m)
+unfolding setUp setUpOf setUpNumber
+standing-new count p m = go (goodSizes count (capacityOf count (length m))) refl
+  where
+    seat : (j : ℕ) → j < 2 → Housed (getD (channelOf p ∷ channelOf p ∷ []) j (channelOf (record { «auto_passthru» = false })))
+    seat zero h = housed-new p
+    seat (suc zero) h = housed-new p
+    seat (suc (suc j)) h = absurd (omega arith)
+
+    go : (b : Bool) → goodSizes count (capacityOf count (length m)) ≡ b
+        → Standing (record { sampler = cond (eqb (cond (not b) 9 0) 0) (samplerOf count p (capacityOf count (length m))) (samplerOf 0 p 0); memory = m })
+    go true e =
+        let few : count ≤ 2 = sizes-count count (capacityOf count (length m)) e in
+        record { two = refl; few = few; housing = λ j h. seat j (omega arith) }
+    go false e = record { two = refl; few = omega arith; housing = λ j h. absurd (omega arith) }
+
+-- ---- runs
+pub chan-run : (w : World) → Standing w → (j : ℕ) → j < w .sampler .count → (cs : List Call) → chan (run w cs) j ≡ acts (events w cs j) (chan w j)
+unfolding run events acts
+chan-run w s j h [] = refl
+chan-run w s j h (c ∷ cs) =
+    chan-run (after w c) (standing-after w c s) j (omega (arith, kept w c .count)) cs
+    ∙ ap (acts (events (after w c) cs j)) (chan-after w (s .two) (s .few) j h c)
