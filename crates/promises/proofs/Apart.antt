@@ -10,11 +10,12 @@ use borrow.Author.Tests.{ltb-true, ltb-false, eqb-true, eqb-false}
 use lib.Dec.{ltb, eqb}
 use lib.ListN.{length, take, drop, getD, set, length-set, length-append, length-drop}
 use lib.Seq.{length-take-le, take-append-le, take-take, drop-append-add, drop-drop, getD-set-same, getD-set-other}
-use lib.Ieee.{Float}
+use lib.Ieee.{Float, binary32, mul}
 use Rattle.common_types.specs.declared.Params.{Params}
 use Rattle.clip.specs.Positions.{zero32}
 use Rattle.recorder.proofs.Memory.{memory-length}
 use Rattle.channel.specs.declared.Channel.{Channel}
+use Rattle.channel.specs.declared.Played.{Played}
 use Rattle.channel.specs.Channels.{memoryOf}
 use Rattle.channel.specs.Channels.{processSampleOf as channelSampleOf}
 use Rattle.sampler.specs.declared.Sampler.{Sampler}
@@ -89,72 +90,109 @@ module _ (s : Sampler) (i : ℕ) (p : Params) (x : Float) (m : List ℕ) where
 
 -- ---- a frame
 
--- no entry from i on changes a channel before it
-entries-before : (p : Params) (n i : ℕ) (f : Framed) (j : ℕ) → j < i → channelAt (entriesOf p n i f .sampler) j ≡ channelAt (f .sampler) j
-unfolding entriesOf entryOf
-entries-before p zero i f j h = refl
-entries-before p (suc n) i f j h =
-    entries-before p n (i + 1) (entryOf p i f) j (omega arith) ∙ channel-apart (f .sampler) i p (getD (f .frame) i zero32) (f .memory) j (λ e. omega arith)
+-- channel j's sample in it, on its part of the memory
+abbrev sampleIn : Params → Framed → ℕ → Played
+sampleIn p f j = channelSampleOf p (getD (f .frame) j zero32) (channelAt (f .sampler) j) (partOf (f .sampler) j (f .memory))
 
--- nor one past the last
-entries-past : (p : Params) (n i : ℕ) (f : Framed) (j : ℕ) → i + n ≤ j → channelAt (entriesOf p n i f .sampler) j ≡ channelAt (f .sampler) j
-unfolding entriesOf entryOf
-entries-past p zero i f j h = refl
-entries-past p (suc n) i f j h =
-    entries-past p n (i + 1) (entryOf p i f) j (omega arith) ∙ channel-apart (f .sampler) i p (getD (f .frame) i zero32) (f .memory) j (λ e. omega arith)
+-- what the entry of another channel leaves as it was
+entry-apart : (p : Params) (i : ℕ) (f : Framed) (j : ℕ) → j ≢ i → i * f .sampler .capacity + f .sampler .capacity ≤ length (f .memory) → sampleIn p (entryOf p i f) j ≡ sampleIn p f j
+unfolding entryOf steppedOf partOf
+entry-apart p i f j q room =
+    let s : Sampler = f .sampler in
+    let x : Float = getD (f .frame) i zero32 in
+    ap (λ (z : Float). channelSampleOf p z (channelAt (steppedOf s i p x (f .memory)) j) (partOf s j (memoryAt s i x (f .memory))))
+    (getD-set-other (f .frame) i j (outputOf s i p x (f .memory)) zero32 q)
+    ∙ ap (λ (z : Channel). channelSampleOf p (getD (f .frame) j zero32) z (partOf s j (memoryAt s i x (f .memory)))) (channel-apart s i p x (f .memory) j q)
+    ∙ ap (λ (z : List ℕ). channelSampleOf p (getD (f .frame) j zero32) (channelAt s j) z) (part-apart s i (f .memory) room x j q)
 
--- its own entry is its sample, on its part of the memory as the frame found it
-abbrev sampledIn : Params → Framed → ℕ → Channel
-sampledIn p f j = channelSampleOf p (getD (f .frame) j zero32) (channelAt (f .sampler) j) (partOf (f .sampler) j (f .memory)) .channel
+-- n entries from i on, the j-th among them
+record Entries (j n i : ℕ) (f : Framed) : Type 0 where
+  from : i ≤ j
+  upto : j < i + n
+  channels : j < length (f .sampler .channels)
+  frame : j < length (f .frame)
+  parts : (i + n) * f .sampler .capacity ≤ length (f .memory)
 
-entries-own : (p : Params) (n i : ℕ) (f : Framed) (j : ℕ) → i ≤ j → j < i + n → j < length (f .sampler .channels) → (i + n) * f .sampler .capacity ≤ length (f .memory)
-    → channelAt (entriesOf p n i f .sampler) j ≡ sampledIn p f j
-unfolding entriesOf entryOf steppedOf partOf
-entries-own p zero i f j a b k h = absurd (omega arith)
-entries-own p (suc n) i f j a b k h = go (eqb i j) refl (entries-own p n (i + 1) (entryOf p i f) j)
+entries-room : (j n i : ℕ) (f : Framed) → Entries j (suc n) i f → i * f .sampler .capacity + f .sampler .capacity ≤ length (f .memory)
+entries-room j n i f h = le-trans (le-of-eq (sym (suc-mul i (f .sampler .capacity)))) (le-trans (mul-le-mul-right (f .sampler .capacity) ahead) (h .parts))
   where
-    s : Sampler
-    s = f .sampler
-
-    x : Float
-    x = getD (f .frame) i zero32
-
     ahead : suc i ≤ i + suc n
     ahead = omega arith
 
-    room : i * s .capacity + s .capacity ≤ length (f .memory)
-    room = le-trans (le-of-eq (sym (suc-mul i (s .capacity)))) (le-trans (mul-le-mul-right (s .capacity) ahead) h)
-
+entries-on : (p : Params) (j n i : ℕ) (f : Framed) → Entries j (suc n) i f → i < j → Entries j n (i + 1) (entryOf p i f)
+unfolding entryOf steppedOf
+entries-on p j n i f h o =
+    let s : Sampler = f .sampler in
+    let x : Float = getD (f .frame) i zero32 in
+    record {
+      from = omega arith;
+      upto = omega (arith, h .upto);
+      channels = omega (arith, h .channels, length-set (s .channels) i (playedAt s i p x (f .memory) .channel));
+      frame = omega (arith, h .frame, length-set (f .frame) i (outputOf s i p x (f .memory)));
+      parts = le-trans (le-of-eq (ap (λ (z : ℕ). z * s .capacity) shift)) (le-trans (h .parts) (le-of-eq (sym (memory-kept s i (f .memory) (entries-room j n i f h) x))));
+    }
+  where
     shift : i + 1 + n ≡ i + suc n
     shift = omega arith
 
-    go : (e : Bool) → eqb i j ≡ e
-        → (i + 1 ≤ j → j < i + 1 + n → j < length (entryOf p i f .sampler .channels) → (i + 1 + n) * s .capacity ≤ length (entryOf p i f .memory)
-        → channelAt (entriesOf p n (i + 1) (entryOf p i f) .sampler) j ≡ sampledIn p (entryOf p i f) j)
-        → channelAt (entriesOf p n (i + 1) (entryOf p i f) .sampler) j ≡ sampledIn p f j
-    go true e later =
-        let q : i ≡ j = eqb-true i j e in
-        entries-before p n (i + 1) (entryOf p i f) j (omega arith)
-        ∙ subst (λ (y : ℕ). channelAt (steppedOf s i p x (f .memory)) y ≡ sampledIn p f y) q (channel-own s i p x (f .memory) (omega arith))
-    go false e later =
-        let q : j ≢ i = λ r. eqb-false i j e (sym r) in
-        let o : i < j = ⊎-elim (λ r. absurd (q (sym r))) (λ r. r) (eq-or-lt-of-le a) in
-        let y = outputOf s i p x (f .memory) in
-        later (omega arith) (omega arith) (omega (arith, length-set (s .channels) i (playedAt s i p x (f .memory) .channel)))
-        (le-trans (le-of-eq (ap (λ (z : ℕ). z * s .capacity) shift)) (le-trans h (le-of-eq (sym (memory-kept s i (f .memory) room x)))))
-        ∙ ap (λ (z : Float). channelSampleOf p z (channelAt (steppedOf s i p x (f .memory)) j) (partOf s j (memoryAt s i x (f .memory))) .channel) (getD-set-other (f .frame) i j y zero32 q)
-        ∙ ap (λ (z : Channel). channelSampleOf p (getD (f .frame) j zero32) z (partOf s j (memoryAt s i x (f .memory))) .channel) (channel-apart s i p x (f .memory) j q)
-        ∙ ap (λ (z : List ℕ). channelSampleOf p (getD (f .frame) j zero32) (channelAt s j) z .channel) (part-apart s i (f .memory) room x j q)
+-- Whatever only channel j's own entry changes is, after the frame, what that entry makes of it; past the last entry it is as it was.
+module _ {X : Type 0} (p : Params) (j : ℕ) (look : Framed → X) (other : (i : ℕ) (f : Framed) → j ≢ i → look (entryOf p i f) ≡ look f) where
+  entries-before : (n i : ℕ) (f : Framed) → j < i → look (entriesOf p n i f) ≡ look f
+  unfolding entriesOf
+  entries-before zero i f h = refl
+  entries-before (suc n) i f h = entries-before n (i + 1) (entryOf p i f) (omega arith) ∙ other i f (λ e. omega arith)
 
-pub frame-channel : (s : Sampler) (xs : List Float) (p : Params) (m : List ℕ) → Steps s (length xs) (length m) → length (s .channels) ≡ 2 → (j : ℕ) → j < 2
-    → channelAt (entriesOf p (length xs) 0 (framed s xs m) .sampler) j
-    ≡ cond (ltb j (length xs)) (channelSampleOf p (getD xs j zero32) (channelAt s j) (partOf s j m) .channel) (channelAt s j)
-frame-channel s xs p m h two j k = go (ltb j (length xs)) refl
-  where
-    go : (b : Bool) → ltb j (length xs) ≡ b
-        → channelAt (entriesOf p (length xs) 0 (framed s xs m) .sampler) j
-        ≡ cond b (channelSampleOf p (getD xs j zero32) (channelAt s j) (partOf s j m) .channel) (channelAt s j)
-    go true e =
-        entries-own p (length xs) 0 (framed s xs m) j (omega arith) (omega (arith, ltb-true j (length xs) e)) (omega arith)
-        (le-trans (le-of-eq (ap (λ (z : ℕ). z * s .capacity) (zero-add (length xs)))) (h .parts))
-    go false e = entries-past p (length xs) 0 (framed s xs m) j (omega (arith, ltb-false j (length xs) e))
+  entries-past : (n i : ℕ) (f : Framed) → i + n ≤ j → look (entriesOf p n i f) ≡ look f
+  unfolding entriesOf
+  entries-past zero i f h = refl
+  entries-past (suc n) i f h = entries-past n (i + 1) (entryOf p i f) (omega arith) ∙ other i f (λ e. omega arith)
+
+  module _ (goal : Played → X) (own : (f : Framed) → j < length (f .sampler .channels) → j < length (f .frame) → look (entryOf p j f) ≡ goal (sampleIn p f j)) where
+    entries-own : (n i : ℕ) (f : Framed) → Entries j n i f → look (entriesOf p n i f) ≡ goal (sampleIn p f j)
+    unfolding entriesOf
+    entries-own zero i f h = absurd (omega (arith, h .from, h .upto))
+    entries-own (suc n) i f h = go (eqb i j) refl (entries-own n (i + 1) (entryOf p i f))
+      where
+        go : (b : Bool) → eqb i j ≡ b → (Entries j n (i + 1) (entryOf p i f) → look (entriesOf p n (i + 1) (entryOf p i f)) ≡ goal (sampleIn p (entryOf p i f) j))
+            → look (entriesOf p n (i + 1) (entryOf p i f)) ≡ goal (sampleIn p f j)
+        go true e later =
+            let q : i ≡ j = eqb-true i j e in
+            entries-before n (i + 1) (entryOf p i f) (omega arith)
+            ∙ subst (λ (y : ℕ). look (entryOf p y f) ≡ goal (sampleIn p f j)) (sym q) (own f (h .channels) (h .frame))
+        go false e later =
+            let q : j ≢ i = λ r. eqb-false i j e (sym r) in
+            let o : i < j = ⊎-elim (λ r. absurd (q (sym r))) (λ r. r) (eq-or-lt-of-le (h .from)) in
+            later (entries-on p j n i f h o) ∙ ap goal (entry-apart p i f j q (entries-room j n i f h))
+
+    entries-frame : (f : Framed) → Steps (f .sampler) (length (f .frame)) (length (f .memory)) → j < length (f .sampler .channels)
+        → look (entriesOf p (length (f .frame)) 0 f) ≡ cond (ltb j (length (f .frame))) (goal (sampleIn p f j)) (look f)
+    entries-frame f h k = go (ltb j (length (f .frame))) refl
+      where
+        go : (b : Bool) → ltb j (length (f .frame)) ≡ b → look (entriesOf p (length (f .frame)) 0 f) ≡ cond b (goal (sampleIn p f j)) (look f)
+        go true e =
+            let o : j < length (f .frame) = ltb-true j (length (f .frame)) e in
+            entries-own (length (f .frame)) 0 f
+            (record {
+              from = omega arith;
+              upto = omega arith;
+              channels = k;
+              frame = o;
+              parts = le-trans (le-of-eq (ap (λ (z : ℕ). z * f .sampler .capacity) (zero-add (length (f .frame))))) (h .parts);
+            })
+        go false e = entries-past (length (f .frame)) 0 f (omega (arith, ltb-false j (length (f .frame)) e))
+
+-- the channel, and the output, that a frame leaves
+module _ (s : Sampler) (xs : List Float) (p : Params) (m : List ℕ) (h : Steps s (length xs) (length m)) (two : length (s .channels) ≡ 2) (j : ℕ) (k : j < 2) where
+  pub frame-channel : channelAt (entriesOf p (length xs) 0 (framed s xs m) .sampler) j
+      ≡ cond (ltb j (length xs)) (channelSampleOf p (getD xs j zero32) (channelAt s j) (partOf s j m) .channel) (channelAt s j)
+  unfolding entryOf
+  frame-channel =
+      entries-frame p j (λ (f : Framed). channelAt (f .sampler) j) (λ i f q. channel-apart (f .sampler) i p (getD (f .frame) i zero32) (f .memory) j q) (λ (r : Played). r .channel)
+      (λ f a b. channel-own (f .sampler) j p (getD (f .frame) j zero32) (f .memory) a) (framed s xs m) h (omega arith)
+
+  pub frame-output : getD (entriesOf p (length xs) 0 (framed s xs m) .frame) j zero32
+      ≡ cond (ltb j (length xs)) (mul binary32 (p .volume) (channelSampleOf p (getD xs j zero32) (channelAt s j) (partOf s j m) .output)) (getD xs j zero32)
+  unfolding entryOf outputOf playedAt
+  frame-output =
+      entries-frame p j (λ (f : Framed). getD (f .frame) j zero32) (λ i f q. getD-set-other (f .frame) i j _ zero32 q) (λ (r : Played). mul binary32 (p .volume) (r .output))
+      (λ f a b. getD-set-same (f .frame) j _ zero32 b) (framed s xs m) h (omega arith)

@@ -2,3 +2,4 @@ pub mod Events
 pub mod Places
 pub mod Sounding
 pub mod Runs
+pub mod Demand3

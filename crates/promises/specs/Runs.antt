@@ -114,3 +114,24 @@ isResetCall reset = true
 isResetCall (sample j x p) = false
 isResetCall (frame xs p) = false
 isResetCall asks = false
+
+-- ---- the output that a call answers for channel j, where it is a sample of it
+unfoldable pub output : World → Call → ℕ → Float
+output w (start position note velocity p) j = zero32
+output w (stop note p) j = zero32
+output w (speed note s) j = zero32
+output w startRecording j = zero32
+output w stopRecording j = zero32
+output w reset j = zero32
+output w (sample i x p) j = processSampleOf (w .sampler) i x p (w .memory) .output
+output w (frame xs p) j = getD (framedOf (w .sampler) xs p (w .memory) .frame) j zero32
+output w asks j = zero32
+
+-- ---- the last of the calls c ∷ cs, and the world as that one finds it
+abbrev pub final : Call → List Call → Call
+final c [] = c
+final c (d ∷ ds) = final d ds
+
+unfoldable pub before : World → Call → List Call → World
+before w c [] = w
+before w c (d ∷ ds) = before (after w c) d ds

@@ -14,7 +14,7 @@ use Rattle.sampler.specs.Samplers.{Ready, Steps}
 use Rattle.sampler.specs.declared.Sampler.{Sampler}
 
 -- a row that does not hold leaves the number to the rest
-passed : (test : Bool) (n rest : ℕ) → row test (suc n) rest ≡ 0 → (test ≡ false) × (rest ≡ 0)
+pub passed : (test : Bool) (n rest : ℕ) → row test (suc n) rest ≡ 0 → (test ≡ false) × (rest ≡ 0)
 passed true n rest h = absurd (omega arith)
 passed false n rest h = (refl, h)
 
