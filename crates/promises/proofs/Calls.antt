@@ -203,3 +203,8 @@ chan-run w s j h [] = refl
 chan-run w s j h (c ∷ cs) =
     chan-run (after w c) (standing-after w c s) j (omega (arith, kept w c .count)) cs
     ∙ ap (acts (events (after w c) cs j)) (chan-after w (s .two) (s .few) j h c)
+
+pub count-run : (w : World) (cs : List Call) → run w cs .sampler .count ≡ w .sampler .count
+unfolding run
+count-run w [] = refl
+count-run w (c ∷ cs) = count-run (after w c) cs ∙ kept w c .count

@@ -13,3 +13,5 @@ pub mod Clocks
 pub mod OnTime
 pub mod Apart
 pub mod Calls
+pub mod Accepted
+pub mod Demand3

@@ -72,6 +72,6 @@ pub record Demand3 (w : World) (j : ℕ) : Type 0 where
       → live (chan (after w (start position note velocity p)) j) ≡ live (chan w j) ++ (freshOf p position note velocity (chan w j .head .now) (chan w j .head .«data_len») ∷ [])
 
 -- a start that nothing else refuses is accepted where no channel in use is full
-pub Opens : World → Type 0
+abbrev pub Opens : World → Type 0
 Opens w = (position : Float) (note : Note) (velocity : Float) (p : Params) → goodSampler (w .sampler) ≡ true → badNote note ≡ false → badPosition position ≡ false → beyondLimits p ≡ false
     → ((j : ℕ) → j < w .sampler .count → fullOf (chan w j) ≡ false) → code w (start position note velocity p) ≡ 0
