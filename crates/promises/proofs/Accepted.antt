@@ -1,0 +1,168 @@
+-- What an accepted call tells: a start, that no channel in use is full; a sample of channel j, that its clock isn't at its end, and what its output is. Assumes nothing.
+use mathlib.Core.Path.{_≡_, refl, sym, ap, _∙_, subst}
+use mathlib.Core.Bool.{Bool, true, false, not, _&&_, _||_, cond, true≢false}
+use mathlib.Core.List.{List, [], _∷_}
+use Prim.Native.Nat.{ℕ, zero, suc, _+_, _*_, _≤_, _<_}
+use native.Mathlib.Omega.{arith}
+use borrow.Author.Tests.{leb-false, lt-leb, eqb-true, ltb-true, not-false}
+use lib.Dec.{leb, eqb, ltb}
+use lib.ListN.{length, take, getD}
+use lib.Seq.{length-take-le, getD-take}
+use lib.Ieee.{Float, binary32, mul}
+use Rattle.walks.specs.Walks.{any}
+use Rattle.common_types.specs.declared.Params.{Params}
+use Rattle.common_types.specs.declared.Note.{Note}
+use Rattle.common_types.specs.Settings.{beyondLimits}
+use Rattle.clip.specs.Positions.{zero32}
+use Rattle.channel.specs.declared.Channel.{Channel}
+use Rattle.channel.specs.declared.Change.{Change}
+use Rattle.channel.specs.Heads.{lastTime}
+use Rattle.channel.specs.Channels.{channelOf, fullOf}
+use Rattle.channel.specs.Channels.{processSampleOf as channelSampleOf}
+use Rattle.sampler.specs.declared.Sampler.{Sampler}
+use Rattle.sampler.specs.Refusals.{present, channelAt, goodSampler, goodWith, noChannel, badNote, badPosition, anyFull, atEnd, row, startNumber, sampleNumber, frameNumber}
+use Rattle.sampler.specs.Samplers.{Steps, partOf, playedAt, outputOf, processSampleOf, Framed, framed, entriesOf, framedOf}
+use Rattle.sampler.proofs.Rows.{passed, frame-steps}
+use Rattle.promises.specs.Events.{Event, idle, changes, sounds}
+use Rattle.promises.specs.Runs.{World, Call, start, stop, speed, startRecording, stopRecording, reset, sample, frame, asks, code, chan, doneTo, event, output}
+use Rattle.promises.proofs.Cases.{neither}
+use Rattle.promises.proofs.Apart.{frame-output}
+use Rattle.promises.proofs.Calls.{Standing}
+
+-- ---- none of a list
+module _ {A : Type 0} (p : A → Bool) where
+  any-at : (l : List A) (j : ℕ) (d : A) → any p l ≡ false → j < length l → p (getD l j d) ≡ false
+  unfolding any
+  any-at [] j d h k = absurd (omega arith)
+  any-at (x ∷ xs) zero d h k = neither (p x) (any p xs) h .0
+  any-at (x ∷ xs) (suc j) d h k = any-at xs j d (neither (p x) (any p xs) h .1) (omega arith)
+
+  any-none : (l : List A) (d : A) → ((j : ℕ) → j < length l → p (getD l j d) ≡ false) → any p l ≡ false
+  unfolding any
+  any-none [] d h = refl
+  any-none (x ∷ xs) d h = rw (h 0 (omega arith)) (any-none xs d (λ j k. h (suc j) (omega arith)))
+
+  any-front : (l : List A) (n j : ℕ) (d : A) → any p (take n l) ≡ false → j < n → n ≤ length l → p (getD l j d) ≡ false
+  any-front l n j d h a b = ap p (sym (getD-take n l j d a)) ∙ any-at (take n l) j d h (omega (arith, length-take-le n l b))
+
+-- ---- a start
+pub start-fits : (s : Sampler) (position : Float) (note : Note) (p : Params) → startNumber s position note p ≡ 0 → anyFull s ≡ false
+unfolding startNumber
+start-fits s position note p h =
+    passed (anyFull s) 4 0 (passed (beyondLimits p) 3 _ (passed (badPosition position) 2 _ (passed (badNote note) 1 _ (passed (not (goodSampler s)) 8 _ h .1) .1) .1) .1) .0
+
+pub start-room : (w : World) → Standing w → (j : ℕ) → j < w .sampler .count → (position : Float) (note : Note) (velocity : Float) (p : Params)
+    → code w (start position note velocity p) ≡ 0 → eqb (chan w j .head .«data_len») 0 ≡ false → chan w j .count < 32
+unfolding code fullOf
+start-room w s j h position note velocity p k e =
+    let f : fullOf (chan w j) ≡ false = any-front fullOf (w .sampler .channels) (w .sampler .count) j _ (start-fits (w .sampler) position note p k) h (omega (arith, s .two, s .few)) in
+    leb-false 32 (chan w j .count) (subst (λ (b : Bool). (not b && leb 32 (chan w j .count)) ≡ false) e f)
+
+pub start-opens : (w : World) → Standing w → (position : Float) (note : Note) (velocity : Float) (p : Params) → goodSampler (w .sampler) ≡ true → badNote note ≡ false → badPosition position ≡ false
+    → beyondLimits p ≡ false → ((j : ℕ) → j < w .sampler .count → fullOf (chan w j) ≡ false) → code w (start position note velocity p) ≡ 0
+unfolding code startNumber
+start-opens w s position note velocity p g a b c f =
+    let none : Channel = channelOf (record { «auto_passthru» = false }) in
+    let l : length (present (w .sampler)) ≡ w .sampler .count = length-take-le (w .sampler .count) (w .sampler .channels) (omega (arith, s .two, s .few)) in
+    let e : anyFull (w .sampler) ≡ false
+    = any-none fullOf (present (w .sampler)) none
+    (λ j k. ap fullOf (getD-take (w .sampler .count) (w .sampler .channels) j none (omega arith)) ∙ f j (omega arith)) in
+    rw (g, a, b, c, e)
+
+-- ---- a sample of channel j
+pub record Heard (w : World) (c : Call) (j : ℕ) (p : Params) (x : Float) (m : List ℕ) : Type 0 where
+  pub early : chan w j .head .now < lastTime
+  pub part : m ≡ partOf (w .sampler) j (w .memory)
+  pub output : output w c j ≡ mul binary32 (p .volume) (channelSampleOf p x (chan w j) m .output)
+
+module _ (p : Params) (x : Float) (m : List ℕ) where
+  not-idle : idle ≡ sounds p x m → ⊥
+  not-idle h = let z : _≡_ {A = ℕ} 0 1 = cc in omega arith
+
+  not-change : (d : Change) → changes d ≡ sounds p x m → ⊥
+  not-change d h = let z : _≡_ {A = ℕ} 0 1 = cc in omega arith
+
+  done : (w : World) (c : Call) (j : ℕ) → event w c j ≡ sounds p x m → doneTo w c j ≡ sounds p x m
+  unfolding event
+  done w c j h = go (eqb (code w c) 0) h
+    where
+      go : (b : Bool) → cond b (doneTo w c j) idle ≡ sounds p x m → doneTo w c j ≡ sounds p x m
+      go true h = h
+      go false h = absurd (not-idle h)
+
+-- the same sample
+record Same (p q : Params) (x y : Float) (m n : List ℕ) : Type 0 where
+  params : p ≡ q
+  input : x ≡ y
+  memory : m ≡ n
+
+same-sample : (p q : Params) (x y : Float) (m n : List ℕ) → sounds p x m ≡ sounds q y n → Same p q x y m n
+same-sample p q x y m n h = record { params = cc; input = cc; memory = cc }
+
+same-output : (p q : Params) (x y : Float) (m n : List ℕ) (c d : Channel) → Same p q x y m n → c ≡ d
+    → mul binary32 (p .volume) (channelSampleOf p x c m .output) ≡ mul binary32 (q .volume) (channelSampleOf q y d n .output)
+same-output p q x y m n c d h e = λ t. mul binary32 ((h .params) t .volume) (channelSampleOf ((h .params) t) ((h .input) t) (e t) ((h .memory) t) .output)
+
+module _ (w : World) (st : Standing w) (j : ℕ) (k : j < w .sampler .count) (p : Params) (x : Float) (m : List ℕ) where
+  s : Sampler
+  s = w .sampler
+
+  mem : List ℕ
+  mem = w .memory
+
+  sample-heard : (i : ℕ) (y : Float) (q : Params) → event w (sample i y q) j ≡ sounds p x m → Heard w (sample i y q) j p x m
+  unfolding event code doneTo output processSampleOf outputOf playedAt sampleNumber s mem
+  sample-heard i y q h = go (eqb (sampleNumber s i q (length mem)) 0) refl (eqb i j) refl h
+    where
+      go : (a : Bool) → eqb (sampleNumber s i q (length mem)) 0 ≡ a → (b : Bool) → eqb i j ≡ b → cond a (cond b (sounds q y (partOf s j mem)) idle) idle ≡ sounds p x m
+          → Heard w (sample i y q) j p x m
+      go false e b f h = absurd (not-idle p x m h)
+      go true e false f h = absurd (not-idle p x m h)
+      go true e true f h =
+          let z = same-sample q p y x (partOf s j mem) m h in
+          let i≡j : i ≡ j = eqb-true i j f in
+          let r = passed (not (goodWith s (length mem))) 8 _ (eqb-true (sampleNumber s i q (length mem)) 0 e) in
+          let n = passed (atEnd (channelAt s i)) 5 0 (passed (beyondLimits q) 3 _ (passed (noChannel s i) 0 _ (r .1) .1) .1) in
+          record {
+            early = leb-false lastTime (chan w j .head .now) (subst (λ (l : ℕ). atEnd (channelAt s l) ≡ false) i≡j (n .0));
+            part = sym (z .memory);
+            output = ap (λ (b : Bool). cond b (outputOf s i q y mem) zero32) e
+                ∙ subst (λ (l : ℕ). mul binary32 (q .volume) (channelSampleOf q y (channelAt s l) (partOf s l mem) .output) ≡ mul binary32 (p .volume) (channelSampleOf p x (channelAt s j) m .output))
+                (sym i≡j) (same-output q p y x (partOf s j mem) m (channelAt s j) (channelAt s j) z refl);
+          }
+
+  frame-heard : (xs : List Float) (q : Params) → event w (frame xs q) j ≡ sounds p x m → Heard w (frame xs q) j p x m
+  unfolding event code doneTo output framedOf frameNumber s mem
+  frame-heard xs q h = go (eqb (frameNumber s (length xs) q (length mem)) 0) refl (ltb j (length xs)) refl h
+    where
+      go : (a : Bool) → eqb (frameNumber s (length xs) q (length mem)) 0 ≡ a → (b : Bool) → ltb j (length xs) ≡ b
+          → cond a (cond b (sounds q (getD xs j zero32) (partOf s j mem)) idle) idle ≡ sounds p x m → Heard w (frame xs q) j p x m
+      go false e b f h = absurd (not-idle p x m h)
+      go true e false f h = absurd (not-idle p x m h)
+      go true e true f h =
+          let z = same-sample q p (getD xs j zero32) x (partOf s j mem) m h in
+          let o : j < length xs = ltb-true j (length xs) f in
+          let t : frameNumber s (length xs) q (length mem) ≡ 0 = eqb-true _ 0 e in
+          let g = frame-steps s (length xs) q (length mem) t in
+          let r = passed (not (goodWith s (length mem))) 8 _ t in
+          let n = passed (any atEnd (take (length xs) (s .channels))) 5 0 (passed (beyondLimits q) 3 _ (passed (ltb (s .count) (length xs)) 0 _ (r .1) .1) .1) in
+          record {
+            early = leb-false lastTime (chan w j .head .now) (any-front atEnd (s .channels) (length xs) j _ (n .0) o (omega (arith, g .below, st .two)));
+            part = sym (z .memory);
+            output = ap (λ (b : Bool). getD (cond b (entriesOf q (length xs) 0 (framed s xs mem)) (framed s xs mem) .frame) j zero32) e
+                ∙ frame-output s xs q mem g (st .two) j (omega (arith, st .few))
+                ∙ ap (λ (b : Bool). cond b (mul binary32 (q .volume) (channelSampleOf q (getD xs j zero32) (channelAt s j) (partOf s j mem) .output)) (getD xs j zero32)) f
+                ∙ same-output q p (getD xs j zero32) x (partOf s j mem) m (channelAt s j) (channelAt s j) z refl;
+          }
+
+  pub heard : (c : Call) → event w c j ≡ sounds p x m → Heard w c j p x m
+  unfolding doneTo
+  heard (start position note velocity q) h = absurd (not-change p x m _ (done p x m w (start position note velocity q) j h))
+  heard (stop note q) h = absurd (not-change p x m _ (done p x m w (stop note q) j h))
+  heard (speed note y) h = absurd (not-change p x m _ (done p x m w (speed note y) j h))
+  heard startRecording h = absurd (not-change p x m _ (done p x m w startRecording j h))
+  heard stopRecording h = absurd (not-change p x m _ (done p x m w stopRecording j h))
+  heard reset h = absurd (not-change p x m _ (done p x m w reset j h))
+  heard (sample i y q) h = sample-heard i y q h
+  heard (frame xs q) h = frame-heard xs q h
+  heard asks h = absurd (not-idle p x m (done p x m w asks j h))

@@ -1,0 +1,123 @@
+-- A channel's clock: a sample moves it on by one below its end, a reset sets it to 0, and nothing else changes it. So events in which it stands still hold no sample. Assumes nothing.
+use mathlib.Core.Path.{_≡_, refl, sym, ap, _∙_, subst}
+use mathlib.Core.Bool.{Bool, true, false, _||_, cond, true≢false, Bool·beq}
+use mathlib.Core.List.{List, [], _∷_}
+use Prim.Native.Nat.{ℕ, _+_, _≤_, _<_}
+use native.Mathlib.Nat.{le-refl, le-trans, le-of-eq}
+use native.Mathlib.Omega.{arith}
+use borrow.Author.Tests.{lt-ltb}
+use lib.Dec.{eqb, ltb}
+use lib.Ieee.{Float}
+use Rattle.walks.specs.Walks.{any}
+use Rattle.common_types.specs.declared.Params.{Params}
+use Rattle.common_types.specs.declared.Note.{Note}
+use Rattle.volume.specs.Levels.{steppedOf}
+use Rattle.voice.specs.declared.Voice.{Voice}
+use Rattle.voice.specs.Voices.{finishOf, freshOf}
+use Rattle.channel.specs.declared.Head.{Head}
+use Rattle.channel.specs.declared.Channel.{Channel}
+use Rattle.channel.specs.declared.Change.{Change}
+use Rattle.channel.specs.declared.Change.the-variants as change
+use Rattle.channel.specs.declared.Found.{Found}
+use Rattle.channel.specs.declared.Found.the-variants.{At, Nothing}
+use Rattle.channel.specs.Heads.{lastTime, nextTime, withPassthru, passesOf, rampOf, passthruOf, closedOf}
+use Rattle.channel.specs.Channels.{
+  live,
+  withVoices,
+  anyUnfinishedOf,
+  handledOf,
+  pushedOf,
+  startPlayingOf,
+  findOf,
+  finishedAtOf,
+  stopPlayingOf,
+  setNoteSpeedOf,
+  startRecordingOf,
+  stopRecordingOf,
+  takenOf,
+  processSampleOf,
+  changedOf,
+}
+use Rattle.promises.specs.Events.{Event, idle, changes, sounds, act, acts, isReset, isSample}
+use Rattle.promises.proofs.Cases.{neither, either}
+
+passthru-clock : (p : Params) (unfinished : Bool) (h : Head) → passthruOf p unfinished h .now ≡ h .now
+unfolding passthruOf
+passthru-clock p unfinished h = either (λ (g : Head). g .now) (Bool·beq (passesOf p unfinished) (h .«passthru_on»)) h _ (h .now) refl refl
+
+handled-clock : (p : Params) (c : Channel) → handledOf p c .head .now ≡ c .head .now
+unfolding handledOf
+handled-clock p c = passthru-clock p (anyUnfinishedOf c) (c .head)
+
+pushed-clock : (v : Voice) (c : Channel) → pushedOf v c .head .now ≡ c .head .now
+unfolding pushedOf
+pushed-clock v c = either (λ (d : Channel). d .head .now) (ltb (c .count) 32) _ c (c .head .now) refl refl
+
+finished-clock : (p : Params) (c : Channel) (f : Found) → finishedAtOf p c f .head .now ≡ c .head .now
+unfolding finishedAtOf
+finished-clock p c Nothing = refl
+finished-clock p c (At i) = either (λ (d : Channel). d .head .now) (ltb i 32) _ c (c .head .now) (handled-clock p _) refl
+
+started-clock : (p : Params) (position : Float) (note : Note) (velocity : Float) (c : Channel) → startPlayingOf p position note velocity c .head .now ≡ c .head .now
+unfolding startPlayingOf
+started-clock p position note velocity c =
+    either (λ (d : Channel). d .head .now) (eqb (c .head .«data_len») 0) c _ (c .head .now) refl (handled-clock p _ ∙ pushed-clock _ c)
+
+sounded-clock : (p : Params) (x : Float) (m : List ℕ) (c : Channel) → processSampleOf p x c m .channel .head .now ≡ nextTime (c .head .now)
+unfolding processSampleOf closedOf takenOf
+sounded-clock p x m c = ap nextTime (passthru-clock p _ _)
+
+-- ---- one event
+pub clock-still : (e : Event) (c : Channel) → isReset e ≡ false → isSample e ≡ false → act e c .head .now ≡ c .head .now
+unfolding act isReset isSample changedOf stopPlayingOf setNoteSpeedOf startRecordingOf stopRecordingOf
+clock-still idle c r q = refl
+clock-still (changes (change.Start p position note velocity)) c r q = started-clock p position note velocity c
+clock-still (changes (change.Stop p note)) c r q = finished-clock p c (findOf note c)
+clock-still (changes (change.Speed note speed)) c r q = refl
+clock-still (changes change.StartRecording) c r q = refl
+clock-still (changes change.StopRecording) c r q = refl
+clock-still (changes change.Reset) c r q = absurd (true≢false r)
+clock-still (sounds p x m) c r q = absurd (true≢false q)
+
+pub clock-moves : (p : Params) (x : Float) (m : List ℕ) (c : Channel) → c .head .now < lastTime → act (sounds p x m) c .head .now ≡ c .head .now + 1
+unfolding act nextTime
+clock-moves p x m c h = sounded-clock p x m c ∙ rw (lt-ltb (c .head .now) lastTime h)
+
+clock-up : (e : Event) (c : Channel) → isReset e ≡ false → c .head .now ≤ act e c .head .now
+unfolding act isSample nextTime
+clock-up idle c r = le-refl (c .head .now)
+clock-up (changes d) c r = le-of-eq (sym (clock-still (changes d) c r refl))
+clock-up (sounds p x m) c r = subst (λ (n : ℕ). c .head .now ≤ n) (sym (sounded-clock p x m c)) (go (ltb (c .head .now) lastTime))
+  where
+    go : (b : Bool) → c .head .now ≤ cond b (c .head .now + 1) (c .head .now)
+    go true = omega arith
+    go false = omega arith
+
+-- ---- any events without a reset
+pub clock-later : (es : List Event) (c : Channel) → any isReset es ≡ false → c .head .now ≤ acts es c .head .now
+unfolding acts any
+clock-later [] c r = le-refl (c .head .now)
+clock-later (e ∷ es) c r =
+    let a = neither (isReset e) (any isReset es) r in
+    le-trans (clock-up e c (a .0)) (clock-later es (act e c) (a .1))
+
+pub clock-stands : (es : List Event) (c : Channel) → any isReset es ≡ false → any isSample es ≡ false → acts es c .head .now ≡ c .head .now
+unfolding acts any
+clock-stands [] c r q = refl
+clock-stands (e ∷ es) c r q =
+    let a = neither (isReset e) (any isReset es) r in
+    let b = neither (isSample e) (any isSample es) q in
+    clock-stands es (act e c) (a .1) (b .1) ∙ clock-still e c (a .0) (b .0)
+
+-- a clock that stands still has met no sample
+pub no-sample : (es : List Event) (c : Channel) → any isReset es ≡ false → c .head .now < lastTime → acts es c .head .now ≡ c .head .now → any isSample es ≡ false
+unfolding acts any isSample isReset
+no-sample [] c r h k = refl
+no-sample (idle ∷ es) c r h k = no-sample es (act idle c) r (subst (λ (n : ℕ). n < lastTime) (sym (clock-still idle c refl refl)) h) (k ∙ sym (clock-still idle c refl refl))
+no-sample (changes d ∷ es) c r h k =
+    let a = neither (isReset (changes d)) (any isReset es) r in
+    let e = clock-still (changes d) c (a .0) refl in
+    no-sample es (act (changes d) c) (a .1) (subst (λ (n : ℕ). n < lastTime) (sym e) h) (k ∙ sym e)
+no-sample (sounds p x m ∷ es) c r h k =
+    let a = neither (isReset (sounds p x m)) (any isReset es) r in
+    absurd (omega (arith, clock-moves p x m c h, clock-later es (act (sounds p x m) c) (a .1)))

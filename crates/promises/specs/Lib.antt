@@ -1,0 +1,5 @@
+pub mod Events
+pub mod Places
+pub mod Sounding
+pub mod Runs
+pub mod Demand3
