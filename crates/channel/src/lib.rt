@@ -214,7 +214,7 @@ fn wanted(v: Voice, note: Note) -> bool
 }
 
 // How many places there are to walk: the count, and never more than the array has.
-fn places(count: usize) -> usize
+pub fn places(count: usize) -> usize
     ensures { λ r. ⌜ r ≡ min count 32 ⌝ }
 {
     if count < 32 { count } else { 32 }

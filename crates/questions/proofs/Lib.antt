@@ -1,0 +1,5 @@
+pub mod Answers
+pub mod Notes
+pub mod Infos
+pub mod Numbers
+pub mod Room

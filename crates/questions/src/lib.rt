@@ -1,0 +1,271 @@
+// The questions of the sampler: what its host may ask of one channel, with the refusals of document 01's table. Each takes every value of its
+// arguments, and equals a definition in specs/. On a refusal a lent list holds what it held.
+ghost use mathlib.Core.Path.{_≡_};
+ghost use Prim.Native.Nat.{_+_, _≤_};
+ghost use mathlib.Core.Bool.{not};
+ghost use mathlib.Core.List.{[], _∷_};
+ghost use lib.ListN.{length};
+ghost use lib.Seq.{sets};
+ghost use Rattle.channel.specs.Channels.{live};
+ghost use Rattle.sampler.specs.Refusals.{channelAt, row, goodSampler, noChannel};
+ghost use Rattle.questions.specs.Questions.{
+  recorderAt,
+  getFramesProcessedOf,
+  getDataLenOf,
+  isRecordingOf,
+  getLastRecordedOffsetOf,
+  printErrorInfoOf,
+  errorTextAfter,
+  notesOf,
+  iterActiveNotesOf,
+  activeNotesAfter,
+  voiceInfoOf,
+  noInfos,
+  infosWith,
+  voiceInfosOf,
+  getVoiceInfoOf,
+};
+use channel::Channel;
+use common_types::InitParams;
+use common_types::Params;
+use recorder::LastOffset;
+use recorder::Recorder;
+use recorder::Text;
+use sampler::Sampler;
+use sampler::first_of;
+use voice::Voice;
+
+// Each answer is Done, or the number of its refusal.
+pub enum Counted {
+    Done(usize),
+    Refused(u8),
+}
+
+pub enum Told {
+    Done(bool),
+    Refused(u8),
+}
+
+pub enum OffsetAnswer {
+    Done(LastOffset),
+    Refused(u8),
+}
+
+// The figures of one voice, as parts of the recording.
+pub struct VoiceInfo {
+    pub start: f32,
+    pub end: f32,
+    pub pos: f32,
+}
+
+// The infos are the first `count` of the 32.
+pub struct VoiceInfos {
+    pub infos: [VoiceInfo; 32],
+    pub count: usize,
+    pub number: u8,
+}
+
+// The rows that each question begins with, and then the rest.
+fn asked(s: Sampler, channel: usize, rest: u8) -> u8
+    ensures { λ r. ⌜ r ≡ row (not (goodSampler s)) 9 (row (noChannel s channel) 1 rest) ⌝ }
+{
+    let broken = !s.good();
+    let absent = !(channel < s.count);
+    first_of(broken, 9, first_of(absent, 1, rest))
+}
+
+// Past the last channel it is a new one, which no answer shows.
+fn channel_at(s: Sampler, channel: usize) -> Channel
+    ensures { λ r. ⌜ r ≡ channelAt s channel ⌝ }
+{
+    if channel < 2 {
+        return s.channels[channel];
+    }
+    Channel::new(InitParams {
+        auto_passthru: false,
+    })
+}
+
+fn recorder_at(s: Sampler, channel: usize) -> Recorder
+    ensures { λ r. ⌜ r ≡ recorderAt s channel ⌝ }
+{
+    let head = channel_at(s, channel).head;
+    head.recorder
+}
+
+pub fn get_frames_processed(s: Sampler, channel: usize) -> Counted
+    ensures { λ r. ⌜ r ≡ getFramesProcessedOf s channel ⌝ }
+{
+    let number = asked(s, channel, 0);
+    if number != 0 {
+        return Counted::Refused(number);
+    }
+    let head = channel_at(s, channel).head;
+    Counted::Done(head.now)
+}
+
+pub fn get_data_len(s: Sampler, channel: usize) -> Counted
+    ensures { λ r. ⌜ r ≡ getDataLenOf s channel ⌝ }
+{
+    let number = asked(s, channel, 0);
+    if number != 0 {
+        return Counted::Refused(number);
+    }
+    let head = channel_at(s, channel).head;
+    Counted::Done(head.data_len)
+}
+
+pub fn is_recording(s: Sampler, channel: usize) -> Told
+    ensures { λ r. ⌜ r ≡ isRecordingOf s channel ⌝ }
+{
+    let number = asked(s, channel, 0);
+    if number != 0 {
+        return Told::Refused(number);
+    }
+    Told::Done(recorder_at(s, channel).is_recording())
+}
+
+pub fn get_last_recorded_offset(s: Sampler, channel: usize) -> OffsetAnswer
+    ensures { λ r. ⌜ r ≡ getLastRecordedOffsetOf s channel ⌝ }
+{
+    let number = asked(s, channel, 0);
+    if number != 0 {
+        return OffsetAnswer::Refused(number);
+    }
+    OffsetAnswer::Done(recorder_at(s, channel).last_recorded_offset())
+}
+
+// Writes the error text to the front of the list.
+pub fn print_error_info(s: Sampler, channel: usize, text: &mut [u8]) -> Counted
+    ensures { λ r. ⌜ r ≡ printErrorInfoOf s channel (length (now (text .entry))) ⌝ }
+    ensures { λ r. ⌜ now (text .exit) ≡ errorTextAfter s channel (now (text .entry)) ⌝ }
+{
+    let number = asked(s, channel, 0);
+    if number != 0 {
+        return Counted::Refused(number);
+    }
+    let written = recorder_at(s, channel).print_error_info(text);
+    match written {
+        Text::Written(count) => Counted::Done(count),
+        Text::Short => Counted::Refused(8),
+    }
+}
+
+// A finished voice has no note to list.
+fn note_count(v: Voice) -> usize
+    ensures { λ r. ⌜ r ≡ length (notesOf (v ∷ [])) ⌝ }
+{
+    if v.finished { 0 } else { 1 }
+}
+
+fn write_note(v: Voice, k: usize, notes: &mut [u64])
+    requires { ⌜ k + length (notesOf (v ∷ [])) ≤ length (now notes) ⌝ }
+    ensures { λ r. ⌜ now (notes .exit) ≡ sets (now (notes .entry)) k (notesOf (v ∷ [])) ⌝ }
+{
+    if v.finished {
+        return;
+    }
+    let note = v.note;
+    notes[k] = note.into_u64();
+}
+
+fn active_count(c: Channel) -> usize
+    ensures { λ r. ⌜ r ≡ length (notesOf (live c)) ⌝ }
+{
+    let n = channel::places(c.count);
+    let mut k = 0;
+    let mut i = 0;
+    while i < n {
+        let v = c.voices[i];
+        k += note_count(v);
+        i += 1;
+    }
+    k
+}
+
+fn write_notes(c: Channel, notes: &mut [u64])
+    requires { ⌜ length (notesOf (live c)) ≤ length (now notes) ⌝ }
+    ensures { λ r. ⌜ now (notes .exit) ≡ sets (now (notes .entry)) 0 (notesOf (live c)) ⌝ }
+{
+    let n = channel::places(c.count);
+    let mut k = 0;
+    let mut i = 0;
+    while i < n {
+        let v = c.voices[i];
+        write_note(v, k, notes);
+        k += note_count(v);
+        i += 1;
+    }
+}
+
+// Writes the notes of the unfinished voices to the front of the list.
+pub fn iter_active_notes(s: Sampler, channel: usize, notes: &mut [u64]) -> Counted
+    ensures { λ r. ⌜ r ≡ iterActiveNotesOf s channel (length (now (notes .entry))) ⌝ }
+    ensures { λ r. ⌜ now (notes .exit) ≡ activeNotesAfter s channel (now (notes .entry)) ⌝ }
+{
+    let c = channel_at(s, channel);
+    let count = active_count(c);
+    let short = notes.len() < count;
+    let number = asked(s, channel, first_of(short, 8, 0));
+    if number != 0 {
+        return Counted::Refused(number);
+    }
+    write_notes(c, notes);
+    Counted::Done(count)
+}
+
+fn voice_info(v: Voice, length: f32, data_length: f32) -> VoiceInfo
+    ensures { λ r. ⌜ r ≡ voiceInfoOf length «data_length» v ⌝ }
+{
+    VoiceInfo {
+        start: v.loop_start_percent,
+        end: (v.loop_start_percent + length / data_length) % 1.0,
+        pos: binary32::usize_to_f32(v.last_sample_index) / data_length,
+    }
+}
+
+fn no_infos(count: usize, number: u8) -> VoiceInfos
+    ensures { λ r. ⌜ r ≡ infosWith noInfos count number ⌝ }
+{
+    let none = VoiceInfo {
+        start: 0.0,
+        end: 0.0,
+        pos: 0.0,
+    };
+    VoiceInfos {
+        infos: [none; 32],
+        count,
+        number,
+    }
+}
+
+fn voice_infos(c: Channel, length: f32) -> VoiceInfos
+    ensures { λ r. ⌜ r ≡ voiceInfosOf length c ⌝ }
+{
+    let head = c.head;
+    let data_length = binary32::usize_to_f32(head.data_len);
+    let n = channel::places(c.count);
+    let mut answer = no_infos(c.count, 0);
+    let mut i = 0;
+    while i < n {
+        let v = c.voices[i];
+        answer.infos[i] = voice_info(v, length, data_length);
+        i += 1;
+    }
+    answer
+}
+
+// The caller has a list with room for so many.
+pub fn get_voice_info(s: Sampler, channel: usize, params: Params, room: usize) -> VoiceInfos
+    ensures { λ r. ⌜ r ≡ getVoiceInfoOf s channel params room ⌝ }
+{
+    let c = channel_at(s, channel);
+    let short = room < c.count;
+    let beyond = first_of(params.beyond_limits(), 4, first_of(short, 8, 0));
+    let number = asked(s, channel, beyond);
+    if number != 0 {
+        return no_infos(0, number);
+    }
+    let first = channel_at(s, 0).head;
+    voice_infos(c, params.loop_length(first.data_len))
+}
