@@ -3,9 +3,10 @@ use mathlib.Core.Path.{_≡_, refl, sym, ap, _∙_, subst}
 use mathlib.Core.Bool.{Bool, true, false, not, _&&_, _||_, cond, true≢false}
 use mathlib.Core.List.{List, [], _∷_}
 use Prim.Native.Nat.{ℕ, zero, suc, _+_, _*_, _≤_, _<_}
+use native.Mathlib.Nat.{le-trans, le-of-eq, mul-le-mul-right, suc-mul}
 use native.Mathlib.Omega.{arith}
 use borrow.Author.Tests.{leb-false, lt-leb, eqb-true, ltb-true, not-false}
-use lib.Dec.{leb, eqb, ltb}
+use lib.Dec.{T, leb, eqb, ltb}
 use lib.ListN.{length, take, getD}
 use lib.Seq.{length-take-le, getD-take}
 use lib.Ieee.{Float, binary32, mul}
@@ -14,6 +15,7 @@ use Rattle.common_types.specs.declared.Params.{Params}
 use Rattle.common_types.specs.declared.Note.{Note}
 use Rattle.common_types.specs.Settings.{beyondLimits}
 use Rattle.clip.specs.Positions.{zero32}
+use Rattle.voice.specs.Soundness.{FittingParams}
 use Rattle.channel.specs.declared.Channel.{Channel}
 use Rattle.channel.specs.declared.Change.{Change}
 use Rattle.channel.specs.Heads.{lastTime}
@@ -23,8 +25,10 @@ use Rattle.sampler.specs.declared.Sampler.{Sampler}
 use Rattle.sampler.specs.Refusals.{present, channelAt, goodSampler, goodWith, noChannel, badNote, badPosition, anyFull, atEnd, row, startNumber, sampleNumber, frameNumber}
 use Rattle.sampler.specs.Samplers.{Steps, partOf, playedAt, outputOf, processSampleOf, Framed, framed, entriesOf, framedOf}
 use Rattle.sampler.proofs.Rows.{passed, frame-steps}
+use Rattle.sampler.proofs.Entries.{Reaches, sample-reaches, frame-reaches}
 use Rattle.promises.specs.Events.{Event, idle, changes, sounds}
 use Rattle.promises.specs.Runs.{World, Call, start, stop, speed, startRecording, stopRecording, reset, sample, frame, asks, code, chan, doneTo, event, output}
+use Rattle.promises.specs.Whole.{FittingCall}
 use Rattle.promises.proofs.Cases.{neither}
 use Rattle.promises.proofs.Apart.{frame-output}
 use Rattle.promises.proofs.Calls.{Standing}
@@ -70,9 +74,22 @@ start-opens w s position note velocity p g a b c f =
     rw (g, a, b, c, e)
 
 -- ---- a sample of channel j
+sample-early : (s : Sampler) (j : ℕ) (p : Params) (size : ℕ) → sampleNumber s j p size ≡ 0 → atEnd (channelAt s j) ≡ false
+unfolding sampleNumber
+sample-early s j p size h =
+    passed (atEnd (channelAt s j)) 5 0 (passed (beyondLimits p) 3 _ (passed (noChannel s j) 0 _ (passed (not (goodWith s size)) 8 _ h .1) .1) .1) .0
+
+frame-early : (s : Sampler) (n : ℕ) (p : Params) (size : ℕ) → frameNumber s n p size ≡ 0 → any atEnd (take n (s .channels)) ≡ false
+unfolding frameNumber
+frame-early s n p size h =
+    passed (any atEnd (take n (s .channels))) 5 0 (passed (beyondLimits p) 3 _ (passed (ltb (s .count) n) 0 _ (passed (not (goodWith s size)) 8 _ h .1) .1) .1) .0
+
 pub record Heard (w : World) (c : Call) (j : ℕ) (p : Params) (x : Float) (m : List ℕ) : Type 0 where
   pub early : chan w j .head .now < lastTime
+  pub within : T (not (beyondLimits p))
+  pub room : j * w .sampler .capacity + w .sampler .capacity ≤ length (w .memory)
   pub part : m ≡ partOf (w .sampler) j (w .memory)
+  pub floats : FittingCall c → FittingParams p
   pub output : output w c j ≡ mul binary32 (p .volume) (channelSampleOf p x (chan w j) m .output)
 
 module _ (p : Params) (x : Float) (m : List ℕ) where
@@ -111,7 +128,7 @@ module _ (w : World) (st : Standing w) (j : ℕ) (k : j < w .sampler .count) (p 
   mem = w .memory
 
   sample-heard : (i : ℕ) (y : Float) (q : Params) → event w (sample i y q) j ≡ sounds p x m → Heard w (sample i y q) j p x m
-  unfolding event code doneTo output processSampleOf outputOf playedAt sampleNumber s mem
+  unfolding event code doneTo output processSampleOf outputOf playedAt FittingCall s mem
   sample-heard i y q h = go (eqb (sampleNumber s i q (length mem)) 0) refl (eqb i j) refl h
     where
       go : (a : Bool) → eqb (sampleNumber s i q (length mem)) 0 ≡ a → (b : Bool) → eqb i j ≡ b → cond a (cond b (sounds q y (partOf s j mem)) idle) idle ≡ sounds p x m
@@ -121,10 +138,13 @@ module _ (w : World) (st : Standing w) (j : ℕ) (k : j < w .sampler .count) (p 
       go true e true f h =
           let z = same-sample q p y x (partOf s j mem) m h in
           let i≡j : i ≡ j = eqb-true i j f in
-          let r = passed (not (goodWith s (length mem))) 8 _ (eqb-true (sampleNumber s i q (length mem)) 0 e) in
-          let n = passed (atEnd (channelAt s i)) 5 0 (passed (beyondLimits q) 3 _ (passed (noChannel s i) 0 _ (r .1) .1) .1) in
+          let t : sampleNumber s i q (length mem) ≡ 0 = eqb-true _ 0 e in
+          let r = sample-reaches s q (length mem) i t in
           record {
-            early = leb-false lastTime (chan w j .head .now) (subst (λ (l : ℕ). atEnd (channelAt s l) ≡ false) i≡j (n .0));
+            early = leb-false lastTime (chan w j .head .now) (subst (λ (l : ℕ). atEnd (channelAt s l) ≡ false) i≡j (sample-early s i q (length mem) t));
+            within = subst (λ (l : Params). T (not (beyondLimits l))) (z .params) (r .1);
+            room = subst (λ (l : ℕ). l * s .capacity + s .capacity ≤ length mem) i≡j (r .0 .part);
+            floats = subst FittingParams (z .params);
             part = sym (z .memory);
             output = ap (λ (b : Bool). cond b (outputOf s i q y mem) zero32) e
                 ∙ subst (λ (l : ℕ). mul binary32 (q .volume) (channelSampleOf q y (channelAt s l) (partOf s l mem) .output) ≡ mul binary32 (p .volume) (channelSampleOf p x (channelAt s j) m .output))
@@ -132,7 +152,7 @@ module _ (w : World) (st : Standing w) (j : ℕ) (k : j < w .sampler .count) (p 
           }
 
   frame-heard : (xs : List Float) (q : Params) → event w (frame xs q) j ≡ sounds p x m → Heard w (frame xs q) j p x m
-  unfolding event code doneTo output framedOf frameNumber s mem
+  unfolding event code doneTo output framedOf FittingCall s mem
   frame-heard xs q h = go (eqb (frameNumber s (length xs) q (length mem)) 0) refl (ltb j (length xs)) refl h
     where
       go : (a : Bool) → eqb (frameNumber s (length xs) q (length mem)) 0 ≡ a → (b : Bool) → ltb j (length xs) ≡ b
@@ -144,10 +164,11 @@ module _ (w : World) (st : Standing w) (j : ℕ) (k : j < w .sampler .count) (p 
           let o : j < length xs = ltb-true j (length xs) f in
           let t : frameNumber s (length xs) q (length mem) ≡ 0 = eqb-true _ 0 e in
           let g = frame-steps s (length xs) q (length mem) t in
-          let r = passed (not (goodWith s (length mem))) 8 _ t in
-          let n = passed (any atEnd (take (length xs) (s .channels))) 5 0 (passed (beyondLimits q) 3 _ (passed (ltb (s .count) (length xs)) 0 _ (r .1) .1) .1) in
           record {
-            early = leb-false lastTime (chan w j .head .now) (any-front atEnd (s .channels) (length xs) j _ (n .0) o (omega (arith, g .below, st .two)));
+            early = leb-false lastTime (chan w j .head .now) (any-front atEnd (s .channels) (length xs) j _ (frame-early s (length xs) q (length mem) t) o (omega (arith, g .below, st .two)));
+            within = subst (λ (l : Params). T (not (beyondLimits l))) (z .params) (frame-reaches s q (length mem) (length xs) t .1);
+            room = le-trans (le-of-eq (sym (suc-mul j (s .capacity)))) (le-trans (mul-le-mul-right (s .capacity) o) (g .parts));
+            floats = subst FittingParams (z .params);
             part = sym (z .memory);
             output = ap (λ (b : Bool). getD (cond b (entriesOf q (length xs) 0 (framed s xs mem)) (framed s xs mem) .frame) j zero32) e
                 ∙ frame-output s xs q mem g (st .two) j (omega (arith, st .few))

@@ -25,7 +25,7 @@ use Rattle.promises.specs.Events.{Event, idle, changes, sounds, act, act
 use Rattle.promises.specs.Places.{Housed, voiceAt, Place, at, gone, follow, newOf, followAll, stoppedIn, finishedIn, finishes}
 use Rattle.promises.specs.Sounding.{Sounds, First}
 use Rattle.promises.specs.Runs.{World, setUp, Call, start, stop, speed, startRecording, stopRecording, reset, sample, frame, asks, code, after, run, chan, doneTo, event, events, isResetCall, output, final, before}
-use Rattle.promises.specs.Demand3.{isEmpty, Demand3, Opens}
+use Rattle.promises.specs.Demand3.{isEmpty, Demand3}
 use Rattle.promises.proofs.Cases.{neither, either}
 use Rattle.promises.proofs.Housing.{housed}
 use Rattle.promises.proofs.Order.{Came, ordered, covered, fewer}
@@ -35,7 +35,7 @@ use Rattle.promises.proofs.Goes.{goes}
 use Rattle.promises.proofs.Clocks.{clock-stands, clock-moves, no-sample}
 use Rattle.promises.proofs.OnTime.{begin, madeBy, taken, on-time}
 use Rattle.promises.proofs.Calls.{Standing, chan-after, chan-run, kept, count-run, standing-after, standing-run, standing-new}
-use Rattle.promises.proofs.Accepted.{Heard, heard, start-room, start-opens}
+use Rattle.promises.proofs.Accepted.{Heard, heard, start-room}
 
 and-false : (b : Bool) → (b && false) ≡ false
 and-false true = refl
@@ -192,6 +192,3 @@ standing-demand3 w st j k = record {
 
 pub demand3 : (count : ℕ) (p : InitParams) (m : List ℕ) (cs : List Call) (j : ℕ) → j < run (setUp count p m) cs .sampler .count → Demand3 (run (setUp count p m) cs) j
 demand3 count p m cs j k = standing-demand3 (run (setUp count p m) cs) (standing-run (setUp count p m) cs (standing-new count p m)) j k
-
-pub opens : (count : ℕ) (p : InitParams) (m : List ℕ) (cs : List Call) → Opens (run (setUp count p m) cs)
-opens count p m cs = λ position note velocity q g a b c f. start-opens (run (setUp count p m) cs) (standing-run (setUp count p m) cs (standing-new count p m)) position note velocity q g a b c f

@@ -16,3 +16,4 @@ pub mod Calls
 pub mod Accepted
 pub mod Demand3
 pub mod Examples
+pub mod Whole

@@ -12,12 +12,10 @@ use lib.Ieee.{Float, binary32, mul}
 use Rattle.walks.specs.Walks.{any}
 use Rattle.common_types.specs.declared.Params.{Params}
 use Rattle.common_types.specs.declared.Note.{Note}
-use Rattle.common_types.specs.Settings.{beyondLimits}
 use Rattle.voice.specs.declared.Voice.{Voice}
 use Rattle.voice.specs.Voices.{freshOf}
 use Rattle.channel.specs.declared.Channel.{Channel}
 use Rattle.channel.specs.Channels.{live, fullOf, processSampleOf}
-use Rattle.sampler.specs.Refusals.{goodSampler, badNote, badPosition}
 use Rattle.promises.specs.Events.{Event, sounds, isSample, emptyAt, decayOf}
 use Rattle.promises.specs.Places.{voiceAt, Place, at, gone, follow, followAll, newOf, finishes, stoppedIn, finishedIn}
 use Rattle.promises.specs.Sounding.{Sounds, First}
@@ -67,11 +65,6 @@ pub record Demand3 (w : World) (j : ℕ) : Type 0 where
   -- (it may by the other one);
   pub free : (c : Call) (n : ℕ) (v : Voice) → voiceAt (chan w j) n ≡ some v → isResetCall c ≡ false → follow (event w c j) (chan w j) n ≡ gone
       → (chan (after w c) j .count < chan w j .count) × (fullOf (chan (after w c) j) ≡ false)
-  -- an accepted start on a recording that isn't empty takes a place at the end;
+  -- an accepted start on a recording that isn't empty takes a place at the end.
   pub taken : (position : Float) (note : Note) (velocity : Float) (p : Params) → code w (start position note velocity p) ≡ 0 → isEmpty (chan w j) ≡ false
       → live (chan (after w (start position note velocity p)) j) ≡ live (chan w j) ++ (freshOf p position note velocity (chan w j .head .now) (chan w j .head .«data_len») ∷ [])
-
--- a start that nothing else refuses is accepted where no channel in use is full
-abbrev pub Opens : World → Type 0
-Opens w = (position : Float) (note : Note) (velocity : Float) (p : Params) → goodSampler (w .sampler) ≡ true → badNote note ≡ false → badPosition position ≡ false → beyondLimits p ≡ false
-    → ((j : ℕ) → j < w .sampler .count → fullOf (chan w j) ≡ false) → code w (start position note velocity p) ≡ 0

@@ -3,3 +3,4 @@ pub mod Places
 pub mod Sounding
 pub mod Runs
 pub mod Demand3
+pub mod Whole

@@ -33,7 +33,7 @@ module _ (s : Sampler) (p : Params) (size : ℕ) where
       let a = passed (noChannel s j) 0 _ (passed (not (goodWith s size)) 8 _ h .1) in
       (record { below = ltb-true j (s .count) (is-true (ltb j (s .count)) (a .0)); part = sample-ready s j p size h .part }, no (passed (beyondLimits p) 3 _ (a .1) .0))
 
-  frame-reaches : (n : ℕ) → frameNumber s n p size ≡ 0 → (n ≤ s .count) × T (not (beyondLimits p))
+  pub frame-reaches : (n : ℕ) → frameNumber s n p size ≡ 0 → (n ≤ s .count) × T (not (beyondLimits p))
   unfolding frameNumber
   frame-reaches n h =
       let a = passed (ltb (s .count) n) 0 _ (passed (not (goodWith s size)) 8 _ h .1) in

@@ -1,0 +1,135 @@
+-- No record that set-up and calls reach is broken, what a voice sounds by is recorded, and a start that nothing refuses is accepted. Assumes nothing.
+use mathlib.Core.Path.{_≡_, refl, sym, ap, _∙_, subst}
+use mathlib.Core.Logic.{_≢_}
+use mathlib.Core.Bool.{true, false}
+use mathlib.Core.List.{List, [], _∷_}
+use mathlib.Core.Option.{some}
+use Prim.Native.Nat.{ℕ, _+_, _*_, _≤_, _<_}
+use native.Mathlib.Nat.{le-refl, le-trans, le-of-eq}
+use native.Mathlib.Omega.{arith}
+use borrow.Author.Tests.{eqb-false}
+use lib.Dec.{eqb}
+use lib.ListN.{length, getD}
+use lib.Seq.{getD-take}
+use lib.Ieee.{Float}
+use Rattle.walks.specs.Each.{Each}
+use Rattle.common_types.specs.declared.InitParams.{InitParams}
+use Rattle.common_types.specs.declared.Params.{Params}
+use Rattle.clip.specs.Positions.{indexAt}
+use Rattle.voice.specs.declared.Voice.{Voice}
+use Rattle.voice.specs.Voices.{movedOf, blankVoice}
+use Rattle.voice.specs.Soundness.{SoundParams}
+use Rattle.channel.specs.declared.Channel.{Channel}
+use Rattle.channel.specs.declared.Change.the-variants as change
+use Rattle.channel.specs.Channels.{live, takenOf, memoryOf}
+use Rattle.channel.specs.Soundness.{FittingChange, SoundChannel}
+use Rattle.channel.proofs.Parts.{data-within}
+use Rattle.channel.proofs.Samples.{taken-sound, memory-kept, voice-recorded}
+use Rattle.sampler.specs.declared.Sampler.{Sampler}
+use Rattle.sampler.specs.Refusals.{setUpNumber}
+use Rattle.sampler.specs.Soundness.{SoundSampler, Reached, Unbroken}
+use Rattle.sampler.proofs.Entries.{part-length, sample-memory-length, frame-memory-length}
+use Rattle.sampler.proofs.Kept.{small, channel-sound}
+use Rattle.sampler.proofs.Reach.{reached-sound, reached-unbroken}
+use Rattle.promises.specs.Events.{sounds, lengthAt, emptyAt, tickAt}
+use Rattle.promises.specs.Places.{voiceAt}
+use Rattle.promises.specs.Runs.{World, setUp, Call, start, stop, speed, startRecording, stopRecording, reset, sample, frame, asks, code, after, run, chan, event}
+use Rattle.promises.specs.Whole.{FittingCall, Whole}
+use Rattle.promises.proofs.Looks.{look-below, look-value}
+use Rattle.promises.proofs.Lives.{live-length}
+use Rattle.promises.proofs.Calls.{Standing, standing-run, standing-new}
+use Rattle.promises.proofs.Accepted.{Heard, heard, start-opens}
+
+-- ---- the records of a run are reached, and its memory keeps its length
+reached-after : (size : ℕ) (w : World) (c : Call) → FittingCall c → Reached size (w .sampler) → Reached size (after w c .sampler)
+unfolding after FittingCall FittingChange
+reached-after size w (start position note velocity p) f r = Reached.changed (w .sampler) (change.Start p position note velocity) r f
+reached-after size w (stop note p) f r = Reached.changed (w .sampler) (change.Stop p note) r f
+reached-after size w (speed note s) f r = Reached.changed (w .sampler) (change.Speed note s) r f
+reached-after size w startRecording f r = Reached.changed (w .sampler) change.StartRecording r f
+reached-after size w stopRecording f r = Reached.changed (w .sampler) change.StopRecording r f
+reached-after size w reset f r = Reached.changed (w .sampler) change.Reset r f
+reached-after size w (sample j x p) f r = Reached.sampled (w .sampler) j x p (w .memory) r f
+reached-after size w (frame xs p) f r = Reached.framed (w .sampler) xs p (w .memory) r f
+reached-after size w asks f r = r
+
+memory-after : (w : World) (c : Call) → length (after w c .memory) ≡ length (w .memory)
+unfolding after
+memory-after w (start position note velocity p) = refl
+memory-after w (stop note p) = refl
+memory-after w (speed note s) = refl
+memory-after w startRecording = refl
+memory-after w stopRecording = refl
+memory-after w reset = refl
+memory-after w (sample j x p) = sample-memory-length (w .sampler) j x p (w .memory)
+memory-after w (frame xs p) = frame-memory-length (w .sampler) xs p (w .memory)
+memory-after w asks = refl
+
+reached-run : (size : ℕ) (w : World) (cs : List Call) → Each FittingCall cs → Reached size (w .sampler) → Reached size (run w cs .sampler)
+unfolding run Each
+reached-run size w [] f r = r
+reached-run size w (c ∷ cs) f r = reached-run size (after w c) cs (f .1) (reached-after size w c (f .0) r)
+
+pub memory-run : (w : World) (cs : List Call) → length (run w cs .memory) ≡ length (w .memory)
+unfolding run
+memory-run w [] = refl
+memory-run w (c ∷ cs) = memory-run (after w c) cs ∙ memory-after w c
+
+-- ---- row 9
+no-nine : (w : World) → Unbroken (w .sampler) (length (w .memory)) → (c : Call) → code w c ≢ 9
+unfolding code
+no-nine w u (start position note velocity p) = u .change (change.Start p position note velocity)
+no-nine w u (stop note p) = u .change (change.Stop p note)
+no-nine w u (speed note s) = u .change (change.Speed note s)
+no-nine w u startRecording = u .change change.StartRecording
+no-nine w u stopRecording = u .change change.StopRecording
+no-nine w u reset = u .change change.Reset
+no-nine w u (sample j x p) = u .sample j p
+no-nine w u (frame xs p) = u .frame (length xs) p
+no-nine w u asks = λ e. omega arith
+
+-- ---- what a voice sounds by
+module _ (w : World) (st : Standing w) (h : SoundSampler (w .sampler)) (j : ℕ) (k : j < w .sampler .count) (n : ℕ) (v : Voice) (s : voiceAt (chan w j) n ≡ some v)
+    (c : Call) (f : FittingCall c) (p : Params) (x : Float) (m : List ℕ) (e : event w c j ≡ sounds p x m) (full : emptyAt m (chan w j) ≡ false) where
+  sounds-by : Heard w c j p x m
+  sounds-by = heard w st j k p x m c e
+
+  size : length m ≡ w .sampler .capacity
+  size = ap length (sounds-by .part) ∙ part-length (w .sampler) j (w .memory) (sounds-by .room)
+
+  taken : SoundChannel (w .sampler .capacity) (takenOf m (chan w j))
+  taken = taken-sound (w .sampler .capacity) (chan w j) (channel-sound (w .sampler) h j k) m size
+
+  place : n < chan w j .count
+  place = omega (arith, look-below (live (chan w j)) n v s, live-length (chan w j) (st .housing j k))
+
+  itself : getD (chan w j .voices) n blankVoice ≡ v
+  itself = sym (getD-take (chan w j .count) (chan w j .voices) n blankVoice place) ∙ look-value (live (chan w j)) n v blankVoice s
+
+  some-data : 1 ≤ lengthAt m (chan w j)
+  some-data = go (lengthAt m (chan w j)) (eqb-false (lengthAt m (chan w j)) 0 full)
+    where
+      go : (l : ℕ) → (l ≡ 0 → ⊥) → 1 ≤ l
+      go l q = omega arith
+
+  index-inside : indexAt (movedOf (tickAt p m (chan w j)) v) (chan w j .head .now) < lengthAt m (chan w j)
+  unfolding takenOf
+  index-inside =
+      subst (λ (u : Voice). indexAt (movedOf (tickAt p m (chan w j)) u) (chan w j .head .now) < lengthAt m (chan w j)) itself
+      (voice-recorded (w .sampler .capacity) (takenOf m (chan w j)) taken p (record { within = sounds-by .within; fitting = sounds-by .floats f }) (small (w .sampler) h) n blankVoice place some-data)
+
+  data-inside : lengthAt m (chan w j) ≤ length (memoryOf x (chan w j) m)
+  data-inside = le-trans (data-within (w .sampler .capacity) (takenOf m (chan w j)) taken) (le-of-eq (sym (memory-kept x (chan w j) m ∙ size)))
+
+pub whole : (count : ℕ) (q : InitParams) (m : List ℕ) → setUpNumber count (length m) ≡ 0 → (cs : List Call) → Each FittingCall cs → Whole (run (setUp count q m) cs)
+unfolding setUp
+whole count q m z cs f =
+    let w : World = run (setUp count q m) cs in
+    let st = standing-run (setUp count q m) cs (standing-new count q m) in
+    let r = reached-run (length m) (setUp count q m) cs f (Reached.new count q z) in
+    let h = reached-sound (length m) (w .sampler) r in
+    record {
+      unbroken = no-nine w (reached-unbroken (length m) (w .sampler) r (length (w .memory)) (le-of-eq (sym (memory-run (setUp count q m) cs))));
+      inside = λ j k n v s c g p x l e full. (index-inside w st h j k n v s c g p x l e full, data-inside w st h j k n v s c g p x l e full);
+      opens = λ position note velocity p a b d u. start-opens w st position note velocity p (h .good) a b d u;
+    }
