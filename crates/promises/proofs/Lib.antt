@@ -15,3 +15,4 @@ pub mod Apart
 pub mod Calls
 pub mod Accepted
 pub mod Demand3
+pub mod Examples

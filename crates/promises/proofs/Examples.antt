@@ -1,0 +1,216 @@
+-- Runs, computed, that meet the premises of each statement of demand 3, so that none of them is empty; and runs that show where a bound lies. Assumes nothing.
+use mathlib.Core.Path.{_≡_, refl}
+use mathlib.Core.Bool.{Bool, true, false}
+use mathlib.Core.List.{List, [], _∷_, _++_}
+use mathlib.Core.Option.{some}
+use Prim.Native.Nat.{ℕ, _<_}
+use lib.IntN.{pos, negsuc}
+use lib.Dec.{lit<, lit≤}
+use lib.ListN.{getD, replicate}
+use Rattle.binary32.specs.Leaves.{asFloat}
+use Rattle.common_types.specs.declared.InitParams.{InitParams}
+use Rattle.common_types.specs.declared.Params.{Params}
+use Rattle.common_types.specs.declared.Note.{Note}
+use Rattle.common_types.specs.declared.LoopMode.{LoopMode}
+use Rattle.common_types.specs.declared.LoopMode.the-variants as loop
+use Rattle.common_types.specs.declared.NoteOffBehaviour.{NoteOffBehaviour}
+use Rattle.common_types.specs.declared.NoteOffBehaviour.the-variants as off
+use Rattle.common_types.specs.declared.time_value.TimeOrRatio.the-variants.{Ratio}
+use Rattle.common_types.specs.Settings.{defaultTransport}
+use Rattle.clip.specs.Positions.{zero32, one32}
+use Rattle.binary32.specs.Leaves.{floorOf, minOf, maxOf, crossingOf}
+use Rattle.walks.specs.Walks.{any, every, without, fold, seek}
+use Rattle.common_types.specs.Settings.{speedOf, timeLengthOf, lengthOf, loopLengthOf, lengthBeyond, beyondLimits}
+use Rattle.volume.specs.Levels.{progressOf, levelOf, towardOf, steppedOf, goodRamp, goodVolume}
+use Rattle.recorder.specs.Recording.{raised, inState, misusedOf, skippedOf, startOf, stopOf, recordedOf, dataAfter, goodRecorder}
+use Rattle.clip.specs.Positions.{leadOf, travelAt, loopedOf, roundTripOf, mirroredOf, bouncedOf, wrappedOf, placedOf, clipOffsetAt, clipToDataOf, offsetAt, indexAt}
+use Rattle.clip.specs.Updates.{madeOf, backOf, foundAt, reversingAt, shiftFor, settledOf, withSpeed, withMode, withLength, withDataLength}
+use Rattle.clip.specs.Refusals.{goodLength, goodClip}
+use Rattle.voice.specs.Voices.{tickOf, lateOf, overOf, shouldRemoveOf, movedOf, productOf, soundedOf, finishOf, playedOutOf, endedOf, volumeStepped, turnOf, freshOf, blankVoice, atSpeedOf, goodVoice}
+use Rattle.channel.specs.Heads.{nextTime, headOf, rampOf, passthruOf, closedOf, goodHead}
+use Rattle.channel.specs.Channels.{live, channelOf, resetOf, anyUnfinishedOf, handledOf, pushedOf, startPlayingOf, wantedOf, findOf, finishedAtOf, stopPlayingOf, spedOf, setNoteSpeedOf, startRecordingOf, stopRecordingOf, keptOf, addedOf, heardOf, playedOf, playedIfOf, takenOf, memoryOf, processSampleOf, changedOf, fullOf, goodVoicesOf, goodChannel}
+use Rattle.sampler.specs.Refusals.{goodSizes, goodSampler, capacityOf, goodWith, setUpNumber, startNumber, stopNumber, speedNumber, plainNumber, sampleNumber, frameNumber}
+use Rattle.sampler.specs.Samplers.{setUpOf, eachOf, answerOf, partOf, playedAt, steppedOf as stepOf, outputOf, memoryAt, processSampleOf as sampleOf, sampleMemory, entryOf, entriesOf, framedOf}
+use Rattle.promises.specs.Events.{act, isReset, isSample, decayOf}
+use Rattle.promises.specs.Places.{voiceAt, at, gone, fateOf, follow, stops, becomes, newOf, outOf, playsOut, followAll, stoppedIn, finishedIn}
+use Rattle.promises.specs.Runs.{World, Call, start, stop, speed, startRecording, stopRecording, reset, sample, frame, asks, chan, setUp, code, after, run, doneTo, event, events, isResetCall, output, before}
+use lib.Ieee.{Float, fin, add, sub, mul, div, rem, neg, lt, le, eq, ofInt, toUnsigned, isNan, ofBits, toBits, nanBits, ofFields}
+use Rattle.promises.specs.Sounding.{Sounds, First}
+use Rattle.promises.specs.Demand3.{Demand3}
+use Rattle.promises.proofs.Demand3.{demand3}
+
+-- whatever a run computes by
+computing : Unit {0}
+unfolding floorOf minOf maxOf crossingOf any every without fold seek speedOf timeLengthOf lengthOf loopLengthOf lengthBeyond beyondLimits progressOf levelOf towardOf steppedOf goodRamp goodVolume raised inState misusedOf skippedOf startOf stopOf recordedOf dataAfter goodRecorder leadOf travelAt loopedOf roundTripOf mirroredOf bouncedOf wrappedOf placedOf clipOffsetAt clipToDataOf offsetAt indexAt madeOf backOf foundAt reversingAt shiftFor settledOf withSpeed withMode withLength withDataLength goodLength goodClip tickOf lateOf overOf shouldRemoveOf movedOf productOf soundedOf finishOf playedOutOf endedOf volumeStepped turnOf freshOf blankVoice atSpeedOf goodVoice nextTime headOf rampOf passthruOf closedOf goodHead channelOf resetOf anyUnfinishedOf handledOf pushedOf startPlayingOf wantedOf findOf finishedAtOf stopPlayingOf spedOf setNoteSpeedOf startRecordingOf stopRecordingOf keptOf addedOf heardOf playedOf playedIfOf takenOf memoryOf processSampleOf changedOf fullOf goodVoicesOf goodChannel goodSizes goodSampler capacityOf goodWith setUpNumber startNumber stopNumber speedNumber plainNumber sampleNumber frameNumber setUpOf eachOf answerOf partOf playedAt stepOf outputOf memoryAt sampleOf sampleMemory entryOf entriesOf framedOf act isReset isSample decayOf fateOf follow stops becomes newOf outOf playsOut followAll stoppedIn finishedIn setUp code after run doneTo event events isResetCall output before add sub mul div rem neg lt le eq ofInt toUnsigned isNan ofBits toBits nanBits ofFields
+computing = tt
+
+-- ---- parameters, keys, calls
+abbrev half : Float
+half = fin false 1 (negsuc 0)
+
+abbrev two : Float
+two = fin false 1 (pos 1)
+
+abbrev with : ℕ → LoopMode → NoteOffBehaviour → Params
+with decay mode behaviour = record {
+  «attack_samples» = 0;
+  «decay_samples» = decay;
+  transport = defaultTransport;
+  «loop_length» = Ratio one32;
+  speed = one32;
+  «reverse_speed» = one32;
+  volume = one32;
+  «auto_passthru» = false;
+  «loop_mode» = mode;
+  «note_off_behavior» = behaviour;
+}
+
+abbrev plain : Params
+plain = with 0 loop.Loop off.Decay
+
+abbrev once : Params
+once = with 0 loop.PlayOnce off.Decay
+
+abbrev fading : NoteOffBehaviour → Params
+fading behaviour = with 2 loop.Loop behaviour
+
+abbrev key : ℕ → Note
+key n = record { note = n; channel = 0 }
+
+abbrev press : ℕ → Call
+press n = start zero32 (key n) one32 plain
+
+-- both channels, no input
+abbrev quiet : Params → Call
+quiet p = frame (zero32 ∷ zero32 ∷ []) p
+
+-- ---- set-up of 2 channels on 4 cells, and a recording of 2 samples on each: 0.5, 1 and 1, 0.5
+abbrev init : InitParams
+init = record { «auto_passthru» = false }
+
+abbrev cells : List ℕ
+cells = 0 ∷ 0 ∷ 0 ∷ 0 ∷ []
+
+abbrev recorded : List Call
+recorded = startRecording ∷ frame (half ∷ one32 ∷ []) plain ∷ frame (one32 ∷ half ∷ []) plain ∷ stopRecording ∷ []
+
+abbrev since : List Call → World
+since cs = run (setUp 2 init cells) (recorded ++ cs)
+
+-- channel 1's part of the memory then: 1 and 0.5 as patterns
+abbrev part : List ℕ
+part = 0x3f80_0000 ∷ 0x3f00_0000 ∷ []
+
+-- ---- on time: a second start of a note that sounds already
+abbrev older : World
+older = since (press 60 ∷ [])
+
+-- a note speed, a question, a sample of the other channel, a stop that finds the older voice, one that finds none, and a start that is refused
+abbrev between : List Call
+between = speed (key 60) half ∷ asks ∷ sample 0 zero32 plain ∷ stop (key 60) plain ∷ stop (key 61) plain ∷ start two (key 60) one32 plain ∷ []
+
+abbrev younger : World
+younger = run older (press 60 ∷ between)
+
+promised : Demand3 older 1
+unfolding computing
+promised = demand3 2 init cells (recorded ++ (press 60 ∷ [])) 1 (lit< tt)
+
+pub on-time-met : First plain zero32 part (chan younger 1) 1 (freshOf plain zero32 (key 60) one32 2 2)
+unfolding computing
+on-time-met = promised .on-time zero32 (key 60) one32 plain refl refl between refl (quiet plain) plain zero32 part refl refl refl refl
+
+-- the older voice, stopped with no decay, is silent; what channel 1 sounds is the younger one's first recorded value, 1
+pub on-time-heard : output younger (quiet plain) 1 ≡ one32
+unfolding computing
+on-time-heard = refl
+
+-- stopped before its first sample, with no decay, a voice never sounds
+pub stopped-first : output (since (press 60 ∷ stop (key 60) plain ∷ [])) (quiet plain) 1 ≡ zero32
+unfolding computing
+stopped-first = refl
+
+-- ---- later samples
+pub sounds-on-met : Sounds plain zero32 part (chan older 1) 0 (freshOf plain zero32 (key 60) one32 2 2)
+unfolding computing
+sounds-on-met = promised .sounds-on 0 (freshOf plain zero32 (key 60) one32 2 2) refl refl (sample 1 zero32 plain) plain zero32 part refl refl
+
+-- ---- stays: play-once finishes the voice in its second sample, and with no decay it leaves in that sample
+pub stays-met : finishedIn (events older (quiet once ∷ quiet once ∷ []) 1) (chan older 1) 0 ≡ true
+unfolding computing
+stays-met = promised .stays 0 (freshOf plain zero32 (key 60) one32 2 2) refl refl (quiet once ∷ quiet once ∷ []) refl refl
+
+-- and not before
+pub stays-before : finishedIn (events older (quiet once ∷ []) 1) (chan older 1) 0 ≡ false
+unfolding computing
+stays-before = refl
+
+-- ---- goes: stopped at count 2 with decay 2, and gone by the end of sample 4, in each of the three modes
+abbrev fades : NoteOffBehaviour → List Call
+fades b = quiet (fading b) ∷ quiet (fading b) ∷ quiet (fading b) ∷ []
+
+pub goes-met : (b : NoteOffBehaviour) → followAll (events older (stop (key 60) (fading b) ∷ fades b) 1) (chan older 1) 0 ≡ gone
+unfolding computing
+goes-met off.Decay =
+    promised .goes (stop (key 60) (fading off.Decay)) 0 (freshOf plain zero32 (key 60) one32 2 2) refl refl (fades off.Decay) (fading off.Decay) zero32 part refl refl (lit≤ tt)
+goes-met off.ZeroCrossing =
+    promised .goes (stop (key 60) (fading off.ZeroCrossing)) 0 (freshOf plain zero32 (key 60) one32 2 2) refl refl (fades off.ZeroCrossing) (fading off.ZeroCrossing) zero32 part refl refl (lit≤ tt)
+goes-met off.DecayAndZeroCrossing =
+    promised .goes (stop (key 60) (fading off.DecayAndZeroCrossing)) 0 (freshOf plain zero32 (key 60) one32 2 2) refl refl (fades off.DecayAndZeroCrossing) (fading off.DecayAndZeroCrossing) zero32 part refl refl
+    (lit≤ tt)
+
+-- by the end of sample 3 it is not, where the decay alone decides
+pub goes-before : followAll (events older (stop (key 60) (fading off.Decay) ∷ quiet (fading off.Decay) ∷ quiet (fading off.Decay) ∷ []) 1) (chan older 1) 0 ≡ at 0
+unfolding computing
+goes-before = refl
+
+-- the decay at n alone would be too early: finished with decay 2, it is still there after samples with decay 0
+pub larger-needed : followAll (events older (stop (key 60) (fading off.Decay) ∷ quiet plain ∷ quiet plain ∷ []) 1) (chan older 1) 0 ≡ at 0
+unfolding computing
+larger-needed = refl
+
+-- the finishing sample itself may be the last: play-once with no decay
+pub goes-at-once : followAll (events (run older (quiet once ∷ [])) (quiet once ∷ []) 1) (chan (run older (quiet once ∷ [])) 1) 0 ≡ gone
+unfolding computing
+goes-at-once =
+    demand3 2 init cells (recorded ++ (press 60 ∷ quiet once ∷ [])) 1 (lit< tt) .goes (quiet once) 0 (getD (live (chan (run older (quiet once ∷ [])) 1)) 0 blankVoice) refl refl [] once zero32 part refl refl (lit≤ tt)
+
+-- a recording that is empty keeps a finished voice, however late
+pub empty-keeps : followAll (events older (stop (key 60) plain ∷ startRecording ∷ stopRecording ∷ quiet plain ∷ quiet plain ∷ []) 1) (chan older 1) 0 ≡ at 0
+unfolding computing
+empty-keeps = refl
+
+-- ---- free: the 32nd start is accepted, the 33rd refused; a voice stops and leaves, and a start is accepted again
+abbrev nearly : World
+nearly = since (replicate 31 (press 60))
+
+abbrev full : World
+full = since (replicate 32 (press 60))
+
+abbrev stopped : World
+stopped = run full (stop (key 60) plain ∷ [])
+
+pub last-place : code nearly (press 60) ≡ 0
+unfolding computing
+last-place = refl
+
+pub no-place : code full (press 60) ≡ 5
+unfolding computing
+no-place = refl
+
+pub free-met : (chan (after stopped (quiet plain)) 1 .count < chan stopped 1 .count) × (fullOf (chan (after stopped (quiet plain)) 1) ≡ false)
+unfolding computing
+free-met = demand3 2 init cells (recorded ++ (replicate 32 (press 60) ++ (stop (key 60) plain ∷ []))) 1 (lit< tt) .free (quiet plain) 0 (finishOf 2 0 (freshOf plain zero32 (key 60) one32 2 2)) refl refl refl
+
+pub place-again : code (after stopped (quiet plain)) (press 60) ≡ 0
+unfolding computing
+place-again = refl
+
+pub taken-met : live (chan (after older (press 61)) 1) ≡ live (chan older 1) ++ (freshOf plain zero32 (key 61) one32 2 2 ∷ [])
+unfolding computing
+taken-met = promised .taken zero32 (key 61) one32 plain refl refl
+
+-- the other channel may still refuse it
+pub full-other : code (after stopped (sample 1 zero32 plain)) (press 60) ≡ 5
+unfolding computing
+full-other = refl
