@@ -6,6 +6,7 @@ ghost use lib.ListN.{length};
 use libc::STDIN_FILENO;
 use lines::line::write;
 
+mod clips;
 mod defaults;
 mod leaves;
 mod levels;
@@ -78,6 +79,7 @@ fn answer(fields: &[u8], out: &mut [u8; 65536], at: usize) -> usize
         1 => settings::answer(fields, out, at),
         2 => levels::answer(fields, out, at),
         3 => defaults::answer(out, at),
+        4 => clips::answer(fields, out, at),
         _ => at,
     }
 }
