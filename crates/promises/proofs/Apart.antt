@@ -13,14 +13,15 @@ use lib.Seq.{length-take-le, take-append-le, take-take, drop-append-add, drop-dr
 use lib.Ieee.{Float, binary32, mul}
 use Rattle.common_types.specs.declared.Params.{Params}
 use Rattle.clip.specs.Positions.{zero32}
-use Rattle.recorder.proofs.Memory.{memory-length}
 use Rattle.channel.specs.declared.Channel.{Channel}
 use Rattle.channel.specs.declared.Played.{Played}
 use Rattle.channel.specs.Channels.{memoryOf}
 use Rattle.channel.specs.Channels.{processSampleOf as channelSampleOf}
+use Rattle.channel.proofs.Samples.{memory-kept}
 use Rattle.sampler.specs.declared.Sampler.{Sampler}
 use Rattle.sampler.specs.Refusals.{channelAt}
 use Rattle.sampler.specs.Samplers.{Steps, framed, partOf, playedAt, steppedOf, outputOf, memoryAt, Framed, entryOf, entriesOf}
+use Rattle.sampler.proofs.Entries.{part-length, memory-at-length}
 
 -- ---- parts of a list
 module _ {A : Type 0} where
@@ -38,26 +39,16 @@ module _ {A : Type 0} where
 
 -- ---- a sample of channel i
 module _ (s : Sampler) (i : ℕ) (m : List ℕ) (h : i * s .capacity + s .capacity ≤ length m) where
-  pub part-length : length (partOf s i m) ≡ s .capacity
-  unfolding partOf
-  part-length = length-take-le (s .capacity) (drop (i * s .capacity) m) (omega (arith, length-drop (i * s .capacity) m))
-
   module _ (x : Float) where
     written : List ℕ
     written = memoryOf x (channelAt s i) (partOf s i m)
 
     written-length : length written ≡ s .capacity
-    unfolding written memoryOf
-    written-length = memory-length _ _ (partOf s i m) ∙ part-length
+    unfolding written
+    written-length = memory-kept x (channelAt s i) (partOf s i m) ∙ part-length s i m h
 
     front-length : length (take (i * s .capacity) m ++ written) ≡ i * s .capacity + s .capacity
     front-length = omega (arith, length-append (take (i * s .capacity) m) written, length-take-le (i * s .capacity) m (omega arith), written-length)
-
-    pub memory-kept : length (memoryAt s i x m) ≡ length m
-    unfolding memoryAt written
-    memory-kept =
-        ap length (sym (append-assoc (take (i * s .capacity) m) written (drop (i * s .capacity + s .capacity) m)))
-        ∙ omega (arith, length-append (take (i * s .capacity) m ++ written) (drop (i * s .capacity + s .capacity) m), front-length, length-drop (i * s .capacity + s .capacity) m)
 
     part-later : (j : ℕ) → i < j → partOf s j (memoryAt s i x m) ≡ partOf s j m
     unfolding partOf memoryAt written
@@ -129,7 +120,7 @@ entries-on p j n i f h o =
       upto = omega (arith, h .upto);
       channels = omega (arith, h .channels, length-set (s .channels) i (playedAt s i p x (f .memory) .channel));
       frame = omega (arith, h .frame, length-set (f .frame) i (outputOf s i p x (f .memory)));
-      parts = le-trans (le-of-eq (ap (λ (z : ℕ). z * s .capacity) shift)) (le-trans (h .parts) (le-of-eq (sym (memory-kept s i (f .memory) (entries-room j n i f h) x))));
+      parts = le-trans (le-of-eq (ap (λ (z : ℕ). z * s .capacity) shift)) (le-trans (h .parts) (le-of-eq (sym (memory-at-length s i (f .memory) (entries-room j n i f h) x))));
     }
   where
     shift : i + 1 + n ≡ i + suc n

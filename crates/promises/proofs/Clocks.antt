@@ -38,16 +38,14 @@ use Rattle.channel.specs.Channels.{
   processSampleOf,
   changedOf,
 }
+use Rattle.channel.proofs.Heads.{passthru-now, next-later, closed-now}
+use Rattle.channel.proofs.Samples.{sample-clock}
 use Rattle.promises.specs.Events.{Event, idle, changes, sounds, act, acts, isReset, isSample}
 use Rattle.promises.proofs.Cases.{neither, either}
 
-passthru-clock : (p : Params) (unfinished : Bool) (h : Head) → passthruOf p unfinished h .now ≡ h .now
-unfolding passthruOf
-passthru-clock p unfinished h = either (λ (g : Head). g .now) (Bool·beq (passesOf p unfinished) (h .«passthru_on»)) h _ (h .now) refl refl
-
 handled-clock : (p : Params) (c : Channel) → handledOf p c .head .now ≡ c .head .now
 unfolding handledOf
-handled-clock p c = passthru-clock p (anyUnfinishedOf c) (c .head)
+handled-clock p c = passthru-now p (anyUnfinishedOf c) (c .head)
 
 pushed-clock : (v : Voice) (c : Channel) → pushedOf v c .head .now ≡ c .head .now
 unfolding pushedOf
@@ -64,8 +62,8 @@ started-clock p position note velocity c =
     either (λ (d : Channel). d .head .now) (eqb (c .head .«data_len») 0) c _ (c .head .now) refl (handled-clock p _ ∙ pushed-clock _ c)
 
 sounded-clock : (p : Params) (x : Float) (m : List ℕ) (c : Channel) → processSampleOf p x c m .channel .head .now ≡ nextTime (c .head .now)
-unfolding processSampleOf closedOf takenOf
-sounded-clock p x m c = ap nextTime (passthru-clock p _ _)
+unfolding processSampleOf takenOf
+sounded-clock p x m c = closed-now p _ (takenOf m c .head)
 
 -- ---- one event
 pub clock-still : (e : Event) (c : Channel) → isReset e ≡ false → isSample e ≡ false → act e c .head .now ≡ c .head .now
@@ -80,18 +78,14 @@ clock-still (changes change.Reset) c r q = absurd (true≢false r)
 clock-still (sounds p x m) c r q = absurd (true≢false q)
 
 pub clock-moves : (p : Params) (x : Float) (m : List ℕ) (c : Channel) → c .head .now < lastTime → act (sounds p x m) c .head .now ≡ c .head .now + 1
-unfolding act nextTime
-clock-moves p x m c h = sounded-clock p x m c ∙ rw (lt-ltb (c .head .now) lastTime h)
+unfolding act
+clock-moves p x m c h = sample-clock p x c m h
 
 clock-up : (e : Event) (c : Channel) → isReset e ≡ false → c .head .now ≤ act e c .head .now
-unfolding act isSample nextTime
+unfolding act isSample
 clock-up idle c r = le-refl (c .head .now)
 clock-up (changes d) c r = le-of-eq (sym (clock-still (changes d) c r refl))
-clock-up (sounds p x m) c r = subst (λ (n : ℕ). c .head .now ≤ n) (sym (sounded-clock p x m c)) (go (ltb (c .head .now) lastTime))
-  where
-    go : (b : Bool) → c .head .now ≤ cond b (c .head .now + 1) (c .head .now)
-    go true = omega arith
-    go false = omega arith
+clock-up (sounds p x m) c r = subst (λ (n : ℕ). c .head .now ≤ n) (sym (sounded-clock p x m c)) (next-later (c .head .now))
 
 -- ---- any events without a reset
 pub clock-later : (es : List Event) (c : Channel) → any isReset es ≡ false → c .head .now ≤ acts es c .head .now

@@ -11,11 +11,10 @@ use lib.Dec.{eqb, ltb}
 use lib.ListN.{length, take, getD, set, length-set, length-take, length-map}
 use lib.Seq.{sets, length-sets, take-at, take-suc-set, take-set-lt, length-take-le}
 use lib.Ieee.{Float}
-use Rattle.walks.specs.Walks.{without}
+use Rattle.walks.proofs.Each.{fewer, front-sets, front-map}
 use Rattle.common_types.specs.declared.Params.{Params}
 use Rattle.common_types.specs.declared.Note.{Note}
 use Rattle.clip.specs.Positions.{zero32}
-use Rattle.recorder.proofs.Runs.{run-front}
 use Rattle.voice.specs.declared.Voice.{Voice}
 use Rattle.voice.specs.declared.Tick.{Tick}
 use Rattle.voice.specs.Voices.{shouldRemoveOf, turnOf, finishOf, freshOf, blankVoice}
@@ -44,7 +43,6 @@ use Rattle.channel.specs.Channels.{
 use Rattle.channel.specs.declared.Change.the-variants as change
 use Rattle.promises.specs.Events.{changes, emptyAt, tickAt}
 use Rattle.promises.specs.Places.{Housed, newOf}
-use Rattle.promises.proofs.Looks.{without-length}
 
 pub live-length : (c : Channel) → Housed c → length (live c) ≡ c .count
 live-length c h = length-take-le (c .count) (c .voices) (omega (arith, h .places, h .room))
@@ -67,22 +65,16 @@ live-started p position note velocity c h = go (eqb (c .head .«data_len») 0) (
 -- ---- note speed
 pub live-sped : (note : Note) (speed : Float) (c : Channel) → Housed c → live (setNoteSpeedOf note speed c) ≡ map (spedOf note speed) (live c)
 unfolding setNoteSpeedOf
-live-sped note speed c h =
-    let vs : List Voice = map (spedOf note speed) (live c) in
-    let n : length vs ≡ c .count = length-map (live c) (spedOf note speed) ∙ live-length c h in
-    ap (take (c .count)) (run-front (c .voices) vs (omega (arith, h .places, h .room))) ∙ take-at vs _ (c .count) n
+live-sped note speed c h = front-map (spedOf note speed) (c .voices) (c .count) (omega (arith, h .places, h .room))
 
 -- ---- a sample
 pub kept-length : (t : Tick) (m : List ℕ) (vs : List Voice) → length (keptOf t m vs) ≤ length vs
 unfolding keptOf
-kept-length t m vs = omega (arith, without-length (shouldRemoveOf t) (map (turnOf t m) vs), length-map vs (turnOf t m))
+kept-length t m vs = omega (arith, fewer (shouldRemoveOf t) (map (turnOf t m) vs), length-map vs (turnOf t m))
 
 live-played : (t : Tick) (m : List ℕ) (c : Channel) → Housed c → live (playedOf t m c .channel) ≡ keptOf t m (live c)
 unfolding playedOf
-live-played t m c h =
-    let vs : List Voice = keptOf t m (live c) in
-    ap (take (length vs)) (run-front (c .voices) vs (omega (arith, kept-length t m (live c), live-length c h, h .places, h .room)))
-    ∙ take-at vs _ (length vs) refl
+live-played t m c h = front-sets (c .voices) (keptOf t m (live c)) (omega (arith, kept-length t m (live c), live-length c h, h .places, h .room))
 
 pub live-sounded : (p : Params) (x : Float) (m : List ℕ) (c : Channel) → Housed c
     → live (processSampleOf p x c m .channel) ≡ cond (emptyAt m c) (live c) (keptOf (tickAt p m c) (memoryOf x c m) (live c))

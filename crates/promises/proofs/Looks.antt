@@ -8,6 +8,7 @@ use Prim.Native.Nat.{ℕ, zero, suc, _+_, _≤_, _<_}
 use native.Mathlib.Omega.{arith}
 use lib.ListN.{length, take, drop, getD, set, getElem?}
 use Rattle.walks.specs.Walks.{without}
+use Rattle.walks.proofs.Each.{fewer}
 
 module _ {A : Type 0} where
   pub never : (x : A) → none ≡ some x → ⊥
@@ -158,21 +159,12 @@ module _ {A : Type 0} (p : A → Bool) where
       go false e zero h f = record { place = 0; stood = h; stays = subst (λ (z : A). p z ≡ false) (cc) e; moves = refl }
       go false e (suc k) h f = further false e k (suc k) (f k x h) (omega arith)
 
-  pub without-length : (l : List A) → length (without p l) ≤ length l
-  unfolding without
-  without-length [] = omega arith
-  without-length (y ∷ l) = go (p y) (without-length l)
-    where
-      go : (b : Bool) → length (without p l) ≤ length l → length (cond b (without p l) (y ∷ without p l)) ≤ suc (length l)
-      go true h = omega arith
-      go false h = omega arith
-
   pub without-fewer : (l : List A) (n : ℕ) (x : A) → getElem? l n ≡ some x → p x ≡ true → length (without p l) < length l
   unfolding without
   without-fewer [] n x h k = absurd (never x h)
   without-fewer (y ∷ l) zero x h k =
       let e : p y ≡ true = cc in
-      subst (λ (r : List A). length r < suc (length l)) (sym (without-drop y l e)) (omega (arith, without-length l))
+      subst (λ (r : List A). length r < suc (length l)) (sym (without-drop y l e)) (omega (arith, fewer p l))
   without-fewer (y ∷ l) (suc n) x h k = go (p y) (without-fewer l n x h k)
     where
       go : (b : Bool) → length (without p l) < length l → length (cond b (without p l) (y ∷ without p l)) < suc (length l)

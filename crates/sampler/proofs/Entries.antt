@@ -48,21 +48,21 @@ part-size a c m h = simp (length-take, length-drop) (omega arith)
 replaced-size : (a c : ℕ) (m k : List ℕ) → a + c ≤ length m → length k ≡ c → length (take a m ++ (k ++ drop (a + c) m)) ≡ length m
 replaced-size a c m k h e = simp (length-append, length-take, length-drop, e) (omega arith)
 
-module _ (s : Sampler) (j : ℕ) (m : List ℕ) (r : Reaches s j (length m)) where
+module _ (s : Sampler) (j : ℕ) (m : List ℕ) (within : j * s .capacity + s .capacity ≤ length m) where
   pub part-length : length (partOf s j m) ≡ s .capacity
   unfolding partOf
-  part-length = part-size (j * s .capacity) (s .capacity) m (r .part)
+  part-length = part-size (j * s .capacity) (s .capacity) m within
 
-  memory-at-length : (x : Float) → length (memoryAt s j x m) ≡ length m
+  pub memory-at-length : (x : Float) → length (memoryAt s j x m) ≡ length m
   unfolding memoryAt
   memory-at-length x =
-      replaced-size (j * s .capacity) (s .capacity) m (memoryOf x (channelAt s j) (partOf s j m)) (r .part) (memory-kept x (channelAt s j) (partOf s j m) ∙ part-length)
+      replaced-size (j * s .capacity) (s .capacity) m (memoryOf x (channelAt s j) (partOf s j m)) within (memory-kept x (channelAt s j) (partOf s j m) ∙ part-length)
 
 pub sample-memory-length : (s : Sampler) (j : ℕ) (x : Float) (p : Params) (m : List ℕ) → length (sampleMemory s j x p m) ≡ length m
 unfolding sampleMemory
 sample-memory-length s j x p m =
     let n = sampleNumber s j p (length m) in
-    cond-split (λ (l : List ℕ). length l ≡ length m) (eqb n 0) (memoryAt s j x m) m (λ t. memory-at-length s j m (sample-reaches s p (length m) j (eqb→eq n 0 t) .0) x) (λ t. refl)
+    cond-split (λ (l : List ℕ). length l ≡ length m) (eqb n 0) (memoryAt s j x m) m (λ t. memory-at-length s j m (sample-reaches s p (length m) j (eqb→eq n 0 t) .0 .part) x) (λ t. refl)
 
 -- ---- a frame
 module _ (P : Framed → Type 0) (p : Params) (keeps : T (not (beyondLimits p)) → (j : ℕ) (f : Framed) → Reaches (f .sampler) j (length (f .memory)) → P f → P (entryOf p j f)) where
@@ -77,7 +77,7 @@ module _ (P : Framed → Type 0) (p : Params) (keeps : T (not (beyondLimits p)) 
         part = le-trans (le-of-eq (sym (suc-mul j (s .capacity)))) (le-trans (mul-le-mul-right (s .capacity) (front j n)) b);
       } in
       entries-keep k n (j + 1) (entryOf p j f) (subst (λ (i : ℕ). i ≤ s .count) e a)
-      (le-trans (subst (λ (i : ℕ). i * s .capacity ≤ length (f .memory)) e b) (le-of-eq (sym (memory-at-length s j (f .memory) r (getD (f .frame) j zero32))))) (keeps k j f r h)
+      (le-trans (subst (λ (i : ℕ). i * s .capacity ≤ length (f .memory)) e b) (le-of-eq (sym (memory-at-length s j (f .memory) (r .part) (getD (f .frame) j zero32))))) (keeps k j f r h)
     where
       front : (j n : ℕ) → suc j ≤ j + suc n
       front j n = omega arith
@@ -98,4 +98,4 @@ module _ (P : Framed → Type 0) (p : Params) (keeps : T (not (beyondLimits p)) 
 pub frame-memory-length : (s : Sampler) (frame : List Float) (p : Params) (m : List ℕ) → length (framedOf s frame p m .memory) ≡ length m
 unfolding entryOf
 frame-memory-length s frame p m =
-    frame-keeps (λ (f : Framed). length (f .memory) ≡ length m) p (λ k j f r h. memory-at-length (f .sampler) j (f .memory) r (getD (f .frame) j zero32) ∙ h) s frame m refl
+    frame-keeps (λ (f : Framed). length (f .memory) ≡ length m) p (λ k j f r h. memory-at-length (f .sampler) j (f .memory) (r .part) (getD (f .frame) j zero32) ∙ h) s frame m refl

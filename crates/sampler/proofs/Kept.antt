@@ -59,7 +59,7 @@ joined {s} g =
     }
 
 module _ (s : Sampler) (h : SoundSampler s) where
-  small : s .capacity ≤ 2 ^ 22
+  pub small : s .capacity ≤ 2 ^ 22
   unfolding goodSizes
   small =
       let n = s .count in
@@ -67,6 +67,13 @@ module _ (s : Sampler) (h : SoundSampler s) where
 
   room : s .count ≤ length (s .channels)
   room = le-trans (sizes-count (s .count) (s .capacity) (parts h .sizes)) (le-of-eq (sym (parts h .seats)))
+
+  pub channel-sound : (j : ℕ) → j < s .count → SoundChannel (s .capacity) (channelAt s j)
+  channel-sound j k =
+      let S = SoundChannel (s .capacity) in
+      let d = channelOf (record { «auto_passthru» = false }) in
+      subst S (getD-take (s .count) (s .channels) j d k)
+      (each-at S (present s) j d (parts h .channels) (subst (λ (n : ℕ). j < n) (sym (length-take-le (s .count) (s .channels) room)) k))
 
   channels-changed : (cs : List Channel) → length cs ≡ length (s .channels) → Each (SoundChannel (s .capacity)) (take (s .count) cs) → SoundSampler (withChannels cs s)
   channels-changed cs same k = joined (record { sizes = parts h .sizes; seats = same ∙ parts h .seats; channels = k })
@@ -120,11 +127,8 @@ unfolding steppedOf playedAt
 step-kept p ok s h j x m r =
     let S = SoundChannel (s .capacity) in
     let c = playedAt s j p x m .channel in
-    let d = channelOf (record { «auto_passthru» = false }) in
-    let old : S (channelAt s j) = subst S (getD-take (s .count) (s .channels) j d (r .below))
-    (each-at S (present s) j d (parts h .channels) (subst (λ (n : ℕ). j < n) (sym (length-take-le (s .count) (s .channels) (room s h))) (r .below))) in
     channels-changed s h (set (s .channels) j c) (length-set (s .channels) j c)
-    (each-set S (s .channels) (s .count) j c (parts h .channels) (sample-sound (s .capacity) (channelAt s j) old p ok (small s h) x (partOf s j m) (part-length s j m r)))
+    (each-set S (s .channels) (s .count) j c (parts h .channels) (sample-sound (s .capacity) (channelAt s j) (channel-sound s h j (r .below)) p ok (small s h) x (partOf s j m) (part-length s j m (r .part))))
 
 pub sample-kept : (s : Sampler) → SoundSampler s → (j : ℕ) (x : Float) (p : Params) (m : List ℕ) → FittingParams p → SoundSampler (processSampleOf s j x p m .sampler)
 unfolding processSampleOf
