@@ -3,6 +3,8 @@
 //!     parts compare SEED COUNT COMMAND [WORD..]    COMMAND with its words runs the port
 //!     parts sample DIR                             writes DIR/stdin and DIR/stdout
 
+#[path = "parts/clips.rs"]
+mod clips;
 #[path = "parts/compare.rs"]
 mod compare;
 #[path = "parts/defaults.rs"]
@@ -28,7 +30,7 @@ use part::Part;
 use std::process::ExitCode;
 
 /// The parts by their numbers.
-pub const PARTS: &[Part] = &[leaves::PART, settings::PART, levels::PART, defaults::PART];
+pub const PARTS: &[Part] = &[leaves::PART, settings::PART, levels::PART, defaults::PART, clips::PART];
 
 fn main() -> ExitCode {
     let words: Vec<String> = std::env::args().skip(1).collect();

@@ -25,10 +25,8 @@ struct Difference {
 /// A run's records, each with the index of its part: the edges of each part, then `count` random inputs of each kind.
 fn records(seed: u64, count: usize) -> impl Iterator<Item = (usize, Record)> {
     PARTS.iter().enumerate().flat_map(move |(number, part)| {
-        let mut r = Random::new(seed.wrapping_mul(0x1_0000).wrapping_add(number as u64));
-        let kinds = part.random.iter().flat_map(move |kind| std::iter::repeat(kind.1).take(count));
-        let random = kinds.map(move |make| make(&mut r));
-        (part.edges)().into_iter().chain(random).map(move |record| (number, record))
+        let r = Random::new(seed.wrapping_mul(0x1_0000).wrapping_add(number as u64));
+        (part.edges)().into_iter().chain(part.random(r, count)).map(move |record| (number, record))
     })
 }
 

@@ -26,7 +26,7 @@ pub const PART: Part = Part {
         Function { name: "to_bits(from_bits)", args: &[A] },
     ],
     edges,
-    random: &[("hostile", hostile), ("ordinary", ordinary)],
+    random: &[("hostile", |r, _| hostile(r)), ("ordinary", |r, _| ordinary(r))],
     answer,
 };
 

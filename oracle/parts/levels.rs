@@ -36,7 +36,7 @@ pub const PART: Part = Part {
         Function { name: "Volume::step after to", args: &[KIND, START, END, NOW, DURATION, FROM, TILL, TARGET, LATER] },
     ],
     edges,
-    random: &[("hostile", hostile), ("ordinary", ordinary)],
+    random: &[("hostile", |r, _| hostile(r)), ("ordinary", |r, _| ordinary(r))],
     answer,
 };
 

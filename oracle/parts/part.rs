@@ -9,9 +9,20 @@ pub struct Part {
     pub functions: &'static [Function],
     /// Inputs that every run has.
     pub edges: fn() -> Vec<Record>,
-    /// Further inputs from a seed, by their kind.
-    pub random: &'static [(&'static str, fn(&mut Random) -> Record)],
+    /// Further inputs from a seed, by their kind. Each is made with the one before it at hand.
+    pub random: &'static [(&'static str, fn(&mut Random, &Record) -> Record)],
     pub answer: fn(&Record, &mut Line),
+}
+
+impl Part {
+    /// `count` random inputs of each kind.
+    pub fn random(&self, mut r: Random, count: usize) -> impl Iterator<Item = Record> + '_ {
+        let mut last = Record::new(0);
+        self.random.iter().flat_map(move |kind| std::iter::repeat(kind.1).take(count)).map(move |make| {
+            last = make(&mut r, &last);
+            last
+        })
+    }
 }
 
 pub struct Function {
@@ -80,4 +91,9 @@ impl Line {
 /// A float by its bits. One NaN counts as any other.
 pub fn bits(x: f32) -> (u32, u64) {
     (8, if x.is_nan() { 0x7fc0_0000 } else { x.to_bits() as u64 })
+}
+
+/// A position or a shift by its value: a zero of either sign counts as the other.
+pub fn place(x: f32) -> (u32, u64) {
+    if x == 0.0 { (8, 0) } else { bits(x) }
 }

@@ -26,12 +26,9 @@ pub fn write(dir: &str) -> Result<(), String> {
 
 fn records(number: usize) -> Vec<Record> {
     let part = &PARTS[number];
-    let mut r = Random::new(number as u64);
     let edges = (part.edges)();
     let mut records: Vec<Record> = edges.iter().step_by(edges.len() / 100 + 1).copied().collect();
-    for (_, make) in part.random {
-        records.extend((0..50).map(|_| make(&mut r)));
-    }
+    records.extend(part.random(Random::new(number as u64), 50));
     records
 }
 

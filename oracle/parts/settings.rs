@@ -51,7 +51,7 @@ pub const PART: Part = Part {
         Function { name: "Params::beyond_limits", args: &[KIND, VALUE, ATTACK, DECAY, RATE, TEMPO, NUMERATOR, DENOMINATOR] },
     ],
     edges,
-    random: &[("hostile", hostile), ("ordinary", ordinary)],
+    random: &[("hostile", |r, _| hostile(r)), ("ordinary", |r, _| ordinary(r))],
     answer,
 };
 

@@ -1,19 +1,19 @@
 // Part 3: the constants and the defaults of common_types and volume. It has no arguments.
 ghost use mathlib.Core.Path.{_≡_};
 ghost use Prim.Native.Nat.{_+_, _≤_, _<_};
-use crate::levels::put_volume;
-use crate::line::begin;
-use crate::line::begin_f32;
-use crate::line::end;
-use crate::line::put;
-use crate::line::put_bool;
-use crate::line::put_u32;
 use crate::settings::put_length;
 use common_types::InitParams;
 use common_types::LoopMode;
 use common_types::NoteOffBehaviour;
 use common_types::Params;
 use common_types::Transport;
+use lines::level::put_volume;
+use lines::line::begin;
+use lines::line::begin_f32;
+use lines::line::end;
+use lines::line::put;
+use lines::line::put_bool;
+use lines::line::put_u32;
 use volume::Volume;
 
 pub fn answer(out: &mut [u8; 65536], at: usize) -> usize

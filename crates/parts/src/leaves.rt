@@ -2,13 +2,13 @@
 ghost use mathlib.Core.Path.{_≡_};
 ghost use Prim.Native.Nat.{_+_, _≤_, _<_};
 ghost use lib.ListN.{length};
-use crate::field::f32_at;
-use crate::field::u64_at;
-use crate::line::end;
-use crate::line::put_bool;
-use crate::line::put_f32;
-use crate::line::put_u32;
-use crate::line::put_u64;
+use lines::field::f32_at;
+use lines::field::u64_at;
+use lines::line::end;
+use lines::line::put_bool;
+use lines::line::put_f32;
+use lines::line::put_u32;
+use lines::line::put_u64;
 
 pub fn answer(fields: &[u8], out: &mut [u8; 65536], at: usize) -> usize
     requires { ⌜ 64 ≤ length (now fields) ⌝ }

@@ -3,13 +3,14 @@
 ghost use mathlib.Core.Path.{_≡_};
 ghost use Prim.Native.Nat.{_+_, _≤_, _<_};
 ghost use lib.ListN.{length};
-use crate::field::f32_at;
-use crate::field::u64_at;
-use crate::line::begin;
-use crate::line::begin_f32;
-use crate::line::end;
-use crate::line::put_bool;
-use crate::line::put_f32;
+use lines::field::f32_at;
+use lines::field::u64_at;
+use lines::level::put_ramp;
+use lines::level::put_volume;
+use lines::line::begin;
+use lines::line::end;
+use lines::line::put_bool;
+use lines::line::put_f32;
 use volume::LevelAnswer;
 use volume::Volume;
 use volume::VolumeAnswer;
@@ -91,48 +92,6 @@ fn put_change(out: &mut [u8; 65536], at: usize, a: VolumeAnswer) -> usize
             put_ramp(out, first, 0, 0, 0, 0.0, 0.0)
         }
     }
-}
-
-pub fn put_volume(out: &mut [u8; 65536], at: usize, v: Volume) -> usize
-    requires { ⌜ at + 54 ≤ 65536 ⌝ }
-    ensures { λ r. ⌜ r ≡ at + 54 ⌝ }
-{
-    match v {
-        Volume::Static(x) => put_ramp(out, at, 0, 0, 0, x, 0.0),
-        Volume::Linear {
-            time_start,
-            time_end,
-            value_start,
-            value_end,
-        } => put_ramp(
-            out,
-            at,
-            1,
-            time_start as u64,
-            time_end as u64,
-            value_start,
-            value_end,
-        ),
-    }
-}
-
-fn put_ramp(
-    out: &mut [u8; 65536],
-    at: usize,
-    kind: u64,
-    start: u64,
-    stop: u64,
-    from: f32,
-    till: f32,
-) -> usize
-    requires { ⌜ at + 54 ≤ 65536 ⌝ }
-    ensures { λ r. ⌜ r ≡ at + 54 ⌝ }
-{
-    let first = begin(out, at, 1, kind);
-    let second = begin(out, first, 16, start);
-    let third = begin(out, second, 16, stop);
-    let fourth = begin_f32(out, third, from);
-    put_f32(out, fourth, till)
 }
 
 fn volume_of(fields: &[u8]) -> Volume

@@ -4,13 +4,12 @@
 ghost use Prim.Native.Nat.{_+_, _*_, _≤_, _<_};
 ghost use lib.ListN.{length};
 use libc::STDIN_FILENO;
-use libc::STDOUT_FILENO;
+use lines::line::write;
 
+mod clips;
 mod defaults;
-mod field;
 mod leaves;
 mod levels;
-mod line;
 mod settings;
 
 // How many bytes of text there are, and whether every record was answered.
@@ -37,13 +36,6 @@ fn turn() -> bool {
     let a = answers(&chunk[..got], &mut out);
     let written = write(&out, a.size);
     written & a.all & (got == 8192)
-}
-
-fn write(out: &[u8; 65536], size: usize) -> bool
-    requires { ⌜ size ≤ 65536 ⌝ }
-{
-    let text = &out[..];
-    io::write_all(STDOUT_FILENO, &text[..size])
 }
 
 // Answers the records, each in at most 512 bytes of text.
@@ -87,6 +79,7 @@ fn answer(fields: &[u8], out: &mut [u8; 65536], at: usize) -> usize
         1 => settings::answer(fields, out, at),
         2 => levels::answer(fields, out, at),
         3 => defaults::answer(out, at),
+        4 => clips::answer(fields, out, at),
         _ => at,
     }
 }

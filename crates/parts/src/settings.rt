@@ -5,25 +5,26 @@
 ghost use mathlib.Core.Path.{_≡_};
 ghost use Prim.Native.Nat.{_+_, _≤_, _<_};
 ghost use lib.ListN.{length};
-use crate::field::f32_at;
-use crate::field::u32_at;
-use crate::field::u64_at;
-use crate::line::begin;
-use crate::line::end;
-use crate::line::put;
-use crate::line::put_bool;
-use crate::line::put_f32;
-use crate::line::put_u64;
 use common_types::LoopMode;
 use common_types::LoopModeAnswer;
 use common_types::Note;
 use common_types::NoteOffBehaviour;
 use common_types::NoteOffBehaviourAnswer;
-use common_types::Params;
-use common_types::Transport;
 use common_types::time_value::TimeOrRatio;
 use common_types::time_value::TimeUnit;
 use common_types::time_value::TimeValue;
+use lines::field::f32_at;
+use lines::field::u64_at;
+use lines::line::begin;
+use lines::line::end;
+use lines::line::put;
+use lines::line::put_bool;
+use lines::line::put_f32;
+use lines::line::put_u64;
+use lines::settings::loop_mode;
+use lines::settings::note_off;
+use lines::settings::params_of;
+use lines::settings::transport;
 
 pub fn answer(fields: &[u8], out: &mut [u8; 65536], at: usize) -> usize
     requires { ⌜ 64 ≤ length (now fields) ⌝ }
@@ -186,44 +187,6 @@ fn params(fields: &[u8], out: &mut [u8; 65536], at: usize) -> usize
     put_bool(out, second, p.beyond_limits())
 }
 
-fn params_of(fields: &[u8]) -> Params
-    requires { ⌜ 64 ≤ length (now fields) ⌝ }
-{
-    Params {
-        attack_samples: u64_at(fields, 40) as usize,
-        decay_samples: u64_at(fields, 48) as usize,
-        transport: transport(fields),
-        loop_length: loop_length(fields[4], f32_at(fields, 20)),
-        speed: f32_at(fields, 56),
-        reverse_speed: f32_at(fields, 60),
-        volume: 1.0,
-        auto_passthru: true,
-        loop_mode: loop_mode(fields[5]),
-        note_off_behavior: note_off(fields[6]),
-    }
-}
-
-fn transport(fields: &[u8]) -> Transport
-    requires { ⌜ 64 ≤ length (now fields) ⌝ }
-{
-    Transport {
-        sample_rate: f32_at(fields, 24),
-        tempo: f32_at(fields, 28),
-        time_sig_numerator: u32_at(fields, 32),
-        time_sig_denominator: u32_at(fields, 36),
-    }
-}
-
-fn loop_length(kind: u8, value: f32) -> TimeOrRatio {
-    match kind {
-        0 => TimeOrRatio::Time(TimeValue::quarter_notes(value)),
-        1 => TimeOrRatio::Time(TimeValue::samples(value)),
-        2 => TimeOrRatio::Time(TimeValue::Seconds(value)),
-        3 => TimeOrRatio::Time(TimeValue::bars(value)),
-        _ => TimeOrRatio::Ratio(value),
-    }
-}
-
 fn unit(index: u8) -> TimeUnit {
     match index {
         0 => TimeUnit::SixteenthNotes,
@@ -231,21 +194,5 @@ fn unit(index: u8) -> TimeUnit {
         2 => TimeUnit::Seconds,
         3 => TimeUnit::Samples,
         _ => TimeUnit::Bars,
-    }
-}
-
-fn loop_mode(index: u8) -> LoopMode {
-    match index {
-        0 => LoopMode::PlayOnce,
-        1 => LoopMode::Loop,
-        _ => LoopMode::PingPong,
-    }
-}
-
-fn note_off(index: u8) -> NoteOffBehaviour {
-    match index {
-        0 => NoteOffBehaviour::Decay,
-        1 => NoteOffBehaviour::ZeroCrossing,
-        _ => NoteOffBehaviour::DecayAndZeroCrossing,
     }
 }

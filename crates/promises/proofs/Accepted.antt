@@ -1,11 +1,11 @@
 -- What an accepted call tells: a start, that no channel in use is full; a sample of channel j, that its clock isn't at its end, and what its output is. Assumes nothing.
 use mathlib.Core.Path.{_≡_, refl, sym, ap, _∙_, subst}
-use mathlib.Core.Bool.{Bool, true, false, not, _&&_, _||_, cond, true≢false}
+use mathlib.Core.Bool.{Bool, true, false, not, _&&_, cond}
 use mathlib.Core.List.{List, [], _∷_}
 use Prim.Native.Nat.{ℕ, zero, suc, _+_, _*_, _≤_, _<_}
 use native.Mathlib.Nat.{le-trans, le-of-eq, mul-le-mul-right, suc-mul}
 use native.Mathlib.Omega.{arith}
-use borrow.Author.Tests.{leb-false, lt-leb, eqb-true, ltb-true, not-false}
+use borrow.Author.Tests.{leb-false, eqb-true, ltb-true}
 use lib.Dec.{T, leb, eqb, ltb}
 use lib.ListN.{length, take, getD}
 use lib.Seq.{length-take-le, getD-take}
@@ -22,11 +22,11 @@ use Rattle.channel.specs.Heads.{lastTime}
 use Rattle.channel.specs.Channels.{channelOf, fullOf}
 use Rattle.channel.specs.Channels.{processSampleOf as channelSampleOf}
 use Rattle.sampler.specs.declared.Sampler.{Sampler}
-use Rattle.sampler.specs.Refusals.{present, channelAt, goodSampler, goodWith, noChannel, badNote, badPosition, anyFull, atEnd, row, startNumber, sampleNumber, frameNumber}
-use Rattle.sampler.specs.Samplers.{Steps, partOf, playedAt, outputOf, processSampleOf, Framed, framed, entriesOf, framedOf}
+use Rattle.sampler.specs.Refusals.{present, channelAt, goodSampler, goodWith, noChannel, badNote, badPosition, anyFull, atEnd, startNumber, sampleNumber, frameNumber}
+use Rattle.sampler.specs.Samplers.{partOf, playedAt, outputOf, processSampleOf, framed, entriesOf, framedOf}
 use Rattle.sampler.proofs.Rows.{passed, frame-steps}
-use Rattle.sampler.proofs.Entries.{Reaches, sample-reaches, frame-reaches}
-use Rattle.promises.specs.Events.{Event, idle, changes, sounds}
+use Rattle.sampler.proofs.Entries.{sample-reaches, frame-reaches}
+use Rattle.promises.specs.Events.{idle, changes, sounds}
 use Rattle.promises.specs.Runs.{World, Call, start, stop, speed, startRecording, stopRecording, reset, sample, frame, asks, code, chan, doneTo, event, output}
 use Rattle.promises.specs.Whole.{FittingCall}
 use Rattle.promises.proofs.Cases.{neither}

@@ -8,7 +8,7 @@ use native.Mathlib.Nat.{le-trans, le-of-eq, mul-le-mul-right, suc-mul, zero-add,
 use native.Mathlib.Omega.{arith}
 use borrow.Author.Tests.{ltb-true, ltb-false, eqb-true, eqb-false}
 use lib.Dec.{ltb, eqb}
-use lib.ListN.{length, take, drop, getD, set, length-set, length-append, length-drop}
+use lib.ListN.{length, take, drop, getD, length-set, length-append}
 use lib.Seq.{length-take-le, take-append-le, take-take, drop-append-add, drop-drop, getD-set-same, getD-set-other}
 use lib.Ieee.{Float, binary32, mul}
 use Rattle.common_types.specs.declared.Params.{Params}

@@ -1,14 +1,13 @@
 -- A call is, on each channel, one event: what it leaves of channel j is what the event makes of it. So a run of calls is, on each channel, a run of events. Assumes nothing.
 use mathlib.Core.Path.{_≡_, refl, sym, ap, _∙_, subst}
 use mathlib.Core.Bool.{Bool, true, false, not, cond}
-use mathlib.Core.Logic.{_≢_}
-use mathlib.Core.List.{List, [], _∷_, _++_, map}
-use Prim.Native.Nat.{ℕ, zero, suc, _+_, _*_, _≤_, _<_}
+use mathlib.Core.List.{List, [], _∷_, map}
+use Prim.Native.Nat.{ℕ, zero, suc, _+_, _≤_, _<_}
 use native.Mathlib.Omega.{arith}
 use borrow.Author.Tests.{eqb-true, eqb-false}
 use lib.Dec.{eqb, ltb}
-use lib.ListN.{length, take, drop, getD, set, length-set, length-map, List·getD-append, List·getD-map}
-use lib.Seq.{sets, length-sets, length-take-le, getD-take}
+use lib.ListN.{length, drop, getD, length-set, length-map, List·getD-append, List·getD-map}
+use lib.Seq.{length-sets, length-take-le, getD-take}
 use lib.Ieee.{Float}
 use Rattle.walks.proofs.Loops.{getD-any}
 use Rattle.recorder.proofs.Runs.{run-front}
@@ -21,12 +20,11 @@ use Rattle.channel.specs.Channels.{channelOf, changedOf}
 use Rattle.channel.specs.Channels.{processSampleOf as channelSampleOf}
 use Rattle.sampler.specs.declared.Sampler.{Sampler}
 use Rattle.sampler.specs.Refusals.{present, channelAt, goodSizes, capacityOf, setUpNumber, sampleNumber, frameNumber}
-use Rattle.sampler.specs.Samplers.{samplerOf, setUpOf, eachOf, answerOf, partOf, playedAt, steppedOf, processSampleOf, sampleMemory, Framed, framed, entryOf, entriesOf, framedOf}
+use Rattle.sampler.specs.Samplers.{samplerOf, setUpOf, eachOf, answerOf, partOf, playedAt, steppedOf, processSampleOf, Framed, framed, entryOf, entriesOf, framedOf}
 use Rattle.sampler.proofs.Rows.{sizes-count, frame-steps}
-use Rattle.promises.specs.Events.{Event, idle, changes, sounds, act, acts}
+use Rattle.promises.specs.Events.{idle, changes, sounds, act, acts}
 use Rattle.promises.specs.Places.{Housed}
 use Rattle.promises.specs.Runs.{World, setUp, Call, start, stop, speed, startRecording, stopRecording, reset, sample, frame, asks, code, after, run, chan, doneTo, event, events}
-use Rattle.promises.proofs.Cases.{either}
 use Rattle.promises.proofs.Housing.{housed, housed-new}
 use Rattle.promises.proofs.Apart.{channel-apart, channel-own, frame-channel}
 

@@ -1,33 +1,30 @@
 -- Demand 3 holds of every record and memory that set-up and calls leave, for each channel. Assumes nothing.
 use mathlib.Core.Path.{_≡_, refl, sym, ap, _∙_, subst}
-use mathlib.Core.Bool.{Bool, true, false, not, _&&_, _||_, cond, true≢false}
-use mathlib.Core.Logic.{_⊎_, inl, inr, ⊎-elim}
+use mathlib.Core.Bool.{Bool, true, false, not, _&&_, cond, true≢false}
+use mathlib.Core.Logic.{_⊎_, inl, inr}
 use mathlib.Core.List.{List, [], _∷_, _++_}
 use mathlib.Core.Option.{some}
 use Prim.Native.Nat.{ℕ, _+_, _≤_, _<_, max}
 use native.Mathlib.Omega.{arith}
 use borrow.Author.Tests.{lt-leb, eq-eqb}
-use lib.Dec.{leb, eqb, ltb}
-use lib.ListN.{length, getD}
-use lib.Ieee.{Float, binary32, mul}
+use lib.Dec.{eqb, ltb}
+use lib.ListN.{length}
+use lib.Ieee.{Float}
 use Rattle.walks.specs.Walks.{any}
 use Rattle.common_types.specs.declared.InitParams.{InitParams}
 use Rattle.common_types.specs.declared.Params.{Params}
 use Rattle.common_types.specs.declared.Note.{Note}
-use Rattle.clip.specs.Positions.{zero32}
 use Rattle.voice.specs.declared.Voice.{Voice}
 use Rattle.voice.specs.Voices.{freshOf}
 use Rattle.channel.specs.declared.Channel.{Channel}
 use Rattle.channel.specs.Heads.{lastTime}
 use Rattle.channel.specs.Channels.{live, fullOf}
-use Rattle.sampler.specs.Samplers.{partOf}
-use Rattle.promises.specs.Events.{Event, idle, changes, sounds, act, acts, isReset, isSample, emptyAt, Sampled, decayOf, lastOf, beforeLast}
-use Rattle.promises.specs.Places.{Housed, voiceAt, Place, at, gone, follow, newOf, followAll, stoppedIn, finishedIn, finishes}
-use Rattle.promises.specs.Sounding.{Sounds, First}
+use Rattle.promises.specs.Events.{Event, idle, sounds, act, acts, isReset, isSample, emptyAt, decayOf, lastOf, beforeLast}
+use Rattle.promises.specs.Places.{Housed, voiceAt, at, gone, follow, newOf, followAll, stoppedIn, finishes}
+use Rattle.promises.specs.Sounding.{First}
 use Rattle.promises.specs.Runs.{World, setUp, Call, start, stop, speed, startRecording, stopRecording, reset, sample, frame, asks, code, after, run, chan, doneTo, event, events, isResetCall, output, final, before}
 use Rattle.promises.specs.Demand3.{isEmpty, Demand3}
 use Rattle.promises.proofs.Cases.{neither, either}
-use Rattle.promises.proofs.Housing.{housed}
 use Rattle.promises.proofs.Order.{Came, ordered, covered, fewer}
 use Rattle.promises.proofs.Terms.{sounds-each}
 use Rattle.promises.proofs.Stays.{stays}
@@ -35,7 +32,7 @@ use Rattle.promises.proofs.Goes.{goes}
 use Rattle.promises.proofs.Clocks.{clock-stands, clock-moves, no-sample}
 use Rattle.promises.proofs.OnTime.{begin, madeBy, taken, on-time}
 use Rattle.promises.proofs.Calls.{Standing, chan-after, chan-run, kept, count-run, standing-after, standing-run, standing-new}
-use Rattle.promises.proofs.Accepted.{Heard, heard, start-room}
+use Rattle.promises.proofs.Accepted.{heard, start-room}
 
 and-false : (b : Bool) → (b && false) ≡ false
 and-false true = refl

@@ -1,13 +1,11 @@
 -- Runs, computed, that meet the premises of each statement of demand 3, so that none of them is empty; and runs that show where a bound lies. Assumes nothing.
 use mathlib.Core.Path.{_≡_, refl}
-use mathlib.Core.Bool.{Bool, true, false}
+use mathlib.Core.Bool.{true, false}
 use mathlib.Core.List.{List, [], _∷_, _++_}
-use mathlib.Core.Option.{some}
 use Prim.Native.Nat.{ℕ, _<_}
 use lib.IntN.{pos, negsuc}
 use lib.Dec.{lit<, lit≤}
 use lib.ListN.{getD, replicate}
-use Rattle.binary32.specs.Leaves.{asFloat}
 use Rattle.common_types.specs.declared.InitParams.{InitParams}
 use Rattle.common_types.specs.declared.Params.{Params}
 use Rattle.common_types.specs.declared.Note.{Note}
@@ -32,8 +30,8 @@ use Rattle.channel.specs.Channels.{live, channelOf, resetOf, anyUnfinishedOf, h
 use Rattle.sampler.specs.Refusals.{goodSizes, goodSampler, capacityOf, goodWith, setUpNumber, startNumber, stopNumber, speedNumber, plainNumber, sampleNumber, frameNumber}
 use Rattle.sampler.specs.Samplers.{setUpOf, eachOf, answerOf, partOf, playedAt, steppedOf as stepOf, outputOf, memoryAt, processSampleOf as sampleOf, sampleMemory, entryOf, entriesOf, framedOf}
 use Rattle.promises.specs.Events.{act, isReset, isSample, decayOf}
-use Rattle.promises.specs.Places.{voiceAt, at, gone, fateOf, follow, stops, becomes, newOf, outOf, playsOut, followAll, stoppedIn, finishedIn}
-use Rattle.promises.specs.Runs.{World, Call, start, stop, speed, startRecording, stopRecording, reset, sample, frame, asks, chan, setUp, code, after, run, doneTo, event, events, isResetCall, output, before}
+use Rattle.promises.specs.Places.{at, gone, fateOf, follow, stops, becomes, newOf, outOf, playsOut, followAll, stoppedIn, finishedIn}
+use Rattle.promises.specs.Runs.{World, Call, start, stop, speed, startRecording, stopRecording, sample, frame, asks, chan, setUp, code, after, run, doneTo, event, events, isResetCall, output, before}
 use lib.Ieee.{Float, fin, add, sub, mul, div, rem, neg, lt, le, eq, ofInt, toUnsigned, isNan, ofBits, toBits, nanBits, ofFields}
 use Rattle.promises.specs.Sounding.{Sounds, First}
 use Rattle.promises.specs.Demand3.{Demand3}

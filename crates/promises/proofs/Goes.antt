@@ -3,29 +3,25 @@
 use mathlib.Core.Path.{_≡_, refl, sym, ap, _∙_, subst}
 use mathlib.Core.Bool.{Bool, true, false, not, _&&_, _||_, cond, true≢false}
 use mathlib.Core.List.{List, [], _∷_}
-use mathlib.Core.Option.{Option, none, some}
+use mathlib.Core.Option.{Option, some}
 use Prim.Native.Nat.{ℕ, _+_, _≤_, max}
-use native.Mathlib.Omega.{arith}
 use borrow.Author.Tests.{eqb-true, not-true}
-use lib.Dec.{eqb}
-use lib.ListN.{getElem?}
 use lib.Ieee.{Float}
 use Rattle.walks.proofs.Every.{both}
 use Rattle.common_types.specs.declared.Params.{Params}
 use Rattle.common_types.specs.declared.Note.{Note}
 use Rattle.voice.specs.declared.Voice.{Voice}
 use Rattle.voice.specs.declared.Tick.{Tick}
-use Rattle.voice.specs.Voices.{tickOf, shouldRemoveOf, turnOf, finishOf}
+use Rattle.voice.specs.Voices.{tickOf, turnOf, finishOf}
 use Rattle.channel.specs.declared.Channel.{Channel}
-use Rattle.channel.specs.declared.Change.{Change}
 use Rattle.channel.specs.declared.Change.the-variants as change
 use Rattle.channel.specs.declared.Found.{Found}
 use Rattle.channel.specs.declared.Found.the-variants.{At, Nothing}
-use Rattle.channel.specs.Channels.{live, sameNote, unfinishedOf, wantedOf, findOf, memoryOf}
+use Rattle.channel.specs.Channels.{sameNote, unfinishedOf, wantedOf, findOf, memoryOf}
 use Rattle.promises.specs.Events.{Event, idle, changes, sounds, act, emptyAt, tickAt, Sampled, decayOf, lastOf, beforeLast}
 use Rattle.promises.specs.Places.{Housed, voiceAt, Place, at, gone, fateOf, follow, foundAt, becomes, stops, outOf, playsOut, finishes, onward, followAll}
 use Rattle.promises.proofs.Housing.{housed}
-use Rattle.promises.proofs.Stops.{Finds, found}
+use Rattle.promises.proofs.Stops.{found}
 use Rattle.promises.proofs.Tracks.{tracks}
 use Rattle.promises.proofs.Ending.{Ending, Turns, finish-ending, ending-turns, ending-sped, out-turns, turns-ending, turns-over}
 

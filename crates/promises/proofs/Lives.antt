@@ -1,15 +1,14 @@
 -- The voices that there are after each event, and that the 32 places stay. Assumes nothing.
-use mathlib.Core.Path.{_≡_, refl, sym, ap, _∙_, subst}
+use mathlib.Core.Path.{_≡_, refl, sym}
 use mathlib.Core.Bool.{Bool, true, false, not, _||_, cond}
 use mathlib.Core.List.{List, [], _∷_, _++_, map, append-nil}
-use Prim.Native.Nat.{ℕ, zero, suc, _+_, _≤_, _<_}
-use native.Mathlib.Nat.{le-trans, le-of-eq}
+use Prim.Native.Nat.{ℕ, _+_, _≤_}
 use native.Mathlib.Numerals.{add-one}
 use native.Mathlib.Omega.{arith}
 use borrow.Author.Tests.{ltb-true}
 use lib.Dec.{eqb, ltb}
-use lib.ListN.{length, take, getD, set, length-set, length-take, length-map}
-use lib.Seq.{sets, length-sets, take-at, take-suc-set, take-set-lt, length-take-le}
+use lib.ListN.{length, set, length-map}
+use lib.Seq.{take-suc-set, length-take-le}
 use lib.Ieee.{Float}
 use Rattle.walks.proofs.Each.{fewer, front-sets, front-map}
 use Rattle.common_types.specs.declared.Params.{Params}
@@ -17,11 +16,9 @@ use Rattle.common_types.specs.declared.Note.{Note}
 use Rattle.clip.specs.Positions.{zero32}
 use Rattle.voice.specs.declared.Voice.{Voice}
 use Rattle.voice.specs.declared.Tick.{Tick}
-use Rattle.voice.specs.Voices.{shouldRemoveOf, turnOf, finishOf, freshOf, blankVoice}
+use Rattle.voice.specs.Voices.{shouldRemoveOf, turnOf, freshOf}
 use Rattle.channel.specs.declared.Channel.{Channel}
 use Rattle.channel.specs.declared.Played.{Played}
-use Rattle.channel.specs.declared.Found.{Found}
-use Rattle.channel.specs.declared.Found.the-variants.{At, Nothing}
 use Rattle.channel.specs.Channels.{
   live,
   withVoices,

@@ -1,13 +1,12 @@
 -- On time: a start on a recording that isn't empty sounds in the next sample of its channel, which has the start's count, unless that voice is stopped first or the recording is empty by then.
 -- "Stopped" is by a stop that finds that very voice: with several of one note a stop goes to the oldest. Assumes nothing.
 use mathlib.Core.Path.{_≡_, refl, sym, ap, _∙_, subst}
-use mathlib.Core.Bool.{Bool, true, false, not, _||_, cond, true≢false}
+use mathlib.Core.Bool.{Bool, true, false, cond, true≢false}
 use mathlib.Core.List.{List, [], _∷_, _++_}
-use mathlib.Core.Option.{Option, some}
-use Prim.Native.Nat.{ℕ, _≤_, _<_}
-use native.Mathlib.Omega.{arith}
+use mathlib.Core.Option.{some}
+use Prim.Native.Nat.{ℕ, _<_}
 use borrow.Author.Tests.{lt-ltb}
-use lib.Dec.{eqb, ltb}
+use lib.Dec.{eqb}
 use lib.ListN.{length, getElem?}
 use lib.Ieee.{Float}
 use Rattle.walks.specs.Walks.{any}
@@ -16,19 +15,18 @@ use Rattle.common_types.specs.declared.Note.{Note}
 use Rattle.voice.specs.declared.Voice.{Voice}
 use Rattle.voice.specs.Voices.{finishOf, freshOf, atSpeedOf}
 use Rattle.channel.specs.declared.Channel.{Channel}
-use Rattle.channel.specs.declared.Change.{Change}
 use Rattle.channel.specs.declared.Change.the-variants as change
-use Rattle.channel.specs.Channels.{live, findOf, sameNote, spedOf, changedOf}
+use Rattle.channel.specs.Channels.{live, sameNote, spedOf, changedOf}
 use Rattle.promises.specs.Events.{Event, idle, changes, sounds, act, acts, isReset, isSample, emptyAt}
-use Rattle.promises.specs.Places.{Housed, voiceAt, Place, at, follow, foundAt, becomes, newOf, stops, onward, followAll, somewhere, stoppedIn}
-use Rattle.promises.specs.Sounding.{Sounds, First}
+use Rattle.promises.specs.Places.{Housed, voiceAt, Place, at, follow, becomes, newOf, stops, onward, followAll, somewhere, stoppedIn}
+use Rattle.promises.specs.Sounding.{First}
 use Rattle.promises.proofs.Cases.{neither}
 use Rattle.promises.proofs.Looks.{look-last}
 use Rattle.promises.proofs.Lives.{live-started}
 use Rattle.promises.proofs.Housing.{housed}
 use Rattle.promises.proofs.Tracks.{tracks}
 use Rattle.promises.proofs.Terms.{sounds-each}
-use Rattle.promises.proofs.Clocks.{clock-still, clock-stands}
+use Rattle.promises.proofs.Clocks.{clock-stands}
 
 -- ---- between samples a voice that isn't stopped keeps its place, and all but its speed
 pub record Waits (es : List Event) (c : Channel) (n : ℕ) (v : Voice) : Type 0 where

@@ -1,23 +1,18 @@
 -- What pins the following of a voice, beside Tracks: voices keep their order, so that no two are followed to one place; each voice after an event was followed there or is the start's own, at the end;
 -- and where one is gone, the count falls. Assumes nothing.
-use mathlib.Core.Path.{_≡_, refl, sym, ap, _∙_, subst}
-use mathlib.Core.Bool.{Bool, true, false, not, _||_, cond, true≢false}
+use mathlib.Core.Path.{_≡_, refl, sym, ap, subst}
+use mathlib.Core.Bool.{Bool, true, false, not, _||_, cond}
 use mathlib.Core.Logic.{_⊎_, inl, inr}
 use mathlib.Core.List.{List, [], _∷_, _++_, map, append-nil}
-use mathlib.Core.Option.{Option, none, some}
-use Prim.Native.Nat.{ℕ, _+_, _≤_, _<_}
+use mathlib.Core.Option.{Option, some}
+use Prim.Native.Nat.{ℕ, _<_}
 use native.Mathlib.Omega.{arith}
-use borrow.Author.Tests.{ltb-true}
 use lib.Dec.{eqb, ltb}
 use lib.ListN.{length, take, getD, set, getElem?, length-set, length-map}
-use lib.Ieee.{Float}
-use Rattle.common_types.specs.declared.Params.{Params}
-use Rattle.common_types.specs.declared.Note.{Note}
 use Rattle.voice.specs.declared.Voice.{Voice}
 use Rattle.voice.specs.declared.Tick.{Tick}
 use Rattle.voice.specs.Voices.{shouldRemoveOf, turnOf, finishOf, freshOf, blankVoice}
 use Rattle.channel.specs.declared.Channel.{Channel}
-use Rattle.channel.specs.declared.Change.{Change}
 use Rattle.channel.specs.declared.Change.the-variants as change
 use Rattle.channel.specs.declared.Found.{Found}
 use Rattle.channel.specs.declared.Found.the-variants.{At, Nothing}
@@ -39,10 +34,10 @@ use Rattle.channel.specs.Channels.{
   changedOf,
 }
 use Rattle.promises.specs.Events.{Event, idle, changes, sounds, act, isReset, emptyAt, tickAt}
-use Rattle.promises.specs.Places.{Housed, voiceAt, Place, at, gone, fateOf, follow, newOf}
-use Rattle.promises.proofs.Looks.{never, look-below, look-some, look-back, look-map, look-unmap, look-set-same, look-set-other, take-map, rank-order, Stood, keep-stood, without-fewer}
+use Rattle.promises.specs.Places.{Housed, voiceAt, at, gone, fateOf, follow, newOf}
+use Rattle.promises.proofs.Looks.{never, look-below, look-some, look-back, look-map, look-unmap, take-map, rank-order, keep-stood, without-fewer}
 use Rattle.promises.proofs.Lives.{live-length, live-started, live-sped, live-sounded}
-use Rattle.promises.proofs.Stops.{Finds, found, stopped-none, live-stopped}
+use Rattle.promises.proofs.Stops.{found, stopped-none, live-stopped}
 use Rattle.promises.proofs.Housing.{housed}
 use Rattle.promises.proofs.Tracks.{at-same, gone-never}
 

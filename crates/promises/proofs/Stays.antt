@@ -1,20 +1,18 @@
 -- Stays: no voice leaves before a stop or play-once has finished it. An event other than a reset that doesn't finish an unfinished voice keeps it, unfinished; it may be the leaving event itself that finishes it,
 -- as play-once does with no decay. Assumes nothing.
 use mathlib.Core.Path.{_≡_, refl, sym, ap, _∙_, subst}
-use mathlib.Core.Bool.{Bool, true, false, not, _&&_, _||_, cond, true≢false}
-use mathlib.Core.List.{List, [], _∷_, map}
-use mathlib.Core.Option.{Option, none, some}
-use Prim.Native.Nat.{ℕ, _+_, _≤_, _<_}
-use lib.Dec.{eqb}
-use lib.ListN.{length, take, getElem?}
+use mathlib.Core.Bool.{Bool, true, false, not, _&&_, true≢false}
+use mathlib.Core.List.{List, [], _∷_}
+use mathlib.Core.Option.{Option, some}
+use Prim.Native.Nat.{ℕ}
+use lib.ListN.{length, take}
 use lib.Ieee.{Float}
 use Rattle.walks.specs.Walks.{any}
 use Rattle.common_types.specs.declared.Note.{Note}
 use Rattle.voice.specs.declared.Voice.{Voice}
 use Rattle.voice.specs.declared.Tick.{Tick}
-use Rattle.voice.specs.Voices.{shouldRemoveOf, soundedOf, playedOutOf, endedOf, volumeStepped, turnOf, finishOf, atSpeedOf}
+use Rattle.voice.specs.Voices.{shouldRemoveOf, soundedOf, playedOutOf, endedOf, volumeStepped, turnOf, atSpeedOf}
 use Rattle.channel.specs.declared.Channel.{Channel}
-use Rattle.channel.specs.declared.Change.{Change}
 use Rattle.channel.specs.declared.Change.the-variants as change
 use Rattle.channel.specs.Channels.{live, findOf, sameNote, spedOf, keptOf, memoryOf}
 use Rattle.promises.specs.Events.{Event, idle, changes, sounds, act, acts, isReset, emptyAt, tickAt}

@@ -1,13 +1,12 @@
 -- What a stop finds, and the voices after it. Assumes nothing.
-use mathlib.Core.Path.{_≡_, refl, sym, ap, _∙_, subst}
+use mathlib.Core.Path.{_≡_, refl, sym, _∙_, subst}
 use mathlib.Core.Bool.{Bool, true, false, cond}
 use mathlib.Core.List.{List, [], _∷_}
-use mathlib.Core.Option.{Option, none, some}
-use Prim.Native.Nat.{ℕ, zero, suc, _+_, _≤_, _<_}
+use mathlib.Core.Option.{some}
+use Prim.Native.Nat.{ℕ, suc, _+_, _<_}
 use native.Mathlib.Omega.{arith}
 use borrow.Author.Tests.{lt-ltb}
-use lib.Dec.{ltb}
-use lib.ListN.{length, take, getD, set, getElem?}
+use lib.ListN.{getD, set, getElem?}
 use lib.Seq.{take-set-lt, getD-take}
 use Rattle.walks.specs.Walks.{seek}
 use Rattle.common_types.specs.declared.Params.{Params}
@@ -15,7 +14,6 @@ use Rattle.common_types.specs.declared.Note.{Note}
 use Rattle.voice.specs.declared.Voice.{Voice}
 use Rattle.voice.specs.Voices.{finishOf, blankVoice}
 use Rattle.channel.specs.declared.Channel.{Channel}
-use Rattle.channel.specs.declared.Found.{Found}
 use Rattle.channel.specs.declared.Found.the-variants.{At, Nothing}
 use Rattle.channel.specs.Channels.{live, handledOf, wantedOf, findOf, finishedAtOf, stopPlayingOf}
 use Rattle.promises.specs.Places.{Housed, voiceAt}

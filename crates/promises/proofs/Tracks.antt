@@ -1,21 +1,20 @@
 -- At the place to which a voice is followed stands what the event makes of that voice. Assumes nothing.
 use mathlib.Core.Path.{_≡_, refl, sym, ap, _∙_, subst}
 use mathlib.Core.Bool.{Bool, true, false, cond}
-use mathlib.Core.List.{List, [], _∷_, _++_, map}
-use mathlib.Core.Option.{Option, none, some}
-use Prim.Native.Nat.{ℕ, _+_, _≤_, _<_}
+use mathlib.Core.List.{List, map}
+use mathlib.Core.Option.{Option, some}
+use Prim.Native.Nat.{ℕ}
 use native.Mathlib.Omega.{arith}
-use borrow.Author.Tests.{ltb-true, eqb-true, eqb-false}
-use lib.Dec.{eqb, ltb}
-use lib.ListN.{length, take, set, getElem?}
+use borrow.Author.Tests.{eqb-true, eqb-false}
+use lib.Dec.{eqb}
+use lib.ListN.{length, take, getElem?}
 use lib.Ieee.{Float}
 use Rattle.common_types.specs.declared.Params.{Params}
 use Rattle.common_types.specs.declared.Note.{Note}
 use Rattle.voice.specs.declared.Voice.{Voice}
 use Rattle.voice.specs.declared.Tick.{Tick}
-use Rattle.voice.specs.Voices.{shouldRemoveOf, turnOf, finishOf, freshOf}
+use Rattle.voice.specs.Voices.{shouldRemoveOf, turnOf, finishOf}
 use Rattle.channel.specs.declared.Channel.{Channel}
-use Rattle.channel.specs.declared.Change.{Change}
 use Rattle.channel.specs.declared.Change.the-variants as change
 use Rattle.channel.specs.declared.Found.{Found}
 use Rattle.channel.specs.declared.Found.the-variants.{At, Nothing}
@@ -36,10 +35,10 @@ use Rattle.channel.specs.Channels.{
   changedOf,
 }
 use Rattle.promises.specs.Events.{Event, idle, changes, sounds, act, isReset, emptyAt, tickAt}
-use Rattle.promises.specs.Places.{Housed, voiceAt, Place, at, gone, fateOf, follow, foundAt, becomes}
+use Rattle.promises.specs.Places.{Housed, voiceAt, at, gone, fateOf, follow, foundAt, becomes}
 use Rattle.promises.proofs.Looks.{look-front, look-map, look-set-same, look-set-other, take-map, keep-look}
 use Rattle.promises.proofs.Lives.{live-started, live-sped, live-sounded}
-use Rattle.promises.proofs.Stops.{Finds, found, stopped-none, live-stopped}
+use Rattle.promises.proofs.Stops.{found, stopped-none, live-stopped}
 
 -- ---- no place is two places
 pub at-same : (i k : ℕ) → at i ≡ at k → i ≡ k

@@ -1,14 +1,13 @@
 -- No record that set-up and calls reach is broken, what a voice sounds by is recorded, and a start that nothing refuses is accepted. Assumes nothing.
 use mathlib.Core.Path.{_≡_, refl, sym, ap, _∙_, subst}
 use mathlib.Core.Logic.{_≢_}
-use mathlib.Core.Bool.{true, false}
+use mathlib.Core.Bool.{false}
 use mathlib.Core.List.{List, [], _∷_}
 use mathlib.Core.Option.{some}
-use Prim.Native.Nat.{ℕ, _+_, _*_, _≤_, _<_}
-use native.Mathlib.Nat.{le-refl, le-trans, le-of-eq}
+use Prim.Native.Nat.{ℕ, _≤_, _<_}
+use native.Mathlib.Nat.{le-trans, le-of-eq}
 use native.Mathlib.Omega.{arith}
 use borrow.Author.Tests.{eqb-false}
-use lib.Dec.{eqb}
 use lib.ListN.{length, getD}
 use lib.Seq.{getD-take}
 use lib.Ieee.{Float}
@@ -18,14 +17,11 @@ use Rattle.common_types.specs.declared.Params.{Params}
 use Rattle.clip.specs.Positions.{indexAt}
 use Rattle.voice.specs.declared.Voice.{Voice}
 use Rattle.voice.specs.Voices.{movedOf, blankVoice}
-use Rattle.voice.specs.Soundness.{SoundParams}
-use Rattle.channel.specs.declared.Channel.{Channel}
 use Rattle.channel.specs.declared.Change.the-variants as change
 use Rattle.channel.specs.Channels.{live, takenOf, memoryOf}
 use Rattle.channel.specs.Soundness.{FittingChange, SoundChannel}
 use Rattle.channel.proofs.Parts.{data-within}
 use Rattle.channel.proofs.Samples.{taken-sound, memory-kept, voice-recorded}
-use Rattle.sampler.specs.declared.Sampler.{Sampler}
 use Rattle.sampler.specs.Refusals.{setUpNumber}
 use Rattle.sampler.specs.Soundness.{SoundSampler, Reached, Unbroken}
 use Rattle.sampler.proofs.Entries.{part-length, sample-memory-length, frame-memory-length}

@@ -16,8 +16,8 @@ use Rattle.voice.specs.declared.Voice.{Voice}
 use Rattle.voice.specs.Voices.{freshOf}
 use Rattle.channel.specs.declared.Channel.{Channel}
 use Rattle.channel.specs.Channels.{live, fullOf, processSampleOf}
-use Rattle.promises.specs.Events.{Event, sounds, isSample, emptyAt, decayOf}
-use Rattle.promises.specs.Places.{voiceAt, Place, at, gone, follow, followAll, newOf, finishes, stoppedIn, finishedIn}
+use Rattle.promises.specs.Events.{sounds, isSample, emptyAt, decayOf}
+use Rattle.promises.specs.Places.{voiceAt, at, gone, follow, followAll, newOf, finishes, stoppedIn, finishedIn}
 use Rattle.promises.specs.Sounding.{Sounds, First}
 use Rattle.promises.specs.Runs.{World, Call, start, code, after, run, chan, event, events, isResetCall, output, final, before}
 

@@ -2,6 +2,17 @@
 // with a colon between them. Each function puts its text at a place of `out`, and answers the place after it.
 ghost use mathlib.Core.Path.{_≡_};
 ghost use Prim.Native.Nat.{_+_, _≤_, _<_};
+use libc::STDOUT_FILENO;
+
+// A letter as a word.
+pub fn tag(out: &mut [u8; 65536], at: usize, letter: u8) -> usize
+    requires { ⌜ at + 2 ≤ 65536 ⌝ }
+    ensures { λ r. ⌜ r ≡ at + 2 ⌝ }
+{
+    out[at] = letter;
+    out[at + 1] = b' ';
+    at + 2
+}
 
 // The last `count` digits of n, and the byte `after` them.
 fn digits(out: &mut [u8; 65536], at: usize, count: usize, n: u64, after: u8) -> usize
@@ -88,4 +99,12 @@ fn digit(d: u64) -> u8
     requires { ⌜ d < 16 ⌝ }
 {
     if d < 10 { 48 + d as u8 } else { 55 + d as u8 }
+}
+
+// Writes the first `size` bytes of text to standard output.
+pub fn write(out: &[u8; 65536], size: usize) -> bool
+    requires { ⌜ size ≤ 65536 ⌝ }
+{
+    let text = &out[..];
+    io::write_all(STDOUT_FILENO, &text[..size])
 }

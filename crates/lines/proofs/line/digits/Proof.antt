@@ -1,9 +1,9 @@
--- `parts::line::digits` meets its contract. The invariant: no more digits are left than were asked for. The measure is how many are left.
+-- `lines::line::digits` meets its contract. The invariant: no more digits are left than were asked for. The measure is how many are left.
 -- Assumes nothing.
 use Prim.Native.Nat.{_≤_}
 use borrow.Author.Needs.{needs}
-use Rattle.parts.proofs.line.digits.Statement.{statement}
-use Rattle.parts.proofs.line.digits.Tie as tie
+use Rattle.lines.proofs.line.digits.Statement.{statement}
+use Rattle.lines.proofs.line.digits.Tie as tie
 
 abbrev Inv-loop : tie.InvT-loop
 Inv-loop out₀ at count n after i₀ rest₀ out i rest = i ≤ count

@@ -23,7 +23,8 @@ pub fn f32_at(fields: &[u8], at: usize) -> f32
     binary32::from_bits(u32_at(fields, at))
 }
 
-fn wide(x: u8) -> u32
+// A byte as a wider number.
+pub fn wide(x: u8) -> u32
     ensures { λ r. ⌜ r < 256 ⌝ }
 {
     x as u32

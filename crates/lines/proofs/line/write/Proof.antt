@@ -1,8 +1,8 @@
--- `parts::write` meets its contract: a part of the array of this size has this length, by `front` of the kit's `io`. Assumes nothing.
+-- `lines::line::write` meets its contract: a part of the array of this size has this length, by `front` of the kit's `io`. Assumes nothing.
 use borrow.Author.Needs.{needs}
 use Rattle.io.proofs.Counting.{front}
-use Rattle.parts.proofs.write.Statement.{statement}
-use Rattle.parts.proofs.write.Tie as tie
+use Rattle.lines.proofs.line.write.Statement.{statement}
+use Rattle.lines.proofs.line.write.Tie as tie
 
 slice-aggregate-write-all : tie.Need-slice-aggregate-write-all
 slice-aggregate-write-all c = front _ _ (search needs)

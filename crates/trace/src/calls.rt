@@ -1,0 +1,128 @@
+// What the records do to the sampler.
+ghost use Prim.Native.Nat.{_+_, _≤_, _<_};
+ghost use lib.ListN.{length};
+use crate::run::Run;
+use common_types::InitParams;
+use common_types::Note;
+use common_types::Params;
+use lines::field::f32_at;
+use lines::field::u32_at;
+use lines::field::u64_at;
+use lines::field::wide;
+use sampler::Answer;
+use sampler::Sampler;
+
+// What a sample or a frame leaves, with the entries of the frame. A sample is the first.
+pub struct Heard {
+    pub sampler: Sampler,
+    pub entries: [f32; 3],
+    pub number: u8,
+}
+
+// How much of `most` is lent, where n are asked for.
+pub fn lent(n: usize, most: usize) -> usize
+    ensures { λ r. ⌜ r ≤ most ⌝ }
+{
+    if n < most { n } else { most }
+}
+
+fn clear(memory: &mut [u32]) {
+    let mut i = 0;
+    while i < memory.len() {
+        memory[i] = 0;
+        i += 1;
+    }
+}
+
+// Kind 0: auto pass-through at 1, the count of channels at 4, the samples of memory at 8.
+pub fn set_up(fields: &[u8], memory: &mut [u32]) -> Answer
+    requires { ⌜ 64 ≤ length (now fields) ⌝ }
+{
+    clear(memory);
+    let n = lent(u32_at(fields, 8) as usize, memory.len());
+    let init = InitParams {
+        auto_passthru: fields[1] != 0,
+    };
+    Sampler::new(u32_at(fields, 4) as usize, init, &memory[..n])
+}
+
+fn note_of(fields: &[u8]) -> Note
+    requires { ⌜ 64 ≤ length (now fields) ⌝ }
+{
+    Note::new(fields[1], fields[2])
+}
+
+// Kinds 2 to 7: the note at 1, its channel at 2, then floats from 4 on.
+pub fn call(s: Sampler, p: Params, fields: &[u8]) -> Answer
+    requires { ⌜ 64 ≤ length (now fields) ⌝ }
+{
+    match fields[0] {
+        2 => s.start_playing(f32_at(fields, 4), note_of(fields), f32_at(fields, 8), p),
+        3 => s.stop_playing(note_of(fields), p),
+        4 => s.set_note_speed(note_of(fields), f32_at(fields, 4)),
+        5 => s.start_recording(),
+        6 => s.stop_recording(),
+        _ => s.reset(),
+    }
+}
+
+// Kind 8: the input at 4, the channel at 8, the samples of memory lent at 16.
+pub fn sample(run: Run, fields: &[u8], memory: &mut [u32]) -> Heard
+    requires { ⌜ 64 ≤ length (now fields) ⌝ }
+{
+    let p = run.params;
+    let s = run.sampler;
+    let input = f32_at(fields, 4);
+    let channel = u32_at(fields, 8) as usize;
+    let n = lent(u32_at(fields, 16) as usize, memory.len());
+    let a = s.process_sample(channel, input, p, &mut memory[..n]);
+    let sampler = a.sampler;
+    Heard {
+        sampler,
+        entries: [a.output, 0.0, 0.0],
+        number: a.number,
+    }
+}
+
+// Kind 9: how many entries at 1, the entries at 4, 8 and 12, the samples of memory lent at 16.
+pub fn frame(run: Run, fields: &[u8], memory: &mut [u32]) -> Heard
+    requires { ⌜ 64 ≤ length (now fields) ⌝ }
+{
+    let mut entries = [f32_at(fields, 4), f32_at(fields, 8), f32_at(fields, 12)];
+    let a = stepped(run, fields, memory, &mut entries);
+    let sampler = a.sampler;
+    Heard {
+        sampler,
+        entries,
+        number: a.number,
+    }
+}
+
+fn stepped(run: Run, fields: &[u8], memory: &mut [u32], entries: &mut [f32]) -> Answer
+    requires { ⌜ 64 ≤ length (now fields) ⌝ }
+{
+    let p = run.params;
+    let s = run.sampler;
+    let n = lent(wide(fields[1]) as usize, entries.len());
+    let m = lent(u32_at(fields, 16) as usize, memory.len());
+    s.process_frame(&mut entries[..n], p, &mut memory[..m])
+}
+
+// Kind 10 puts every clock on by the number at 8, but no further than its end. No call does that: it stands for a long silence.
+pub fn put_on(s: Sampler, fields: &[u8]) -> Answer
+    requires { ⌜ 64 ≤ length (now fields) ⌝ }
+{
+    let n = u64_at(fields, 8) as usize;
+    let mut sampler = s;
+    sampler.channels[0].head.now = later(s.channels[0].head.now, n);
+    sampler.channels[1].head.now = later(s.channels[1].head.now, n);
+    Answer { sampler, number: 0 }
+}
+
+fn later(now: usize, n: usize) -> usize {
+    let last = channel::LAST_TIME;
+    if last <= now {
+        return now;
+    }
+    if last - now < n { last } else { now + n }
+}

@@ -1,0 +1,334 @@
+//! Part 4: the crate clip beside clip.rs. Records come in sequences: each begins with the clip that the update of the one before it left.
+
+use crate::part::{bits, place, Arg, Function, Line, Part};
+use crate::random::Random;
+use crate::record::Record;
+use crate::values::{hostile_float, hostile_whole, ordinary_float, quiet, special_floats};
+use audio_sampler_lib::clip::{Clip, Mode};
+
+/// 0 for a loop, 1 for ping-pong.
+const MODE: Arg = Arg("mode", 1, 1);
+/// What is updated: 0 the speed, 1 the mode, 2 the length, 3 the data length.
+const KIND: Arg = Arg("kind", 2, 1);
+const NEW_MODE: Arg = Arg("new mode", 3, 1);
+const START: Arg = Arg("start", 4, 4);
+const SPEED: Arg = Arg("speed", 8, 4);
+const LENGTH: Arg = Arg("length", 12, 4);
+const DATA_LENGTH: Arg = Arg("data length", 16, 4);
+const SHIFT: Arg = Arg("shift", 20, 4);
+/// A place in the data.
+const X: Arg = Arg("x", 24, 4);
+/// The new speed or length.
+const VALUE: Arg = Arg("value", 28, 4);
+const SINCE: Arg = Arg("since", 32, 8);
+/// The time of the questions and of the update.
+const NOW: Arg = Arg("now", 40, 8);
+/// A time at which the clip is asked after the update.
+const LATER: Arg = Arg("later", 48, 8);
+
+const LAST: u64 = 1 << 48;
+const LONGEST: f32 = 4194304.0;
+
+pub const PART: Part = Part {
+    name: "clip",
+    functions: &[
+        Function { name: "Clip::new", args: &[MODE, START, SPEED, LENGTH, DATA_LENGTH, SINCE] },
+        Function { name: "Clip::elapsed", args: &[START, LENGTH, DATA_LENGTH, SINCE, NOW] },
+        Function { name: "Clip::clip_offset", args: &[MODE, START, SPEED, LENGTH, DATA_LENGTH, SHIFT, SINCE, NOW] },
+        Function { name: "Clip::offset", args: &[MODE, START, SPEED, LENGTH, DATA_LENGTH, SHIFT, SINCE, NOW] },
+        Function { name: "Clip::is_pingpong_reversing", args: &[MODE, START, SPEED, LENGTH, DATA_LENGTH, SHIFT, SINCE, NOW] },
+        Function { name: "Clip::data_to_clip", args: &[START, LENGTH, DATA_LENGTH, X] },
+        Function { name: "Clip::update_..", args: &[MODE, KIND, NEW_MODE, START, SPEED, LENGTH, DATA_LENGTH, SHIFT, VALUE, SINCE, NOW] },
+        Function { name: "Clip::offset after update_..", args: &[MODE, KIND, NEW_MODE, START, SPEED, LENGTH, DATA_LENGTH, SHIFT, VALUE, SINCE, NOW, LATER] },
+    ],
+    edges,
+    random: &[("hostile", hostile), ("ordinary", ordinary)],
+    answer,
+};
+
+/// K1 to K6; clips at the limits and beyond, at times around theirs; each two special floats as speed and shift.
+fn edges() -> Vec<Record> {
+    let mut r = Random::new(0);
+    let mut records = table(&mut r);
+    let lengths = [0.0, 0.99999994, 1.0, 1.0000001, 1.5, 4.0, 10.0, 4194303.5, LONGEST, 4194304.5, f32::INFINITY, f32::NAN];
+    let starts = [-1e-45, -0.0, 0.0, 1e-45, 1.0, 8.0, 10.0, 4194303.8, LONGEST, 4194304.5, f32::INFINITY, f32::NAN];
+    for mode in [Mode::Loop, Mode::PingPong] {
+        for start in starts {
+            for length in lengths {
+                for data_length in lengths {
+                    let since = r.pick(&[0, 1, LAST - 1, LAST, LAST + 1]);
+                    let speed = r.pick(&[1.0, -1.0, 0.75, f32::NAN]);
+                    let now = r.pick(&[0, since, since + 1, since + (1 << 24) + 1, LAST, LAST + 1]);
+                    records.push(asked(&mut r, Clip::new(since as usize, start, speed, length, data_length, mode), now, edge_value));
+                }
+            }
+        }
+        for speed in special_floats() {
+            for shift in special_floats() {
+                let mut clip = hostile_clip(&mut r);
+                (clip.mode, clip.speed, clip.shift) = (mode, f32::from_bits(speed), f32::from_bits(shift));
+                let now = (clip.since as u64).wrapping_add(r.pick(&[0, 1, 2, 1 << 24]));
+                records.push(asked(&mut r, clip, now, edge_value));
+            }
+        }
+    }
+    records
+}
+
+/// The clips of document 01's K1 to K6, at every time from 0 to 8.
+fn table(r: &mut Random) -> Vec<Record> {
+    let clips = [
+        (8.0, 1.0, 4.0, Mode::Loop),
+        (8.0, -1.0, 4.0, Mode::Loop),
+        (0.0, 1.0, 4.0, Mode::PingPong),
+        (0.0, f32::NAN, 4.0, Mode::Loop),
+        (0.0, f32::NAN, 4.0, Mode::PingPong),
+        (0.0, 1.0, 1.5, Mode::Loop),
+        (10.0, 1.0, 4.0, Mode::Loop),
+    ];
+    let mut records = Vec::new();
+    for (start, speed, length, mode) in clips {
+        let clip = Clip::new(0, start, speed, length, 10.0, mode);
+        records.extend((0..9).map(|now| asked(r, clip, now, ordinary_value)));
+    }
+    records
+}
+
+/// A sequence goes on with what the last record left, and takes up hostile clips, times, speeds and lengths.
+fn hostile(r: &mut Random, last: &Record) -> Record {
+    let (clip, now) = next(r, last).unwrap_or_else(|| {
+        let clip = hostile_clip(r);
+        (clip, time_after(r, clip.since as u64))
+    });
+    asked(r, clip, now, hostile_value)
+}
+
+fn ordinary(r: &mut Random, last: &Record) -> Record {
+    let (clip, now) = next(r, last).unwrap_or_else(|| {
+        let clip = ordinary_clip(r);
+        (clip, clip.since as u64 + r.below(64))
+    });
+    let step = r.pick(&[1, 1, 1, 64, 4096]);
+    let later = now + r.below(step) + 1;
+    asked(r, clip, now, ordinary_value).with_u64(LATER.1, later)
+}
+
+/// What the last record's update left, at its later time. A sequence ends by chance, or where a time or a clip is refused.
+fn next(r: &mut Random, last: &Record) -> Option<(Clip, u64)> {
+    let (clip, later) = (updated(last).unwrap_or(clip(last)), last.u64_at(LATER.1));
+    (r.below(16) > 0 && !refused(&clip, later)).then_some((clip, later))
+}
+
+/// A record of that clip at that time, with an update by chance. A `value` is made for each kind of update.
+fn asked(r: &mut Random, clip: Clip, now: u64, value: fn(&mut Random, &Clip, u8) -> f32) -> Record {
+    let kind = r.below(4) as u8;
+    let value = value(r, &clip, kind);
+    let x = match r.below(8) {
+        0 => f32::from_bits(hostile_float(r)),
+        1 => clip.start,
+        2 => clip.data_length,
+        _ => clip.data_length * (r.below(1 << 24) as f32 / 16777216.0),
+    };
+    Record::new(4)
+        .with_u8(MODE.1, clip.mode as u8)
+        .with_u8(KIND.1, kind)
+        .with_u8(NEW_MODE.1, r.below(2) as u8)
+        .with_u32(START.1, clip.start.to_bits())
+        .with_u32(SPEED.1, clip.speed.to_bits())
+        .with_u32(LENGTH.1, clip.length.to_bits())
+        .with_u32(DATA_LENGTH.1, clip.data_length.to_bits())
+        .with_u32(SHIFT.1, clip.shift.to_bits())
+        .with_u32(X.1, x.to_bits())
+        .with_u32(VALUE.1, value.to_bits())
+        .with_u64(SINCE.1, clip.since as u64)
+        .with_u64(NOW.1, now)
+        .with_u64(LATER.1, time_after(r, now))
+}
+
+fn edge_value(r: &mut Random, clip: &Clip, kind: u8) -> f32 {
+    let old = if kind == 3 { clip.data_length } else { clip.length };
+    match r.below(4) {
+        0 => r.pick(&[1.0, 1.5, LONGEST, 0.99999994, 4194304.5, f32::NAN]),
+        1 => r.pick(&[old, clip.speed, -clip.speed, clip.shift]),
+        _ => hostile_value(r, clip, kind),
+    }
+}
+
+/// A speed may be anything. A length is mostly good.
+fn hostile_value(r: &mut Random, _: &Clip, kind: u8) -> f32 {
+    if kind < 2 || r.below(16) == 0 {
+        return speed(r);
+    }
+    good_length_of(r)
+}
+
+/// As in the engine: mostly the value that there is.
+fn ordinary_value(r: &mut Random, clip: &Clip, kind: u8) -> f32 {
+    let (old, new) = match kind {
+        0 | 1 => (clip.speed, r.pick(&[1.0, -1.0, 0.5, -0.5, 0.75, 2.0, 0.99, 1.01])),
+        2 => (clip.length, (clip.data_length * r.below(1001) as f32 / 1000.0).max(1.0)),
+        _ => (clip.data_length, (clip.data_length + r.below(200) as f32 - 100.0).clamp(1.0, LONGEST)),
+    };
+    if r.below(2) == 0 { old } else { new }
+}
+
+/// A good clip of hostile floats. One in 16 has a float of any kind for its start or a length.
+fn hostile_clip(r: &mut Random) -> Clip {
+    let mode = r.pick(&[Mode::Loop, Mode::PingPong]);
+    let (length, data_length) = (good_length_of(r), good_length_of(r));
+    let start = match r.below(4) {
+        0 => 0.0,
+        1 => r.pick(&[length, data_length]),
+        2 => good_length_of(r) - 1.0,
+        _ => data_length * (r.below(1 << 16) as f32 / 65536.0),
+    };
+    let since = time_after(r, 0);
+    let mut clip = Clip::new(since as usize, start, speed(r), length, data_length, mode);
+    clip.shift = match r.below(4) {
+        0 => 0.0,
+        1 => length * (r.below(1 << 16) as f32 / 32768.0),
+        _ => f32::from_bits(hostile_float(r)),
+    };
+    let any = f32::from_bits(hostile_float(r));
+    match r.below(48) {
+        0 => clip.start = any,
+        1 => clip.length = any,
+        2 => clip.data_length = any,
+        _ => {}
+    }
+    clip
+}
+
+/// As in the engine: a recording of so many samples, a start in it, and a loop length.
+fn ordinary_clip(r: &mut Random) -> Clip {
+    let width = r.pick(&[4, 10, 16, 22]);
+    let data_length = (r.below(1 << width) + 1) as f32;
+    let start = r.below(1001) as f32 / 1000.0 * data_length;
+    let length = match r.below(3) {
+        0 => data_length,
+        1 => (data_length * r.below(1001) as f32 / 1000.0).max(1.0),
+        _ => (r.below(1 << 20) as f32 / r.pick(&[1.0, 2.0, 10.0])).max(1.0),
+    };
+    let speed = r.pick(&[1.0, -1.0, 0.5, 0.75, 2.0, -1.5]);
+    Clip::new(r.below(1 << 30) as usize, start, speed, length, data_length, r.pick(&[Mode::Loop, Mode::PingPong]))
+}
+
+fn speed(r: &mut Random) -> f32 {
+    match r.below(3) {
+        0 => ordinary_float(r),
+        1 => r.pick(&[1.0, -1.0, 0.5, -0.75, 1e-3, 0.0, f32::NAN]),
+        _ => f32::from_bits(hostile_float(r)),
+    }
+}
+
+/// From 1 to 2^22, whole or not, of any exponent there.
+fn good_length_of(r: &mut Random) -> f32 {
+    let power = r.below(22) as u32;
+    let x = match r.below(4) {
+        0 => (1u32 << power) as f32,
+        1 => f32::from_bits(((1u32 << (power + 1)) as f32).to_bits() - 1 - r.below(3) as u32),
+        2 => (r.below(1 << (power + 1)) + 1) as f32,
+        _ => f32::from_bits((127 + power) << 23 | r.below(1 << 23) as u32),
+    };
+    if r.below(32) == 0 { LONGEST } else { x }
+}
+
+/// A time not before that one, and now and then one above 2^48 or of any kind.
+fn time_after(r: &mut Random, time: u64) -> u64 {
+    match r.below(32) {
+        0 => hostile_whole(r),
+        1 => LAST + r.below(3) - 1,
+        2 => time,
+        3..=9 => time.wrapping_add(within(r, &[24, 30, 40, 46])),
+        _ => time.wrapping_add(within(r, &[1, 4, 12, 20])),
+    }
+}
+
+fn within(r: &mut Random, widths: &[u32]) -> u64 {
+    let width = r.pick(widths);
+    r.below(1 << width)
+}
+
+fn answer(record: &Record, line: &mut Line) {
+    let clip = clip(record);
+    let (now, later) = (record.u64_at(NOW.1), record.u64_at(LATER.1));
+    let made = Clip::new(clip.since, clip.start, clip.speed, clip.length, clip.data_length, clip.mode);
+    put_clip((!refused(&made, made.since as u64)).then_some(made), line);
+    let done = !refused(&clip, now);
+    line.answer(done, &[(16, if done { clip.elapsed(now as usize) as u64 } else { 0 })]);
+    line.answer(done, &[place(if done { clip.clip_offset(now as usize) } else { 0.0 })]);
+    put_offset(&clip, now, line);
+    line.answer(done, &[(1, (done && clip.is_pingpong_reversing(now as usize)) as u64)]);
+    put_found(&clip, float(record, X), line);
+    let changed = updated(record);
+    put_clip(changed, line);
+    put_offset(&changed.unwrap_or(clip), later, line);
+}
+
+fn put_offset(clip: &Clip, now: u64, line: &mut Line) {
+    let done = !refused(clip, now);
+    line.answer(done, &[place(if done { clip.offset(now as usize) } else { 0.0 })]);
+}
+
+/// Whether there is a place in the clip, and the place.
+fn put_found(clip: &Clip, x: f32, line: &mut Line) {
+    let done = good(clip) && 0.0 <= x && x < clip.data_length;
+    let found = if done { clip.data_to_clip(x) } else { None };
+    line.answer(done, &[(1, found.is_some() as u64), place(found.unwrap_or(0.0))]);
+}
+
+fn put_clip(clip: Option<Clip>, line: &mut Line) {
+    let numbers = clip.map_or([(16, 0), (8, 0), (8, 0), (8, 0), (8, 0), (8, 0), (1, 0)], |c| {
+        [(16, c.since as u64), bits(c.start), bits(c.speed), bits(c.length), bits(c.data_length), place(c.shift), (1, c.mode as u64)]
+    });
+    line.answer(clip.is_some(), &numbers);
+}
+
+/// The clip after the record's update, unless that is refused.
+fn updated(record: &Record) -> Option<Clip> {
+    let (mut clip, now, value) = (clip(record), record.u64_at(NOW.1), float(record, VALUE));
+    let kind = record.u8_at(KIND.1);
+    if refused(&clip, now) || kind >= 2 && !good_length(value) {
+        return None;
+    }
+    match kind {
+        0 => clip.update_speed(now as usize, value),
+        1 => clip.update_mode(now as usize, mode(record.u8_at(NEW_MODE.1))),
+        2 => clip.update_length(now as usize, value),
+        _ => clip.update_data_length(now as usize, value),
+    }
+    Some(clip)
+}
+
+/// Number 7 of document 01, which the Rust doesn't have: a bad clip, a time before `since` or above 2^48.
+fn refused(clip: &Clip, now: u64) -> bool {
+    !good(clip) || now < clip.since as u64 || now > LAST
+}
+
+fn good(clip: &Clip) -> bool {
+    good_length(clip.length) && good_length(clip.data_length) && (0.0..=LONGEST).contains(&clip.start)
+}
+
+fn good_length(length: f32) -> bool {
+    (1.0..=LONGEST).contains(&length)
+}
+
+fn clip(record: &Record) -> Clip {
+    Clip {
+        since: record.u64_at(SINCE.1) as usize,
+        start: float(record, START),
+        speed: float(record, SPEED),
+        length: float(record, LENGTH),
+        data_length: float(record, DATA_LENGTH),
+        mode: mode(record.u8_at(MODE.1)),
+        shift: float(record, SHIFT),
+    }
+}
+
+fn mode(index: u8) -> Mode {
+    if index == 0 { Mode::Loop } else { Mode::PingPong }
+}
+
+fn float(record: &Record, arg: Arg) -> f32 {
+    quiet(record.f32_at(arg.1))
+}
