@@ -13,17 +13,19 @@ mod defaults;
 mod leaves;
 #[path = "parts/levels.rs"]
 mod levels;
+#[path = "shared/params.rs"]
+mod params;
 #[path = "parts/part.rs"]
 mod part;
-#[path = "parts/random.rs"]
+#[path = "shared/random.rs"]
 mod random;
-#[path = "parts/record.rs"]
+#[path = "shared/record.rs"]
 mod record;
 #[path = "parts/sample.rs"]
 mod sample;
 #[path = "parts/settings.rs"]
 mod settings;
-#[path = "parts/values.rs"]
+#[path = "shared/values.rs"]
 mod values;
 
 use part::Part;

@@ -1,31 +1,31 @@
 //! Part 1: the crate common_types beside common_types.rs and time_value.rs.
 
+use crate::params;
 use crate::part::{bits, Arg, Function, Line, Part};
 use crate::random::Random;
 use crate::record::Record;
-use crate::values::{hostile_float, hostile_whole, ordinary_float, ordinary_whole, quiet, special_floats};
-use audio_sampler_lib::common_types::{EnumIndex, LoopMode, Note, NoteOffBehaviour, Params, Transport};
+use crate::values::{hostile_float, hostile_whole, ordinary_float, ordinary_whole, special_floats};
+use audio_sampler_lib::common_types::{EnumIndex, Note};
 use audio_sampler_lib::time_value::{self, TimeOrRatio, TimeUnit, TimeValue};
 
 const NOTE: Arg = Arg("note", 1, 1);
 const CHANNEL: Arg = Arg("channel", 2, 1);
 const UNIT: Arg = Arg("unit", 3, 1);
-/// A length kind of document 01's listing.
-const KIND: Arg = Arg("kind", 4, 1);
-const MODE: Arg = Arg("mode", 5, 1);
-const NOTE_OFF: Arg = Arg("note-off", 6, 1);
+const KIND: Arg = Arg("kind", params::KIND, 1);
+const MODE: Arg = Arg("mode", params::MODE, 1);
+const NOTE_OFF: Arg = Arg("note-off", params::NOTE_OFF, 1);
 /// A packed note, an index, and a data length.
 const N: Arg = Arg("n", 8, 8);
 const X: Arg = Arg("x", 16, 4);
-const VALUE: Arg = Arg("value", 20, 4);
-const RATE: Arg = Arg("rate", 24, 4);
-const TEMPO: Arg = Arg("tempo", 28, 4);
-const NUMERATOR: Arg = Arg("numerator", 32, 4);
-const DENOMINATOR: Arg = Arg("denominator", 36, 4);
-const ATTACK: Arg = Arg("attack", 40, 8);
-const DECAY: Arg = Arg("decay", 48, 8);
-const SPEED: Arg = Arg("speed", 56, 4);
-const REVERSE: Arg = Arg("reverse speed", 60, 4);
+const VALUE: Arg = Arg("value", params::VALUE, 4);
+const RATE: Arg = Arg("rate", params::RATE, 4);
+const TEMPO: Arg = Arg("tempo", params::TEMPO, 4);
+const NUMERATOR: Arg = Arg("numerator", params::NUMERATOR, 4);
+const DENOMINATOR: Arg = Arg("denominator", params::DENOMINATOR, 4);
+const ATTACK: Arg = Arg("attack", params::ATTACK, 8);
+const DECAY: Arg = Arg("decay", params::DECAY, 8);
+const SPEED: Arg = Arg("speed", params::SPEED, 4);
+const REVERSE: Arg = Arg("reverse speed", params::REVERSE, 4);
 
 pub const PART: Part = Part {
     name: "common_types",
@@ -146,21 +146,19 @@ fn answer(record: &Record, line: &mut Line) {
     put_note(note, line);
     line.u64(note.into_u64());
     put_note(Note::from_u64(record.u64_at(N.1)), line);
-    let mode = [LoopMode::PlayOnce, LoopMode::Loop, LoopMode::PingPong][record.u8_at(MODE.1) as usize];
-    modes(mode, record, line);
-    let note_off = [NoteOffBehaviour::Decay, NoteOffBehaviour::ZeroCrossing, NoteOffBehaviour::DecayAndZeroCrossing][record.u8_at(NOTE_OFF.1) as usize];
-    modes(note_off, record, line);
-    let transport = transport(record);
-    let time = TimeValue::from_unit_value(unit(record.u8_at(UNIT.1)), float(record, VALUE));
+    modes(params::loop_mode(record), record, line);
+    modes(params::note_off(record), record, line);
+    let transport = params::transport(record);
+    let time = TimeValue::from_unit_value(unit(record.u8_at(UNIT.1)), params::float(record, VALUE.1));
     line.word(&length(&TimeOrRatio::Time(time)));
     line.float(time.as_samples(&transport));
     line.float(time_value::calc_quarter_notes_per_bar(&transport));
     line.float(time_value::calc_samples_per_quarter_note(&transport));
     line.float(time_value::calc_samples_per_bar(&transport));
-    let params = params(record);
+    let params = params::params(record);
     line.float(params.speed());
     line.float(params.loop_length(record.u64_at(N.1) as usize));
-    line.flag(beyond_limits(&params));
+    line.flag(params::beyond_limits(&params));
 }
 
 fn put_note(note: Note, line: &mut Line) {
@@ -173,7 +171,7 @@ fn modes<M: EnumIndex>(mode: M, record: &Record, line: &mut Line) {
     line.float(mode.to_f32());
     let index = record.u64_at(N.1) as usize;
     put_index(index < 3, || M::from_index(index), line);
-    let x = float(record, X);
+    let x = params::float(record, X.1);
     put_index(!((3.0 * x).floor() >= 3.0), || M::from_f32(x), line);
 }
 
@@ -192,45 +190,6 @@ pub fn length(length: &TimeOrRatio) -> [(u32, u64); 2] {
     }
 }
 
-/// Row 4 of document 01's table, which the Rust doesn't have: attack or decay above 2^24, a ratio above 1, or a time length worked out
-/// above 2^22. The Rust holds a length to 1 or more, and that makes none of them larger than 2^22.
-fn beyond_limits(params: &Params) -> bool {
-    let long = match params.loop_length {
-        TimeOrRatio::Ratio(ratio) => ratio > 1.0,
-        TimeOrRatio::Time(_) => params.loop_length(0) > 4194304.0,
-    };
-    long || params.attack_samples > 1 << 24 || params.decay_samples > 1 << 24
-}
-
-fn params(record: &Record) -> Params {
-    let value = float(record, VALUE);
-    Params {
-        attack_samples: record.u64_at(ATTACK.1) as usize,
-        decay_samples: record.u64_at(DECAY.1) as usize,
-        loop_length: match record.u8_at(KIND.1) {
-            0 => TimeOrRatio::Time(TimeValue::quarter_notes(value)),
-            1 => TimeOrRatio::Time(TimeValue::samples(value)),
-            2 => TimeOrRatio::Time(TimeValue::Seconds(value)),
-            3 => TimeOrRatio::Time(TimeValue::bars(value)),
-            _ => TimeOrRatio::Ratio(value),
-        },
-        speed: float(record, SPEED),
-        reverse_speed: float(record, REVERSE),
-        transport: transport(record),
-        ..Params::default()
-    }
-}
-
-fn transport(record: &Record) -> Transport {
-    Transport {
-        sample_rate: float(record, RATE),
-        tempo: float(record, TEMPO),
-        time_sig_numerator: record.u32_at(NUMERATOR.1),
-        time_sig_denominator: record.u32_at(DENOMINATOR.1),
-        ..Transport::default()
-    }
-}
-
 fn unit(index: u8) -> TimeUnit {
     match index {
         0 => TimeUnit::SixteenthNotes,
@@ -239,8 +198,4 @@ fn unit(index: u8) -> TimeUnit {
         3 => TimeUnit::Samples,
         _ => TimeUnit::Bars,
     }
-}
-
-fn float(record: &Record, arg: Arg) -> f32 {
-    quiet(record.f32_at(arg.1))
 }

@@ -5,6 +5,7 @@ ghost use mathlib.Core.Path.{_≡_};
 ghost use Prim.Native.Nat.{_+_, _*_, _≤_, _<_};
 use channel::Channel;
 use channel::Head;
+use channel::places;
 use clip::Clip;
 use clip::Mode;
 use lines::level::put_volume;
@@ -161,13 +162,6 @@ fn put_channel(out: &mut [u8; 65536], at: usize, c: Channel, n: usize) -> usize
     let head = c.head;
     let first = put_head(out, at, head, c.count);
     put_voices(out, first, c, n)
-}
-
-// The voices in use: the count, and never more than the array has.
-fn places(count: usize) -> usize
-    ensures { λ r. ⌜ r ≤ 32 ⌝ }
-{
-    if count < 32 { count } else { 32 }
 }
 
 fn put_used(out: &mut [u8; 65536], at: usize, c: Channel) -> usize

@@ -3,7 +3,8 @@
 // short or whose kind is not known is answered by `X`, and the program ends.
 //
 // Kinds: 0 set-up; 1 parameters; 2 start, 3 stop, 4 note speed, 5 and 6 start and stop of recording, 7 reset; 8 sample of one channel; 9 frame;
-// 10 clocks put on; 11 the recordings.
+// 10 clocks put on; 11 the recordings; 12 frames processed, 13 data length, 14 is recording, 15 last recorded offset, 16 error text, 17 active
+// notes, 18 voice info. A set-up takes back the parameters to the defaults.
 ghost use mathlib.Core.Path.{_≡_};
 ghost use Prim.Native.Nat.{_+_, _*_, _≤_, _<_};
 ghost use lib.ListN.{length};
@@ -18,6 +19,7 @@ use run::begun;
 use run::room;
 
 mod calls;
+mod queries;
 mod recording;
 mod run;
 
@@ -88,7 +90,7 @@ fn record(run: Run, fields: &[u8], memory: &mut [u32], out: &mut [u8; 65536]) ->
     let at = room(out, run.at);
     let kind = fields[0];
     match kind {
-        0 => run.answered(kind, calls::set_up(fields, memory), out, at),
+        0 => begun(memory).answered(kind, calls::set_up(fields, memory), out, at),
         8 => run.heard(kind, calls::sample(run, fields, memory), out, at),
         9 => run.heard(kind, calls::frame(run, fields, memory), out, at),
         11 => recordings(run.told(kind, out, at), memory, out),
@@ -109,6 +111,7 @@ fn plain(run: Run, fields: &[u8], out: &mut [u8; 65536], at: usize) -> Run
         1 => parameters(run, fields).told(kind, out, at),
         2..=7 => run.answered(kind, calls::call(s, p, fields), out, at),
         10 => run.answered(kind, calls::put_on(s, fields), out, at),
+        12..=18 => run.on(s, queries::query(s, p, fields, out, at)),
         _ => bad(run, out, at),
     }
 }

@@ -21,7 +21,7 @@ pub struct Run {
     pub go: bool,
 }
 
-// Before a set-up every call is refused.
+// No sampler is set up yet, and every call is refused.
 pub fn begun(memory: &[u32]) -> Run
     ensures { λ r. ⌜ r .at ≡ 0 ⌝ }
 {
@@ -78,7 +78,7 @@ fn put_entries(out: &mut [u8; 65536], at: usize, h: Heard) -> usize
 
 impl Run {
     // Goes on with another sampler, and text up to `at`.
-    fn on(self, sampler: Sampler, at: usize) -> Self
+    pub fn on(self, sampler: Sampler, at: usize) -> Self
         ensures { λ r. ⌜ r .at ≡ at ⌝ }
     {
         let params = self.params;

@@ -1,0 +1,65 @@
+//! Plays listings on both sides, and compares what they write.
+
+use crate::engine::play;
+use crate::listing::bytes;
+use crate::port::Port;
+use crate::report::disagreement;
+use crate::songs::{listing, STYLES};
+use crate::tally::Tally;
+use crate::text::Text;
+use std::io::{BufReader, BufWriter, Read, Write};
+
+/// Whether all is equal.
+pub fn run(seed: u64, count: u64, port: &Port) -> Result<bool, String> {
+    let mut child = port.start()?;
+    let input = child.stdin.take().unwrap();
+    let writer = std::thread::spawn(move || ask(seed, count, input));
+    let output = BufReader::with_capacity(1 << 16, child.stdout.take().unwrap());
+    let (tally, differs) = compare(seed, count, output)?;
+    if let Some(number) = differs {
+        child.kill().map_err(|e| e.to_string())?;
+        child.wait().map_err(|e| e.to_string())?;
+        return disagreement(seed, number, port).map(|()| false);
+    }
+    writer.join().unwrap().map_err(|e| e.to_string())?;
+    child.wait().map_err(|e| e.to_string())?;
+    println!("seed {seed}: {} listings, {} calls, {} fields equal, none differs", tally.listings, tally.calls, tally.fields);
+    tally.print();
+    Ok(true)
+}
+
+/// Hands the port a run's listings.
+fn ask(seed: u64, count: u64, input: impl Write) -> std::io::Result<()> {
+    let mut input = BufWriter::with_capacity(1 << 16, input);
+    for number in 0..count {
+        input.write_all(&bytes(&listing(seed, number).1))?;
+    }
+    input.flush()
+}
+
+/// What the run has met, and the number of the first listing that is answered otherwise.
+fn compare(seed: u64, count: u64, mut output: impl Read) -> Result<(Tally, Option<u64>), String> {
+    let (mut tally, mut rust, mut port) = (Tally::default(), Text::default(), Vec::new());
+    let mut styles = vec![0; STYLES.len()];
+    for number in 0..count {
+        if number % 1000 == 0 {
+            eprintln!("{number} of {count} listings, {} calls, {} fields", tally.calls, tally.fields);
+        }
+        let (style, records) = listing(seed, number);
+        rust.clear();
+        play(&records, &mut rust, &mut tally);
+        port.resize(rust.bytes.len(), 0);
+        // A port that has written less has written something else.
+        if output.read_exact(&mut port).is_err() || port != rust.bytes {
+            return Ok((tally, Some(number)));
+        }
+        styles[style] += 1;
+        tally.listings += 1;
+        tally.fields += rust.fields;
+    }
+    if output.read(&mut [0]).map_err(|e| e.to_string())? > 0 {
+        return Err("the port goes on after the last listing".into());
+    }
+    tally.styles(STYLES.iter().map(|s| s.name).zip(styles));
+    Ok((tally, None))
+}

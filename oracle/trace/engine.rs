@@ -1,0 +1,295 @@
+//! Plays records on the Rust, with the refusals of document 01's table, and writes what the port's program writes.
+
+use crate::inside;
+use crate::listing::*;
+use crate::params::{beyond_limits, float, params};
+use crate::record::Record;
+use crate::tally::{Census, Tally};
+use crate::text::Text;
+use audio_sampler_lib::common_types::{InitParams, Note, Params};
+use audio_sampler_lib::sampler::{Channel, Sampler, VoiceInfo};
+use std::ops::Range;
+use std::panic::{catch_unwind, AssertUnwindSafe};
+
+const MOST_VOICES: usize = 32;
+const MOST_SAMPLES: usize = 1 << 22;
+const LAST_TIME: usize = 1 << 48;
+
+pub struct Engine {
+    pub sampler: Sampler,
+    pub params: Params,
+    /// 0 where the set-up was refused: then every call is.
+    count: usize,
+    capacity: usize,
+    /// The skip counts of document 01, which the Rust doesn't have: its recording grows without end.
+    pub skipped: [u64; 2],
+}
+
+/// What a record's line has after its kind and number.
+enum Shown {
+    Nothing,
+    Record,
+    Heard([f32; 3]),
+    Recordings,
+    Count(usize),
+    Flag(bool),
+    Offset(Option<usize>),
+    ErrorText(String),
+    Notes(Vec<u64>),
+    Infos(Vec<VoiceInfo>),
+}
+
+/// The number of the first row whose test holds.
+fn row(rows: &[(u8, bool)]) -> u8 {
+    rows.iter().find(|r| r.1).map_or(0, |r| r.0)
+}
+
+/// Plays a listing. A panic of the Rust is written as a line, and ends it.
+pub fn play(records: &[Record], text: &mut Text, tally: &mut Tally) {
+    let mut engine = Engine::new();
+    for record in records {
+        if catch_unwind(AssertUnwindSafe(|| engine.record(record, text, tally))).is_err() {
+            text.bytes.extend(b"panic\n");
+            return;
+        }
+    }
+}
+
+impl Engine {
+    fn new() -> Self {
+        Engine { sampler: Sampler::new(0, &InitParams::default()), params: Params::default(), count: 0, capacity: 0, skipped: [0; 2] }
+    }
+
+    fn record(&mut self, r: &Record, text: &mut Text, tally: &mut Tally) {
+        let kind = r.u8_at(0);
+        let before = Census::of(self);
+        let (number, shown) = match kind {
+            SET_UP => (self.set_up(r), Shown::Record),
+            PARAMETERS => (self.parameters(r), Shown::Nothing),
+            START => (self.start(r), Shown::Record),
+            STOP => (self.stop(r), Shown::Record),
+            NOTE_SPEED => (self.note_speed(r), Shown::Record),
+            START_RECORDING => (self.plain(|s, _| s.start_recording()), Shown::Record),
+            STOP_RECORDING => (self.plain(|s, p| s.stop_recording(p)), Shown::Record),
+            RESET => (self.reset(), Shown::Record),
+            SAMPLE => self.sample(r),
+            FRAME => self.frame(r),
+            CLOCK => (self.put_on(r), Shown::Record),
+            RECORDINGS => (0, Shown::Recordings),
+            _ => self.query(r),
+        };
+        text.put(2, kind as u64);
+        text.put(1, number as u64);
+        self.show(shown, text);
+        tally.call(kind, number, &before, &Census::of(self), &self.params);
+    }
+
+    fn set_up(&mut self, r: &Record) -> u8 {
+        let memory = (r.u32_at(SIZE) as usize).min(MEMORY);
+        let count = r.u32_at(COUNT) as usize;
+        let capacity = if count == 0 { 0 } else { (memory / count).min(MOST_SAMPLES) };
+        let good = (count == 1 || count == 2) && capacity > 0;
+        (self.count, self.capacity) = if good { (count, capacity) } else { (0, 0) };
+        self.sampler = Sampler::new(self.count, &InitParams { auto_passthru: r.u8_at(AUTO) != 0 });
+        self.params = Params::default();
+        self.skipped = [0; 2];
+        if good { 0 } else { 9 }
+    }
+
+    fn parameters(&mut self, r: &Record) -> u8 {
+        self.params = params(r);
+        0
+    }
+
+    fn start(&mut self, r: &Record) -> u8 {
+        let (note, position, velocity) = (note(r), float(r, FLOAT), float(r, SECOND));
+        let full = |c: &Channel| !inside::recording(c).is_empty() && inside::voices(c).len() >= MOST_VOICES;
+        let number = row(&[
+            (9, self.count == 0),
+            (2, note.channel > 15),
+            (3, !(0.0 <= position && position <= 1.0)),
+            (4, beyond_limits(&self.params)),
+            (5, self.sampler.channels.iter().any(full)),
+        ]);
+        if number == 0 {
+            self.sampler.start_playing(position, note, velocity, &self.params);
+        }
+        number
+    }
+
+    fn stop(&mut self, r: &Record) -> u8 {
+        let note = note(r);
+        let number = row(&[(9, self.count == 0), (2, note.channel > 15), (4, beyond_limits(&self.params))]);
+        if number == 0 {
+            self.sampler.stop_playing(note, &self.params);
+        }
+        number
+    }
+
+    fn note_speed(&mut self, r: &Record) -> u8 {
+        let note = note(r);
+        let number = row(&[(9, self.count == 0), (2, note.channel > 15)]);
+        if number == 0 {
+            self.sampler.set_note_speed(note, float(r, FLOAT));
+        }
+        number
+    }
+
+    fn plain(&mut self, call: impl Fn(&mut Sampler, &Params)) -> u8 {
+        if self.count == 0 {
+            return 9;
+        }
+        call(&mut self.sampler, &self.params);
+        0
+    }
+
+    fn reset(&mut self) -> u8 {
+        self.skipped = [0; 2];
+        self.plain(|s, _| s.reset())
+    }
+
+    /// No call: every clock goes on, but no further than its end.
+    fn put_on(&mut self, r: &Record) -> u8 {
+        for c in &mut self.sampler.channels {
+            let now = inside::clock(c).saturating_add(r.u64_at(SECOND) as usize);
+            inside::put_clock(c, now.min(LAST_TIME));
+        }
+        0
+    }
+
+    fn sample(&mut self, r: &Record) -> (u8, Shown) {
+        let channel = r.u32_at(CHANNEL) as usize;
+        let number = self.step_number(r, channel < self.count, channel..channel + 1);
+        let mut heard = [0.0; 3];
+        if number == 0 {
+            self.dropping(channel..channel + 1, |s, p| heard[0] = s.process_sample(channel, float(r, FLOAT), p));
+        }
+        (number, Shown::Heard(heard))
+    }
+
+    fn frame(&mut self, r: &Record) -> (u8, Shown) {
+        let entries = r.u8_at(ENTRIES).min(3) as usize;
+        let number = self.step_number(r, entries <= self.count, 0..entries);
+        let mut heard = [float(r, FLOAT), float(r, FLOAT + 4), float(r, FLOAT + 8)];
+        if number == 0 {
+            let mut frame: Vec<&mut f32> = heard.iter_mut().take(entries).collect();
+            self.dropping(0..entries, |s, p| s.process_frame(&mut frame, p));
+        }
+        (number, Shown::Heard(heard))
+    }
+
+    fn step_number(&self, r: &Record, present: bool, stepped: Range<usize>) -> u8 {
+        let short = (r.u32_at(LENT) as usize).min(MEMORY) < self.count * self.capacity;
+        let mut channels = stepped.filter_map(|j| self.sampler.channels.get(j));
+        row(&[
+            (9, self.count == 0 || short),
+            (1, !present),
+            (4, beyond_limits(&self.params)),
+            (6, channels.any(|c| inside::clock(c) >= LAST_TIME)),
+        ])
+    }
+
+    /// Steps channels. At capacity with the write place at the end document 01 drops the sample: the Rust's recorder is made idle while it
+    /// is processed.
+    fn dropping(&mut self, stepped: Range<usize>, step: impl FnOnce(&mut Sampler, &Params)) {
+        let full = Some(self.capacity);
+        let dropped: Vec<usize> = stepped.filter(|j| inside::write_place(&self.sampler.channels[*j]) == full).collect();
+        for j in &dropped {
+            inside::put_write_place(&mut self.sampler.channels[*j], None);
+        }
+        step(&mut self.sampler, &self.params);
+        for j in dropped {
+            inside::put_write_place(&mut self.sampler.channels[j], full);
+            self.skipped[j] += 1;
+        }
+    }
+
+    /// The skip count and the state error count of a channel.
+    fn counts(&self, j: usize) -> (u64, u64) {
+        let text = self.sampler.print_error_info(j);
+        let misused = text.rsplit(' ').next().and_then(|n| n.parse().ok());
+        (self.skipped[j], misused.expect("the error text ends with the state error count"))
+    }
+
+    fn query(&self, r: &Record) -> (u8, Shown) {
+        let (kind, channel, room) = (r.u8_at(0), r.u32_at(CHANNEL) as usize, r.u32_at(ROOM) as usize);
+        let number = row(&[(9, self.count == 0), (1, channel >= self.count), (4, kind == VOICE_INFO && beyond_limits(&self.params))]);
+        if number != 0 {
+            return (number, refused(kind));
+        }
+        let s = &self.sampler;
+        let (size, most, shown) = match kind {
+            FRAMES_PROCESSED => (0, 0, Shown::Count(s.get_frames_processed(channel))),
+            DATA_LEN => (0, 0, Shown::Count(s.get_data_len(channel))),
+            IS_RECORDING => (0, 0, Shown::Flag(s.is_recording(channel))),
+            LAST_OFFSET => (0, 0, Shown::Offset(s.get_last_recorded_offsets()[channel])),
+            ERROR_TEXT => {
+                let text = s.print_error_info(channel).replacen("skip: 0", &format!("skip: {}", self.skipped[channel]), 1);
+                (text.len(), TEXT, Shown::ErrorText(text))
+            }
+            ACTIVE_NOTES => {
+                let notes: Vec<u64> = s.iter_active_notes(channel).map(Note::into_u64).collect();
+                (notes.len(), NOTES, Shown::Notes(notes))
+            }
+            _ => {
+                let infos = s.get_voice_info(channel, &self.params);
+                (infos.len(), usize::MAX, Shown::Infos(infos))
+            }
+        };
+        if room.min(most) < size { (8, refused(kind)) } else { (0, shown) }
+    }
+
+    fn show(&self, shown: Shown, text: &mut Text) {
+        match shown {
+            Shown::Nothing => text.end(),
+            Shown::Record => self.show_record(text),
+            Shown::Heard(entries) => {
+                entries.iter().for_each(|x| text.float(*x));
+                self.show_record(text);
+            }
+            Shown::Recordings => {
+                text.end();
+                self.sampler.channels.iter().for_each(|c| text.recording(c));
+            }
+            Shown::Count(n) => text.last(16, n as u64),
+            Shown::Flag(b) => text.last(1, b as u64),
+            Shown::Offset(place) => {
+                text.put(1, place.is_some() as u64);
+                text.last(16, place.unwrap_or(0) as u64);
+            }
+            Shown::ErrorText(words) => text.list(words.len(), words.bytes().map(|b| (2, b as u64)), (2, b'.' as u64), TEXT),
+            Shown::Notes(notes) => text.list(notes.len(), notes.iter().map(|n| (16, *n)), (16, u64::MAX), NOTES),
+            Shown::Infos(infos) => {
+                text.put(2, infos.len() as u64);
+                for x in infos.iter().flat_map(|i| [i.start, i.end, i.pos]) {
+                    text.float(x);
+                }
+                text.end();
+            }
+        }
+    }
+
+    fn show_record(&self, text: &mut Text) {
+        text.put(1, self.count as u64);
+        text.last(8, self.capacity as u64);
+        for (j, c) in self.sampler.channels.iter().enumerate() {
+            text.channel(c, self.counts(j));
+        }
+    }
+}
+
+fn note(r: &Record) -> Note {
+    Note { note: r.u8_at(NOTE), channel: r.u8_at(NOTE_CHANNEL) }
+}
+
+/// What a refused query shows: no more than its number, and the lists as they were.
+fn refused(kind: u8) -> Shown {
+    match kind {
+        FRAMES_PROCESSED | DATA_LEN => Shown::Count(0),
+        IS_RECORDING => Shown::Flag(false),
+        LAST_OFFSET => Shown::Offset(None),
+        ERROR_TEXT => Shown::ErrorText(String::new()),
+        ACTIVE_NOTES => Shown::Notes(Vec::new()),
+        _ => Shown::Infos(Vec::new()),
+    }
+}

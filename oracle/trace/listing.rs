@@ -1,0 +1,126 @@
+//! The records of a listing: their kinds and fields, as crates/trace reads them, and how they read to a person.
+
+use crate::params;
+use crate::record::Record;
+
+pub const SET_UP: u8 = 0;
+pub const PARAMETERS: u8 = 1;
+pub const START: u8 = 2;
+pub const STOP: u8 = 3;
+pub const NOTE_SPEED: u8 = 4;
+pub const START_RECORDING: u8 = 5;
+pub const STOP_RECORDING: u8 = 6;
+pub const RESET: u8 = 7;
+pub const SAMPLE: u8 = 8;
+pub const FRAME: u8 = 9;
+pub const CLOCK: u8 = 10;
+pub const RECORDINGS: u8 = 11;
+pub const FRAMES_PROCESSED: u8 = 12;
+pub const DATA_LEN: u8 = 13;
+pub const IS_RECORDING: u8 = 14;
+pub const LAST_OFFSET: u8 = 15;
+pub const ERROR_TEXT: u8 = 16;
+pub const ACTIVE_NOTES: u8 = 17;
+pub const VOICE_INFO: u8 = 18;
+
+pub const NAMES: [&str; 19] = [
+    "set-up", "parameters", "start_playing", "stop_playing", "set_note_speed", "start_recording", "stop_recording", "reset", "process_sample",
+    "process_frame", "(clocks put on)", "(recordings)", "get_frames_processed", "get_data_len", "is_recording", "get_last_recorded_offset",
+    "print_error_info", "iter_active_notes", "get_voice_info",
+];
+
+/// How many samples of memory the port has to lend.
+pub const MEMORY: usize = 65536;
+/// How many entries the lists for the error text and for the active notes have at most.
+pub const TEXT: usize = 64;
+pub const NOTES: usize = 34;
+
+/// A record without its kind: places that several kinds share.
+pub const NOTE: usize = 1;
+pub const NOTE_CHANNEL: usize = 2;
+pub const ENTRIES: usize = 1;
+pub const AUTO: usize = 1;
+pub const FLOAT: usize = 4;
+pub const COUNT: usize = 4;
+pub const SECOND: usize = 8;
+pub const CHANNEL: usize = 8;
+pub const SIZE: usize = 8;
+pub const ROOM: usize = 12;
+pub const LENT: usize = 16;
+
+pub fn set_up(count: u32, auto: bool, memory: u32) -> Record {
+    Record::new(SET_UP).with_u32(COUNT, count).with_u8(AUTO, auto as u8).with_u32(SIZE, memory)
+}
+
+pub fn start(note: (u8, u8), position: u32, velocity: u32) -> Record {
+    of_note(START, note).with_u32(FLOAT, position).with_u32(SECOND, velocity)
+}
+
+pub fn of_note(kind: u8, note: (u8, u8)) -> Record {
+    Record::new(kind).with_u8(NOTE, note.0).with_u8(NOTE_CHANNEL, note.1)
+}
+
+pub fn sample(channel: u32, input: u32, lent: u32) -> Record {
+    Record::new(SAMPLE).with_u32(FLOAT, input).with_u32(CHANNEL, channel).with_u32(LENT, lent)
+}
+
+pub fn frame(entries: u8, inputs: [u32; 3], lent: u32) -> Record {
+    let record = Record::new(FRAME).with_u8(ENTRIES, entries).with_u32(LENT, lent);
+    record.with_u32(FLOAT, inputs[0]).with_u32(FLOAT + 4, inputs[1]).with_u32(FLOAT + 8, inputs[2])
+}
+
+pub fn query(kind: u8, channel: u32, room: u32) -> Record {
+    Record::new(kind).with_u32(CHANNEL, channel).with_u32(ROOM, room)
+}
+
+pub fn bytes(records: &[Record]) -> Vec<u8> {
+    records.iter().flat_map(|r| r.0).collect()
+}
+
+/// The record in words.
+pub fn describe(r: &Record) -> String {
+    let kind = r.u8_at(0);
+    let note = format!("note {} of channel {}", r.u8_at(NOTE), r.u8_at(NOTE_CHANNEL));
+    let fields = match kind {
+        SET_UP => format!("{} channels, auto pass-through {}, {} samples of memory", r.u32_at(COUNT), r.u8_at(AUTO), r.u32_at(SIZE)),
+        PARAMETERS => describe_parameters(r),
+        START => format!("{note}, position {}, velocity {}", float(r, FLOAT), float(r, SECOND)),
+        STOP => note,
+        NOTE_SPEED => format!("{note}, speed {}", float(r, FLOAT)),
+        SAMPLE => format!("channel {}, input {}, {} samples lent", r.u32_at(CHANNEL), float(r, FLOAT), r.u32_at(LENT)),
+        FRAME => {
+            let entries: Vec<String> = (0..r.u8_at(ENTRIES).min(3) as usize).map(|j| float(r, FLOAT + 4 * j)).collect();
+            format!("[{}], {} samples lent", entries.join(", "), r.u32_at(LENT))
+        }
+        CLOCK => format!("by {}", r.u64_at(SECOND)),
+        FRAMES_PROCESSED..=LAST_OFFSET => format!("channel {}", r.u32_at(CHANNEL)),
+        ERROR_TEXT..=VOICE_INFO => format!("channel {}, room for {}", r.u32_at(CHANNEL), r.u32_at(ROOM)),
+        _ => String::new(),
+    };
+    format!("{} {fields}", NAMES.get(kind as usize).unwrap_or(&"?")).trim_end().into()
+}
+
+fn describe_parameters(r: &Record) -> String {
+    let p = params::params(r);
+    format!(
+        "attack {}, decay {}, auto pass-through {}, {:?}, {:?} ({:08X}), speed {}, reverse speed {}, {:?}, volume {}, rate {}, tempo {}, signature {}/{}",
+        p.attack_samples,
+        p.decay_samples,
+        p.auto_passthru,
+        p.loop_mode,
+        p.loop_length,
+        r.u32_at(params::VALUE),
+        float(r, params::SPEED),
+        float(r, params::REVERSE),
+        p.note_off_behavior,
+        float(r, params::VOLUME),
+        float(r, params::RATE),
+        float(r, params::TEMPO),
+        p.transport.time_sig_numerator,
+        p.transport.time_sig_denominator
+    )
+}
+
+fn float(r: &Record, at: usize) -> String {
+    format!("{:?} ({:08X})", r.f32_at(at), r.u32_at(at))
+}

@@ -1,0 +1,527 @@
+//! Listings from a seed. Each is of a style: what it does often, how large its recordings are, and how hostile its floats.
+
+use crate::listing::*;
+use crate::params;
+use crate::random::Random;
+use crate::record::Record;
+use crate::values::{hostile_float, hostile_whole};
+
+pub struct Style {
+    pub name: &'static str,
+    /// How many of 100 listings are of this style.
+    share: u64,
+    make: fn(&mut Song),
+}
+
+pub const STYLES: &[Style] = &[
+    Style { name: "song", share: 20, make: song },
+    Style { name: "long", share: 1, make: long },
+    Style { name: "crowd", share: 4, make: crowd },
+    Style { name: "hostile", share: 16, make: hostile },
+    Style { name: "changes", share: 14, make: changes },
+    Style { name: "over", share: 12, make: over },
+    Style { name: "full", share: 6, make: full },
+    Style { name: "resets", share: 4, make: resets },
+    Style { name: "edges", share: 10, make: edges },
+    Style { name: "refusals", share: 6, make: refusals },
+    Style { name: "late", share: 4, make: late },
+    Style { name: "noise", share: 3, make: noise },
+];
+
+const NOTES_USED: [(u8, u8); 4] = [(60, 0), (61, 0), (60, 1), (127, 15)];
+
+/// The listing of that number, and the index of its style.
+pub fn listing(seed: u64, number: u64) -> (usize, Vec<Record>) {
+    let mut r = Random::new(seed.wrapping_mul(0x1_0000_0001).wrapping_add(number).wrapping_mul(0x9e37_79b9_7f4a_7c15));
+    let mut place = r.below(STYLES.iter().map(|s| s.share).sum());
+    let style = STYLES.iter().position(|s| if place < s.share { true } else { place -= s.share; false }).unwrap();
+    let mut s = Song { r, records: Vec::new(), hostile: 0, bad: 0, count: 1, memory: 0, room: 0, recorder: None, data: 0 };
+    (STYLES[style].make)(&mut s);
+    s.records.push(Record::new(RECORDINGS));
+    (style, s.records)
+}
+
+/// A listing in the making, with what its maker knows of the sampler.
+pub struct Song {
+    r: Random,
+    records: Vec<Record>,
+    /// How many floats of 100 are hostile, and how many arguments of 100 ask for a refusal.
+    hostile: u64,
+    bad: u64,
+    count: u64,
+    memory: u64,
+    room: u64,
+    /// The recorder's write place, and the length of the data.
+    recorder: Option<u64>,
+    data: u64,
+}
+
+fn song(s: &mut Song) {
+    let room = s.r.pick(&[8, 16, 50, 100, 500, 4000]);
+    s.begin(room);
+    let n = s.r.below(30) + 3;
+    s.record(n);
+    for _ in 0..s.r.below(12) + 6 {
+        s.event();
+        let n = s.r.below(6) + 1;
+        s.frames(n);
+    }
+}
+
+/// The default parameters, whose ramps are long, or a long recording.
+fn long(s: &mut Song) {
+    s.set_up(2000);
+    let n = s.r.below(200) + 50;
+    s.record(n);
+    for _ in 0..3 {
+        s.start();
+        let n = s.r.below(150) + 20;
+        s.frames(n);
+        s.stop();
+        let n = s.r.below(120) + 20;
+        s.frames(n);
+    }
+}
+
+fn crowd(s: &mut Song) {
+    let room = s.r.pick(&[2, 5, 9, 32]);
+    s.begin(room);
+    let n = s.r.below(6) + 1;
+    s.record(n);
+    for k in 0..s.r.below(8) + 29 {
+        s.start_note((k as u8 % 40, 0));
+        if s.r.below(12) == 0 {
+            s.frames(1);
+        }
+    }
+    s.query(VOICE_INFO);
+    s.query(ACTIVE_NOTES);
+    for _ in 0..s.r.below(8) + 3 {
+        match s.r.below(4) {
+            0 => s.settings(),
+            1 => {
+                let k = s.r.below(40) as u8;
+                s.stop_note((k, 0));
+            }
+            2 => s.start(),
+            _ => s.frames(1),
+        }
+    }
+}
+
+fn hostile(s: &mut Song) {
+    s.hostile = s.r.pick(&[10, 50, 90]);
+    let room = s.r.pick(&[1, 3, 8, 40, 300]);
+    s.begin(room);
+    let n = s.r.below(10) + 1;
+    s.record(n);
+    for _ in 0..s.r.below(14) + 6 {
+        s.event();
+        let n = s.r.below(4) + 1;
+        s.frames(n);
+    }
+}
+
+/// Parameters change under sounding voices.
+fn changes(s: &mut Song) {
+    s.hostile = s.r.pick(&[0, 0, 5, 20]);
+    let room = s.r.pick(&[4, 10, 30, 200]);
+    s.begin(room);
+    let n = s.r.below(25) + 2;
+    s.record(n);
+    for _ in 0..s.r.below(3) + 1 {
+        s.start();
+    }
+    for _ in 0..s.r.below(25) + 8 {
+        match s.r.below(8) {
+            0 => s.start(),
+            1 => s.stop(),
+            2 => s.speed(),
+            _ => s.settings(),
+        }
+        let n = s.r.below(4) + 1;
+        s.frames(n);
+    }
+}
+
+/// Recording over sounding voices, with stops that cut the data.
+fn over(s: &mut Song) {
+    s.hostile = s.r.pick(&[0, 0, 5]);
+    let room = s.r.pick(&[4, 12, 40, 200]);
+    s.begin(room);
+    let n = s.r.below(12) + 1;
+    s.record(n);
+    for _ in 0..s.r.below(3) + 1 {
+        s.start();
+    }
+    for _ in 0..s.r.below(16) + 8 {
+        match s.r.below(10) {
+            0..=2 => s.call(START_RECORDING),
+            3..=5 => s.call(STOP_RECORDING),
+            6 => s.start(),
+            7 => s.stop(),
+            8 => s.query(LAST_OFFSET),
+            _ => s.event(),
+        }
+        let n = s.r.below(8);
+        s.frames(n);
+    }
+}
+
+/// The capacity is reached, and samples are dropped.
+fn full(s: &mut Song) {
+    let room = s.r.below(6) + 1;
+    s.begin(room);
+    s.call(START_RECORDING);
+    for _ in 0..s.r.below(10) + 4 {
+        let n = s.r.below(room + 2);
+        s.frames(n);
+        match s.r.below(6) {
+            0 => s.call(STOP_RECORDING),
+            1 => s.call(START_RECORDING),
+            2 | 3 => s.start(),
+            4 => s.query(ERROR_TEXT),
+            _ => s.event(),
+        }
+    }
+}
+
+fn resets(s: &mut Song) {
+    for _ in 0..s.r.below(3) + 1 {
+        let room = s.r.pick(&[1, 6, 30]);
+        s.begin(room);
+        for _ in 0..s.r.below(3) + 1 {
+            let n = s.r.below(8) + 1;
+            s.record(n);
+            for _ in 0..s.r.below(5) + 1 {
+                s.event();
+                let n = s.r.below(4);
+                s.frames(n);
+            }
+            s.call(RESET);
+            let n = s.r.below(3);
+            s.frames(n);
+        }
+    }
+}
+
+/// Small recordings, and lengths and positions at their edges.
+fn edges(s: &mut Song) {
+    s.hostile = s.r.pick(&[0, 0, 3]);
+    s.bad = 2;
+    let room = s.r.below(9) + 1;
+    s.begin(room);
+    let n = s.r.below(room) + 1;
+    s.record(n);
+    for _ in 0..s.r.below(20) + 8 {
+        match s.r.below(6) {
+            0 => s.start(),
+            1 => s.settings(),
+            _ => s.event(),
+        }
+        let n = s.r.below(5) + 1;
+        s.frames(n);
+    }
+}
+
+/// Every row of the table.
+fn refusals(s: &mut Song) {
+    s.bad = s.r.pick(&[10, 30, 60]);
+    let room = s.r.pick(&[1, 4, 20]);
+    s.begin(room);
+    let n = s.r.below(6) + 1;
+    s.record(n);
+    for _ in 0..s.r.below(40) + 20 {
+        match s.r.below(12) {
+            0 => s.call(START_RECORDING),
+            1 => s.call(STOP_RECORDING),
+            2 => s.call(RESET),
+            3 => s.single(),
+            4 | 5 => s.frames(1),
+            6..=8 => {
+                let kind = FRAMES_PROCESSED + s.r.below(7) as u8;
+                s.query(kind);
+            }
+            _ => s.event(),
+        }
+    }
+}
+
+/// Clocks that are far on, up to their end.
+fn late(s: &mut Song) {
+    let room = s.r.pick(&[2, 10, 60]);
+    s.begin(room);
+    if s.r.below(2) == 0 {
+        s.put_on();
+    }
+    let n = s.r.below(8) + 1;
+    s.record(n);
+    for _ in 0..s.r.below(14) + 6 {
+        match s.r.below(4) {
+            0 => s.put_on(),
+            1 => s.start(),
+            _ => s.event(),
+        }
+        let n = s.r.below(4) + 1;
+        s.frames(n);
+    }
+}
+
+/// Records of random bytes, with kinds that there are.
+fn noise(s: &mut Song) {
+    let room = s.r.below(50) + 1;
+    s.begin(room);
+    let n = s.r.below(10) + 1;
+    s.record(n);
+    for _ in 0..s.r.below(40) + 10 {
+        let kind = s.r.below(NAMES.len() as u64) as u8;
+        let mut record = Record::new(kind);
+        for at in 1..record.0.len() {
+            record = record.with_u8(at, s.r.bits() as u8 & s.r.pick(&[0xff, 0x0f, 0x03, 0]));
+        }
+        match kind {
+            SET_UP if s.r.below(8) > 0 => s.settings(),
+            RECORDINGS => s.event(),
+            SAMPLE | FRAME => s.records.push(record.with_u32(LENT, MEMORY as u32)),
+            _ => s.records.push(record),
+        }
+        s.frames(1);
+    }
+}
+
+impl Song {
+    fn chance(&mut self, of_100: u64) -> bool {
+        self.r.below(100) < of_100
+    }
+
+    fn float(&mut self, ordinary: fn(&mut Song) -> f32) -> u32 {
+        if self.hostile > 0 && self.chance(self.hostile) {
+            return hostile_float(&mut self.r);
+        }
+        ordinary(self).to_bits()
+    }
+
+    fn begin(&mut self, room: u64) {
+        self.set_up(room);
+        self.settings();
+    }
+
+    fn set_up(&mut self, room: u64) {
+        self.count = self.r.below(2) + 1;
+        self.memory = self.count * room + self.r.below(self.count);
+        let (mut count, mut memory) = (self.count, self.memory);
+        if self.chance(self.bad / 4) {
+            match self.r.below(3) {
+                0 => count = self.r.pick(&[0, 3, 4, 0xffff_ffff]),
+                1 => memory = 0,
+                _ => memory = self.count - 1,
+            }
+        }
+        (self.room, self.recorder, self.data) = (room, None, 0);
+        let auto = self.r.below(2) == 0;
+        self.records.push(set_up(count as u32, auto, memory as u32));
+    }
+
+    /// New parameters, around the present data length.
+    fn settings(&mut self) {
+        let rate = self.float(|s| s.r.pick(&[44100.0, 48000.0, 8000.0, 1.0]));
+        let tempo = self.float(|s| s.r.pick(&[120.0, 60.0, 98.7, 240.0]));
+        let signature = if self.chance(self.hostile) { [hostile_whole(&mut self.r) as u32, hostile_whole(&mut self.r) as u32] } else { self.r.pick(&[[4, 4], [3, 4], [7, 8], [1, 1]]) };
+        let kind = self.r.below(5) as u8;
+        let value = self.value(kind, f32::from_bits(rate), f32::from_bits(tempo), signature);
+        let value = if self.chance(self.hostile) { hostile_float(&mut self.r) } else { value.to_bits() };
+        let record = Record::new(PARAMETERS)
+            .with_u8(params::KIND, kind)
+            .with_u8(params::MODE, self.r.below(3) as u8)
+            .with_u8(params::NOTE_OFF, self.r.below(3) as u8)
+            .with_u8(params::AUTO_PASSTHRU, self.r.below(2) as u8)
+            .with_u32(params::VOLUME, self.float(|s| s.r.pick(&[1.0, 1.0, 0.5, 0.0, -2.0])))
+            .with_u32(params::VALUE, value)
+            .with_u32(params::RATE, rate)
+            .with_u32(params::TEMPO, tempo)
+            .with_u32(params::NUMERATOR, signature[0])
+            .with_u32(params::DENOMINATOR, signature[1])
+            .with_u64(params::ATTACK, self.ramp())
+            .with_u64(params::DECAY, self.ramp())
+            .with_u32(params::SPEED, self.float(pace))
+            .with_u32(params::REVERSE, self.float(|s| s.r.pick(&[1.0, 1.0, -1.0, 0.5])));
+        self.records.push(record);
+    }
+
+    fn ramp(&mut self) -> u64 {
+        if self.chance(self.bad) {
+            return self.r.pick(&[(1 << 24) + 1, 1 << 40, u64::MAX]);
+        }
+        let few = self.r.below(6);
+        self.r.pick(&[0, 0, 0, 1, few, few, 10, 100, 1 << 24])
+    }
+
+    /// A length of a kind that comes to about so many samples as have an edge near them.
+    fn value(&mut self, kind: u8, rate: f32, tempo: f32, signature: [u32; 2]) -> f32 {
+        let data = self.data as f32;
+        let near = (self.r.below(8 * (self.data + 2)) as f32) / 8.0;
+        let far = self.r.pick(&[4194304.0, 4194303.75, 65536.0, 1000.5]);
+        let mut samples = self.r.pick(&[0.0, 0.5, 1.0, 1.5, 2.0, data - 1.0, data, data + 1.0, data * 2.0, near, near, near, near, near, far]);
+        if self.chance(self.bad) {
+            samples = self.r.pick(&[4194304.5, 5e6, f32::INFINITY]);
+        }
+        match kind {
+            0 => samples / (rate * 60.0 / tempo),
+            1 => samples,
+            2 => samples / rate,
+            3 => samples / (rate * 60.0 / tempo * signature[0] as f32 / signature[1] as f32),
+            _ if samples > data && !self.chance(self.bad) => self.r.below(9) as f32 / 8.0,
+            _ => samples / data,
+        }
+    }
+
+    /// Records n samples, from the front.
+    fn record(&mut self, n: u64) {
+        self.call(START_RECORDING);
+        self.frames(n);
+        self.call(STOP_RECORDING);
+    }
+
+    fn call(&mut self, kind: u8) {
+        match kind {
+            START_RECORDING if self.recorder.is_none() => self.recorder = Some(0),
+            STOP_RECORDING => self.data = self.recorder.take().unwrap_or(self.data),
+            RESET => (self.recorder, self.data) = (None, 0),
+            _ => (),
+        }
+        self.records.push(Record::new(kind));
+    }
+
+    fn lent(&mut self) -> u32 {
+        let least = self.count * self.room;
+        let lent = if self.chance(self.bad / 2) { least - 1 } else { self.r.pick(&[self.memory, self.memory, least, MEMORY as u64]) };
+        lent as u32
+    }
+
+    fn frames(&mut self, n: u64) {
+        for _ in 0..n {
+            let mut entries = self.count;
+            if self.r.below(16) == 0 {
+                entries = self.r.below(self.count + 1);
+            }
+            if self.chance(self.bad / 2) {
+                entries = self.count + 1;
+            }
+            let inputs = [self.float(level), self.float(level), self.float(level)];
+            let lent = self.lent();
+            self.records.push(frame(entries as u8, inputs, lent));
+            self.stepped();
+        }
+    }
+
+    fn stepped(&mut self) {
+        if let Some(write) = self.recorder.as_mut().filter(|w| **w < self.room) {
+            *write += 1;
+            self.data = self.data.max(*write);
+        }
+    }
+
+    /// A sample of one channel.
+    fn single(&mut self) {
+        let mut channel = self.r.below(self.count) as u32;
+        if self.chance(self.bad) {
+            channel = self.r.pick(&[self.count as u32, 2, 0xffff_ffff]);
+        }
+        let (input, lent) = (self.float(level), self.lent());
+        self.records.push(sample(channel, input, lent));
+    }
+
+    fn note(&mut self) -> (u8, u8) {
+        let (note, channel) = self.r.pick(&NOTES_USED);
+        if self.chance(self.bad) { (note, self.r.pick(&[16, 17, 255])) } else { (note, channel) }
+    }
+
+    fn start(&mut self) {
+        let note = self.note();
+        self.start_note(note);
+    }
+
+    fn start_note(&mut self, note: (u8, u8)) {
+        let position = if self.chance(self.bad) { self.r.pick(&[-0.25, 1.0 + f32::EPSILON, f32::NAN, f32::INFINITY, -1e-45]).to_bits() } else { self.position() };
+        let velocity = self.float(|s| s.r.pick(&[1.0, 1.0, 0.7, 0.25, 0.0, -1.0]));
+        self.records.push(start(note, position, velocity));
+    }
+
+    /// From 0 to 1, and often so that it comes to a whole number of samples.
+    fn position(&mut self) -> u32 {
+        let part = self.r.below(self.data + 1) as f32 / self.data.max(1) as f32;
+        let any = self.r.below(1 << 24) as f32 / 16777216.0;
+        let subnormal = f32::from_bits(self.r.below(64) as u32);
+        self.r.pick(&[0.0, 0.0, 1.0, 0.5, part, part, part, any, -0.0, 1.0 - f32::EPSILON, subnormal]).to_bits()
+    }
+
+    fn stop(&mut self) {
+        let note = self.note();
+        self.stop_note(note);
+    }
+
+    fn stop_note(&mut self, note: (u8, u8)) {
+        self.records.push(of_note(STOP, note));
+    }
+
+    fn speed(&mut self) {
+        let note = self.note();
+        let speed = self.float(pace);
+        self.records.push(of_note(NOTE_SPEED, note).with_u32(FLOAT, speed));
+    }
+
+    fn put_on(&mut self) {
+        let n = match self.r.below(6) {
+            0 => self.r.below(300),
+            1 => (1 << 24) - 3 + self.r.below(8),
+            2 => self.r.below(1 << 40),
+            3 => (1 << 48) - 1 - self.r.below(12),
+            4 => u64::MAX,
+            _ => self.r.below(1 << 26),
+        };
+        self.records.push(Record::new(CLOCK).with_u64(SECOND, n));
+    }
+
+    fn query(&mut self, kind: u8) {
+        let mut channel = self.r.below(self.count) as u32;
+        if self.chance(self.bad) {
+            channel = self.r.pick(&[self.count as u32, 2, 0xffff_ffff]);
+        }
+        let mut room = self.r.pick(&[64, 34, 32, 40, 0xffff_ffff]);
+        if self.chance(self.bad.max(5)) {
+            room = self.r.pick(&[0, 1, 2, 22, 23, 24, 31]);
+        }
+        self.records.push(query(kind, channel, room));
+    }
+
+    fn event(&mut self) {
+        match self.r.below(32) {
+            0..=9 => self.start(),
+            10..=16 => self.stop(),
+            17..=18 => self.speed(),
+            19..=22 => self.settings(),
+            23 => self.call(START_RECORDING),
+            24 => self.call(STOP_RECORDING),
+            25..=27 => self.single(),
+            28 if self.r.below(4) == 0 => self.call(RESET),
+            _ => {
+                let kind = FRAMES_PROCESSED + self.r.below(7) as u8;
+                self.query(kind);
+            }
+        }
+    }
+}
+
+/// A sample: few values, so that sums are exact now and then, both signs, and zeros.
+fn level(s: &mut Song) -> f32 {
+    match s.r.below(6) {
+        0 => s.r.pick(&[0.0, -0.0]),
+        1 => (s.r.below(1 << 24) as f32) / 8388608.0 - 1.0,
+        _ => (s.r.below(33) as f32) / 16.0 - 1.0,
+    }
+}
+
+fn pace(s: &mut Song) -> f32 {
+    let any = (s.r.below(4000) as f32 - 2000.0) / 500.0;
+    s.r.pick(&[1.0, 1.0, 1.0, -1.0, 0.5, 2.0, 0.0, -0.5, 0.1, -1.75, 3.0, any, any, any, 1e-3, 1e6, -1e30])
+}

@@ -1,0 +1,145 @@
+//! What a run has met: each call by its answer, and what happened in the engine.
+
+use crate::engine::Engine;
+use crate::inside;
+use crate::listing::*;
+use audio_sampler_lib::common_types::Params;
+use audio_sampler_lib::time_value::{TimeOrRatio, TimeValue};
+use audio_sampler_lib::volume::Volume;
+use std::collections::BTreeMap;
+
+/// How many voices there are on all channels, and how many of them are in some state; and what stands in the recorders.
+pub struct Census {
+    voices: usize,
+    finished: usize,
+    ramps: usize,
+    shifted: usize,
+    crossing: usize,
+    clocks: usize,
+    recorded: usize,
+    recording: usize,
+    skipped: u64,
+    passing: usize,
+}
+
+impl Census {
+    pub fn of(engine: &Engine) -> Self {
+        let channels = &engine.sampler.channels;
+        let voices = || channels.iter().flat_map(inside::voices);
+        Census {
+            voices: voices().count(),
+            finished: voices().filter(|v| v.finished).count(),
+            ramps: voices().filter(|v| matches!(v.volume, Volume::Linear { .. })).count(),
+            shifted: voices().filter(|v| v.clip2.shift != 0.0).count(),
+            crossing: voices().filter(|v| v.is_at_zero_crossing).count(),
+            clocks: channels.iter().map(inside::clock).sum(),
+            recorded: channels.iter().map(|c| inside::recording(c).len()).sum(),
+            recording: channels.iter().filter(|c| inside::write_place(c).is_some()).count(),
+            skipped: engine.skipped.iter().sum(),
+            passing: channels.iter().filter(|c| inside::passthru(c).0).count(),
+        }
+    }
+}
+
+#[derive(Default)]
+pub struct Tally {
+    pub listings: u64,
+    pub calls: u64,
+    pub fields: u64,
+    answers: [[u64; 10]; NAMES.len()],
+    met: BTreeMap<(&'static str, &'static str), u64>,
+}
+
+impl Tally {
+    pub fn call(&mut self, kind: u8, number: u8, before: &Census, after: &Census, params: &Params) {
+        self.calls += 1;
+        self.answers[kind as usize][number as usize] += 1;
+        if number != 0 {
+            return;
+        }
+        match kind {
+            START => {
+                self.met("voices", "started", after.voices - before.voices);
+                self.met("voices", "not started: no recording", (after.voices == before.voices) as usize);
+            }
+            STOP => {
+                self.met("voices", "stopped", after.finished - before.finished);
+                self.met("voices", "not stopped: no such voice", (after.finished == before.finished) as usize);
+            }
+            NOTE_SPEED => self.met("voices", "there at a note speed", before.voices),
+            STOP_RECORDING => self.met("recordings", "cut or emptied by a stop", (after.recorded < before.recorded) as usize),
+            RESET => self.met("voices", "gone by a reset", before.voices),
+            SAMPLE | FRAME => self.samples(before, after, params),
+            _ => (),
+        }
+    }
+
+    fn samples(&mut self, before: &Census, after: &Census, params: &Params) {
+        self.met("recordings", "samples appended", after.recorded - before.recorded);
+        self.met("recordings", "samples dropped", (after.skipped - before.skipped) as usize);
+        self.met("recordings", "samples recorded over voices", if before.voices > 0 { before.recording } else { 0 });
+        self.met("pass-through", "turned on", after.passing.saturating_sub(before.passing));
+        self.met("pass-through", "turned off", before.passing.saturating_sub(after.passing));
+        self.met("samples", "in all", after.clocks - before.clocks);
+        if before.voices == 0 || after.recorded == 0 {
+            return;
+        }
+        let samples = after.clocks - before.clocks;
+        self.met("samples with voices, by loop mode", name(&LOOP_MODES, params.loop_mode as usize), samples);
+        self.met("samples with voices, by length kind", name(&LENGTH_KINDS, length_kind(&params.loop_length)), samples);
+        self.met("voices", "in a sample", before.voices);
+        self.met("voices", "left in a sample", before.voices - after.voices);
+        self.met("voices", "on a ramp after a sample", after.ramps);
+        self.met("voices", "shifted after a sample", after.shifted);
+        self.met("voices", "at a crossing after a sample", after.crossing);
+        self.met("voices", "32 on a channel in a sample", (before.voices >= 32) as usize);
+        self.met("finished voices in samples, by note-off mode", name(&NOTE_OFF_MODES, params.note_off_behavior as usize), before.finished);
+    }
+
+    pub fn styles(&mut self, counts: impl Iterator<Item = (&'static str, usize)>) {
+        for (style, listings) in counts {
+            self.met("listings, by style", style, listings);
+        }
+    }
+
+    fn met(&mut self, what: &'static str, which: &'static str, times: usize) {
+        if times > 0 {
+            *self.met.entry((what, which)).or_default() += times as u64;
+        }
+    }
+
+    pub fn print(&self) {
+        let numbers = [0, 1, 2, 3, 4, 5, 6, 8, 9];
+        println!("{:<26}{}", "answers", numbers.iter().map(|n| format!("{n:>10}")).collect::<String>());
+        for (name, counts) in NAMES.iter().zip(&self.answers) {
+            let cells = numbers.iter().map(|n| counts[*n]);
+            println!("  {name:<24}{}", cells.map(|n| if n == 0 { format!("{:>10}", ".") } else { format!("{n:>10}") }).collect::<String>());
+        }
+        let mut last = "";
+        for ((what, which), times) in &self.met {
+            if *what != last {
+                println!("{what}");
+                last = what;
+            }
+            println!("  {which:<40}{times:>14}");
+        }
+    }
+}
+
+const LOOP_MODES: [&str; 3] = ["PlayOnce", "Loop", "PingPong"];
+const NOTE_OFF_MODES: [&str; 3] = ["Decay", "ZeroCrossing", "DecayAndZeroCrossing"];
+const LENGTH_KINDS: [&str; 5] = ["quarter notes", "samples", "seconds", "bars", "ratio"];
+
+fn name(names: &[&'static str], index: usize) -> &'static str {
+    names[index]
+}
+
+fn length_kind(length: &TimeOrRatio) -> usize {
+    match length {
+        TimeOrRatio::Time(TimeValue::QuarterNotes(_)) => 0,
+        TimeOrRatio::Time(TimeValue::Samples(_)) => 1,
+        TimeOrRatio::Time(TimeValue::Seconds(_)) => 2,
+        TimeOrRatio::Time(TimeValue::Bars(_)) => 3,
+        TimeOrRatio::Ratio(_) => 4,
+    }
+}

@@ -1,0 +1,137 @@
+//! Lines as the port's program writes them, and a count of the fields in them.
+
+use crate::inside;
+use audio_sampler_lib::clip::{Clip, Mode};
+use audio_sampler_lib::sampler::Channel;
+use audio_sampler_lib::voice::Voice;
+use audio_sampler_lib::volume::Volume;
+
+#[derive(Default)]
+pub struct Text {
+    pub bytes: Vec<u8>,
+    pub fields: u64,
+}
+
+/// The names of the fields in the lines of a channel and of a voice, for a reader.
+pub const CHANNEL: [&str; 13] = [
+    "clock", "data length", "recording", "write place", "skip count", "state error count", "pass-through on", "pass-through kind",
+    "pass-through from time", "pass-through till time", "pass-through from", "pass-through till", "voices",
+];
+pub const VOICE: [&str; 22] = [
+    "finished_at", "last_sample_index", "since", "start", "clip speed", "length", "data_length", "shift", "mode", "volume kind",
+    "volume from time", "volume till time", "volume from", "volume till", "loop_start_percent", "played", "last_sample_value", "speed", "note",
+    "note's channel", "finished", "is_at_zero_crossing",
+];
+
+impl Text {
+    pub fn clear(&mut self) {
+        self.bytes.clear();
+        self.fields = 0;
+    }
+
+    pub fn tag(&mut self, letter: u8) {
+        self.bytes.extend([letter, b' ']);
+    }
+
+    fn digits(&mut self, count: u32, n: u64, after: u8) {
+        self.bytes.extend((0..count).rev().map(|d| b"0123456789ABCDEF"[(n >> (4 * d)) as usize % 16]));
+        self.bytes.push(after);
+        self.fields += 1;
+    }
+
+    pub fn put(&mut self, count: u32, n: u64) {
+        self.digits(count, n, b' ');
+    }
+
+    pub fn float(&mut self, x: f32) {
+        self.put(8, bits(x));
+    }
+
+    /// The last number of a line.
+    pub fn last(&mut self, count: u32, n: u64) {
+        self.digits(count, n, b'\n');
+    }
+
+    /// How many entries a list was given, and all of it: those, and then what stood there before.
+    pub fn list(&mut self, given: usize, entries: impl Iterator<Item = (u32, u64)>, before: (u32, u64), size: usize) {
+        self.put(2, given as u64);
+        for (digits, n) in entries.chain(std::iter::repeat(before)).take(size) {
+            self.put(digits, n);
+        }
+        self.end();
+    }
+
+    pub fn end(&mut self) {
+        self.bytes.pop();
+        self.bytes.push(b'\n');
+    }
+
+    fn volume(&mut self, v: &Volume) {
+        let (kind, time, value) = match v {
+            Volume::Static(x) => (0, 0..0, *x..0.0),
+            Volume::Linear { time, value } => (1, time.clone(), value.clone()),
+        };
+        self.digits(1, kind, b':');
+        self.digits(16, time.start as u64, b':');
+        self.digits(16, time.end as u64, b':');
+        self.digits(8, bits(value.start), b':');
+        self.float(value.end);
+    }
+
+    fn clip(&mut self, c: &Clip) {
+        self.put(16, c.since as u64);
+        for x in [c.start, c.speed, c.length, c.data_length] {
+            self.float(x);
+        }
+        // Zeros of either sign are alike.
+        self.float(if c.shift == 0.0 { 0.0 } else { c.shift });
+        self.put(1, (c.mode == Mode::PingPong) as u64);
+    }
+
+    fn voice(&mut self, v: &Voice) {
+        self.tag(b'V');
+        self.put(16, v.finished_at as u64);
+        self.put(16, v.last_sample_index as u64);
+        self.clip(&v.clip2);
+        self.volume(&v.volume);
+        for x in [v.loop_start_percent, v.played, v.last_sample_value, v.speed] {
+            self.float(x);
+        }
+        self.put(2, v.note.note as u64);
+        self.put(2, v.note.channel as u64);
+        self.put(1, v.finished as u64);
+        self.last(1, v.is_at_zero_crossing as u64);
+    }
+
+    /// A channel with its skip count and its state error count, and its voices.
+    pub fn channel(&mut self, c: &Channel, (skipped, misused): (u64, u64)) {
+        let (on, volume) = inside::passthru(c);
+        let place = inside::write_place(c);
+        self.tag(b'C');
+        self.put(16, inside::clock(c) as u64);
+        self.put(16, inside::recording(c).len() as u64);
+        self.put(1, place.is_some() as u64);
+        self.put(16, place.unwrap_or(0) as u64);
+        self.put(8, skipped);
+        self.put(8, misused);
+        self.put(1, on as u64);
+        self.volume(volume);
+        self.last(16, inside::voices(c).len() as u64);
+        for v in inside::voices(c) {
+            self.voice(v);
+        }
+    }
+
+    pub fn recording(&mut self, c: &Channel) {
+        self.tag(b'M');
+        for x in inside::recording(c) {
+            self.float(*x);
+        }
+        self.end();
+    }
+}
+
+/// A float by its bits. One NaN counts as any other.
+fn bits(x: f32) -> u64 {
+    if x.is_nan() { 0x7fc0_0000 } else { x.to_bits() as u64 }
+}
