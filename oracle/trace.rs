@@ -26,6 +26,8 @@ mod report;
 mod sample;
 #[path = "trace/songs.rs"]
 mod songs;
+#[path = "trace/table.rs"]
+mod table;
 #[path = "trace/tally.rs"]
 mod tally;
 #[path = "trace/text.rs"]

@@ -4,14 +4,14 @@ use crate::engine::play;
 use crate::listing::bytes;
 use crate::record::{Record, SIZE};
 use crate::songs::{listing, STYLES};
+use crate::table;
 use crate::tally::Tally;
 use crate::text::Text;
 
-/// The first short listing of each style from seed 0; last a record of no kind, after which nothing is answered.
+/// The table's edges and refusals, then a short listing of each style from seed 0; last a record of no kind, after which nothing is answered.
 pub fn write(dir: &str) -> Result<(), String> {
     let (mut asked, mut text) = (Vec::new(), Text::default());
-    for style in 0..STYLES.len() {
-        let records = first(style);
+    for records in std::iter::once(table::listing()).chain((0..STYLES.len()).map(first)) {
         play(&records, &mut text, &mut Tally::default());
         asked.extend(bytes(&records));
     }
