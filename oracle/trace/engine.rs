@@ -73,7 +73,8 @@ impl Engine {
             STOP_RECORDING => (self.plain(|s, p| s.stop_recording(p)), Shown::Record),
             RESET => (self.reset(), Shown::Record),
             SAMPLE => self.sample(r),
-            FRAME => self.frame(r),
+            FRAME => self.frame(r, [float(r, FLOAT), float(r, FLOAT + 4), float(r, FLOAT + 8)]),
+            FRAMES => self.frames(r),
             CLOCK => (self.put_on(r), Shown::Record),
             RECORDINGS => (0, Shown::Recordings),
             _ => self.query(r),
@@ -167,15 +168,23 @@ impl Engine {
         (number, Shown::Heard(heard))
     }
 
-    fn frame(&mut self, r: &Record) -> (u8, Shown) {
+    fn frame(&mut self, r: &Record, mut heard: [f32; 3]) -> (u8, Shown) {
         let entries = r.u8_at(ENTRIES).min(3) as usize;
         let number = self.step_number(r, entries <= self.count, 0..entries);
-        let mut heard = [float(r, FLOAT), float(r, FLOAT + 4), float(r, FLOAT + 8)];
         if number == 0 {
             let mut frame: Vec<&mut f32> = heard.iter_mut().take(entries).collect();
             self.dropping(0..entries, |s, p| s.process_frame(&mut frame, p));
         }
         (number, Shown::Heard(heard))
+    }
+
+    fn frames(&mut self, r: &Record) -> (u8, Shown) {
+        let mut last = (0, Shown::Heard([0.0; 3]));
+        for i in 0..r.u32_at(TIMES) {
+            let x = float(r, FLOAT) + i as f32 * float(r, SECOND);
+            last = self.frame(r, [x, -x, x]);
+        }
+        last
     }
 
     fn step_number(&self, r: &Record, present: bool, stepped: Range<usize>) -> u8 {

@@ -22,11 +22,13 @@ pub const LAST_OFFSET: u8 = 15;
 pub const ERROR_TEXT: u8 = 16;
 pub const ACTIVE_NOTES: u8 = 17;
 pub const VOICE_INFO: u8 = 18;
+pub const FRAMES: u8 = 19;
 
-pub const NAMES: [&str; 19] = [
+/// The kinds by their numbers. Those in brackets are no calls.
+pub const NAMES: [&str; 20] = [
     "set-up", "parameters", "start_playing", "stop_playing", "set_note_speed", "start_recording", "stop_recording", "reset", "process_sample",
     "process_frame", "(clocks put on)", "(recordings)", "get_frames_processed", "get_data_len", "is_recording", "get_last_recorded_offset",
-    "print_error_info", "iter_active_notes", "get_voice_info",
+    "print_error_info", "iter_active_notes", "get_voice_info", "many of process_frame",
 ];
 
 /// How many samples of memory the port has to lend.
@@ -35,7 +37,7 @@ pub const MEMORY: usize = 65536;
 pub const TEXT: usize = 64;
 pub const NOTES: usize = 34;
 
-/// A record without its kind: places that several kinds share.
+/// The places of the fields.
 pub const NOTE: usize = 1;
 pub const NOTE_CHANNEL: usize = 2;
 pub const ENTRIES: usize = 1;
@@ -46,6 +48,7 @@ pub const SECOND: usize = 8;
 pub const CHANNEL: usize = 8;
 pub const SIZE: usize = 8;
 pub const ROOM: usize = 12;
+pub const TIMES: usize = 12;
 pub const LENT: usize = 16;
 
 pub fn set_up(count: u32, auto: bool, memory: u32) -> Record {
@@ -67,6 +70,11 @@ pub fn sample(channel: u32, input: u32, lent: u32) -> Record {
 pub fn frame(entries: u8, inputs: [u32; 3], lent: u32) -> Record {
     let record = Record::new(FRAME).with_u8(ENTRIES, entries).with_u32(LENT, lent);
     record.with_u32(FLOAT, inputs[0]).with_u32(FLOAT + 4, inputs[1]).with_u32(FLOAT + 8, inputs[2])
+}
+
+pub fn frames(entries: u8, first: u32, more: u32, times: u32, lent: u32) -> Record {
+    let record = Record::new(FRAMES).with_u8(ENTRIES, entries).with_u32(LENT, lent);
+    record.with_u32(FLOAT, first).with_u32(SECOND, more).with_u32(TIMES, times)
 }
 
 pub fn query(kind: u8, channel: u32, room: u32) -> Record {
@@ -92,6 +100,14 @@ pub fn describe(r: &Record) -> String {
             let entries: Vec<String> = (0..r.u8_at(ENTRIES).min(3) as usize).map(|j| float(r, FLOAT + 4 * j)).collect();
             format!("[{}], {} samples lent", entries.join(", "), r.u32_at(LENT))
         }
+        FRAMES => format!(
+            "{} times {} entries, from {} on, each time more by {}, {} samples lent",
+            r.u32_at(TIMES),
+            r.u8_at(ENTRIES),
+            float(r, FLOAT),
+            float(r, SECOND),
+            r.u32_at(LENT)
+        ),
         CLOCK => format!("by {}", r.u64_at(SECOND)),
         FRAMES_PROCESSED..=LAST_OFFSET => format!("channel {}", r.u32_at(CHANNEL)),
         ERROR_TEXT..=VOICE_INFO => format!("channel {}, room for {}", r.u32_at(CHANNEL), r.u32_at(ROOM)),

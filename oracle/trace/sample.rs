@@ -8,23 +8,35 @@ use crate::table;
 use crate::tally::Tally;
 use crate::text::Text;
 
-/// The table's edges and refusals, then a short listing of each style from seed 0; last a record of no kind, after which nothing is answered.
+/// The table's edges and refusals; then of each style two listings of seed 0, neither trivial nor long: those with the shortest answers from
+/// 6,000 bytes on, if these are below 64 KB; last a record of no kind, after which nothing is answered.
 pub fn write(dir: &str) -> Result<(), String> {
-    let (mut asked, mut text) = (Vec::new(), Text::default());
-    for records in std::iter::once(table::listing()).chain((0..STYLES.len()).map(first)) {
-        play(&records, &mut text, &mut Tally::default());
-        asked.extend(bytes(&records));
+    let mut asked = bytes(&table::listing());
+    let mut answered = answers(&table::listing());
+    for style in 0..STYLES.len() {
+        for (text, records) in shortest(style).into_iter().filter(|l| l.0.len() < 1 << 16).take(2) {
+            asked.extend(bytes(&records));
+            answered.extend(text);
+        }
     }
     asked.extend([0xff; SIZE]);
     asked.extend([0; SIZE]);
-    text.bytes.extend(b"X\n");
+    answered.extend(b"X\n");
     put(dir, "stdin", &asked)?;
-    put(dir, "stdout", &text.bytes)
+    put(dir, "stdout", &answered)
 }
 
-fn first(style: usize) -> Vec<Record> {
-    let listings = (0..).map(|number| listing(0, number)).filter(|l| l.0 == style);
-    listings.take(200).map(|l| l.1).min_by_key(Vec::len).unwrap()
+fn shortest(style: usize) -> Vec<(Vec<u8>, Vec<Record>)> {
+    let listings = (0..5000).map(|number| listing(0, number)).filter(|l| l.0 == style);
+    let mut answered: Vec<_> = listings.map(|(_, records)| (answers(&records), records)).filter(|l| l.0.len() >= 6000).collect();
+    answered.sort_by_key(|l| l.0.len());
+    answered
+}
+
+fn answers(records: &[Record]) -> Vec<u8> {
+    let mut text = Text::default();
+    play(records, &mut text, &mut Tally::default());
+    text.bytes
 }
 
 fn put(dir: &str, name: &str, bytes: &[u8]) -> Result<(), String> {

@@ -8,24 +8,26 @@ use crate::values::{hostile_float, hostile_whole};
 
 pub struct Style {
     pub name: &'static str,
-    /// How many of 100 listings are of this style.
+    /// How many of about 1,000 listings are of this style.
     share: u64,
     make: fn(&mut Song),
 }
 
 pub const STYLES: &[Style] = &[
-    Style { name: "song", share: 20, make: song },
-    Style { name: "long", share: 1, make: long },
-    Style { name: "crowd", share: 4, make: crowd },
-    Style { name: "hostile", share: 16, make: hostile },
-    Style { name: "changes", share: 14, make: changes },
-    Style { name: "over", share: 12, make: over },
-    Style { name: "full", share: 6, make: full },
-    Style { name: "resets", share: 4, make: resets },
-    Style { name: "edges", share: 10, make: edges },
-    Style { name: "refusals", share: 6, make: refusals },
-    Style { name: "late", share: 4, make: late },
-    Style { name: "noise", share: 3, make: noise },
+    Style { name: "song", share: 180, make: song },
+    Style { name: "long", share: 10, make: long },
+    Style { name: "wide", share: 3, make: wide },
+    Style { name: "crowd", share: 40, make: crowd },
+    Style { name: "hostile", share: 150, make: hostile },
+    Style { name: "changes", share: 140, make: changes },
+    Style { name: "over", share: 130, make: over },
+    Style { name: "full", share: 60, make: full },
+    Style { name: "resets", share: 30, make: resets },
+    Style { name: "edges", share: 100, make: edges },
+    Style { name: "refusals", share: 90, make: refusals },
+    Style { name: "broken", share: 30, make: broken },
+    Style { name: "late", share: 50, make: late },
+    Style { name: "noise", share: 30, make: noise },
 ];
 
 const NOTES_USED: [(u8, u8); 4] = [(60, 0), (61, 0), (60, 1), (127, 15)];
@@ -83,6 +85,25 @@ fn long(s: &mut Song) {
     }
 }
 
+/// A recording of some ten thousand samples.
+fn wide(s: &mut Song) {
+    let room = s.r.pick(&[20_000, 30_000]);
+    s.begin(room);
+    s.call(START_RECORDING);
+    let n = 10_000 + s.r.below(room - 9_000);
+    s.many(n);
+    s.call(STOP_RECORDING);
+    for _ in 0..s.r.below(12) + 6 {
+        s.event();
+        let n = s.r.below(6) + 1;
+        s.frames(n);
+        if s.r.below(6) == 0 {
+            let n = s.r.below(1000);
+            s.many(n);
+        }
+    }
+}
+
 fn crowd(s: &mut Song) {
     let room = s.r.pick(&[2, 5, 9, 32]);
     s.begin(room);
@@ -94,8 +115,10 @@ fn crowd(s: &mut Song) {
             s.frames(1);
         }
     }
-    s.query(VOICE_INFO);
-    s.query(ACTIVE_NOTES);
+    for room in [0, 20, 31, 32] {
+        s.ask(VOICE_INFO, room);
+        s.ask(ACTIVE_NOTES, room);
+    }
     for _ in 0..s.r.below(8) + 3 {
         match s.r.below(4) {
             0 => s.settings(),
@@ -155,12 +178,13 @@ fn over(s: &mut Song) {
         s.start();
     }
     for _ in 0..s.r.below(16) + 8 {
-        match s.r.below(10) {
+        match s.r.below(12) {
             0..=2 => s.call(START_RECORDING),
             3..=5 => s.call(STOP_RECORDING),
             6 => s.start(),
             7 => s.stop(),
             8 => s.query(LAST_OFFSET),
+            9 => s.record(0),
             _ => s.event(),
         }
         let n = s.r.below(8);
@@ -232,19 +256,26 @@ fn refusals(s: &mut Song) {
     let n = s.r.below(6) + 1;
     s.record(n);
     for _ in 0..s.r.below(40) + 20 {
-        match s.r.below(12) {
-            0 => s.call(START_RECORDING),
-            1 => s.call(STOP_RECORDING),
-            2 => s.call(RESET),
-            3 => s.single(),
-            4 | 5 => s.frames(1),
-            6..=8 => {
-                let kind = FRAMES_PROCESSED + s.r.below(7) as u8;
-                s.query(kind);
-            }
-            _ => s.event(),
+        s.any();
+    }
+}
+
+/// Set-ups that are refused, after which every call is.
+fn broken(s: &mut Song) {
+    for _ in 0..s.r.below(3) + 1 {
+        let (count, memory) = s.r.pick(&[(0, 10), (3, 10), (0xffff_ffff, 65536), (1, 0), (2, 1), (2, 0)]);
+        s.count = 1;
+        s.records.push(set_up(count, false, memory));
+        s.settings();
+        for _ in 0..s.r.below(10) + 2 {
+            s.any();
         }
     }
+    let room = s.r.below(3) + 1;
+    s.begin(room);
+    s.record(1);
+    s.event();
+    s.frames(1);
 }
 
 /// Clocks that are far on, up to their end.
@@ -257,9 +288,10 @@ fn late(s: &mut Song) {
     let n = s.r.below(8) + 1;
     s.record(n);
     for _ in 0..s.r.below(14) + 6 {
-        match s.r.below(4) {
+        match s.r.below(5) {
             0 => s.put_on(),
             1 => s.start(),
+            2 => s.single(),
             _ => s.event(),
         }
         let n = s.r.below(4) + 1;
@@ -283,6 +315,7 @@ fn noise(s: &mut Song) {
             SET_UP if s.r.below(8) > 0 => s.settings(),
             RECORDINGS => s.event(),
             SAMPLE | FRAME => s.records.push(record.with_u32(LENT, MEMORY as u32)),
+            FRAMES => s.records.push(record.with_u32(LENT, MEMORY as u32).with_u32(TIMES, 3)),
             _ => s.records.push(record),
         }
         s.frames(1);
@@ -483,15 +516,48 @@ impl Song {
     }
 
     fn query(&mut self, kind: u8) {
+        let mut room = self.r.pick(&[64, 34, 32, 40, 0xffff_ffff]);
+        if self.chance(self.bad.max(15)) {
+            room = self.r.pick(&[0, 0, 1, 2, 22, 23, 24, 31]);
+        }
+        self.ask(kind, room);
+    }
+
+    fn ask(&mut self, kind: u8, room: u32) {
         let mut channel = self.r.below(self.count) as u32;
         if self.chance(self.bad) {
             channel = self.r.pick(&[self.count as u32, 2, 0xffff_ffff]);
         }
-        let mut room = self.r.pick(&[64, 34, 32, 40, 0xffff_ffff]);
-        if self.chance(self.bad.max(5)) {
-            room = self.r.pick(&[0, 1, 2, 22, 23, 24, 31]);
-        }
         self.records.push(query(kind, channel, room));
+    }
+
+    /// Every kind of call about equally often.
+    fn any(&mut self) {
+        match self.r.below(16) {
+            0 => self.call(START_RECORDING),
+            1 => self.call(STOP_RECORDING),
+            2 => self.call(RESET),
+            3 => self.single(),
+            4 | 5 => self.frames(1),
+            6 => self.speed(),
+            7 => self.stop(),
+            8 | 9 => self.start(),
+            10 => self.settings(),
+            11 => self.many(2),
+            _ => {
+                let kind = FRAMES_PROCESSED + self.r.below(7) as u8;
+                self.query(kind);
+            }
+        }
+    }
+
+    /// n frames in one record.
+    fn many(&mut self, n: u64) {
+        let (first, more, lent) = (self.float(level), self.float(|s| s.r.pick(&[0.0, 0.001, 0.37, -1e-6])), self.lent());
+        self.records.push(frames(self.count as u8, first, more, n as u32, lent));
+        for _ in 0..n {
+            self.stepped();
+        }
     }
 
     fn event(&mut self) {

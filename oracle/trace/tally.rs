@@ -69,18 +69,22 @@ impl Tally {
             NOTE_SPEED => self.met("voices", "there at a note speed", before.voices),
             STOP_RECORDING => self.met("recordings", "cut or emptied by a stop", (after.recorded < before.recorded) as usize),
             RESET => self.met("voices", "gone by a reset", before.voices),
-            SAMPLE | FRAME => self.samples(before, after, params),
+            SAMPLE | FRAME | FRAMES => self.samples(before, after, params),
             _ => (),
         }
     }
 
     fn samples(&mut self, before: &Census, after: &Census, params: &Params) {
         self.met("recordings", "samples appended", after.recorded - before.recorded);
+        self.met("recordings", "of 10,000 samples or more, in a sample", (after.recorded >= 10_000) as usize);
         self.met("recordings", "samples dropped", (after.skipped - before.skipped) as usize);
         self.met("recordings", "samples recorded over voices", if before.voices > 0 { before.recording } else { 0 });
         self.met("pass-through", "turned on", after.passing.saturating_sub(before.passing));
         self.met("pass-through", "turned off", before.passing.saturating_sub(after.passing));
         self.met("samples", "in all", after.clocks - before.clocks);
+        if after.recorded == 0 {
+            self.met("voices", "in a sample on an empty recording", before.voices);
+        }
         if before.voices == 0 || after.recorded == 0 {
             return;
         }

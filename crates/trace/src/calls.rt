@@ -9,6 +9,7 @@ use lines::field::f32_at;
 use lines::field::u32_at;
 use lines::field::u64_at;
 use lines::field::wide;
+use replies::lent;
 use sampler::Answer;
 use sampler::Sampler;
 
@@ -17,13 +18,6 @@ pub struct Heard {
     pub sampler: Sampler,
     pub entries: [f32; 3],
     pub number: u8,
-}
-
-// How much of `most` is lent, where n are asked for.
-pub fn lent(n: usize, most: usize) -> usize
-    ensures { λ r. ⌜ r ≤ most ⌝ }
-{
-    if n < most { n } else { most }
 }
 
 fn clear(memory: &mut [u32]) {
@@ -88,24 +82,54 @@ pub fn sample(run: Run, fields: &[u8], memory: &mut [u32]) -> Heard
 pub fn frame(run: Run, fields: &[u8], memory: &mut [u32]) -> Heard
     requires { ⌜ 64 ≤ length (now fields) ⌝ }
 {
-    let mut entries = [f32_at(fields, 4), f32_at(fields, 8), f32_at(fields, 12)];
-    let a = stepped(run, fields, memory, &mut entries);
+    let entries = [f32_at(fields, 4), f32_at(fields, 8), f32_at(fields, 12)];
+    let s = run.sampler;
+    let p = run.params;
+    stepped(s, entries, p, fields, memory)
+}
+
+fn stepped(s: Sampler, entries: [f32; 3], p: Params, fields: &[u8], memory: &mut [u32]) -> Heard
+    requires { ⌜ 64 ≤ length (now fields) ⌝ }
+{
+    let mut frame = entries;
+    let n = lent(wide(fields[1]) as usize, 3);
+    let m = lent(u32_at(fields, 16) as usize, memory.len());
+    let a = s.process_frame(&mut frame[..n], p, &mut memory[..m]);
     let sampler = a.sampler;
     Heard {
         sampler,
-        entries,
+        entries: frame,
         number: a.number,
     }
 }
 
-fn stepped(run: Run, fields: &[u8], memory: &mut [u32], entries: &mut [f32]) -> Answer
+// Kind 19: as many frames as the number at 12 says, of which the last is shown. How many entries at 1; they are x, -x and x, where x is the
+// float at 4, and in each further frame more by the float at 8; the samples of memory lent at 16.
+pub fn frames(run: Run, fields: &[u8], memory: &mut [u32]) -> Heard
     requires { ⌜ 64 ≤ length (now fields) ⌝ }
 {
     let p = run.params;
     let s = run.sampler;
-    let n = lent(wide(fields[1]) as usize, entries.len());
-    let m = lent(u32_at(fields, 16) as usize, memory.len());
-    s.process_frame(&mut entries[..n], p, &mut memory[..m])
+    let n = u32_at(fields, 12);
+    let mut h = Heard {
+        sampler: s,
+        entries: [0.0, 0.0, 0.0],
+        number: 0,
+    };
+    let mut i = 0;
+    while i < n {
+        h = frame_of(h, i, p, fields, memory);
+        i += 1;
+    }
+    h
+}
+
+fn frame_of(h: Heard, i: u32, p: Params, fields: &[u8], memory: &mut [u32]) -> Heard
+    requires { ⌜ 64 ≤ length (now fields) ⌝ }
+{
+    let s = h.sampler;
+    let x = f32_at(fields, 4) + binary32::u32_to_f32(i) * f32_at(fields, 8);
+    stepped(s, [x, -x, x], p, fields, memory)
 }
 
 // Kind 10 puts every clock on by the number at 8, but no further than its end. No call does that: it stands for a long silence.

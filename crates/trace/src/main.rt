@@ -4,7 +4,7 @@
 //
 // Kinds: 0 set-up; 1 parameters; 2 start, 3 stop, 4 note speed, 5 and 6 start and stop of recording, 7 reset; 8 sample of one channel; 9 frame;
 // 10 clocks put on; 11 the recordings; 12 frames processed, 13 data length, 14 is recording, 15 last recorded offset, 16 error text, 17 active
-// notes, 18 voice info. A set-up takes back the parameters to the defaults.
+// notes, 18 voice info; 19 many frames. A set-up takes back the parameters to the defaults.
 ghost use mathlib.Core.Path.{_≡_};
 ghost use Prim.Native.Nat.{_+_, _*_, _≤_, _<_};
 ghost use lib.ListN.{length};
@@ -14,12 +14,12 @@ use lines::line::tag;
 use lines::line::write;
 use lines::settings::params_of;
 use recording::recordings;
+use replies::query;
 use run::Run;
 use run::begun;
 use run::room;
 
 mod calls;
-mod queries;
 mod recording;
 mod run;
 
@@ -94,6 +94,7 @@ fn record(run: Run, fields: &[u8], memory: &mut [u32], out: &mut [u8; 65536]) ->
         8 => run.heard(kind, calls::sample(run, fields, memory), out, at),
         9 => run.heard(kind, calls::frame(run, fields, memory), out, at),
         11 => recordings(run.told(kind, out, at), memory, out),
+        19 => run.heard(kind, calls::frames(run, fields, memory), out, at),
         _ => plain(run, fields, out, at),
     }
 }
@@ -111,7 +112,7 @@ fn plain(run: Run, fields: &[u8], out: &mut [u8; 65536], at: usize) -> Run
         1 => parameters(run, fields).told(kind, out, at),
         2..=7 => run.answered(kind, calls::call(s, p, fields), out, at),
         10 => run.answered(kind, calls::put_on(s, fields), out, at),
-        12..=18 => run.on(s, queries::query(s, p, fields, out, at)),
+        12..=18 => run.on(s, query(s, p, fields, out, at)),
         _ => bad(run, out, at),
     }
 }

@@ -9,6 +9,7 @@ use lines::line::put;
 use lines::line::put_f32;
 use lines::line::put_u32;
 use lines::line::write;
+use replies::put_number;
 use sampler::Answer;
 use sampler::Sampler;
 use show::put_sampler;
@@ -45,15 +46,6 @@ pub fn room(out: &[u8; 65536], at: usize) -> usize
     }
     write(out, at);
     0
-}
-
-// A record's kind and number, with which its text begins.
-pub fn put_number(out: &mut [u8; 65536], at: usize, kind: u8, number: u8) -> usize
-    requires { ⌜ at + 5 ≤ 65536 ⌝ }
-    ensures { λ r. ⌜ r ≡ at + 5 ⌝ }
-{
-    let first = put(out, at, 2, kind as u64);
-    put(out, first, 1, number as u64)
 }
 
 // The count of channels and the capacity, which end the line, and what is in use of the record.

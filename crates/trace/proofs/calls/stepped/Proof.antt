@@ -26,14 +26,14 @@ cast-lent-2 c = search needs
 lent-requires-2 : tie.Need-lent-requires-2
 lent-requires-2 c κs = search needs
 
-slice-relend-prefix-process-frame : tie.Need-slice-relend-prefix-process-frame
-slice-relend-prefix-process-frame c = search needs
+array-borrow-prefix-frame : tie.Need-array-borrow-prefix-frame
+array-borrow-prefix-frame c = search needs
 
 slice-aggregate-process-frame : tie.Need-slice-aggregate-process-frame
 slice-aggregate-process-frame c = sym (length-take-le _ _ (search needs))
 
-slice-relend-prefix-process-frame-2 : tie.Need-slice-relend-prefix-process-frame-2
-slice-relend-prefix-process-frame-2 c = search needs
+slice-relend-prefix-process-frame : tie.Need-slice-relend-prefix-process-frame
+slice-relend-prefix-process-frame c = search needs
 
 slice-aggregate-process-frame-2 : tie.Need-slice-aggregate-process-frame-2
 slice-aggregate-process-frame-2 c = sym (length-take-le _ _ (search needs))
@@ -43,9 +43,6 @@ process-frame-requires c κs = search needs
 
 same-length : tie.Need-same-length
 same-length c = search needs
-
-same-length-2 : tie.Need-same-length-2
-same-length-2 c = search needs
 
 returns : tie.Need-returns
 returns c = search needs
@@ -61,11 +58,10 @@ stepped-spec =
     u32-at-requires
     cast-lent-2
     lent-requires-2
-    slice-relend-prefix-process-frame
+    array-borrow-prefix-frame
     slice-aggregate-process-frame
-    slice-relend-prefix-process-frame-2
+    slice-relend-prefix-process-frame
     slice-aggregate-process-frame-2
     process-frame-requires
     same-length
-    same-length-2
     returns)

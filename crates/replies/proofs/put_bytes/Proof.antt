@@ -1,9 +1,9 @@
--- `trace::queries::put_bytes` meets its contract. The invariant: each byte passed has its two digits and a space. Assumes nothing.
+-- `replies::put_bytes` meets its contract. The invariant: each byte passed has its two digits and a space. Assumes nothing.
 use Prim.Native.Nat.{_+_, _*_, _-_, _≤_}
 use mathlib.Core.Path.{_≡_}
 use borrow.Author.Needs.{needs}
-use Rattle.trace.proofs.queries.put_bytes.Statement.{statement}
-use Rattle.trace.proofs.queries.put_bytes.Tie as tie
+use Rattle.replies.proofs.put_bytes.Statement.{statement}
+use Rattle.replies.proofs.put_bytes.Tie as tie
 
 abbrev Inv-loop : tie.InvT-loop
 Inv-loop out₀ at text place₀ i₀ out place i = (i ≤ 64) × (place ≡ at + 3 * i)

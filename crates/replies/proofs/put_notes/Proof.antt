@@ -1,9 +1,9 @@
--- `trace::queries::put_notes` meets its contract. The invariant: each note passed has its 16 digits and a space. Assumes nothing.
+-- `replies::put_notes` meets its contract. The invariant: each note passed has its 16 digits and a space. Assumes nothing.
 use Prim.Native.Nat.{_+_, _*_, _-_, _≤_}
 use mathlib.Core.Path.{_≡_}
 use borrow.Author.Needs.{needs}
-use Rattle.trace.proofs.queries.put_notes.Statement.{statement}
-use Rattle.trace.proofs.queries.put_notes.Tie as tie
+use Rattle.replies.proofs.put_notes.Statement.{statement}
+use Rattle.replies.proofs.put_notes.Tie as tie
 
 abbrev Inv-loop : tie.InvT-loop
 Inv-loop out₀ at notes place₀ i₀ out place i = (i ≤ 34) × (place ≡ at + 17 * i)

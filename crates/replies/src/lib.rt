@@ -1,10 +1,8 @@
-// Kinds 12 to 18, the questions: of the channel at 8, with room in a list for the number at 12. Each function puts the line of an answer at a
-// place of `out`, and answers the place after it. Of a list that was lent all is shown.
+// The lines that answer the questions of a host: records of kinds 12 to 18, of the channel at 8, with room in a list for the number at 12.
+// Each function puts the line of an answer at a place of `out`, and answers the place after it. Of a list that was lent all is shown.
 ghost use mathlib.Core.Path.{_≡_};
 ghost use Prim.Native.Nat.{_+_, _*_, _≤_, _<_};
 ghost use lib.ListN.{length};
-use crate::calls::lent;
-use crate::run::put_number;
 use channel::places;
 use common_types::Params;
 use lines::field::u32_at;
@@ -20,6 +18,22 @@ use questions::VoiceInfo;
 use questions::VoiceInfos;
 use recorder::LastOffset;
 use sampler::Sampler;
+
+// How much of `most` is lent, where n are asked for.
+pub fn lent(n: usize, most: usize) -> usize
+    ensures { λ r. ⌜ r ≤ most ⌝ }
+{
+    if n < most { n } else { most }
+}
+
+// A record's kind and number, with which its text begins.
+pub fn put_number(out: &mut [u8; 65536], at: usize, kind: u8, number: u8) -> usize
+    requires { ⌜ at + 5 ≤ 65536 ⌝ }
+    ensures { λ r. ⌜ r ≡ at + 5 ⌝ }
+{
+    let first = put(out, at, 2, kind as u64);
+    put(out, first, 1, number as u64)
+}
 
 pub fn query(s: Sampler, p: Params, fields: &[u8], out: &mut [u8; 65536], at: usize) -> usize
     requires { ⌜ 64 ≤ length (now fields) ⌝ }

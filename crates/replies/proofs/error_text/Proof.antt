@@ -1,9 +1,9 @@
--- `trace::queries::error_text` meets its contract: the part of the list that is lent has the length asked for. Assumes nothing.
+-- `replies::error_text` meets its contract: the part of the list that is lent has the length asked for. Assumes nothing.
 use mathlib.Core.Path.{sym}
 use lib.Seq.{length-take-le}
 use borrow.Author.Needs.{needs}
-use Rattle.trace.proofs.queries.error_text.Statement.{statement}
-use Rattle.trace.proofs.queries.error_text.Tie as tie
+use Rattle.replies.proofs.error_text.Statement.{statement}
+use Rattle.replies.proofs.error_text.Tie as tie
 
 lent-requires : tie.Need-lent-requires
 lent-requires c κs = search needs
