@@ -158,11 +158,11 @@ impl Head {
         ensures { λ r. ⌜ r ≡ passthruOf params unfinished self ⌝ }
     {
         let wanted = passes(params, unfinished);
+        if wanted == self.passthru_on {
+            return self;
+        }
         let volume = self.passthru_volume;
-        self.with_passthru(
-            wanted,
-            passed(volume, self.now, params, wanted, self.passthru_on),
-        )
+        self.with_passthru(wanted, ramp(volume, self.now, params, wanted))
     }
 
     // The end of a sample: the level's step, the change of state, and the clock.
@@ -203,7 +203,8 @@ fn passes(params: Params, unfinished: bool) -> bool
     params.auto_passthru & !unfinished
 }
 
-// The level once it is known whether the input is to pass: a change begins a ramp.
+// The level once it is known whether the input is to pass: a change begins a ramp. Only the end of a sample asks here, so that the common
+// case, no change, is compiled into it.
 fn passed(volume: Volume, now: usize, params: Params, wanted: bool, on: bool) -> Volume
     ensures { λ r. ⌜ r ≡ passedOf volume now params wanted on ⌝ }
 {
