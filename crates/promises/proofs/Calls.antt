@@ -22,10 +22,11 @@ use Rattle.sampler.specs.declared.Sampler.{Sampler}
 use Rattle.sampler.specs.Refusals.{present, channelAt, goodSizes, capacityOf, setUpNumber, sampleNumber, frameNumber}
 use Rattle.sampler.specs.Samplers.{samplerOf, setUpOf, eachOf, answerOf, partOf, playedAt, steppedOf, processSampleOf, Framed, framed, entryOf, entriesOf, framedOf}
 use Rattle.sampler.proofs.Rows.{sizes-count, frame-steps}
-use Rattle.promises.specs.Events.{idle, changes, sounds, act, acts}
-use Rattle.promises.specs.Places.{Housed}
+use Rattle.fates.specs.Events.{idle, changes, sounds, act, acts}
+use Rattle.fates.specs.Places.{Housed}
 use Rattle.promises.specs.Runs.{World, setUp, Call, start, stop, speed, startRecording, stopRecording, reset, sample, frame, asks, code, after, run, chan, doneTo, event, events}
-use Rattle.promises.proofs.Housing.{housed, housed-new}
+use Rattle.promises.proofs.Engine.{changes-same, sounds-same}
+use Rattle.fates.proofs.Housing.{housed, housed-new}
 use Rattle.promises.proofs.Apart.{channel-apart, channel-own, frame-channel}
 
 -- two channels in the record, of which the first `count` are in use, each with its 32 places
@@ -54,7 +55,7 @@ unfolding answerOf act
 answer-channel number d s two few j h = go (eqb number 0)
   where
     go : (b : Bool) → channelAt (cond b (eachOf d s) s) j ≡ act (cond b (changes d) idle) (channelAt s j)
-    go true = each-channel d s two few j h
+    go true = each-channel d s two few j h ∙ sym (changes-same d (channelAt s j))
     go false = refl
 
 -- ---- every call
@@ -70,7 +71,9 @@ module _ (w : World) (two : length (w .sampler .channels) ≡ 2) (few : w .sampl
       m = w .memory
 
       which : (b : Bool) → eqb i j ≡ b → channelAt (steppedOf s i p x m) j ≡ act (cond b (sounds p x (partOf s j m)) idle) (channelAt s j)
-      which true e = subst (λ (y : ℕ). channelAt (steppedOf s y p x m) j ≡ channelSampleOf p x (channelAt s j) (partOf s j m) .channel) (sym (eqb-true i j e)) (channel-own s j p x m (omega arith))
+      which true e =
+          subst (λ (y : ℕ). channelAt (steppedOf s y p x m) j ≡ channelSampleOf p x (channelAt s j) (partOf s j m) .channel) (sym (eqb-true i j e)) (channel-own s j p x m (omega arith))
+          ∙ sounds-same p x (channelAt s j) (partOf s j m)
       which false e = channel-apart s i p x m j (λ q. eqb-false i j e (sym q))
 
       go : (b : Bool) → eqb (sampleNumber s i p (length m)) 0 ≡ b
@@ -90,7 +93,7 @@ module _ (w : World) (two : length (w .sampler .channels) ≡ 2) (few : w .sampl
 
       which : (b : Bool) → channelAt (entriesOf p (length xs) 0 (framed s xs m) .sampler) j ≡ cond b (channelSampleOf p (getD xs j zero32) (channelAt s j) (partOf s j m) .channel) (channelAt s j)
           → channelAt (entriesOf p (length xs) 0 (framed s xs m) .sampler) j ≡ act (cond b (sounds p (getD xs j zero32) (partOf s j m)) idle) (channelAt s j)
-      which true e = e
+      which true e = e ∙ sounds-same p (getD xs j zero32) (channelAt s j) (partOf s j m)
       which false e = e
 
       go : (b : Bool) → eqb (frameNumber s (length xs) p (length m)) 0 ≡ b

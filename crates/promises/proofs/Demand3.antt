@@ -9,7 +9,7 @@ use native.Mathlib.Omega.{arith}
 use borrow.Author.Tests.{lt-leb, eq-eqb}
 use lib.Dec.{eqb, ltb}
 use lib.ListN.{length}
-use lib.Ieee.{Float}
+use lib.Ieee.{Float, binary32, mul}
 use Rattle.walks.specs.Walks.{any}
 use Rattle.common_types.specs.declared.InitParams.{InitParams}
 use Rattle.common_types.specs.declared.Params.{Params}
@@ -17,20 +17,23 @@ use Rattle.common_types.specs.declared.Note.{Note}
 use Rattle.voice.specs.declared.Voice.{Voice}
 use Rattle.voice.specs.Voices.{freshOf}
 use Rattle.channel.specs.declared.Channel.{Channel}
+use Rattle.channel.specs.declared.Played.{Played}
 use Rattle.channel.specs.Heads.{lastTime}
 use Rattle.channel.specs.Channels.{live, fullOf}
-use Rattle.promises.specs.Events.{Event, idle, sounds, act, acts, isReset, isSample, emptyAt, decayOf, lastOf, beforeLast}
-use Rattle.promises.specs.Places.{Housed, voiceAt, at, gone, follow, newOf, followAll, stoppedIn, finishes}
-use Rattle.promises.specs.Sounding.{First}
+use Rattle.fates.specs.Engine.{bornOf}
+use Rattle.fates.specs.Events.{Event, idle, sounds, act, acts, isReset, isSample, emptyAt, decayOf, lastOf, beforeLast}
+use Rattle.fates.specs.Places.{Housed, voiceAt, at, gone, follow, newOf, followAll, stoppedIn, finishes}
+use Rattle.fates.specs.Sounding.{First}
 use Rattle.promises.specs.Runs.{World, setUp, Call, start, stop, speed, startRecording, stopRecording, reset, sample, frame, asks, code, after, run, chan, doneTo, event, events, isResetCall, output, final, before}
 use Rattle.promises.specs.Demand3.{isEmpty, Demand3}
-use Rattle.promises.proofs.Cases.{neither, either}
-use Rattle.promises.proofs.Order.{Came, ordered, covered, fewer}
-use Rattle.promises.proofs.Terms.{sounds-each}
-use Rattle.promises.proofs.Stays.{stays}
-use Rattle.promises.proofs.Goes.{goes}
-use Rattle.promises.proofs.Clocks.{clock-stands, clock-moves, no-sample}
-use Rattle.promises.proofs.OnTime.{begin, madeBy, taken, on-time}
+use Rattle.fates.proofs.Cases.{neither, either}
+use Rattle.fates.proofs.Order.{Came, ordered, covered, fewer}
+use Rattle.fates.proofs.Terms.{sounds-each}
+use Rattle.fates.proofs.Stays.{stays}
+use Rattle.fates.proofs.Goes.{goes}
+use Rattle.fates.proofs.Clocks.{clock-stands, clock-moves, no-sample}
+use Rattle.fates.proofs.OnTime.{begin, taken, on-time}
+use Rattle.promises.proofs.Engine.{step-same}
 use Rattle.promises.proofs.Calls.{Standing, chan-after, chan-run, kept, count-run, standing-after, standing-run, standing-new}
 use Rattle.promises.proofs.Accepted.{heard, start-room}
 
@@ -108,7 +111,7 @@ module _ (w : World) (st : Standing w) (j : ℕ) (k : j < w .sampler .count) whe
 
       first : (p : Params) (x : Float) (m : List ℕ) → chan w j .head .now < lastTime → acts (b ∷ es) (chan w j) .head .now ≡ chan w j .head .now
           → stoppedIn es (act b (chan w j)) (length (live (chan w j))) ≡ false → emptyAt m (acts (b ∷ es) (chan w j)) ≡ false
-          → First p x m (acts (b ∷ es) (chan w j)) (length (live (chan w j))) (madeBy p₀ position note velocity (chan w j))
+          → First p x m (acts (b ∷ es) (chan w j)) (length (live (chan w j))) (bornOf p₀ position note velocity (chan w j))
       unfolding b any isReset isSample es
       first p x m early same free full =
           let q = no-sample (b ∷ es) (chan w j) (events-reset (after w (start position note velocity p₀)) cs j r) early same in
@@ -126,7 +129,7 @@ module _ (w : World) (st : Standing w) (j : ℕ) (k : j < w .sampler .count) whe
           let v : World = run w cs' in
           let n : ℕ = length (live (chan w j)) in
           let early = heard v (standing-run w cs' st) j (omega (arith, count-run w cs')) p x m s h .early in
-          subst (λ (c : Channel). First p x m c n (madeBy p₀ position note velocity (chan w j))) (sym ran)
+          subst (λ (c : Channel). First p x m c n (bornOf p₀ position note velocity (chan w j))) (sym ran)
           (first p x m (omega arith) (ap (λ (c : Channel). c .head .now) (sym ran) ∙ same) (subst (λ (c : Channel). stoppedIn es c n ≡ false) made free)
           (subst (λ (c : Channel). emptyAt m c ≡ false) ran full))
 
@@ -176,7 +179,8 @@ unfolding events
 standing-demand3 w st j k = record {
   counts = counts w st j k;
   stands = λ cs r q. ap (λ (c : Channel). c .head .now) (chan-run w st j k cs) ∙ clock-stands (events w cs j) (chan w j) (events-reset w cs j r) q;
-  hears = λ s p x m h. heard w st j k p x m s h .output;
+  does = next w st j k;
+  hears = λ s p x m h. heard w st j k p x m s h .output ∙ ap (λ (r : Played). mul binary32 (p .volume) (r .output)) (sym (step-same p x (chan w j) m));
   on-time = λ position note velocity p₀ ok data₀ cs r s p x m h same free full. sooner w st j k position note velocity p₀ ok data₀ cs r s p x m h same free full;
   sounds-on = λ n v a u s p x m h e. sounds-each p x m (chan w j) n v a u e;
   stays = λ n v a u cs r g. stays (events w cs j) (chan w j) (house w st j k) (events-reset w cs j r) n v a u g;

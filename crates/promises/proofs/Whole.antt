@@ -27,12 +27,12 @@ use Rattle.sampler.specs.Soundness.{SoundSampler, Reached, Unbroken}
 use Rattle.sampler.proofs.Entries.{part-length, sample-memory-length, frame-memory-length}
 use Rattle.sampler.proofs.Kept.{small, channel-sound}
 use Rattle.sampler.proofs.Reach.{reached-sound, reached-unbroken}
-use Rattle.promises.specs.Events.{sounds, lengthAt, emptyAt, tickAt}
-use Rattle.promises.specs.Places.{voiceAt}
+use Rattle.fates.specs.Events.{sounds, lengthAt, emptyAt, tickAt}
+use Rattle.fates.specs.Places.{voiceAt}
 use Rattle.promises.specs.Runs.{World, setUp, Call, start, stop, speed, startRecording, stopRecording, reset, sample, frame, asks, code, after, run, chan, event}
 use Rattle.promises.specs.Whole.{FittingCall, Whole}
-use Rattle.promises.proofs.Looks.{look-below, look-value}
-use Rattle.promises.proofs.Lives.{live-length}
+use Rattle.fates.proofs.Looks.{look-below, look-value}
+use Rattle.fates.proofs.Lives.{live-length}
 use Rattle.promises.proofs.Calls.{Standing, standing-run, standing-new}
 use Rattle.promises.proofs.Accepted.{Heard, heard, start-opens}
 

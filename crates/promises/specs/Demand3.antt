@@ -15,10 +15,11 @@ use Rattle.common_types.specs.declared.Note.{Note}
 use Rattle.voice.specs.declared.Voice.{Voice}
 use Rattle.voice.specs.Voices.{freshOf}
 use Rattle.channel.specs.declared.Channel.{Channel}
-use Rattle.channel.specs.Channels.{live, fullOf, processSampleOf}
-use Rattle.promises.specs.Events.{sounds, isSample, emptyAt, decayOf}
-use Rattle.promises.specs.Places.{voiceAt, at, gone, follow, followAll, newOf, finishes, stoppedIn, finishedIn}
-use Rattle.promises.specs.Sounding.{Sounds, First}
+use Rattle.channel.specs.Channels.{live, fullOf}
+use Rattle.fates.specs.Engine.{stepOf}
+use Rattle.fates.specs.Events.{act, sounds, isSample, emptyAt, decayOf}
+use Rattle.fates.specs.Places.{voiceAt, at, gone, follow, followAll, newOf, finishes, stoppedIn, finishedIn}
+use Rattle.fates.specs.Sounding.{Sounds, First}
 use Rattle.promises.specs.Runs.{World, Call, start, code, after, run, chan, event, events, isResetCall, output, final, before}
 
 -- channel j's recording holds nothing
@@ -26,12 +27,14 @@ abbrev pub isEmpty : Channel → Bool
 isEmpty c = eqb (c .head .«data_len») 0
 
 pub record Demand3 (w : World) (j : ℕ) : Type 0 where
+  -- What is done: each call does its event to the channel, and nothing else.
+  pub does : (c : Call) → chan (after w c) j ≡ act (event w c j) (chan w j)
   -- What is counted: an accepted sample of the channel, alone or in a frame, moves its clock on by one,
   pub counts : (s : Call) (p : Params) (x : Float) (m : List ℕ) → event w s j ≡ sounds p x m → chan (after w s) j .head .now ≡ chan w j .head .now + 1
   -- and calls among which there is none leave it: so the next one after a start has the start's count.
   pub stands : (cs : List Call) → any isResetCall cs ≡ false → any isSample (events w cs j) ≡ false → chan (run w cs) j .head .now ≡ chan w j .head .now
   -- What is heard: the call's output for the channel is `volume` times the channel's own.
-  pub hears : (s : Call) (p : Params) (x : Float) (m : List ℕ) → event w s j ≡ sounds p x m → output w s j ≡ mul binary32 (p .volume) (processSampleOf p x (chan w j) m .output)
+  pub hears : (s : Call) (p : Params) (x : Float) (m : List ℕ) → event w s j ≡ sounds p x m → output w s j ≡ mul binary32 (p .volume) (stepOf p x (chan w j) m .output)
   -- ON TIME. "a start accepted at count n on a recording that isn't empty sounds in accepted sample n (its recorded value times its level is a term of the output), unless that voice is stopped first or the recording is
   -- empty by then." Stopped means that a stop finds that very voice: with several of one note a stop goes to the oldest. The recording is judged once the sample has recorded.
   pub on-time : (position : Float) (note : Note) (velocity : Float) (p₀ : Params) → code w (start position note velocity p₀) ≡ 0 → isEmpty (chan w j) ≡ false

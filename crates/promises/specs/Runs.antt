@@ -28,7 +28,7 @@ use Rattle.sampler.specs.Samplers.{
   Framed,
   framedOf,
 }
-use Rattle.promises.specs.Events.{Event, idle, changes, sounds}
+use Rattle.fates.specs.Events.{Event, idle, changes, sounds}
 
 pub record World : Type 0 where
   pub sampler : Sampler

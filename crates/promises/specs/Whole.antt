@@ -16,8 +16,8 @@ use Rattle.voice.specs.Voices.{movedOf}
 use Rattle.voice.specs.Soundness.{Fits, FittingParams}
 use Rattle.channel.specs.Channels.{fullOf, memoryOf}
 use Rattle.sampler.specs.Refusals.{badNote, badPosition}
-use Rattle.promises.specs.Events.{sounds, lengthAt, emptyAt, tickAt}
-use Rattle.promises.specs.Places.{voiceAt}
+use Rattle.fates.specs.Events.{sounds, lengthAt, emptyAt, tickAt}
+use Rattle.fates.specs.Places.{voiceAt}
 use Rattle.promises.specs.Runs.{World, Call, start, stop, speed, startRecording, stopRecording, reset, sample, frame, asks, code, chan, event}
 
 -- the floats of a call are of binary32, as every f32 of a program is
