@@ -17,8 +17,6 @@ use Rattle.channel.specs.declared.Found.{Found}
 use Rattle.channel.specs.declared.Found.the-variants.{At, Nothing}
 use Rattle.channel.specs.Heads.{lastTime, nextTime}
 use Rattle.channel.specs.Channels.{
-  live,
-  withVoices,
   anyUnfinishedOf,
   handledOf,
   pushedOf,

@@ -19,9 +19,7 @@ use Rattle.channel.specs.declared.Found.the-variants.{At, Nothing}
 use Rattle.channel.specs.Channels.{
   live,
   findOf,
-  stopPlayingOf,
   spedOf,
-  setNoteSpeedOf,
   startRecordingOf,
   stopRecordingOf,
   resetOf,

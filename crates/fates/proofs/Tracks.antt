@@ -23,7 +23,6 @@ use Rattle.channel.specs.Channels.{
   findOf,
   stopPlayingOf,
   spedOf,
-  setNoteSpeedOf,
   startRecordingOf,
   stopRecordingOf,
   memoryOf,

@@ -186,4 +186,4 @@ module _ (w : World) (st : Standing w) (j : ℕ) (k : j < w .sampler .count) (p 
   heard reset h = absurd (not-change p x m _ (done p x m w reset j h))
   heard (sample i y q) h = sample-heard i y q h
   heard (frame xs q) h = frame-heard xs q h
-  heard asks h = absurd (not-idle p x m (done p x m w asks j h))
+  heard (asks y) h = absurd (not-idle p x m (done p x m w (asks y) j h))

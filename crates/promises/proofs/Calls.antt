@@ -24,7 +24,7 @@ use Rattle.sampler.specs.Samplers.{samplerOf, setUpOf, eachOf, answerOf, partOf
 use Rattle.sampler.proofs.Rows.{sizes-count, frame-steps}
 use Rattle.fates.specs.Events.{idle, changes, sounds, act, acts}
 use Rattle.fates.specs.Places.{Housed}
-use Rattle.promises.specs.Runs.{World, setUp, Call, start, stop, speed, startRecording, stopRecording, reset, sample, frame, asks, code, after, run, chan, doneTo, event, events}
+use Rattle.promises.specs.Runs.{World, setUp, Call, start, stop, speed, startRecording, stopRecording, reset, sample, frame, asks, questionNumber, code, after, run, chan, doneTo, event, events}
 use Rattle.promises.proofs.Engine.{changes-same, sounds-same}
 use Rattle.fates.proofs.Housing.{housed, housed-new}
 use Rattle.promises.proofs.Apart.{channel-apart, channel-own, frame-channel}
@@ -102,6 +102,11 @@ module _ (w : World) (two : length (w .sampler .channels) ≡ 2) (few : w .sampl
       go true e = which (ltb j (length xs)) (frame-channel s xs p m (frame-steps s (length xs) p (length m) (eqb-true _ 0 e)) two j (omega arith))
       go false e = refl
 
+  nothing : (b : Bool) → chan w j ≡ act (cond b idle idle) (chan w j)
+  unfolding act
+  nothing true = refl
+  nothing false = refl
+
   pub chan-after : (c : Call) → chan (after w c) j ≡ act (event w c j) (chan w j)
   unfolding after event code doneTo act
   chan-after (start position note velocity p) = answer-channel _ _ (w .sampler) two few j h
@@ -112,7 +117,7 @@ module _ (w : World) (two : length (w .sampler .channels) ≡ 2) (few : w .sampl
   chan-after reset = answer-channel _ _ (w .sampler) two few j h
   chan-after (sample i x p) = sample-channel i x p
   chan-after (frame xs p) = frame-channels xs p
-  chan-after asks = refl
+  chan-after (asks q) = nothing (eqb (questionNumber (w .sampler) q) 0)
 
 -- ---- what no call changes
 pub record Kept (s r : Sampler) : Type 0 where
@@ -162,7 +167,7 @@ kept w (frame xs p) = go (eqb (frameNumber (w .sampler) (length xs) p (length (w
     go : (b : Bool) → Kept (w .sampler) (cond b (entriesOf p (length xs) 0 f) f .sampler)
     go true = kept-entries p (length xs) 0 f
     go false = kept-refl (w .sampler)
-kept w asks = kept-refl (w .sampler)
+kept w (asks q) = kept-refl (w .sampler)
 
 -- ---- from set-up on
 pub standing-after : (w : World) (c : Call) → Standing w → Standing (after w c)

@@ -56,7 +56,7 @@ event-reset w stopRecording j h = quiet (eqb (code w stopRecording) 0) _ refl
 event-reset w reset j h = absurd (true≢false h)
 event-reset w (sample i x p) j h = quiet (eqb (code w (sample i x p)) 0) _ (quiet (eqb i j) _ refl)
 event-reset w (frame xs p) j h = quiet (eqb (code w (frame xs p)) 0) _ (quiet (ltb j (length xs)) _ refl)
-event-reset w asks j h = quiet (eqb (code w asks) 0) idle refl
+event-reset w (asks q) j h = quiet (eqb (code w (asks q)) 0) idle refl
 
 events-reset : (w : World) (cs : List Call) (j : ℕ) → any isResetCall cs ≡ false → any isReset (events w cs j) ≡ false
 unfolding events any

@@ -1,7 +1,7 @@
 -- The parts put together are what the contracts cite. Assumes nothing.
 use mathlib.Core.Path.{_≡_, refl, sym, ap}
 use mathlib.Core.Bool.{cond}
-use mathlib.Core.List.{List, [], _∷_, map}
+use mathlib.Core.List.{List, [], _∷_}
 use Prim.Native.Nat.{ℕ}
 use lib.Ieee.{Float, add}
 use Rattle.common_types.specs.declared.Params.{Params}

@@ -27,12 +27,12 @@ use Rattle.clip.specs.Refusals.{goodLength, goodClip}
 use Rattle.voice.specs.Voices.{tickOf, lateOf, overOf, shouldRemoveOf, movedOf, productOf, soundedOf, finishOf, playedOutOf, endedOf, volumeStepped, turnOf, freshOf, blankVoice, atSpeedOf, goodVoice}
 use Rattle.channel.specs.Heads.{nextTime, headOf, rampOf, passthruOf, closedOf, goodHead}
 use Rattle.channel.specs.Channels.{live, channelOf, resetOf, anyUnfinishedOf, handledOf, pushedOf, startPlayingOf, wantedOf, findOf, finishedAtOf, stopPlayingOf, spedOf, setNoteSpeedOf, startRecordingOf, stopRecordingOf, keptOf, addedOf, heardOf, playedOf, playedIfOf, takenOf, memoryOf, processSampleOf, changedOf, fullOf, goodVoicesOf, goodChannel}
-use Rattle.sampler.specs.Refusals.{goodSizes, goodSampler, capacityOf, goodWith, setUpNumber, startNumber, stopNumber, speedNumber, plainNumber, sampleNumber, frameNumber}
+use Rattle.sampler.specs.Refusals.{goodSizes, goodSampler, capacityOf, goodWith, setUpNumber, startNumber, stopNumber, speedNumber, plainNumber, sampleNumber, frameNumber, channelNumber}
 use Rattle.sampler.specs.Samplers.{setUpOf, eachOf, answerOf, partOf, playedAt, steppedOf as sampledOf, outputOf, memoryAt, processSampleOf as sampleOf, sampleMemory, entryOf, entriesOf, framedOf}
 use Rattle.fates.specs.Engine.{begunOf, passesOver, heardBy, turnedOf, letsGo, leavesOf, leftOf, turnsOf, stepOf}
 use Rattle.fates.specs.Events.{act, isReset, isSample, decayOf}
 use Rattle.fates.specs.Places.{at, gone, fateOf, follow, stops, becomes, newOf, outOf, playsOut, followAll, stoppedIn, finishedIn}
-use Rattle.promises.specs.Runs.{World, Call, start, stop, speed, startRecording, stopRecording, sample, frame, asks, chan, setUp, code, after, run, doneTo, event, events, isResetCall, output, before}
+use Rattle.promises.specs.Runs.{World, Call, start, stop, speed, startRecording, stopRecording, sample, frame, getDataLen, asks, chan, setUp, questionNumber, code, after, run, doneTo, event, events, isResetCall, output, before}
 use lib.Ieee.{Float, fin, add, sub, mul, div, rem, neg, lt, le, eq, ofInt, toUnsigned, isNan, ofBits, toBits, nanBits, ofFields}
 use Rattle.fates.specs.Sounding.{Sounds, First}
 use Rattle.promises.specs.Demand3.{Demand3}
@@ -40,7 +40,7 @@ use Rattle.promises.proofs.Demand3.{demand3}
 
 -- whatever a run computes by
 computing : Unit {0}
-unfolding floorOf minOf maxOf crossingOf any every without fold seek speedOf timeLengthOf lengthOf loopLengthOf lengthBeyond beyondLimits progressOf levelOf towardOf steppedOf goodRamp goodVolume raised inState misusedOf skippedOf startOf stopOf recordedOf dataAfter goodRecorder leadOf travelAt loopedOf roundTripOf mirroredOf bouncedOf wrappedOf placedOf clipOffsetAt clipToDataOf offsetAt indexAt madeOf backOf foundAt reversingAt shiftFor settledOf withSpeed withMode withLength withDataLength goodLength goodClip tickOf lateOf overOf shouldRemoveOf movedOf productOf soundedOf finishOf playedOutOf endedOf volumeStepped turnOf freshOf blankVoice atSpeedOf goodVoice nextTime headOf rampOf passthruOf closedOf goodHead channelOf resetOf anyUnfinishedOf handledOf pushedOf startPlayingOf wantedOf findOf finishedAtOf stopPlayingOf spedOf setNoteSpeedOf startRecordingOf stopRecordingOf keptOf addedOf heardOf playedOf playedIfOf takenOf begunOf passesOver heardBy turnedOf letsGo leavesOf leftOf turnsOf stepOf memoryOf processSampleOf changedOf fullOf goodVoicesOf goodChannel goodSizes goodSampler capacityOf goodWith setUpNumber startNumber stopNumber speedNumber plainNumber sampleNumber frameNumber setUpOf eachOf answerOf partOf playedAt sampledOf outputOf memoryAt sampleOf sampleMemory entryOf entriesOf framedOf act isReset isSample decayOf fateOf follow stops becomes newOf outOf playsOut followAll stoppedIn finishedIn setUp code after run doneTo event events isResetCall output before add sub mul div rem neg lt le eq ofInt toUnsigned isNan ofBits toBits nanBits ofFields
+unfolding floorOf minOf maxOf crossingOf any every without fold seek speedOf timeLengthOf lengthOf loopLengthOf lengthBeyond beyondLimits progressOf levelOf towardOf steppedOf goodRamp goodVolume raised inState misusedOf skippedOf startOf stopOf recordedOf dataAfter goodRecorder leadOf travelAt loopedOf roundTripOf mirroredOf bouncedOf wrappedOf placedOf clipOffsetAt clipToDataOf offsetAt indexAt madeOf backOf foundAt reversingAt shiftFor settledOf withSpeed withMode withLength withDataLength goodLength goodClip tickOf lateOf overOf shouldRemoveOf movedOf productOf soundedOf finishOf playedOutOf endedOf volumeStepped turnOf freshOf blankVoice atSpeedOf goodVoice nextTime headOf rampOf passthruOf closedOf goodHead channelOf resetOf anyUnfinishedOf handledOf pushedOf startPlayingOf wantedOf findOf finishedAtOf stopPlayingOf spedOf setNoteSpeedOf startRecordingOf stopRecordingOf keptOf addedOf heardOf playedOf playedIfOf takenOf begunOf passesOver heardBy turnedOf letsGo leavesOf leftOf turnsOf stepOf memoryOf processSampleOf changedOf fullOf goodVoicesOf goodChannel goodSizes goodSampler capacityOf goodWith setUpNumber startNumber stopNumber speedNumber plainNumber sampleNumber frameNumber channelNumber setUpOf eachOf answerOf partOf playedAt sampledOf outputOf memoryAt sampleOf sampleMemory entryOf entriesOf framedOf act isReset isSample decayOf fateOf follow stops becomes newOf outOf playsOut followAll stoppedIn finishedIn setUp questionNumber code after run doneTo event events isResetCall output before add sub mul div rem neg lt le eq ofInt toUnsigned isNan ofBits toBits nanBits ofFields
 computing = tt
 
 -- ---- parameters, keys, calls
@@ -106,7 +106,7 @@ older = since (press 60 ∷ [])
 
 -- a note speed, a question, a sample of the other channel, a stop that finds the older voice, one that finds none, and a start that is refused
 abbrev between : List Call
-between = speed (key 60) half ∷ asks ∷ sample 0 zero32 plain ∷ stop (key 60) plain ∷ stop (key 61) plain ∷ start two (key 60) one32 plain ∷ []
+between = speed (key 60) half ∷ asks (getDataLen 1) ∷ sample 0 zero32 plain ∷ stop (key 60) plain ∷ stop (key 61) plain ∷ start two (key 60) one32 plain ∷ []
 
 abbrev younger : World
 younger = run older (press 60 ∷ between)

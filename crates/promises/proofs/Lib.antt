@@ -4,4 +4,5 @@ pub mod Calls
 pub mod Accepted
 pub mod Demand3
 pub mod Whole
+pub mod Outcomes
 pub mod Examples

@@ -1,19 +1,22 @@
 -- No record that set-up and calls reach is broken, what a voice sounds by is recorded, and a start that nothing refuses is accepted. Assumes nothing.
 use mathlib.Core.Path.{_≡_, refl, sym, ap, _∙_, subst}
 use mathlib.Core.Logic.{_≢_}
-use mathlib.Core.Bool.{false}
+use mathlib.Core.Bool.{true, false}
 use mathlib.Core.List.{List, [], _∷_}
 use mathlib.Core.Option.{some}
 use Prim.Native.Nat.{ℕ, _≤_, _<_}
 use native.Mathlib.Nat.{le-trans, le-of-eq}
 use native.Mathlib.Omega.{arith}
 use borrow.Author.Tests.{eqb-false}
+use lib.Dec.{ltb}
 use lib.ListN.{length, getD}
 use lib.Seq.{getD-take}
 use lib.Ieee.{Float}
 use Rattle.walks.specs.Each.{Each}
 use Rattle.common_types.specs.declared.InitParams.{InitParams}
 use Rattle.common_types.specs.declared.Params.{Params}
+use Rattle.common_types.specs.Settings.{beyondLimits}
+use Rattle.recorder.specs.ErrorText.{errorText}
 use Rattle.clip.specs.Positions.{indexAt}
 use Rattle.voice.specs.declared.Voice.{Voice}
 use Rattle.voice.specs.Voices.{movedOf, blankVoice}
@@ -22,14 +25,16 @@ use Rattle.channel.specs.Channels.{live, takenOf, memoryOf}
 use Rattle.channel.specs.Soundness.{FittingChange, SoundChannel}
 use Rattle.channel.proofs.Parts.{data-within}
 use Rattle.channel.proofs.Samples.{taken-sound, memory-kept, voice-recorded}
-use Rattle.sampler.specs.Refusals.{setUpNumber}
+use Rattle.sampler.specs.declared.Sampler.{Sampler}
+use Rattle.sampler.specs.Refusals.{channelAt, goodSampler, noChannel, setUpNumber, channelNumber}
 use Rattle.sampler.specs.Soundness.{SoundSampler, Reached, Unbroken}
 use Rattle.sampler.proofs.Entries.{part-length, sample-memory-length, frame-memory-length}
 use Rattle.sampler.proofs.Kept.{small, channel-sound}
-use Rattle.sampler.proofs.Reach.{reached-sound, reached-unbroken}
+use Rattle.sampler.proofs.Reach.{passes, another, none, reached-sound, reached-unbroken}
 use Rattle.fates.specs.Events.{sounds, lengthAt, emptyAt, tickAt}
 use Rattle.fates.specs.Places.{voiceAt}
-use Rattle.promises.specs.Runs.{World, setUp, Call, start, stop, speed, startRecording, stopRecording, reset, sample, frame, asks, code, after, run, chan, event}
+use Rattle.questions.specs.Questions.{recorderAt, notesOf, listNumber, infoNumber}
+use Rattle.promises.specs.Runs.{World, setUp, Question, getFramesProcessed, getDataLen, isRecording, getLastRecordedOffset, printErrorInfo, iterActiveNotes, getVoiceInfo, questionNumber, Call, start, stop, speed, startRecording, stopRecording, reset, sample, frame, asks, code, after, run, chan, event}
 use Rattle.promises.specs.Whole.{FittingCall, Whole}
 use Rattle.fates.proofs.Looks.{look-below, look-value}
 use Rattle.fates.proofs.Lives.{live-length}
@@ -47,7 +52,7 @@ reached-after size w stopRecording f r = Reached.changed (w .sampler) change.Sto
 reached-after size w reset f r = Reached.changed (w .sampler) change.Reset r f
 reached-after size w (sample j x p) f r = Reached.sampled (w .sampler) j x p (w .memory) r f
 reached-after size w (frame xs p) f r = Reached.framed (w .sampler) xs p (w .memory) r f
-reached-after size w asks f r = r
+reached-after size w (asks q) f r = r
 
 memory-after : (w : World) (c : Call) → length (after w c .memory) ≡ length (w .memory)
 unfolding after
@@ -59,7 +64,7 @@ memory-after w stopRecording = refl
 memory-after w reset = refl
 memory-after w (sample j x p) = sample-memory-length (w .sampler) j x p (w .memory)
 memory-after w (frame xs p) = frame-memory-length (w .sampler) xs p (w .memory)
-memory-after w asks = refl
+memory-after w (asks q) = refl
 
 reached-run : (size : ℕ) (w : World) (cs : List Call) → Each FittingCall cs → Reached size (w .sampler) → Reached size (run w cs .sampler)
 unfolding run Each
@@ -72,17 +77,28 @@ memory-run w [] = refl
 memory-run w (c ∷ cs) = memory-run (after w c) cs ∙ memory-after w c
 
 -- ---- row 9
-no-nine : (w : World) → Unbroken (w .sampler) (length (w .memory)) → (c : Call) → code w c ≢ 9
+asked-nine : (s : Sampler) → goodSampler s ≡ true → (q : Question) → questionNumber s q ≢ 9
+unfolding questionNumber channelNumber listNumber infoNumber
+asked-nine s g (getFramesProcessed j) = passes (goodSampler s) _ g (another (noChannel s j) 1 0 tt none)
+asked-nine s g (getDataLen j) = passes (goodSampler s) _ g (another (noChannel s j) 1 0 tt none)
+asked-nine s g (isRecording j) = passes (goodSampler s) _ g (another (noChannel s j) 1 0 tt none)
+asked-nine s g (getLastRecordedOffset j) = passes (goodSampler s) _ g (another (noChannel s j) 1 0 tt none)
+asked-nine s g (printErrorInfo j text) = passes (goodSampler s) _ g (another (noChannel s j) 1 _ tt (another (ltb (length text) (length (errorText (recorderAt s j)))) 8 0 tt none))
+asked-nine s g (iterActiveNotes j notes) = passes (goodSampler s) _ g (another (noChannel s j) 1 _ tt (another (ltb (length notes) (length (notesOf (live (channelAt s j))))) 8 0 tt none))
+asked-nine s g (getVoiceInfo j p room) =
+    passes (goodSampler s) _ g (another (noChannel s j) 1 _ tt (another (beyondLimits p) 4 _ tt (another (ltb room (channelAt s j .count)) 8 0 tt none)))
+
+no-nine : (w : World) → SoundSampler (w .sampler) → Unbroken (w .sampler) (length (w .memory)) → (c : Call) → code w c ≢ 9
 unfolding code
-no-nine w u (start position note velocity p) = u .change (change.Start p position note velocity)
-no-nine w u (stop note p) = u .change (change.Stop p note)
-no-nine w u (speed note s) = u .change (change.Speed note s)
-no-nine w u startRecording = u .change change.StartRecording
-no-nine w u stopRecording = u .change change.StopRecording
-no-nine w u reset = u .change change.Reset
-no-nine w u (sample j x p) = u .sample j p
-no-nine w u (frame xs p) = u .frame (length xs) p
-no-nine w u asks = λ e. omega arith
+no-nine w h u (start position note velocity p) = u .change (change.Start p position note velocity)
+no-nine w h u (stop note p) = u .change (change.Stop p note)
+no-nine w h u (speed note s) = u .change (change.Speed note s)
+no-nine w h u startRecording = u .change change.StartRecording
+no-nine w h u stopRecording = u .change change.StopRecording
+no-nine w h u reset = u .change change.Reset
+no-nine w h u (sample j x p) = u .sample j p
+no-nine w h u (frame xs p) = u .frame (length xs) p
+no-nine w h u (asks q) = asked-nine (w .sampler) (h .good) q
 
 -- ---- what a voice sounds by
 module _ (w : World) (st : Standing w) (h : SoundSampler (w .sampler)) (j : ℕ) (k : j < w .sampler .count) (n : ℕ) (v : Voice) (s : voiceAt (chan w j) n ≡ some v)
@@ -125,7 +141,7 @@ whole count q m z cs f =
     let r = reached-run (length m) (setUp count q m) cs f (Reached.new count q z) in
     let h = reached-sound (length m) (w .sampler) r in
     record {
-      unbroken = no-nine w (reached-unbroken (length m) (w .sampler) r (length (w .memory)) (le-of-eq (sym (memory-run (setUp count q m) cs))));
+      unbroken = no-nine w h (reached-unbroken (length m) (w .sampler) r (length (w .memory)) (le-of-eq (sym (memory-run (setUp count q m) cs))));
       inside = λ j k n v s c g p x l e full. (index-inside w st h j k n v s c g p x l e full, data-inside w st h j k n v s c g p x l e full);
       opens = λ position note velocity p a b d u. start-opens w st position note velocity p (h .good) a b d u;
     }

@@ -1,3 +1,4 @@
 pub mod Runs
 pub mod Demand3
 pub mod Whole
+pub mod Outcomes

@@ -30,7 +30,7 @@ FittingCall stopRecording = Unit {0}
 FittingCall reset = Unit {0}
 FittingCall (sample j x p) = FittingParams p
 FittingCall (frame xs p) = FittingParams p
-FittingCall asks = Unit {0}
+FittingCall (asks q) = Unit {0}
 
 pub record Whole (w : World) : Type 0 where
   -- Row 9 answers no call.
