@@ -5,4 +5,5 @@ pub mod Accepted
 pub mod Demand3
 pub mod Whole
 pub mod Outcomes
+pub mod Table
 pub mod Examples
