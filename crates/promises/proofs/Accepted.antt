@@ -27,8 +27,7 @@ use Rattle.sampler.specs.Samplers.{partOf, playedAt, outputOf, processSampleOf,
 use Rattle.sampler.proofs.Rows.{passed, frame-steps}
 use Rattle.sampler.proofs.Entries.{sample-reaches, frame-reaches}
 use Rattle.fates.specs.Events.{idle, changes, sounds}
-use Rattle.promises.specs.Runs.{World, Call, start, stop, speed, startRecording, stopRecording, reset, sample, frame, asks, code, chan, doneTo, event, output}
-use Rattle.promises.specs.Whole.{FittingCall}
+use Rattle.promises.specs.Runs.{World, Call, start, stop, speed, startRecording, stopRecording, reset, sample, frame, asks, code, chan, doneTo, event, output, FittingCall}
 use Rattle.fates.proofs.Cases.{neither}
 use Rattle.promises.proofs.Apart.{frame-output}
 use Rattle.promises.proofs.Calls.{Standing}

@@ -25,7 +25,7 @@ use Rattle.fates.specs.Events.{Event, idle, sounds, act, acts, isReset, isSampl
 use Rattle.fates.specs.Places.{Housed, voiceAt, at, gone, follow, newOf, followAll, stoppedIn, finishes}
 use Rattle.fates.specs.Sounding.{First}
 use Rattle.promises.specs.Runs.{World, setUp, Call, start, stop, speed, startRecording, stopRecording, reset, sample, frame, asks, code, after, run, chan, doneTo, event, events, isResetCall, output, final, before}
-use Rattle.promises.specs.Demand3.{isEmpty, Demand3}
+use Rattle.promises.specs.Demands.{isEmpty, Demand3}
 use Rattle.fates.proofs.Cases.{neither, either}
 use Rattle.fates.proofs.Order.{Came, ordered, covered, fewer}
 use Rattle.fates.proofs.Terms.{sounds-each}

@@ -35,7 +35,7 @@ use Rattle.fates.specs.Places.{at, gone, fateOf, follow, stops, becomes, newOf,
 use Rattle.promises.specs.Runs.{World, Call, start, stop, speed, startRecording, stopRecording, sample, frame, getDataLen, asks, chan, setUp, questionNumber, code, after, run, doneTo, event, events, isResetCall, output, before}
 use lib.Ieee.{Float, fin, add, sub, mul, div, rem, neg, lt, le, eq, ofInt, toUnsigned, isNan, ofBits, toBits, nanBits, ofFields}
 use Rattle.fates.specs.Sounding.{Sounds, First}
-use Rattle.promises.specs.Demand3.{Demand3}
+use Rattle.promises.specs.Demands.{Demand3}
 use Rattle.promises.proofs.Demand3.{demand3}
 
 -- whatever a run computes by

@@ -6,4 +6,5 @@ pub mod Demand3
 pub mod Whole
 pub mod Outcomes
 pub mod Table
+pub mod Demands
 pub mod Examples

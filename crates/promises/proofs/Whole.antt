@@ -34,8 +34,8 @@ use Rattle.sampler.proofs.Reach.{passes, another, none, reached-sound, reached-
 use Rattle.fates.specs.Events.{sounds, lengthAt, emptyAt, tickAt}
 use Rattle.fates.specs.Places.{voiceAt}
 use Rattle.questions.specs.Questions.{recorderAt, notesOf, listNumber, infoNumber}
-use Rattle.promises.specs.Runs.{World, setUp, Question, getFramesProcessed, getDataLen, isRecording, getLastRecordedOffset, printErrorInfo, iterActiveNotes, getVoiceInfo, questionNumber, Call, start, stop, speed, startRecording, stopRecording, reset, sample, frame, asks, code, after, run, chan, event}
-use Rattle.promises.specs.Whole.{FittingCall, Whole}
+use Rattle.promises.specs.Runs.{World, setUp, Question, getFramesProcessed, getDataLen, isRecording, getLastRecordedOffset, printErrorInfo, iterActiveNotes, getVoiceInfo, questionNumber, Call, start, stop, speed, startRecording, stopRecording, reset, sample, frame, asks, code, after, run, chan, event, FittingCall}
+use Rattle.promises.specs.Demands.{Whole}
 use Rattle.fates.proofs.Looks.{look-below, look-value}
 use Rattle.fates.proofs.Lives.{live-length}
 use Rattle.promises.proofs.Calls.{Standing, standing-run, standing-new}
@@ -54,7 +54,7 @@ reached-after size w (sample j x p) f r = Reached.sampled (w .sampler) j x p (w 
 reached-after size w (frame xs p) f r = Reached.framed (w .sampler) xs p (w .memory) r f
 reached-after size w (asks q) f r = r
 
-memory-after : (w : World) (c : Call) → length (after w c .memory) ≡ length (w .memory)
+pub memory-after : (w : World) (c : Call) → length (after w c .memory) ≡ length (w .memory)
 unfolding after
 memory-after w (start position note velocity p) = refl
 memory-after w (stop note p) = refl

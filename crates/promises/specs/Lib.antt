@@ -1,5 +1,4 @@
 pub mod Runs
-pub mod Demand3
-pub mod Whole
 pub mod Outcomes
 pub mod Table
+pub mod Demands

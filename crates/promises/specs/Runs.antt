@@ -10,6 +10,7 @@ use Rattle.common_types.specs.declared.InitParams.{InitParams}
 use Rattle.common_types.specs.declared.Params.{Params}
 use Rattle.common_types.specs.declared.Note.{Note}
 use Rattle.clip.specs.Positions.{zero32}
+use Rattle.voice.specs.Soundness.{Fits, FittingParams}
 use Rattle.channel.specs.declared.Channel.{Channel}
 use Rattle.channel.specs.declared.Change.the-variants as change
 use Rattle.sampler.specs.declared.Sampler.{Sampler}
@@ -156,3 +157,15 @@ final c (d ∷ ds) = final d ds
 unfoldable pub before : World → Call → List Call → World
 before w c [] = w
 before w c (d ∷ ds) = before (after w c) d ds
+
+-- ---- the floats of a call are of binary32, as every f32 of a program is
+unfoldable pub FittingCall : Call → Type 0
+FittingCall (start position note velocity p) = FittingParams p × Fits position × Fits velocity
+FittingCall (stop note p) = FittingParams p
+FittingCall (speed note s) = Fits s
+FittingCall startRecording = Unit {0}
+FittingCall stopRecording = Unit {0}
+FittingCall reset = Unit {0}
+FittingCall (sample j x p) = FittingParams p
+FittingCall (frame xs p) = FittingParams p
+FittingCall (asks q) = Unit {0}
