@@ -1,14 +1,13 @@
 -- The demands hold. Assumes nothing.
-use mathlib.Core.Path.{_≡_, refl, sym, ap, _∙_, subst}
+use mathlib.Core.Path.{_≡_, refl, ap, _∙_}
 use mathlib.Core.Bool.{Bool, true, false, not, cond}
 use mathlib.Core.Logic.{_⊎_, inl, inr, _≢_}
-use mathlib.Core.List.{List}
 use Prim.Native.Nat.{ℕ}
 use borrow.Author.Tests.{eqb-true}
 use lib.Dec.{eqb}
 use lib.ListN.{length}
 use lib.Ieee.{Float, nan, inf, fin, isNan, lt, binary32}
-use Rattle.binary32.specs.Leaves.{floorOf, minOf, maxOf, bitsOf, floatOf}
+use Rattle.binary32.specs.Leaves.{minOf, maxOf}
 use Rattle.binary32.proofs.Halves.{ofInt-whole}
 use Rattle.binary32.proofs.Casts.{narrow}
 use Rattle.binary32.proofs.Floors.{floor-exact, floor-cast}
@@ -16,11 +15,9 @@ use Rattle.binary32.proofs.Patterns.{value-back, pattern-back}
 use Rattle.common_types.proofs.Packing.{unpack-pack, pack-unpack}
 use Rattle.recorder.specs.ErrorText.{errorText}
 use Rattle.clip.proofs.Offsets.{clip-offset-inside, offset-within}
-use Rattle.clip.proofs.Answers.{speed-found}
 use Rattle.channel.specs.declared.Change.{Change}
 use Rattle.channel.specs.Channels.{live}
 use Rattle.sampler.specs.declared.Answer.{Answer}
-use Rattle.sampler.specs.declared.Sampler.{Sampler}
 use Rattle.sampler.specs.Refusals.{channelAt, goodSampler, noChannel, row, setUpNumber, startNumber, stopNumber, speedNumber, plainNumber, sampleNumber, frameNumber, channelNumber}
 use Rattle.sampler.specs.Samplers.{setUpOf, eachOf, answerOf, processSampleOf, sampleMemory, steppedOf, memoryAt, Framed, framed, entriesOf, framedOf}
 use Rattle.questions.specs.Questions.{recorderAt, notesOf, inFront, listNumber, listAfter, infoNumber}
@@ -48,12 +45,12 @@ use Rattle.promises.specs.Runs.{
   code,
   after,
 }
-use Rattle.promises.specs.Outcomes.{new, on, Outcome, Allows, leftBy}
+use Rattle.promises.specs.Outcomes.{on, Outcome, Allows}
 use Rattle.promises.specs.Demands.{Untouched, Demand1, Demand2, Demands}
 use Rattle.promises.proofs.Outcomes.{settled, number-code, left-after, chain-run}
 use Rattle.promises.proofs.Table.{table-holds}
 use Rattle.promises.proofs.Demand3.{demand3}
-use Rattle.promises.proofs.Whole.{memory-after, whole}
+use Rattle.promises.proofs.Whole.{memory-after, no-panic, whole}
 
 -- ---- a refusal
 
@@ -146,8 +143,6 @@ demand1 = record {
   plain-rows = plain-rows;
   set-up-rows = λ count p m r h. ap (λ (a : Answer). a .number) h;
   held = λ w c r h n. (left-after w c r h ∙ after-held w c n, untouched w c r h n);
-  inside-clip = clip-offset-inside;
-  found-again = speed-found;
 }
 
 -- ---- demand 2
@@ -179,4 +174,4 @@ demand2 = record {
 }
 
 pub demands : Demands
-demands = record { first = demand1; second = demand2; third = demand3; whole = whole; runs = λ w u cs h. chain-run h }
+demands = record { first = demand1; no-panic = no-panic; second = demand2; third = demand3; whole = whole; runs = λ w u cs h. chain-run h }

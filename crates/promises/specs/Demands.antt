@@ -1,7 +1,7 @@
 -- The client's demands, sentence by sentence: the words, then what is proved of them. `proofs/Demands: demands` proves the record `Demands` at the end of this file. A reader needs beside it only the definitions that
 -- it names: docs/READING.md says where each is and which rule of document 01 it says. Definitions only. Assumes nothing.
 use mathlib.Core.Path.{_≡_}
-use mathlib.Core.Bool.{Bool, true, false, not, cond}
+use mathlib.Core.Bool.{Bool, true, false, not}
 use mathlib.Core.Logic.{_⊎_, _≢_}
 use mathlib.Core.List.{List, [], _∷_, _++_}
 use mathlib.Core.Option.{some}
@@ -24,10 +24,11 @@ use Rattle.clip.specs.declared.Clip.{Clip}
 use Rattle.clip.specs.declared.Found.the-variants.{At}
 use Rattle.clip.specs.declared.FoundAnswer.the-variants.{Done}
 use Rattle.clip.specs.Positions.{clipOffsetAt, offsetAt, indexAt}
-use Rattle.clip.specs.Updates.{atSpeed, backOf}
+use Rattle.clip.specs.Updates.{atSpeed, atMode, atLength, backOf, foundAt, withSpeed, withLength, withDataLength}
 use Rattle.clip.specs.Refusals.{dataToClipOf}
 use Rattle.clip.specs.Bounds.{Sound, Inside, Within}
 use Rattle.voice.specs.declared.Voice.{Voice}
+use Rattle.voice.specs.declared.Tick.{Tick}
 use Rattle.voice.specs.Voices.{movedOf, freshOf}
 use Rattle.channel.specs.declared.Channel.{Channel}
 use Rattle.channel.specs.Channels.{live, fullOf, memoryOf}
@@ -131,10 +132,37 @@ pub record Demand1 : Type 0 where
   pub set-up-rows : (count : ℕ) (p : InitParams) (m : List ℕ) (r : Answer) → Allows (new count p m) r → r .number ≡ row (not (goodSizes count (capacityOf count (length m)))) 9 0
   -- "and state, sample memory and frame hold what they held." So do lent lists.
   pub held : (w : World) (c : Call) (r : Outcome (on w c)) → Allows (on w c) r → code w c ≢ 0 → (leftBy w c r ≡ w) × Untouched w c r
-  -- "No accepted call reaches a panic of the Rust." docs/READING.md has each place of it that can panic. A position that isn't inside the clip, or a place of the data that isn't found again in an update:
-  pub inside-clip : (c : Clip) (now : ℕ) → Sound c → Inside (clipOffsetAt c now) (c .length)
-  pub found-again : (c : Clip) (now : ℕ) → Sound c → (speed : Float) → dataToClipOf (atSpeed c speed) (offsetAt c now) ≡ Done (At (backOf c (offsetAt c now)))
-  -- Times before a start, write places past the data and bad clips are row 9's; an index past the recording would be `Whole`'s `inside`. From set-up on row 9 answers no call: `Whole`, below.
+
+-- "No accepted call reaches a panic of the Rust." docs/READING.md has each place of it that can panic. Those that arguments reach are refused by the rows above; the others are shut out in every record that set-up and calls leave.
+
+-- a voice's clip in a sample, after its length's update, and before its mode's
+abbrev pub lengthened : Tick → Voice → Clip
+lengthened t v = withLength (v .clip2) (t .now) (t .length)
+
+abbrev pub toldLength : Tick → Voice → Clip
+toldLength t v = withDataLength (withSpeed (lengthened t v) (t .now) (mul binary32 (v .speed) (t .speed))) (t .now) (t .«data_length»)
+
+-- the updates ask where the old offset lies in the clip as it is to be: it is in the data, and after another speed or mode it is found
+pub record Asked (t : Tick) (v : Voice) : Type 0 where
+  pub length : dataToClipOf (atLength (v .clip2) (t .length)) (offsetAt (v .clip2) (t .now)) ≡ Done (foundAt (atLength (v .clip2) (t .length)) (offsetAt (v .clip2) (t .now)))
+  pub speed : dataToClipOf (atSpeed (lengthened t v) (mul binary32 (v .speed) (t .speed))) (offsetAt (lengthened t v) (t .now)) ≡ Done (At (backOf (lengthened t v) (offsetAt (lengthened t v) (t .now))))
+  pub mode : dataToClipOf (atMode (toldLength t v) (t .mode)) (offsetAt (toldLength t v) (t .now)) ≡ Done (At (backOf (toldLength t v) (offsetAt (toldLength t v) (t .now))))
+
+-- a voice of channel j that has its turn in the sample s: at place n it is v, and the recording isn't empty
+pub record Plays (w : World) (j n : ℕ) (v : Voice) (s : Call) (p : Params) (x : Float) (m : List ℕ) : Type 0 where
+  pub present : j < w .sampler .count
+  pub stands : voiceAt (chan w j) n ≡ some v
+  pub floats : FittingCall s
+  pub sample : event w s j ≡ sounds p x m
+  pub finds : emptyAt m (chan w j) ≡ false
+
+pub record NoPanic (w : World) : Type 0 where
+  -- The record is good by row 9's own tests: no time lies after the clock, no write place past the data, no ramp is empty, and no clip is bad.
+  pub good : goodSampler (w .sampler) ≡ true
+  pub asked : (j n : ℕ) (v : Voice) (s : Call) (p : Params) (x : Float) (m : List ℕ) → Plays w j n v s p x m → Asked (tickAt p m (chan w j)) v
+  -- The index that a voice sounds by lies inside the recording, and the recording inside the channel's memory: so "its recorded value", in demand 3, is no default.
+  pub inside : (j n : ℕ) (v : Voice) (s : Call) (p : Params) (x : Float) (m : List ℕ) → Plays w j n v s p x m
+      → (indexAt (movedOf (tickAt p m (chan w j)) v) (chan w j .head .now) < lengthAt m (chan w j)) × (lengthAt m (chan w j) ≤ length (memoryOf x (chan w j) m))
 
 -- ==== Demand 2
 
@@ -220,10 +248,6 @@ pub record Demand3 (w : World) (j : ℕ) : Type 0 where
 pub record Whole (w : World) : Type 0 where
   -- Row 9 answers no call.
   pub unbroken : (c : Call) → code w c ≢ 9
-  -- "its recorded value": the index that a voice sounds by lies inside the recording, and the recording inside the channel's memory.
-  pub inside : (j : ℕ) → j < w .sampler .count → (n : ℕ) (v : Voice) → voiceAt (chan w j) n ≡ some v
-      → (s : Call) → FittingCall s → (p : Params) (x : Float) (m : List ℕ) → event w s j ≡ sounds p x m → emptyAt m (chan w j) ≡ false
-      → (indexAt (movedOf (tickAt p m (chan w j)) v) (chan w j .head .now) < lengthAt m (chan w j)) × (lengthAt m (chan w j) ≤ length (memoryOf x (chan w j) m))
   -- "an accepted start can take the place": a start that rows 2 to 4 let through is accepted where no channel in use is full.
   pub opens : (position : Float) (note : Note) (velocity : Float) (p : Params) → badNote note ≡ false → badPosition position ≡ false → beyondLimits p ≡ false
       → ((j : ℕ) → j < w .sampler .count → fullOf (chan w j) ≡ false) → code w (start position note velocity p) ≡ 0
@@ -232,10 +256,11 @@ pub record Whole (w : World) : Type 0 where
 
 pub record Demands : Type 0 where
   pub first : Demand1
+  pub no-panic : (count : ℕ) (p : InitParams) (m : List ℕ) → setUpNumber count (length m) ≡ 0 → (cs : List Call) → Each FittingCall cs → NoPanic (run (setUp count p m) cs)
   pub second : Demand2
   -- of every record and memory that set-up and any calls leave, for each channel
   pub third : (count : ℕ) (p : InitParams) (m : List ℕ) (cs : List Call) (j : ℕ) → j < run (setUp count p m) cs .sampler .count → Demand3 (run (setUp count p m) cs) j
-  -- and that this isn't met by an engine whose records break, or whose voices sound by a default
+  -- and that this isn't met by an engine whose records break
   pub whole : (count : ℕ) (p : InitParams) (m : List ℕ) → setUpNumber count (length m) ≡ 0 → (cs : List Call) → Each FittingCall cs → Whole (run (setUp count p m) cs)
   -- What calls leave is what their contracts alone allow them to leave.
   pub runs : (w u : World) (cs : List Call) → Chain w cs u → u ≡ run w cs
