@@ -22,11 +22,12 @@ use Rattle.channel.specs.Heads.{lastTime}
 use Rattle.channel.specs.Channels.{live, fullOf}
 use Rattle.fates.specs.Engine.{bornOf}
 use Rattle.fates.specs.Events.{Event, idle, sounds, act, acts, isReset, isSample, emptyAt, decayOf, lastOf, beforeLast}
-use Rattle.fates.specs.Places.{Housed, voiceAt, at, gone, follow, newOf, followAll, stoppedIn, finishes}
+use Rattle.fates.specs.Places.{Housed, voiceAt, at, gone, follow, becomes, newOf, followAll, stoppedIn, finishes}
 use Rattle.fates.specs.Sounding.{First}
 use Rattle.promises.specs.Runs.{World, setUp, Call, start, stop, speed, startRecording, stopRecording, reset, sample, frame, asks, code, after, run, chan, doneTo, event, events, isResetCall, output, final, before}
 use Rattle.promises.specs.Demands.{isEmpty, Demand3}
 use Rattle.fates.proofs.Cases.{neither, either}
+use Rattle.fates.proofs.Tracks.{tracks}
 use Rattle.fates.proofs.Order.{Came, ordered, covered, fewer}
 use Rattle.fates.proofs.Terms.{sounds-each}
 use Rattle.fates.proofs.Stays.{stays}
@@ -184,6 +185,7 @@ standing-demand3 w st j k = record {
   on-time = λ position note velocity p₀ ok data₀ cs r s p x m h same free full. sooner w st j k position note velocity p₀ ok data₀ cs r s p x m h same free full;
   sounds-on = λ n v a u s p x m h e. sounds-each p x m (chan w j) n v a u e;
   stays = λ n v a u cs r g. stays (events w cs j) (chan w j) (house w st j k) (events-reset w cs j r) n v a u g;
+  follows = λ c n i v s f. subst (λ (d : Channel). voiceAt d i ≡ some (becomes (event w c j) (chan w j) n v)) (sym (next w st j k c)) (tracks (event w c j) (chan w j) (house w st j k) n i v s f);
   in-order = λ c i n a b u v o s r f g. ordered (event w c j) (chan w j) i n a b u v o s r f g;
   none-else = λ c i u s. came w st j k c u i (covered (event w c j) (chan w j) (house w st j k) i u (subst (λ (d : Channel). voiceAt d i ≡ some u) (next w st j k c) s));
   goes = λ c n v s f cs p x m h e l. ends w st j k c n v s f cs p x m h e l;

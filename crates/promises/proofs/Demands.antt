@@ -2,6 +2,7 @@
 use mathlib.Core.Path.{_≡_, refl, ap, _∙_}
 use mathlib.Core.Bool.{Bool, true, false, not, cond}
 use mathlib.Core.Logic.{_⊎_, inl, inr, _≢_}
+use mathlib.Core.List.{List}
 use Prim.Native.Nat.{ℕ}
 use borrow.Author.Tests.{eqb-true}
 use lib.Dec.{eqb}
@@ -13,16 +14,21 @@ use Rattle.binary32.proofs.Casts.{narrow}
 use Rattle.binary32.proofs.Floors.{floor-exact, floor-cast}
 use Rattle.binary32.proofs.Patterns.{value-back, pattern-back}
 use Rattle.common_types.proofs.Packing.{unpack-pack, pack-unpack}
+use Rattle.common_types.specs.declared.InitParams.{InitParams}
+use Rattle.common_types.specs.declared.Params.{Params}
 use Rattle.recorder.specs.ErrorText.{errorText}
 use Rattle.clip.proofs.Offsets.{clip-offset-inside, offset-within}
 use Rattle.channel.specs.declared.Change.{Change}
 use Rattle.channel.specs.Channels.{live}
+use Rattle.sampler.specs.declared.Sampler.{Sampler}
 use Rattle.sampler.specs.declared.Answer.{Answer}
-use Rattle.sampler.specs.Refusals.{channelAt, goodSampler, noChannel, row, setUpNumber, startNumber, stopNumber, speedNumber, plainNumber, sampleNumber, frameNumber, channelNumber}
-use Rattle.sampler.specs.Samplers.{setUpOf, eachOf, answerOf, processSampleOf, sampleMemory, steppedOf, memoryAt, Framed, framed, entriesOf, framedOf}
+use Rattle.sampler.specs.Refusals.{channelAt, goodSizes, goodSampler, capacityOf, goodWith, noChannel, row, setUpNumber, startNumber, stopNumber, speedNumber, plainNumber, sampleNumber, frameNumber, channelNumber}
+use Rattle.sampler.specs.Samplers.{samplerOf, setUpOf, partOf, eachOf, answerOf, processSampleOf, sampleMemory, steppedOf, memoryAt, Framed, framed, entriesOf, framedOf}
+use Rattle.sampler.proofs.Rows.{sample-ready}
 use Rattle.questions.specs.Questions.{recorderAt, notesOf, inFront, listNumber, listAfter, infoNumber}
 use Rattle.promises.specs.Runs.{
   World,
+  setUp,
   Question,
   getFramesProcessed,
   getDataLen,
@@ -47,6 +53,7 @@ use Rattle.promises.specs.Runs.{
 }
 use Rattle.promises.specs.Outcomes.{on, Outcome, Allows}
 use Rattle.promises.specs.Demands.{Untouched, Demand1, Demand2, Demands}
+use Rattle.promises.proofs.Apart.{part-apart}
 use Rattle.promises.proofs.Outcomes.{settled, number-code, left-after, chain-run}
 use Rattle.promises.proofs.Table.{table-holds}
 use Rattle.promises.proofs.Demand3.{demand3}
@@ -110,6 +117,46 @@ untouched w (asks (iterActiveNotes j notes)) r h n =
     h .1 ∙ other (listNumber (w .sampler) j answer (length notes)) (inFront answer notes) notes n
 untouched w (asks (getVoiceInfo j p room)) r h n = tt
 
+-- ---- a refused set-up
+empty-record : (p : InitParams) (m : List ℕ) (c : Call) → code (record { sampler = samplerOf 0 p 0; memory = m }) c ≡ 9
+unfolding code questionNumber startNumber stopNumber speedNumber plainNumber sampleNumber frameNumber channelNumber listNumber infoNumber goodWith goodSampler goodSizes
+empty-record p m (start position note velocity q) = refl
+empty-record p m (stop note q) = refl
+empty-record p m (speed note s) = refl
+empty-record p m startRecording = refl
+empty-record p m stopRecording = refl
+empty-record p m reset = refl
+empty-record p m (sample j x q) = refl
+empty-record p m (frame xs q) = refl
+empty-record p m (asks (getFramesProcessed j)) = refl
+empty-record p m (asks (getDataLen j)) = refl
+empty-record p m (asks (isRecording j)) = refl
+empty-record p m (asks (getLastRecordedOffset j)) = refl
+empty-record p m (asks (printErrorInfo j text)) = refl
+empty-record p m (asks (iterActiveNotes j notes)) = refl
+empty-record p m (asks (getVoiceInfo j q room)) = refl
+
+unmade : (count : ℕ) (p : InitParams) (m : List ℕ) → setUpNumber count (length m) ≢ 0 → (c : Call) → code (setUp count p m) c ≡ 9
+unfolding setUp setUpOf
+unmade count p m h c =
+    ap (λ (s : Sampler). code (record { sampler = s; memory = m }) c) (other (setUpNumber count (length m)) (samplerOf count p (capacityOf count (length m))) (samplerOf 0 p 0) h)
+    ∙ empty-record p m c
+
+-- ---- the parts of the memory
+part-held : (w : World) (i : ℕ) (x : Float) (p : Params) (j : ℕ) → j ≢ i → partOf (w .sampler) j (sampleMemory (w .sampler) i x p (w .memory)) ≡ partOf (w .sampler) j (w .memory)
+unfolding sampleMemory
+part-held w i x p j e = go (eqb (sampleNumber s i p (length m)) 0) refl
+  where
+    s : Sampler
+    s = w .sampler
+
+    m : List ℕ
+    m = w .memory
+
+    go : (b : Bool) → eqb (sampleNumber s i p (length m)) 0 ≡ b → partOf s j (cond b (memoryAt s i x m) m) ≡ partOf s j m
+    go true q = part-apart s i m (sample-ready s i p (length m) (eqb-true _ 0 q) .part) x j e
+    go false q = refl
+
 -- ---- rows
 query-rows : (w : World) (j : ℕ) (q : Question) → (q ≡ getFramesProcessed j) ⊎ ((q ≡ getDataLen j) ⊎ ((q ≡ isRecording j) ⊎ (q ≡ getLastRecordedOffset j)))
     → code w (asks q) ≡ row (not (goodSampler (w .sampler))) 9 (row (noChannel (w .sampler) j) 1 0)
@@ -129,6 +176,8 @@ demand1 : Demand1
 unfolding Allows setUpOf setUpNumber code questionNumber startNumber stopNumber speedNumber sampleNumber frameNumber infoNumber listNumber
 demand1 = record {
   takes = settled;
+  apart = λ w i x p r h j e. ap (partOf (w .sampler) j) (h .1) ∙ part-held w i x p j e;
+  unmade = unmade;
   sized = λ w c r h. ap (λ (v : World). length (v .memory)) (left-after w c r h) ∙ memory-after w c;
   numbered = number-code;
   start-rows = λ w position note velocity p. refl;

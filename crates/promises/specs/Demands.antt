@@ -34,10 +34,11 @@ use Rattle.channel.specs.declared.Channel.{Channel}
 use Rattle.channel.specs.Channels.{live, fullOf, memoryOf}
 use Rattle.sampler.specs.declared.Answer.{Answer}
 use Rattle.sampler.specs.Refusals.{channelAt, goodSizes, goodSampler, capacityOf, goodWith, noChannel, badNote, badPosition, anyFull, atEnd, row, setUpNumber}
+use Rattle.sampler.specs.Samplers.{partOf}
 use Rattle.questions.specs.Questions.{recorderAt, notesOf}
 use Rattle.fates.specs.Engine.{stepOf}
 use Rattle.fates.specs.Events.{act, sounds, lengthAt, isSample, emptyAt, tickAt, decayOf}
-use Rattle.fates.specs.Places.{voiceAt, at, gone, follow, followAll, newOf, finishes, stoppedIn, finishedIn}
+use Rattle.fates.specs.Places.{voiceAt, at, gone, follow, becomes, followAll, newOf, finishes, stoppedIn, finishedIn}
 use Rattle.fates.specs.Sounding.{Sounds, First}
 use Rattle.promises.specs.Runs.{
   World,
@@ -99,8 +100,10 @@ pub record Demand1 : Type 0 where
   -- "Every public call takes every value of its arguments, NaN, infinities and an empty recording included, stays inside its memory and ends." No public function of the engine has a `requires`, and the check proves each
   -- of them safe and ending. Whatever is given, the contract allows one outcome and no other,
   pub takes : (g : Given) → Settled g
-  -- and lent memory keeps its size.
+  -- and lent memory keeps its size; a sample changes no other channel's part of it.
   pub sized : (w : World) (c : Call) (r : Outcome (on w c)) → Allows (on w c) r → length (leftBy w c r .memory) ≡ length (w .memory)
+  pub apart : (w : World) (i : ℕ) (x : Float) (p : Params) (r : Outcome (on w (sample i x p))) → Allows (on w (sample i x p)) r
+      → (j : ℕ) → j ≢ i → partOf (w .sampler) j (r .memory) ≡ partOf (w .sampler) j (w .memory)
   -- "A bad call is answered with a number from document 01," An outcome has the call's number,
   pub numbered : (w : World) (c : Call) (r : Outcome (on w c)) → Allows (on w c) r → numberIn (on w c) r ≡ code w c
   -- which is that of the first of the table's rows that holds, in the table's order, and 0 where none does. "Order: 9 first. Start: 2, 3, 4, 5.
@@ -130,6 +133,8 @@ pub record Demand1 : Type 0 where
   -- Start and stop of recording, reset: none but 9."
   pub plain-rows : (w : World) (c : Call) → (c ≡ startRecording) ⊎ ((c ≡ stopRecording) ⊎ (c ≡ reset)) → code w c ≡ row (not (goodSampler (w .sampler))) 9 0
   pub set-up-rows : (count : ℕ) (p : InitParams) (m : List ℕ) (r : Answer) → Allows (new count p m) r → r .number ≡ row (not (goodSizes count (capacityOf count (length m)))) 9 0
+  -- A set-up that is refused leaves a record that every call answers with 9.
+  pub unmade : (count : ℕ) (p : InitParams) (m : List ℕ) → setUpNumber count (length m) ≢ 0 → (c : Call) → code (setUp count p m) c ≡ 9
   -- "and state, sample memory and frame hold what they held." So do lent lists.
   pub held : (w : World) (c : Call) (r : Outcome (on w c)) → Allows (on w c) r → code w c ≢ 0 → (leftBy w c r ≡ w) × Untouched w c r
 
@@ -223,7 +228,9 @@ pub record Demand3 (w : World) (j : ℕ) : Type 0 where
   -- STAYS. "No voice leaves before a stop or play-once has finished it." The call that it leaves in may be the one that finishes it.
   pub stays : (n : ℕ) (v : Voice) → voiceAt (chan w j) n ≡ some v → v .finished ≡ false
       → (cs : List Call) → any isResetCall cs ≡ false → followAll (events w cs j) (chan w j) n ≡ gone → finishedIn (events w cs j) (chan w j) n ≡ true
-  -- Voices keep their order,
+  -- How a voice is followed: at the place that it is followed to stands what the call makes of that very voice. Voices keep their order,
+  pub follows : (c : Call) (n k : ℕ) (v : Voice) → voiceAt (chan w j) n ≡ some v → follow (event w c j) (chan w j) n ≡ at k
+      → voiceAt (chan (after w c) j) k ≡ some (becomes (event w c j) (chan w j) n v)
   pub in-order : (c : Call) (i n a b : ℕ) (u v : Voice) → i < n → voiceAt (chan w j) i ≡ some u → voiceAt (chan w j) n ≡ some v
       → follow (event w c j) (chan w j) i ≡ at a → follow (event w c j) (chan w j) n ≡ at b → a < b
   -- and each that is there after a call was there before it, or is the start's own, at the end.
