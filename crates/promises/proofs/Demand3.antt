@@ -22,12 +22,12 @@ use Rattle.channel.specs.Heads.{lastTime}
 use Rattle.channel.specs.Channels.{live, fullOf}
 use Rattle.fates.specs.Engine.{bornOf}
 use Rattle.fates.specs.Events.{Event, idle, sounds, act, acts, isReset, isSample, emptyAt, decayOf, lastOf, beforeLast}
-use Rattle.fates.specs.Places.{Housed, voiceAt, at, gone, follow, becomes, newOf, followAll, stoppedIn, finishes}
+use Rattle.fates.specs.Places.{Housed, voiceAt, Place, at, gone, follow, becomes, newOf, onward, followAll, stoppedIn, finishes}
 use Rattle.fates.specs.Sounding.{First}
 use Rattle.promises.specs.Runs.{World, setUp, Call, start, stop, speed, startRecording, stopRecording, reset, sample, frame, asks, code, after, run, chan, doneTo, event, events, isResetCall, output, final, before}
-use Rattle.promises.specs.Demands.{isEmpty, Demand3}
+use Rattle.promises.specs.Demands.{isEmpty, Leaves, Demand3}
 use Rattle.fates.proofs.Cases.{neither, either}
-use Rattle.fates.proofs.Tracks.{tracks}
+use Rattle.fates.proofs.Tracks.{gone-never, tracks}
 use Rattle.fates.proofs.Order.{Came, ordered, covered, fewer}
 use Rattle.fates.proofs.Terms.{sounds-each}
 use Rattle.fates.proofs.Stays.{stays}
@@ -174,6 +174,42 @@ ends w st j k c n v s f cs p x m h e l =
     (record { input = x; memory = m; sample = last-event w c cs j ∙ h; finds = subst (λ (d : Channel). emptyAt m d ≡ false) q e })
     (subst (λ (d : Channel). chan w j .head .now + max (decayOf (event w c j)) (p .«decay_samples») ≤ d .head .now) q l)
 
+-- ---- the call in which a voice leaves: the first, or one of those after it
+left-on : (w : World) (c : Call) (cs : List Call) (j n : ℕ) (v : Voice) → voiceAt (chan w j) n ≡ some v → chan (after w c) j ≡ act (event w c j) (chan w j)
+    → (z : Place) → follow (event w c j) (chan w j) n ≡ z → onward z (λ (i : ℕ). followAll (events (after w c) cs j) (act (event w c j) (chan w j)) i) ≡ gone
+    → ((i : ℕ) → follow (event w c j) (chan w j) n ≡ at i → followAll (events (after w c) cs j) (act (event w c j) (chan w j)) i ≡ gone → Leaves (after w c) j i cs)
+    → Leaves w j n (c ∷ cs)
+unfolding events followAll run
+left-on w c cs j n v s moved gone f g on = record { earlier = []; call = c; later = cs; split = refl; place = n; voice = v; follows = refl; stands = s; leaves = f }
+left-on w c cs j n v s moved (at i) f g on =
+    let l = on i f g in
+    record {
+      earlier = c ∷ l .earlier;
+      call = l .call;
+      later = l .later;
+      split = ap (λ (ds : List Call). c ∷ ds) (l .split);
+      place = l .place;
+      voice = l .voice;
+      follows = ap (λ (z : Place). onward z (λ (i : ℕ). followAll (events (after w c) (l .earlier) j) (act (event w c j) (chan w j)) i)) f
+          ∙ ap (λ (d : Channel). followAll (events (after w c) (l .earlier) j) d i) (sym moved)
+          ∙ l .follows;
+      stands = l .stands;
+      leaves = l .leaves;
+    }
+
+left-in : (w : World) → Standing w → (j : ℕ) → j < w .sampler .count → (n : ℕ) (v : Voice) → voiceAt (chan w j) n ≡ some v → (cs : List Call)
+    → followAll (events w cs j) (chan w j) n ≡ gone → Leaves w j n cs
+unfolding events followAll
+left-in w st j k n v s [] g = absurd (gone-never n (sym g))
+left-in w st j k n v s (c ∷ cs) g =
+    let e : Event = event w c j in
+    let moved : chan (after w c) j ≡ act e (chan w j) = next w st j k c in
+    left-on w c cs j n v s moved (follow e (chan w j) n) refl g
+    (λ i f h.
+        left-in (after w c) (standing-after w c st) j (omega (arith, kept w c .count)) i (becomes e (chan w j) n v)
+        (subst (λ (d : Channel). voiceAt d i ≡ some (becomes e (chan w j) n v)) (sym moved) (tracks e (chan w j) (st .housing j k) n i v s f)) cs
+        (subst (λ (d : Channel). followAll (events (after w c) cs j) d i ≡ gone) (sym moved) h))
+
 -- ---- the whole
 standing-demand3 : (w : World) → Standing w → (j : ℕ) → j < w .sampler .count → Demand3 w j
 unfolding events
@@ -189,6 +225,7 @@ standing-demand3 w st j k = record {
   in-order = λ c i n a b u v o s r f g. ordered (event w c j) (chan w j) i n a b u v o s r f g;
   none-else = λ c i u s. came w st j k c u i (covered (event w c j) (chan w j) (house w st j k) i u (subst (λ (d : Channel). voiceAt d i ≡ some u) (next w st j k c) s));
   goes = λ c n v s f cs p x m h e l. ends w st j k c n v s f cs p x m h e l;
+  left-in = left-in w st j k;
   free = leaves w st j k;
   taken = λ position note velocity p ok data₀. takes w st j k position note velocity p ok data₀;
 }

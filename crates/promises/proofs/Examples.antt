@@ -43,7 +43,7 @@ use Rattle.promises.specs.Runs.{World, Call, start, stop, speed, startRe
 use lib.Ieee.{Float, nan, fin, binary32, fits, add, sub, mul, div, rem, neg, lt, le, eq, ofInt, toUnsigned, isNan, ofBits, toBits, nanBits, ofFields}
 use Rattle.fates.specs.Sounding.{Sounds, First}
 use Rattle.promises.specs.Outcomes.{on, leftBy}
-use Rattle.promises.specs.Demands.{Demand3, Plays, Asked}
+use Rattle.promises.specs.Demands.{Plays, Asked, Leaves, Demand3}
 use Rattle.promises.proofs.Outcomes.{settled}
 use Rattle.promises.proofs.Whole.{no-panic, whole}
 use Rattle.promises.proofs.Demands.{demands}
@@ -182,6 +182,14 @@ trio-promised = demand3 2 init cells (recorded ++ (press 60 ∷ press 61 ∷ pre
 pub first-leaves : follow (event trio (quiet plain) 1) (chan trio 1) 0 ≡ gone
 unfolding computing
 first-leaves = refl
+
+pub follows-met : voiceAt (chan (after trio (quiet plain)) 1) 0 ≡ some (becomes (event trio (quiet plain) 1) (chan trio 1) 1 (voice trio 1))
+unfolding computing
+follows-met = trio-promised .follows (quiet plain) 1 0 (voice trio 1) refl refl
+
+pub left-in-met : Leaves trio 1 0 (asks (getDataLen 1) ∷ quiet plain ∷ quiet plain ∷ [])
+unfolding computing
+left-in-met = trio-promised .left-in 0 (voice trio 0) refl (asks (getDataLen 1) ∷ quiet plain ∷ quiet plain ∷ []) refl
 
 pub in-order-met : 0 < 1
 unfolding computing

@@ -203,6 +203,18 @@ pub record Demand2 : Type 0 where
 abbrev pub isEmpty : Channel → Bool
 isEmpty c = eqb (c .head .«data_len») 0
 
+-- the call in which the voice at place n leaves, of the calls cs: it stood at `place` by then
+pub record Leaves (w : World) (j n : ℕ) (cs : List Call) : Type 0 where
+  pub earlier : List Call
+  pub call : Call
+  pub later : List Call
+  pub split : cs ≡ earlier ++ (call ∷ later)
+  pub place : ℕ
+  pub voice : Voice
+  pub follows : followAll (events w earlier j) (chan w j) n ≡ at place
+  pub stands : voiceAt (chan (run w earlier) j) place ≡ some voice
+  pub leaves : follow (event (run w earlier) call j) (chan (run w earlier) j) place ≡ gone
+
 pub record Demand3 (w : World) (j : ℕ) : Type 0 where
   -- What is done: each call does its event to the channel, and nothing else.
   pub does : (c : Call) → chan (after w c) j ≡ act (event w c j) (chan w j)
@@ -243,6 +255,8 @@ pub record Demand3 (w : World) (j : ℕ) : Type 0 where
       → (cs : List Call) (p : Params) (x : Float) (m : List ℕ) → event (before w c cs) (final c cs) j ≡ sounds p x m → emptyAt m (chan (before w c cs) j) ≡ false
       → chan w j .head .now + max (decayOf (event w c j)) (p .«decay_samples») ≤ chan (before w c cs) j .head .now
       → followAll (events w (c ∷ cs) j) (chan w j) n ≡ gone
+  -- One that is gone left in one of the calls, where `free` holds:
+  pub left-in : (n : ℕ) (v : Voice) → voiceAt (chan w j) n ≡ some v → (cs : List Call) → followAll (events w cs j) (chan w j) n ≡ gone → Leaves w j n cs
   -- FREE. "Its place is then free: row 5 of document 01 no longer counts that voice, and an accepted start can take the place." The call in which a voice leaves lowers the count that row 5 asks, so that row 5 doesn't hold by this channel
   -- (it may by the other one);
   pub free : (c : Call) (n : ℕ) (v : Voice) → voiceAt (chan w j) n ≡ some v → isResetCall c ≡ false → follow (event w c j) (chan w j) n ≡ gone
