@@ -206,9 +206,9 @@ left-in w st j k n v s (c ∷ cs) g =
     let moved : chan (after w c) j ≡ act e (chan w j) = next w st j k c in
     left-on w c cs j n v s moved (follow e (chan w j) n) refl g
     (λ i f h.
-        left-in (after w c) (standing-after w c st) j (omega (arith, kept w c .count)) i (becomes e (chan w j) n v)
-        (subst (λ (d : Channel). voiceAt d i ≡ some (becomes e (chan w j) n v)) (sym moved) (tracks e (chan w j) (st .housing j k) n i v s f)) cs
-        (subst (λ (d : Channel). followAll (events (after w c) cs j) d i ≡ gone) (sym moved) h))
+    left-in (after w c) (standing-after w c st) j (omega (arith, kept w c .count)) i (becomes e (chan w j) n v)
+    (subst (λ (d : Channel). voiceAt d i ≡ some (becomes e (chan w j) n v)) (sym moved) (tracks e (chan w j) (st .housing j k) n i v s f)) cs
+    (subst (λ (d : Channel). followAll (events (after w c) cs j) d i ≡ gone) (sym moved) h))
 
 -- ---- the whole
 standing-demand3 : (w : World) → Standing w → (j : ℕ) → j < w .sampler .count → Demand3 w j
