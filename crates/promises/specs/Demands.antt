@@ -283,5 +283,6 @@ pub record Demands : Type 0 where
   pub third : (count : ℕ) (p : InitParams) (m : List ℕ) (cs : List Call) (j : ℕ) → j < run (setUp count p m) cs .sampler .count → Demand3 (run (setUp count p m) cs) j
   -- and that this isn't met by an engine whose records break
   pub whole : (count : ℕ) (p : InitParams) (m : List ℕ) → setUpNumber count (length m) ≡ 0 → (cs : List Call) → Each FittingCall cs → Whole (run (setUp count p m) cs)
-  -- What calls leave is what their contracts alone allow them to leave.
-  pub runs : (w u : World) (cs : List Call) → Chain w cs u → u ≡ run w cs
+  -- What calls leave, one after the other, is what their contracts allow them to leave, and nothing else is.
+  pub runs : (w : World) (cs : List Call) → Chain w cs (run w cs)
+  pub no-other : (w u : World) (cs : List Call) → Chain w cs u → u ≡ run w cs

@@ -1,5 +1,5 @@
 -- Every public call with all that it is given, and which outcomes its contract allows: the result, and what was lent to it as it is at the end. `Allows` says of each call what the `ensures` lines of its function say,
--- in the same definitions: sampler/src/lib.rt and questions/src/lib.rt. Definitions only. Assumes nothing.
+-- in the same definitions: sampler/src/lib.rt and questions/src/lib.rt. The crate `contracts` shows it of each function. Definitions only. Assumes nothing.
 use mathlib.Core.Path.{_≡_}
 use Prim.Native.Nat.{ℕ}
 use mathlib.Core.List.{List, [], _∷_}
@@ -101,7 +101,7 @@ Outcome (on w (asks (iterActiveNotes j notes))) = ListOutcome
 Outcome (on w (asks (getVoiceInfo j p room))) = VoiceInfos
 
 -- ---- what the contracts allow
-unfoldable pub Allows : (g : Given) → Outcome g → Type 0
+abbrev pub Allows : (g : Given) → Outcome g → Type 0
 Allows (new count p m) r = r ≡ setUpOf count p (length m)
 Allows (on w (start position note velocity p)) r = r ≡ startPlayingOf (w .sampler) position note velocity p
 Allows (on w (stop note p)) r = r ≡ stopPlayingOf (w .sampler) note p
