@@ -51,8 +51,8 @@ use Rattle.promises.specs.Runs.{
   code,
   after,
 }
-use Rattle.promises.specs.Outcomes.{on, Outcome, Allows}
-use Rattle.promises.specs.Demands.{Untouched, Demand1, Demand2, Demands}
+use Rattle.promises.specs.Outcomes.{on, Outcome, Allows, Untouched}
+use Rattle.promises.specs.Demands.{Demand1, Demand2, Demands}
 use Rattle.promises.proofs.Apart.{part-apart}
 use Rattle.promises.proofs.Outcomes.{settled, number-code, left-after, chain-run, run-chain}
 use Rattle.promises.proofs.Table.{table-holds}

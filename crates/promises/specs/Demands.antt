@@ -73,28 +73,10 @@ use Rattle.promises.specs.Runs.{
   before,
   FittingCall,
 }
-use Rattle.promises.specs.Outcomes.{Given, new, on, Outcome, Allows, Settled, numberIn, leftBy, Chain}
+use Rattle.promises.specs.Outcomes.{Given, new, on, Outcome, Allows, Settled, numberIn, leftBy, Untouched, Chain}
 use Rattle.promises.specs.Table.{TableHolds}
 
 -- ==== Demand 1
-
--- a lent frame or list holds what it held
-unfoldable pub Untouched : (w : World) (c : Call) → Outcome (on w c) → Type 0
-Untouched w (start position note velocity p) r = Unit {0}
-Untouched w (stop note p) r = Unit {0}
-Untouched w (speed note s) r = Unit {0}
-Untouched w startRecording r = Unit {0}
-Untouched w stopRecording r = Unit {0}
-Untouched w reset r = Unit {0}
-Untouched w (sample j x p) r = Unit {0}
-Untouched w (frame xs p) r = r .frame ≡ xs
-Untouched w (asks (getFramesProcessed j)) r = Unit {0}
-Untouched w (asks (getDataLen j)) r = Unit {0}
-Untouched w (asks (isRecording j)) r = Unit {0}
-Untouched w (asks (getLastRecordedOffset j)) r = Unit {0}
-Untouched w (asks (printErrorInfo j text)) r = r .lent ≡ text
-Untouched w (asks (iterActiveNotes j notes)) r = r .lent ≡ notes
-Untouched w (asks (getVoiceInfo j p room)) r = Unit {0}
 
 pub record Demand1 : Type 0 where
   -- "Every public call takes every value of its arguments, NaN, infinities and an empty recording included, stays inside its memory and ends." No public function of the engine has a `requires`, and the check proves each

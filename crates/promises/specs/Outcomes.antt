@@ -160,6 +160,24 @@ leftBy w (sample j x p) r = record { sampler = r .answer .sampler; memory = r .m
 leftBy w (frame xs p) r = record { sampler = r .answer .sampler; memory = r .memory }
 leftBy w (asks q) r = w
 
+-- a frame or list that was lent holds what it held
+unfoldable pub Untouched : (w : World) (c : Call) → Outcome (on w c) → Type 0
+Untouched w (start position note velocity p) r = Unit {0}
+Untouched w (stop note p) r = Unit {0}
+Untouched w (speed note s) r = Unit {0}
+Untouched w startRecording r = Unit {0}
+Untouched w stopRecording r = Unit {0}
+Untouched w reset r = Unit {0}
+Untouched w (sample j x p) r = Unit {0}
+Untouched w (frame xs p) r = r .frame ≡ xs
+Untouched w (asks (getFramesProcessed j)) r = Unit {0}
+Untouched w (asks (getDataLen j)) r = Unit {0}
+Untouched w (asks (isRecording j)) r = Unit {0}
+Untouched w (asks (getLastRecordedOffset j)) r = Unit {0}
+Untouched w (asks (printErrorInfo j text)) r = r .lent ≡ text
+Untouched w (asks (iterActiveNotes j notes)) r = r .lent ≡ notes
+Untouched w (asks (getVoiceInfo j p room)) r = Unit {0}
+
 -- ---- runs by the contracts alone: each call leaves what some outcome that its contract allows leaves
 pub data Chain : World → List Call → World → Type 0 where
   ended : {w : World} → Chain w [] w
