@@ -76,6 +76,10 @@ use Rattle.promises.specs.Runs.{
 use Rattle.promises.specs.Outcomes.{Given, new, on, Outcome, Allows, Settled, numberIn, leftBy, Untouched, Chain}
 use Rattle.promises.specs.Table.{TableHolds}
 
+-- Names. A World is the record and the memory lent with it. `code w c` is the number of the call c on it, `after w c` what the call leaves, `run w cs` what several leave, `chan w j` channel j, and `event w c j` what the call
+-- does to channel j: nothing where it is refused, a change, or `sounds p x m`, a sample with the parameters p, the input x and the channel's part m of the memory. `live c` are a channel's voices, `voiceAt c n` is the one at
+-- place n, and `follow` says where it is after an event: `at` a place, or `gone`.
+
 -- ==== Demand 1
 
 pub record Demand1 : Type 0 where
@@ -216,9 +220,11 @@ pub record Demand3 (w : World) (j : ℕ) : Type 0 where
       → emptyAt m (chan (run w (start position note velocity p₀ ∷ cs)) j) ≡ false
       → First p x m (chan (run w (start position note velocity p₀ ∷ cs)) j) (length (live (chan w j)))
       (freshOf p₀ position note velocity (chan w j .head .now) (chan w j .head .«data_len»))
-  -- An unfinished voice sounds in every accepted sample that finds the recording not empty.
+  -- And until it is finished a voice sounds, where it then stands, in every accepted sample that finds the recording not empty.
   pub sounds-on : (n : ℕ) (v : Voice) → voiceAt (chan w j) n ≡ some v → v .finished ≡ false
-      → (s : Call) (p : Params) (x : Float) (m : List ℕ) → event w s j ≡ sounds p x m → emptyAt m (chan w j) ≡ false → Sounds p x m (chan w j) n v
+      → (cs : List Call) → any isResetCall cs ≡ false → finishedIn (events w cs j) (chan w j) n ≡ false
+      → (s : Call) (p : Params) (x : Float) (m : List ℕ) → event (run w cs) s j ≡ sounds p x m → emptyAt m (chan (run w cs) j) ≡ false
+      → (k : ℕ) × (u : Voice) × (followAll (events w cs j) (chan w j) n ≡ at k) × Sounds p x m (chan (run w cs) j) k u
   -- STAYS. "No voice leaves before a stop or play-once has finished it." The call that it leaves in may be the one that finishes it.
   pub stays : (n : ℕ) (v : Voice) → voiceAt (chan w j) n ≡ some v → v .finished ≡ false
       → (cs : List Call) → any isResetCall cs ≡ false → followAll (events w cs j) (chan w j) n ≡ gone → finishedIn (events w cs j) (chan w j) n ≡ true
