@@ -1,7 +1,7 @@
 -- A channel keeps its 32 places, and never counts more voices than those. Assumes nothing.
 use mathlib.Core.Path.{_≡_, refl, _∙_}
 use mathlib.Core.Bool.{Bool, true, false, cond}
-use mathlib.Core.List.{List, [], _∷_, map}
+use mathlib.Core.List.{List, [], map}
 use Prim.Native.Nat.{ℕ, _+_}
 use native.Mathlib.Omega.{arith}
 use borrow.Author.Tests.{ltb-true}
@@ -39,7 +39,7 @@ use Rattle.channel.specs.Channels.{
   memoryOf,
 }
 use Rattle.fates.specs.Engine.{bornOf, begunOf, leftOf, turnsOf, stepOf}
-use Rattle.fates.specs.Events.{Event, idle, changes, sounds, act, acts, emptyAt, tickAt}
+use Rattle.fates.specs.Events.{Event, idle, changes, sounds, act, emptyAt, tickAt}
 use Rattle.fates.specs.Places.{Housed}
 use Rattle.fates.proofs.Lives.{live-length, left-length}
 
@@ -119,8 +119,3 @@ housed (changes change.StartRecording) c h = headless (startRecordingOf c) c ref
 housed (changes change.StopRecording) c h = headless (stopRecordingOf c) c refl refl h
 housed (changes change.Reset) c h = record { places = h .places; room = omega arith }
 housed (sounds p x m) c h = housed-sounded p x m c h
-
-pub housed-all : (es : List Event) (c : Channel) → Housed c → Housed (acts es c)
-unfolding acts
-housed-all [] c h = h
-housed-all (e ∷ es) c h = housed-all es (act e c) (housed e c h)

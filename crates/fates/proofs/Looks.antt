@@ -6,7 +6,7 @@ use mathlib.Core.List.{List, [], _∷_, _++_, map}
 use mathlib.Core.Option.{none, some}
 use Prim.Native.Nat.{ℕ, zero, suc, _+_, _<_}
 use native.Mathlib.Omega.{arith}
-use lib.ListN.{length, take, drop, getD, set, getElem?}
+use lib.ListN.{length, take, getD, set, getElem?}
 use Rattle.walks.specs.Walks.{without}
 use Rattle.walks.proofs.Each.{fewer}
 
@@ -28,12 +28,6 @@ module _ {A : Type 0} where
   look-some [] n d h = absurd (omega arith)
   look-some (y ∷ l) zero d h = refl
   look-some (y ∷ l) (suc n) d h = look-some l n d (omega arith)
-
-  -- the list, cut around a place
-  pub look-split : (l : List A) (n : ℕ) (x : A) → getElem? l n ≡ some x → l ≡ take n l ++ (x ∷ drop (suc n) l)
-  look-split [] n x h = absurd (never x h)
-  look-split (y ∷ l) zero x h = cc
-  look-split (y ∷ l) (suc n) x h = ap (λ (r : List A). y ∷ r) (look-split l n x h)
 
   -- ---- one more at the end
   pub look-front : (l r : List A) (n : ℕ) (x : A) → getElem? l n ≡ some x → getElem? (l ++ r) n ≡ some x

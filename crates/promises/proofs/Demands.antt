@@ -54,7 +54,7 @@ use Rattle.promises.specs.Runs.{
 use Rattle.promises.specs.Outcomes.{on, Outcome, Allows, Untouched}
 use Rattle.promises.specs.Demands.{Demand1, Demand2, Demands}
 use Rattle.promises.proofs.Apart.{part-apart}
-use Rattle.promises.proofs.Outcomes.{settled, number-code, left-after, chain-run, run-chain}
+use Rattle.promises.proofs.Outcomes.{settled, one-outcome, number-code, left-after, chain-run, run-chain}
 use Rattle.promises.proofs.Table.{table-holds}
 use Rattle.promises.proofs.Demand3.{demand3}
 use Rattle.promises.proofs.Whole.{memory-after, no-panic, whole}
@@ -176,6 +176,7 @@ demand1 : Demand1
 unfolding setUpOf setUpNumber code questionNumber startNumber stopNumber speedNumber sampleNumber frameNumber infoNumber listNumber
 demand1 = record {
   takes = settled;
+  one = one-outcome;
   apart = λ w i x p r h j e. ap (partOf (w .sampler) j) (h .1) ∙ part-held w i x p j e;
   unmade = unmade;
   sized = λ w c r h. ap (λ (v : World). length (v .memory)) (left-after w c r h) ∙ memory-after w c;

@@ -86,6 +86,7 @@ pub record Demand1 : Type 0 where
   -- "Every public call takes every value of its arguments, NaN, infinities and an empty recording included, stays inside its memory and ends." No public function of the engine has a `requires`, and the check proves each
   -- of them safe and ending. Whatever is given, the contract allows one outcome and no other,
   pub takes : (g : Given) → Settled g
+  pub one : (g : Given) (r s : Outcome g) → Allows g r → Allows g s → r ≡ s
   -- and lent memory keeps its size; a sample changes no other channel's part of it.
   pub sized : (w : World) (c : Call) (r : Outcome (on w c)) → Allows (on w c) r → length (leftBy w c r .memory) ≡ length (w .memory)
   pub apart : (w : World) (i : ℕ) (x : Float) (p : Params) (r : Outcome (on w (sample i x p))) → Allows (on w (sample i x p)) r
