@@ -24,8 +24,8 @@ pub const STYLES: &[Style] = &[
     Style { name: "full", share: 60, make: full },
     Style { name: "resets", share: 30, make: resets },
     Style { name: "edges", share: 100, make: edges },
-    Style { name: "refusals", share: 90, make: refusals },
-    Style { name: "broken", share: 30, make: broken },
+    Style { name: "refusals", share: 120, make: refusals },
+    Style { name: "broken", share: 50, make: broken },
     Style { name: "late", share: 50, make: late },
     Style { name: "noise", share: 30, make: noise },
 ];
@@ -267,7 +267,7 @@ fn broken(s: &mut Song) {
         s.count = 1;
         s.records.push(set_up(count, false, memory));
         s.settings();
-        for _ in 0..s.r.below(10) + 2 {
+        for _ in 0..s.r.below(30) + 6 {
             s.any();
         }
     }
@@ -295,7 +295,11 @@ fn late(s: &mut Song) {
             _ => s.event(),
         }
         let n = s.r.below(4) + 1;
-        s.frames(n);
+        if s.r.below(4) == 0 {
+            s.many(n);
+        } else {
+            s.frames(n);
+        }
     }
 }
 
