@@ -521,7 +521,7 @@ impl Song {
 
     fn query(&mut self, kind: u8) {
         let mut room = self.r.pick(&[64, 34, 32, 40, 0xffff_ffff]);
-        if self.chance(self.bad.max(15)) {
+        if self.chance(self.bad.max(25)) {
             room = self.r.pick(&[0, 0, 1, 2, 22, 23, 24, 31]);
         }
         self.ask(kind, room);
@@ -558,7 +558,8 @@ impl Song {
     /// n frames in one record.
     fn many(&mut self, n: u64) {
         let (first, more, lent) = (self.float(level), self.float(|s| s.r.pick(&[0.0, 0.001, 0.37, -1e-6])), self.lent());
-        self.records.push(frames(self.count as u8, first, more, n as u32, lent));
+        let entries = if self.chance(self.bad) { self.count + 1 } else { self.count };
+        self.records.push(frames(entries as u8, first, more, n as u32, lent));
         for _ in 0..n {
             self.stepped();
         }
