@@ -2,16 +2,24 @@
 use mathlib.Core.Path.{refl, ap}
 use denote.Steps.{only}
 use denote.Struct.Laws as LL
-use Rattle.sampler.specs.declared.Sampler.{Sampler}
-use Rattle.sampler.specs.declared.Answer.{Answer}
 use Rattle.sampler.proofs.Sampler as T
 use Rattle.sampler.proofs.Sampler.Laws as T′
 use Rattle.sampler.proofs.Answer as S
 use Rattle.sampler.proofs.Answer.Laws as S′
+use Rattle.common_types.proofs.Note as N
+use Rattle.common_types.proofs.Note.Laws as N′
+use Rattle.common_types.proofs.Params as P
+use Rattle.common_types.proofs.Params.Laws as P′
 use Rattle.lent.proofs.Rows.{Datum, struct, Answering}
 
 abbrev pub sampler : Datum
 sampler = struct T.the-type T′.the-laws T′.the-plain
+
+abbrev pub note : Datum
+note = struct N.the-type N′.the-laws N′.the-plain
+
+abbrev pub params : Datum
+params = struct P.the-type P′.the-laws P′.the-plain
 
 abbrev pub answer : Answering sampler
 answer = record {

@@ -1,3 +1,5 @@
 pub mod Rows
 pub mod Lent
 pub mod Thin
+pub mod Thin2
+pub mod Thin4
