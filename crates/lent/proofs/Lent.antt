@@ -10,7 +10,13 @@ use Rattle.common_types.proofs.Note as N
 use Rattle.common_types.proofs.Note.Laws as N′
 use Rattle.common_types.proofs.Params as P
 use Rattle.common_types.proofs.Params.Laws as P′
-use Rattle.lent.proofs.Rows.{Datum, struct, Answering}
+use Rattle.questions.proofs.Counted as C
+use Rattle.questions.proofs.Counted.Laws as C′
+use Rattle.questions.proofs.Told as B
+use Rattle.questions.proofs.Told.Laws as B′
+use Rattle.questions.proofs.OffsetAnswer as O
+use Rattle.questions.proofs.OffsetAnswer.Laws as O′
+use Rattle.lent.proofs.Rows.{Datum, struct, enum, Answering}
 
 abbrev pub sampler : Datum
 sampler = struct T.the-type T′.the-laws T′.the-plain
@@ -20,6 +26,15 @@ note = struct N.the-type N′.the-laws N′.the-plain
 
 abbrev pub params : Datum
 params = struct P.the-type P′.the-laws P′.the-plain
+
+abbrev pub counted : Datum
+counted = enum C.the-type C′.the-laws C′.the-plain tt
+
+abbrev pub told : Datum
+told = enum B.the-type B′.the-laws B′.the-plain tt
+
+abbrev pub offset : Datum
+offset = enum O.the-type O′.the-laws O′.the-plain tt
 
 abbrev pub answer : Answering sampler
 answer = record {

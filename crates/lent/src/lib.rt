@@ -8,8 +8,22 @@ ghost use Rattle.sampler.specs.Samplers.{
   stopRecordingOf,
   resetOf,
 };
+ghost use lib.ListN.{length};
+ghost use Rattle.questions.specs.Questions.{
+  getFramesProcessedOf,
+  getDataLenOf,
+  isRecordingOf,
+  getLastRecordedOffsetOf,
+  printErrorInfoOf,
+  errorTextAfter,
+  iterActiveNotesOf,
+  activeNotesAfter,
+};
 use common_types::Note;
 use common_types::Params;
+use questions::Counted;
+use questions::OffsetAnswer;
+use questions::Told;
 use sampler::Sampler;
 
 pub fn start_playing(
@@ -64,4 +78,40 @@ pub fn reset(s: &mut Sampler) -> u8
     let r = Sampler::reset(*s);
     *s = r.sampler;
     r.number
+}
+
+pub fn get_frames_processed(s: &Sampler, channel: usize) -> Counted
+    ensures { λ r. ⌜ r ≡ getFramesProcessedOf (now (s .entry)) channel ⌝ }
+{
+    questions::get_frames_processed(*s, channel)
+}
+
+pub fn get_data_len(s: &Sampler, channel: usize) -> Counted
+    ensures { λ r. ⌜ r ≡ getDataLenOf (now (s .entry)) channel ⌝ }
+{
+    questions::get_data_len(*s, channel)
+}
+
+pub fn is_recording(s: &Sampler, channel: usize) -> Told
+    ensures { λ r. ⌜ r ≡ isRecordingOf (now (s .entry)) channel ⌝ }
+{
+    questions::is_recording(*s, channel)
+}
+
+pub fn get_last_recorded_offset(s: &Sampler, channel: usize) -> OffsetAnswer
+    ensures { λ r. ⌜ r ≡ getLastRecordedOffsetOf (now (s .entry)) channel ⌝ }
+{
+    questions::get_last_recorded_offset(*s, channel)
+}
+
+pub fn print_error_info(s: &Sampler, channel: usize, text: &mut [u8]) -> Counted
+    ensures { λ r. ⌜ (r ≡ printErrorInfoOf (now (s .entry)) channel (length (now (text .entry)))) × (now (text .exit) ≡ errorTextAfter (now (s .entry)) channel (now (text .entry))) ⌝ }
+{
+    questions::print_error_info(*s, channel, text)
+}
+
+pub fn iter_active_notes(s: &Sampler, channel: usize, notes: &mut [u64]) -> Counted
+    ensures { λ r. ⌜ (r ≡ iterActiveNotesOf (now (s .entry)) channel (length (now (notes .entry)))) × (now (notes .exit) ≡ activeNotesAfter (now (s .entry)) channel (now (notes .entry))) ⌝ }
+{
+    questions::iter_active_notes(*s, channel, notes)
 }
