@@ -16,6 +16,10 @@ use Rattle.questions.proofs.Told as B
 use Rattle.questions.proofs.Told.Laws as B′
 use Rattle.questions.proofs.OffsetAnswer as O
 use Rattle.questions.proofs.OffsetAnswer.Laws as O′
+use Rattle.questions.proofs.VoiceInfo as I
+use Rattle.questions.proofs.VoiceInfo.Laws as I′
+use Rattle.questions.proofs.VoiceInfos as L
+use Rattle.questions.proofs.VoiceInfos.Laws as L′
 use Rattle.lent.proofs.Rows.{Datum, struct, enum, Answering}
 
 abbrev pub sampler : Datum
@@ -35,6 +39,12 @@ told = enum B.the-type B′.the-laws B′.the-plain tt
 
 abbrev pub offset : Datum
 offset = enum O.the-type O′.the-laws O′.the-plain tt
+
+abbrev pub info : Datum
+info = struct I.the-type I′.the-laws I′.the-plain
+
+abbrev pub infos : Datum
+infos = struct L.the-type L′.the-laws L′.the-plain
 
 abbrev pub answer : Answering sampler
 answer = record {

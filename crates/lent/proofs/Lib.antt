@@ -5,3 +5,5 @@ pub mod Thin2
 pub mod Thin4
 pub mod Peek
 pub mod PeekList
+pub mod PeekFill
+pub mod Stored

@@ -8,7 +8,8 @@ ghost use Rattle.sampler.specs.Samplers.{
   stopRecordingOf,
   resetOf,
 };
-ghost use lib.ListN.{length};
+ghost use Prim.Native.Nat.{_≤_, _<_};
+ghost use lib.ListN.{length, getD};
 ghost use Rattle.questions.specs.Questions.{
   getFramesProcessedOf,
   getDataLenOf,
@@ -18,12 +19,16 @@ ghost use Rattle.questions.specs.Questions.{
   errorTextAfter,
   iterActiveNotesOf,
   activeNotesAfter,
+  noInfo,
 };
+ghost use Rattle.lent.specs.Lists.{countedOf, listedOf, voiceInfoCounted, voiceInfoAfter};
 use common_types::Note;
 use common_types::Params;
 use questions::Counted;
 use questions::OffsetAnswer;
 use questions::Told;
+use questions::VoiceInfo;
+use questions::VoiceInfos;
 use sampler::Sampler;
 
 pub fn start_playing(
@@ -114,4 +119,47 @@ pub fn iter_active_notes(s: &Sampler, channel: usize, notes: &mut [u64]) -> Coun
     ensures { λ r. ⌜ (r ≡ iterActiveNotesOf (now (s .entry)) channel (length (now (notes .entry)))) × (now (notes .exit) ≡ activeNotesAfter (now (s .entry)) channel (now (notes .entry))) ⌝ }
 {
     questions::iter_active_notes(*s, channel, notes)
+}
+
+fn info_at(v: VoiceInfos, i: usize) -> VoiceInfo
+    requires { ⌜ i < 32 ⌝ }
+    ensures { λ r. ⌜ r ≡ getD (v .infos) i noInfo ⌝ }
+{
+    v.infos[i]
+}
+
+fn counted(v: VoiceInfos) -> Counted
+    ensures { λ r. ⌜ r ≡ countedOf v ⌝ }
+{
+    if v.number == 0 {
+        Counted::Done(v.count)
+    } else {
+        Counted::Refused(v.number)
+    }
+}
+
+// Writes the infos to the front of the list.
+fn fill(list: &mut [VoiceInfo], v: VoiceInfos) -> Counted
+    requires { ⌜ (v .count ≤ length (now list)) × (v .count ≤ 32) ⌝ }
+    ensures { λ r. ⌜ (r ≡ countedOf v) × (now (list .exit) ≡ listedOf v (now (list .entry))) ⌝ }
+{
+    let n = v.count;
+    let mut i = 0;
+    while i < n {
+        list[i] = info_at(v, i);
+        i += 1;
+    }
+    counted(v)
+}
+
+pub fn get_voice_info(
+    s: &Sampler,
+    channel: usize,
+    params: Params,
+    list: &mut [VoiceInfo],
+) -> Counted
+    ensures { λ r. ⌜ (r ≡ voiceInfoCounted (now (s .entry)) channel params (now (list .entry))) × (now (list .exit) ≡ voiceInfoAfter (now (s .entry)) channel params (now (list .entry))) ⌝ }
+{
+    let v = questions::get_voice_info(*s, channel, params, list.len());
+    fill(list, v)
 }
