@@ -7,7 +7,10 @@ ghost use Rattle.sampler.specs.Samplers.{
   startRecordingOf,
   stopRecordingOf,
   resetOf,
+  Frames,
+  framedOf,
 };
+ghost use Rattle.sampler.specs.Refusals.{frameNumber};
 ghost use Prim.Native.Nat.{_≤_, _<_};
 ghost use lib.ListN.{length, getD};
 ghost use Rattle.questions.specs.Questions.{
@@ -162,4 +165,14 @@ pub fn get_voice_info(
 {
     let v = questions::get_voice_info(*s, channel, params, list.len());
     fill(list, v)
+}
+
+// A sample of each channel in turn, each entry of the frame replaced by its output.
+pub fn process_frame(s: &mut Sampler, frame: &mut [f32], params: Params, memory: &mut [u32]) -> u8
+    ensures { λ r. ⌜ (r ≡ frameNumber (now (s .entry)) (length (now (frame .entry))) params (length (now (memory .entry))))
+        × Frames (framedOf (now (s .entry)) (now (frame .entry)) params (now (memory .entry))) (now (s .exit)) (now (frame .exit)) (now (memory .exit)) ⌝ }
+{
+    let r = Sampler::process_frame(*s, frame, params, memory);
+    *s = r.sampler;
+    r.number
 }
