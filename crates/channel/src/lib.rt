@@ -8,7 +8,7 @@ ghost use Rattle.binary32.specs.Leaves.{bitsOf};
 ghost use Rattle.clip.specs.Positions.{zero32, one32};
 ghost use Rattle.recorder.specs.Recording.{recordedOf, dataAfter};
 ghost use Rattle.voice.specs.Voices.{shouldRemoveOf};
-ghost use Rattle.channel.specs.Heads.{nextTime, headOf, withRecorded, withPassthru, rampOf, passthruOf, mixedOf, closedOf, goodHead};
+ghost use Rattle.channel.specs.Heads.{nextTime, headOf, laterOf, passesOf, withRecorded, withPassthru, rampOf, passthruOf, mixedOf, closedOf, goodHead};
 ghost use Rattle.channel.specs.Channels.{
   sameNote,
   anyUnfinishedOf,
@@ -116,7 +116,7 @@ impl Head {
         Self {
             now: self.now,
             data_len: r.data_len,
-            passthru_volume: volume,
+            passthru_volume: volume.copied(),
             recorder,
             passthru_on: self.passthru_on,
         }
@@ -157,7 +157,7 @@ impl Head {
     fn handle_passthru(self, params: Params, unfinished: bool) -> Self
         ensures { λ r. ⌜ r ≡ passthruOf params unfinished self ⌝ }
     {
-        let wanted = params.auto_passthru & !unfinished;
+        let wanted = passes(params, unfinished);
         if wanted == self.passthru_on {
             return self;
         }
@@ -170,10 +170,26 @@ impl Head {
         ensures { λ r. ⌜ r ≡ closedOf params unfinished self ⌝ }
     {
         let volume = self.passthru_volume;
-        let stepped = self.with_passthru(self.passthru_on, volume.stepped(self.now));
-        let mut head = stepped.handle_passthru(params, unfinished);
-        head.now = next_time(head.now);
-        head
+        let stepped = volume.stepped(self.now);
+        let wanted = passes(params, unfinished);
+        if wanted == self.passthru_on {
+            return self.after(self.passthru_on, stepped);
+        }
+        self.after(wanted, ramp(stepped, self.now, params, wanted))
+    }
+
+    // The head a sample later, with pass-through at that state and level.
+    fn after(self, on: bool, volume: Volume) -> Self
+        ensures { λ r. ⌜ r ≡ laterOf (withPassthru on volume self) ⌝ }
+    {
+        let recorder = self.recorder;
+        Self {
+            now: next_time(self.now),
+            data_len: self.data_len,
+            passthru_volume: volume.copied(),
+            recorder: recorder.copied(),
+            passthru_on: on,
+        }
     }
 
     pub fn good(self, capacity: usize) -> bool
@@ -189,6 +205,12 @@ impl Head {
         let recorder = self.recorder;
         recorder.good(self.data_len, capacity)
     }
+}
+
+fn passes(params: Params, unfinished: bool) -> bool
+    ensures { λ r. ⌜ r ≡ passesOf params unfinished ⌝ }
+{
+    params.auto_passthru & !unfinished
 }
 
 fn ramp(volume: Volume, now: usize, params: Params, wanted: bool) -> Volume

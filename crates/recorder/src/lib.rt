@@ -28,6 +28,17 @@ pub enum State {
     Idle,
 }
 
+impl State {
+    fn copied(self) -> Self
+        ensures { λ r. ⌜ r ≡ self ⌝ }
+    {
+        match self {
+            State::Triggered { write } => State::Triggered { write },
+            State::Idle => State::Idle,
+        }
+    }
+}
+
 // Of each list of errors that the Rust keeps, its length is kept.
 pub struct Recorder {
     pub state: State,
@@ -134,7 +145,7 @@ impl Recorder {
         let state = self.state;
         let State::Triggered { write } = state else {
             return Recorded {
-                recorder: self,
+                recorder: self.copied(),
                 data_len,
             };
         };
@@ -156,6 +167,18 @@ impl Recorder {
                 incorrect_state: self.incorrect_state,
             },
             data_len: larger(data_len, write + 1),
+        }
+    }
+
+    // A copy made case by case, as `Volume::copied` is.
+    pub fn copied(self) -> Self
+        ensures { λ r. ⌜ r ≡ self ⌝ }
+    {
+        let state = self.state;
+        Self {
+            state: state.copied(),
+            skipped_samples: self.skipped_samples,
+            incorrect_state: self.incorrect_state,
         }
     }
 
