@@ -1,5 +1,5 @@
--- What one call does to one channel: nothing, a change, or a sample with the channel's part of the memory. The definitions of the change and of the sample are
--- those that the contracts cite. Definitions only. Assumes nothing.
+-- What one call does to one channel: nothing, a change, or a sample with the channel's part of the memory. A start and a sample are put together of their parts (Engine); the other changes are as the contracts cite them.
+-- Definitions only. Assumes nothing.
 use mathlib.Core.Path.{_≡_}
 use Prim.Native.Nat.{ℕ}
 use mathlib.Core.Bool.{Bool, true, false}
@@ -12,7 +12,8 @@ use Rattle.voice.specs.Voices.{tickOf}
 use Rattle.channel.specs.declared.Channel.{Channel}
 use Rattle.channel.specs.declared.Change.{Change}
 use Rattle.channel.specs.declared.Change.the-variants as change
-use Rattle.channel.specs.Channels.{changedOf, takenOf, processSampleOf}
+use Rattle.channel.specs.Channels.{resetOf, stopPlayingOf, setNoteSpeedOf, startRecordingOf, stopRecordingOf, takenOf}
+use Rattle.fates.specs.Engine.{begunOf, stepOf}
 
 pub data Event : Type 0 where
   idle : Event
@@ -21,8 +22,13 @@ pub data Event : Type 0 where
 
 unfoldable pub act : Event → Channel → Channel
 act idle c = c
-act (changes change) c = changedOf change c
-act (sounds p x m) c = processSampleOf p x c m .channel
+act (changes (change.Start p position note velocity)) c = begunOf p position note velocity c
+act (changes (change.Stop p note)) c = stopPlayingOf p note c
+act (changes (change.Speed note speed)) c = setNoteSpeedOf note speed c
+act (changes change.StartRecording) c = startRecordingOf c
+act (changes change.StopRecording) c = stopRecordingOf c
+act (changes change.Reset) c = resetOf c
+act (sounds p x m) c = stepOf p x c m .channel
 
 unfoldable pub acts : List Event → Channel → Channel
 acts [] c = c

@@ -11,49 +11,42 @@ use lib.Dec.{eqb, ltb}
 use lib.ListN.{length, take, getD, set, getElem?, length-set, length-map}
 use Rattle.voice.specs.declared.Voice.{Voice}
 use Rattle.voice.specs.declared.Tick.{Tick}
-use Rattle.voice.specs.Voices.{shouldRemoveOf, turnOf, finishOf, freshOf, blankVoice}
+use Rattle.voice.specs.Voices.{finishOf, blankVoice}
 use Rattle.channel.specs.declared.Channel.{Channel}
 use Rattle.channel.specs.declared.Change.the-variants as change
 use Rattle.channel.specs.declared.Found.{Found}
 use Rattle.channel.specs.declared.Found.the-variants.{At, Nothing}
 use Rattle.channel.specs.Channels.{
   live,
-  handledOf,
-  pushedOf,
-  startPlayingOf,
   findOf,
-  stopPlayingOf,
   spedOf,
-  setNoteSpeedOf,
   startRecordingOf,
   stopRecordingOf,
   resetOf,
-  keptOf,
   memoryOf,
-  processSampleOf,
-  changedOf,
 }
-use Rattle.promises.specs.Events.{Event, idle, changes, sounds, act, isReset, emptyAt, tickAt}
-use Rattle.promises.specs.Places.{Housed, voiceAt, at, gone, fateOf, follow, newOf}
-use Rattle.promises.proofs.Looks.{never, look-below, look-some, look-back, look-map, look-unmap, take-map, rank-order, keep-stood, without-fewer}
-use Rattle.promises.proofs.Lives.{live-length, live-started, live-sped, live-sounded}
-use Rattle.promises.proofs.Stops.{found, stopped-none, live-stopped}
-use Rattle.promises.proofs.Housing.{housed}
-use Rattle.promises.proofs.Tracks.{at-same, gone-never}
+use Rattle.fates.specs.Engine.{bornOf, turnedOf, leavesOf, leftOf}
+use Rattle.fates.specs.Events.{Event, idle, changes, sounds, act, isReset, emptyAt, tickAt}
+use Rattle.fates.specs.Places.{Housed, voiceAt, at, gone, fateOf, follow, newOf}
+use Rattle.fates.proofs.Looks.{never, look-below, look-some, look-back, look-map, look-unmap, take-map, rank-order, keep-stood, without-fewer}
+use Rattle.fates.proofs.Lives.{live-length, live-started, live-sped, live-sounded}
+use Rattle.fates.proofs.Stops.{found, stopped-none, live-stopped}
+use Rattle.fates.proofs.Housing.{housed}
+use Rattle.fates.proofs.Tracks.{at-same, gone-never}
 
 -- ---- order
 fate-order : (t : Tick) (m : List ℕ) (vs : List Voice) (i n a b : ℕ) (v w : Voice) → i < n → getElem? vs i ≡ some v
     → fateOf t m vs i (some v) ≡ at a → fateOf t m vs n (some w) ≡ at b → a < b
-unfolding fateOf keptOf
-fate-order t m vs i n a b v w o s f g = go (shouldRemoveOf t (turnOf t m v)) refl (shouldRemoveOf t (turnOf t m w)) f g
+unfolding fateOf leftOf
+fate-order t m vs i n a b v w o s f g = go (leavesOf t (turnedOf t m v)) refl (leavesOf t (turnedOf t m w)) f g
   where
-    go : (x : Bool) → shouldRemoveOf t (turnOf t m v) ≡ x → (y : Bool) → cond x gone (at (length (keptOf t m (take i vs)))) ≡ at a
-        → cond y gone (at (length (keptOf t m (take n vs)))) ≡ at b → a < b
+    go : (x : Bool) → leavesOf t (turnedOf t m v) ≡ x → (y : Bool) → cond x gone (at (length (leftOf t m (take i vs)))) ≡ at a
+        → cond y gone (at (length (leftOf t m (take n vs)))) ≡ at b → a < b
     go true e y f g = absurd (gone-never a f)
     go false e true f g = absurd (gone-never b g)
     go false e false f g =
-        let r = rank-order (shouldRemoveOf t) (map (turnOf t m) vs) i n (turnOf t m v) o (look-map (turnOf t m) vs i v s) e in
-        omega (arith, rw (take-map (turnOf t m) i vs, take-map (turnOf t m) n vs) at r, at-same _ a f, at-same _ b g)
+        let r = rank-order (leavesOf t) (map (turnedOf t m) vs) i n (turnedOf t m v) o (look-map (turnedOf t m) vs i v s) e in
+        omega (arith, rw (take-map (turnedOf t m) i vs, take-map (turnedOf t m) n vs) at r, at-same _ a f, at-same _ b g)
 
 pub ordered : (e : Event) (c : Channel) (i n a b : ℕ) (v w : Voice) → i < n → voiceAt c i ≡ some v → voiceAt c n ≡ some w
     → follow e c i ≡ at a → follow e c n ≡ at b → a < b
@@ -87,18 +80,18 @@ pub record Came (e : Event) (c : Channel) (k : ℕ) : Type 0 where
   pub stood : voiceAt c place ≡ some voice
   pub follows : follow e c place ≡ at k
 
-kept-came : (t : Tick) (m : List ℕ) (vs : List Voice) (k : ℕ) (u : Voice) → getElem? (keptOf t m vs) k ≡ some u
+left-came : (t : Tick) (m : List ℕ) (vs : List Voice) (k : ℕ) (u : Voice) → getElem? (leftOf t m vs) k ≡ some u
     → (n : ℕ) × (v : Voice) × (getElem? vs n ≡ some v) × (fateOf t m vs n (some v) ≡ at k)
-unfolding keptOf fateOf
-kept-came t m vs k u h =
-    let s = keep-stood (shouldRemoveOf t) (map (turnOf t m) vs) k u h in
-    let w = look-unmap (turnOf t m) vs (s .place) u (s .stood) in
-    let b : shouldRemoveOf t (turnOf t m (w .0)) ≡ false = subst (λ (y : Voice). shouldRemoveOf t y ≡ false) (w .2) (s .stays) in
-    (s .place, w .0, w .1, rw (b, ← take-map (turnOf t m) (s .place) vs) (ap at (s .moves)))
+unfolding leftOf fateOf
+left-came t m vs k u h =
+    let s = keep-stood (leavesOf t) (map (turnedOf t m) vs) k u h in
+    let w = look-unmap (turnedOf t m) vs (s .place) u (s .stood) in
+    let b : leavesOf t (turnedOf t m (w .0)) ≡ false = subst (λ (y : Voice). leavesOf t y ≡ false) (w .2) (s .stays) in
+    (s .place, w .0, w .1, rw (b, ← take-map (turnedOf t m) (s .place) vs) (ap at (s .moves)))
 
 pub covered : (e : Event) (c : Channel) → Housed c → (k : ℕ) (u : Voice) → voiceAt (act e c) k ≡ some u
     → Came e c k ⊎ ((k ≡ length (live c)) × (newOf e c ≡ u ∷ []))
-unfolding act follow isReset newOf changedOf startRecordingOf stopRecordingOf resetOf
+unfolding act follow isReset newOf startRecordingOf stopRecordingOf resetOf
 covered idle c h k u s = inl (record { place = k; voice = u; stood = s; follows = refl })
 covered (changes (change.Start p position note velocity)) c h k u s =
     go (eqb (c .head .«data_len») 0 || not (ltb (c .count) 32)) (subst (λ (l : List Voice). getElem? l k ≡ some u) (live-started p position note velocity c h) s)
@@ -107,7 +100,7 @@ covered (changes (change.Start p position note velocity)) c h k u s =
     e = changes (change.Start p position note velocity)
 
     v : Voice
-    v = freshOf p position note velocity (c .head .now) (c .head .«data_len»)
+    v = bornOf p position note velocity c
 
     last : (getElem? (live c) k ≡ some u) ⊎ ((k ≡ length (live c)) × (u ≡ v)) → Came e c k ⊎ ((k ≡ length (live c)) × (v ∷ [] ≡ u ∷ []))
     last (inl r) = inl (record { place = k; voice = u; stood = r; follows = refl })
@@ -138,27 +131,27 @@ covered (sounds p x m) c h k u s = go (emptyAt m c) refl (subst (λ (l : List Vo
     mem : List ℕ
     mem = memoryOf x c m
 
-    go : (b : Bool) → emptyAt m c ≡ b → getElem? (cond b (live c) (keptOf t mem (live c))) k ≡ some u → Came (sounds p x m) c k ⊎ ((k ≡ length (live c)) × ([] ≡ u ∷ []))
+    go : (b : Bool) → emptyAt m c ≡ b → getElem? (cond b (live c) (leftOf t mem (live c))) k ≡ some u → Came (sounds p x m) c k ⊎ ((k ≡ length (live c)) × ([] ≡ u ∷ []))
     go true e r = inl (record { place = k; voice = u; stood = r; follows = rw e })
     go false e r =
-        let q = kept-came t mem (live c) k u r in
+        let q = left-came t mem (live c) k u r in
         inl (record { place = q .0; voice = q .1; stood = q .2; follows = rw (e, q .2) (q .3) })
 
 -- ---- the count falls
 nowhere : (i : ℕ) → at i ≡ gone → ⊥
 nowhere i h = gone-never i (sym h)
 
-kept-fewer : (t : Tick) (m : List ℕ) (vs : List Voice) (n : ℕ) (v : Voice) → getElem? vs n ≡ some v → fateOf t m vs n (some v) ≡ gone
-    → length (keptOf t m vs) < length vs
-unfolding fateOf keptOf
-kept-fewer t m vs n v s f = go (shouldRemoveOf t (turnOf t m v)) refl f
+left-fewer : (t : Tick) (m : List ℕ) (vs : List Voice) (n : ℕ) (v : Voice) → getElem? vs n ≡ some v → fateOf t m vs n (some v) ≡ gone
+    → length (leftOf t m vs) < length vs
+unfolding fateOf leftOf
+left-fewer t m vs n v s f = go (leavesOf t (turnedOf t m v)) refl f
   where
-    go : (b : Bool) → shouldRemoveOf t (turnOf t m v) ≡ b → cond b gone (at (length (keptOf t m (take n vs)))) ≡ gone → length (keptOf t m vs) < length vs
+    go : (b : Bool) → leavesOf t (turnedOf t m v) ≡ b → cond b gone (at (length (leftOf t m (take n vs)))) ≡ gone → length (leftOf t m vs) < length vs
     go true e f =
         omega (
           arith,
-          without-fewer (shouldRemoveOf t) (map (turnOf t m) vs) n (turnOf t m v) (look-map (turnOf t m) vs n v s) e,
-          length-map vs (turnOf t m),
+          without-fewer (leavesOf t) (map (turnedOf t m) vs) n (turnedOf t m v) (look-map (turnedOf t m) vs n v s) e,
+          length-map vs (turnedOf t m),
         )
     go false e f = absurd (nowhere _ f)
 
@@ -175,9 +168,9 @@ live-fewer (sounds p x m) c h r n v s f = subst (λ (l : List Voice). length l <
     mem : List ℕ
     mem = memoryOf x c m
 
-    go : (b : Bool) → cond b (at n) (fateOf t mem (live c) n (voiceAt c n)) ≡ gone → length (cond b (live c) (keptOf t mem (live c))) < length (live c)
+    go : (b : Bool) → cond b (at n) (fateOf t mem (live c) n (voiceAt c n)) ≡ gone → length (cond b (live c) (leftOf t mem (live c))) < length (live c)
     go true f = absurd (nowhere n f)
-    go false f = kept-fewer t mem (live c) n v s (subst (λ (y : Option Voice). fateOf t mem (live c) n y ≡ gone) s f)
+    go false f = left-fewer t mem (live c) n v s (subst (λ (y : Option Voice). fateOf t mem (live c) n y ≡ gone) s f)
 
 pub fewer : (e : Event) (c : Channel) → Housed c → isReset e ≡ false → (n : ℕ) (v : Voice) → voiceAt c n ≡ some v → follow e c n ≡ gone → act e c .count < c .count
 fewer e c h r n v s f = omega (arith, live-fewer e c h r n v s f, live-length c h, live-length (act e c) (housed e c h))

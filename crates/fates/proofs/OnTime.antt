@@ -16,17 +16,18 @@ use Rattle.voice.specs.declared.Voice.{Voice}
 use Rattle.voice.specs.Voices.{finishOf, freshOf, atSpeedOf}
 use Rattle.channel.specs.declared.Channel.{Channel}
 use Rattle.channel.specs.declared.Change.the-variants as change
-use Rattle.channel.specs.Channels.{live, sameNote, spedOf, changedOf}
-use Rattle.promises.specs.Events.{Event, idle, changes, sounds, act, acts, isReset, isSample, emptyAt}
-use Rattle.promises.specs.Places.{Housed, voiceAt, Place, at, follow, becomes, newOf, stops, onward, followAll, somewhere, stoppedIn}
-use Rattle.promises.specs.Sounding.{First}
-use Rattle.promises.proofs.Cases.{neither}
-use Rattle.promises.proofs.Looks.{look-last}
-use Rattle.promises.proofs.Lives.{live-started}
-use Rattle.promises.proofs.Housing.{housed}
-use Rattle.promises.proofs.Tracks.{tracks}
-use Rattle.promises.proofs.Terms.{sounds-each}
-use Rattle.promises.proofs.Clocks.{clock-stands}
+use Rattle.channel.specs.Channels.{live, sameNote, spedOf}
+use Rattle.fates.specs.Engine.{bornOf}
+use Rattle.fates.specs.Events.{Event, idle, changes, sounds, act, acts, isReset, isSample, emptyAt}
+use Rattle.fates.specs.Places.{Housed, voiceAt, Place, at, follow, becomes, newOf, stops, onward, followAll, somewhere, stoppedIn}
+use Rattle.fates.specs.Sounding.{First}
+use Rattle.fates.proofs.Cases.{neither}
+use Rattle.fates.proofs.Looks.{look-last}
+use Rattle.fates.proofs.Lives.{live-started}
+use Rattle.fates.proofs.Housing.{housed}
+use Rattle.fates.proofs.Tracks.{tracks}
+use Rattle.fates.proofs.Terms.{sounds-each}
+use Rattle.fates.proofs.Clocks.{clock-stands}
 
 -- ---- between samples a voice that isn't stopped keeps its place, and all but its speed
 pub record Waits (es : List Event) (c : Channel) (n : ℕ) (v : Voice) : Type 0 where
@@ -92,24 +93,21 @@ module _ (p₀ : Params) (position : Float) (note : Note) (velocity : Float) whe
   abbrev pub begin : Event
   begin = changes (change.Start p₀ position note velocity)
 
-  abbrev pub madeBy : Channel → Voice
-  madeBy c = freshOf p₀ position note velocity (c .head .now) (c .head .«data_len»)
-
   module _ (c : Channel) (h : Housed c) (e : eqb (c .head .«data_len») 0 ≡ false) (k : c .count < 32) where
     -- it takes the place at the end
-    pub taken : live (act begin c) ≡ live c ++ (madeBy c ∷ [])
-    unfolding act changedOf newOf
+    pub taken : live (act begin c) ≡ live c ++ (bornOf p₀ position note velocity c ∷ [])
+    unfolding act newOf
     taken = live-started p₀ position note velocity c h ∙ rw (e, lt-ltb (c .count) 32 k)
 
-    pub stands : voiceAt (act begin c) (length (live c)) ≡ some (madeBy c)
-    stands = subst (λ (l : List Voice). getElem? l (length (live c)) ≡ some (madeBy c)) (sym taken) (look-last (live c) (madeBy c))
+    pub stands : voiceAt (act begin c) (length (live c)) ≡ some (bornOf p₀ position note velocity c)
+    stands = subst (λ (l : List Voice). getElem? l (length (live c)) ≡ some (bornOf p₀ position note velocity c)) (sym taken) (look-last (live c) (bornOf p₀ position note velocity c))
 
     pub on-time : (es : List Event) → any isReset es ≡ false → any isSample es ≡ false → stoppedIn es (act begin c) (length (live c)) ≡ false
         → (p : Params) (x : Float) (m : List ℕ) → emptyAt m (acts (begin ∷ es) c) ≡ false
-        → First p x m (acts (begin ∷ es) c) (length (live c)) (madeBy c)
+        → First p x m (acts (begin ∷ es) c) (length (live c)) (bornOf p₀ position note velocity c)
     unfolding acts atSpeedOf freshOf isReset isSample any
     on-time es r q f p x m g =
-        let w = waits es (act begin c) (housed begin c h) r q (length (live c)) (madeBy c) stands f in
+        let w = waits es (act begin c) (housed begin c h) r q (length (live c)) (bornOf p₀ position note velocity c) stands f in
         let z = clock-stands (begin ∷ es) c r q in
         record {
           voice = w .voice;

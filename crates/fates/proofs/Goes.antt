@@ -12,18 +12,19 @@ use Rattle.common_types.specs.declared.Params.{Params}
 use Rattle.common_types.specs.declared.Note.{Note}
 use Rattle.voice.specs.declared.Voice.{Voice}
 use Rattle.voice.specs.declared.Tick.{Tick}
-use Rattle.voice.specs.Voices.{tickOf, turnOf, finishOf}
+use Rattle.voice.specs.Voices.{tickOf, finishOf}
 use Rattle.channel.specs.declared.Channel.{Channel}
 use Rattle.channel.specs.declared.Change.the-variants as change
 use Rattle.channel.specs.declared.Found.{Found}
 use Rattle.channel.specs.declared.Found.the-variants.{At, Nothing}
 use Rattle.channel.specs.Channels.{sameNote, unfinishedOf, wantedOf, findOf, memoryOf}
-use Rattle.promises.specs.Events.{Event, idle, changes, sounds, act, emptyAt, tickAt, Sampled, decayOf, lastOf, beforeLast}
-use Rattle.promises.specs.Places.{Housed, voiceAt, Place, at, gone, fateOf, follow, foundAt, becomes, stops, outOf, playsOut, finishes, onward, followAll}
-use Rattle.promises.proofs.Housing.{housed}
-use Rattle.promises.proofs.Stops.{found}
-use Rattle.promises.proofs.Tracks.{tracks}
-use Rattle.promises.proofs.Ending.{Ending, Turns, finish-ending, ending-turns, ending-sped, out-turns, turns-ending, turns-over}
+use Rattle.fates.specs.Engine.{turnedOf}
+use Rattle.fates.specs.Events.{Event, idle, changes, sounds, act, emptyAt, tickAt, Sampled, decayOf, lastOf, beforeLast}
+use Rattle.fates.specs.Places.{Housed, voiceAt, Place, at, gone, fateOf, follow, foundAt, becomes, stops, outOf, playsOut, finishes, onward, followAll}
+use Rattle.fates.proofs.Housing.{housed}
+use Rattle.fates.proofs.Stops.{found}
+use Rattle.fates.proofs.Tracks.{tracks}
+use Rattle.fates.proofs.Ending.{Ending, Turns, finish-ending, ending-turns, ending-sped, out-turns, turns-ending, turns-over}
 
 -- ---- a stop finds no finished voice
 stop-unfinished : (note : Note) (c : Channel) (n : ℕ) (v : Voice) → voiceAt c n ≡ some v → foundAt (findOf note c) n ≡ true → v .finished ≡ false
@@ -54,7 +55,7 @@ ending-on (changes change.StopRecording) c n v r d s h = h
 ending-on (changes change.Reset) c n v r d s h = h
 ending-on (sounds p x m) c n v r d s h = go (emptyAt m c)
   where
-    go : (b : Bool) → Ending r d (cond b v (turnOf (tickAt p m c) (memoryOf x c m) v))
+    go : (b : Bool) → Ending r d (cond b v (turnedOf (tickAt p m c) (memoryOf x c m) v))
     go true = h
     go false = turns-ending (tickAt p m c) (memoryOf x c m) v r d (ending-turns (tickAt p m c) (memoryOf x c m) v r d h)
 

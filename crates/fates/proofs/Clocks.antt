@@ -17,12 +17,9 @@ use Rattle.channel.specs.declared.Found.{Found}
 use Rattle.channel.specs.declared.Found.the-variants.{At, Nothing}
 use Rattle.channel.specs.Heads.{lastTime, nextTime}
 use Rattle.channel.specs.Channels.{
-  live,
-  withVoices,
   anyUnfinishedOf,
   handledOf,
   pushedOf,
-  startPlayingOf,
   findOf,
   finishedAtOf,
   stopPlayingOf,
@@ -30,13 +27,11 @@ use Rattle.channel.specs.Channels.{
   startRecordingOf,
   stopRecordingOf,
   takenOf,
-  processSampleOf,
-  changedOf,
 }
-use Rattle.channel.proofs.Heads.{passthru-now, next-later, closed-now}
-use Rattle.channel.proofs.Samples.{sample-clock}
-use Rattle.promises.specs.Events.{Event, idle, changes, sounds, act, acts, isReset, isSample}
-use Rattle.promises.proofs.Cases.{neither, either}
+use Rattle.channel.proofs.Heads.{passthru-now, next-later, next-one, closed-now}
+use Rattle.fates.specs.Engine.{begunOf, stepOf}
+use Rattle.fates.specs.Events.{Event, idle, changes, sounds, act, acts, isReset, isSample}
+use Rattle.fates.proofs.Cases.{neither, either}
 
 handled-clock : (p : Params) (c : Channel) → handledOf p c .head .now ≡ c .head .now
 unfolding handledOf
@@ -51,18 +46,18 @@ unfolding finishedAtOf
 finished-clock p c Nothing = refl
 finished-clock p c (At i) = either (λ (d : Channel). d .head .now) (ltb i 32) _ c (c .head .now) (handled-clock p _) refl
 
-started-clock : (p : Params) (position : Float) (note : Note) (velocity : Float) (c : Channel) → startPlayingOf p position note velocity c .head .now ≡ c .head .now
-unfolding startPlayingOf
+started-clock : (p : Params) (position : Float) (note : Note) (velocity : Float) (c : Channel) → begunOf p position note velocity c .head .now ≡ c .head .now
+unfolding begunOf
 started-clock p position note velocity c =
     either (λ (d : Channel). d .head .now) (eqb (c .head .«data_len») 0) c _ (c .head .now) refl (handled-clock p _ ∙ pushed-clock _ c)
 
-sounded-clock : (p : Params) (x : Float) (m : List ℕ) (c : Channel) → processSampleOf p x c m .channel .head .now ≡ nextTime (c .head .now)
-unfolding processSampleOf takenOf
+sounded-clock : (p : Params) (x : Float) (m : List ℕ) (c : Channel) → stepOf p x c m .channel .head .now ≡ nextTime (c .head .now)
+unfolding stepOf takenOf
 sounded-clock p x m c = closed-now p _ (takenOf m c .head)
 
 -- ---- one event
 pub clock-still : (e : Event) (c : Channel) → isReset e ≡ false → isSample e ≡ false → act e c .head .now ≡ c .head .now
-unfolding act isReset isSample changedOf stopPlayingOf setNoteSpeedOf startRecordingOf stopRecordingOf
+unfolding act isReset isSample stopPlayingOf setNoteSpeedOf startRecordingOf stopRecordingOf
 clock-still idle c r q = refl
 clock-still (changes (change.Start p position note velocity)) c r q = started-clock p position note velocity c
 clock-still (changes (change.Stop p note)) c r q = finished-clock p c (findOf note c)
@@ -74,7 +69,7 @@ clock-still (sounds p x m) c r q = absurd (true≢false q)
 
 pub clock-moves : (p : Params) (x : Float) (m : List ℕ) (c : Channel) → c .head .now < lastTime → act (sounds p x m) c .head .now ≡ c .head .now + 1
 unfolding act
-clock-moves p x m c h = sample-clock p x c m h
+clock-moves p x m c h = sounded-clock p x m c ∙ next-one (c .head .now) h
 
 clock-up : (e : Event) (c : Channel) → isReset e ≡ false → c .head .now ≤ act e c .head .now
 unfolding act isSample

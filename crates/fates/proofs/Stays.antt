@@ -11,12 +11,13 @@ use Rattle.walks.specs.Walks.{any}
 use Rattle.common_types.specs.declared.Note.{Note}
 use Rattle.voice.specs.declared.Voice.{Voice}
 use Rattle.voice.specs.declared.Tick.{Tick}
-use Rattle.voice.specs.Voices.{shouldRemoveOf, soundedOf, playedOutOf, endedOf, volumeStepped, turnOf, atSpeedOf}
+use Rattle.voice.specs.Voices.{shouldRemoveOf, soundedOf, playedOutOf, endedOf, volumeStepped, atSpeedOf}
 use Rattle.channel.specs.declared.Channel.{Channel}
 use Rattle.channel.specs.declared.Change.the-variants as change
-use Rattle.channel.specs.Channels.{live, findOf, sameNote, spedOf, keptOf, memoryOf}
-use Rattle.promises.specs.Events.{Event, idle, changes, sounds, act, acts, isReset, emptyAt, tickAt}
-use Rattle.promises.specs.Places.{
+use Rattle.channel.specs.Channels.{live, findOf, sameNote, spedOf, memoryOf}
+use Rattle.fates.specs.Engine.{passesOver, turnedOf, leavesOf, leftOf}
+use Rattle.fates.specs.Events.{Event, idle, changes, sounds, act, acts, isReset, emptyAt, tickAt}
+use Rattle.fates.specs.Places.{
   Housed,
   voiceAt,
   Place,
@@ -35,18 +36,24 @@ use Rattle.promises.specs.Places.{
   somewhere,
   finishedIn,
 }
-use Rattle.promises.proofs.Cases.{neither, either}
-use Rattle.promises.proofs.Housing.{housed}
-use Rattle.promises.proofs.Tracks.{gone-never, tracks}
+use Rattle.fates.proofs.Cases.{neither, either}
+use Rattle.fates.proofs.Housing.{housed}
+use Rattle.fates.proofs.Tracks.{gone-never, tracks}
 
 -- ---- one turn
-pub unfinished-stays : (t : Tick) (v : Voice) → v .finished ≡ false → shouldRemoveOf t v ≡ false
-unfolding shouldRemoveOf
-unfinished-stays t v h = rw h
+-- an unfinished voice is not passed over,
+pub unfinished-sounds : (t : Tick) (v : Voice) → v .finished ≡ false → passesOver t v ≡ false
+unfolding passesOver shouldRemoveOf
+unfinished-sounds t v h = rw h
 
-pub turn-unfinished : (t : Tick) (m : List ℕ) (v : Voice) → v .finished ≡ false → playedOutOf t (soundedOf t m v) ≡ false → turnOf t m v .finished ≡ false
-unfolding turnOf volumeStepped endedOf soundedOf
-turn-unfinished t m v h k = rw (unfinished-stays t v h, k) h
+-- and doesn't leave
+unfinished-stays : (t : Tick) (u : Voice) → u .finished ≡ false → leavesOf t u ≡ false
+unfolding leavesOf
+unfinished-stays t u h = rw h
+
+pub turn-unfinished : (t : Tick) (m : List ℕ) (v : Voice) → v .finished ≡ false → playedOutOf t (soundedOf t m v) ≡ false → turnedOf t m v .finished ≡ false
+unfolding turnedOf volumeStepped endedOf soundedOf
+turn-unfinished t m v h k = rw (unfinished-sounds t v h, k) h
 
 sped-finished : (note : Note) (speed : Float) (v : Voice) → spedOf note speed v .finished ≡ v .finished
 unfolding spedOf atSpeedOf
@@ -79,7 +86,7 @@ stays-one (sounds p x m) c r n v s u f = go (emptyAt m c) refl f
     go true e f = record { place = n; follows = rw e; unfinished = rw e u }
     go false e f =
         let w = turn-unfinished t mem v u (subst (λ (o : Option Voice). outOf t mem o ≡ false) s f) in
-        record { place = length (keptOf t mem (take n (live c))); follows = rw (e, s, unfinished-stays t (turnOf t mem v) w); unfinished = rw e w }
+        record { place = length (leftOf t mem (take n (live c))); follows = rw (e, s, unfinished-stays t (turnedOf t mem v) w); unfinished = rw e w }
 
 -- ---- any events without a reset
 pub record StaysAll (es : List Event) (c : Channel) (n : ℕ) : Type 0 where

@@ -13,32 +13,26 @@ use Rattle.common_types.specs.declared.Params.{Params}
 use Rattle.common_types.specs.declared.Note.{Note}
 use Rattle.voice.specs.declared.Voice.{Voice}
 use Rattle.voice.specs.declared.Tick.{Tick}
-use Rattle.voice.specs.Voices.{shouldRemoveOf, turnOf, finishOf}
+use Rattle.voice.specs.Voices.{finishOf}
 use Rattle.channel.specs.declared.Channel.{Channel}
 use Rattle.channel.specs.declared.Change.the-variants as change
 use Rattle.channel.specs.declared.Found.{Found}
 use Rattle.channel.specs.declared.Found.the-variants.{At, Nothing}
 use Rattle.channel.specs.Channels.{
   live,
-  handledOf,
-  pushedOf,
-  startPlayingOf,
   findOf,
   stopPlayingOf,
   spedOf,
-  setNoteSpeedOf,
   startRecordingOf,
   stopRecordingOf,
-  keptOf,
   memoryOf,
-  processSampleOf,
-  changedOf,
 }
-use Rattle.promises.specs.Events.{Event, idle, changes, sounds, act, isReset, emptyAt, tickAt}
-use Rattle.promises.specs.Places.{Housed, voiceAt, at, gone, fateOf, follow, foundAt, becomes}
-use Rattle.promises.proofs.Looks.{look-front, look-map, look-set-same, look-set-other, take-map, keep-look}
-use Rattle.promises.proofs.Lives.{live-started, live-sped, live-sounded}
-use Rattle.promises.proofs.Stops.{found, stopped-none, live-stopped}
+use Rattle.fates.specs.Engine.{begunOf, turnedOf, leavesOf, leftOf}
+use Rattle.fates.specs.Events.{Event, idle, changes, sounds, act, isReset, emptyAt, tickAt}
+use Rattle.fates.specs.Places.{Housed, voiceAt, at, gone, fateOf, follow, foundAt, becomes}
+use Rattle.fates.proofs.Looks.{look-front, look-map, look-set-same, look-set-other, take-map, keep-look}
+use Rattle.fates.proofs.Lives.{live-started, live-sped, live-sounded}
+use Rattle.fates.proofs.Stops.{found, stopped-none, live-stopped}
 
 -- ---- no place is two places
 pub at-same : (i k : ℕ) → at i ≡ at k → i ≡ k
@@ -49,7 +43,7 @@ gone-never k h = let z : _≡_ {A = ℕ} 0 1 = cc in omega arith
 
 -- ---- a start
 look-started : (p : Params) (position : Float) (note : Note) (velocity : Float) (c : Channel) → Housed c → (n : ℕ) (v : Voice) → voiceAt c n ≡ some v
-    → voiceAt (startPlayingOf p position note velocity c) n ≡ some v
+    → voiceAt (begunOf p position note velocity c) n ≡ some v
 look-started p position note velocity c h n v k =
     subst (λ (l : List Voice). getElem? l n ≡ some v) (sym (live-started p position note velocity c h)) (look-front (live c) _ n v k)
 
@@ -76,25 +70,25 @@ look-stopped p note c h n v k = go (findOf note c) refl
     go (At i) e = placed i e (eqb i n) refl
 
 -- ---- a sample
-kept-look : (t : Tick) (m : List ℕ) (vs : List Voice) (n k : ℕ) (v : Voice) → getElem? vs n ≡ some v → fateOf t m vs n (some v) ≡ at k
-    → getElem? (keptOf t m vs) k ≡ some (turnOf t m v)
-unfolding keptOf fateOf
-kept-look t m vs n k v h f = go (shouldRemoveOf t (turnOf t m v)) refl f
+left-look : (t : Tick) (m : List ℕ) (vs : List Voice) (n k : ℕ) (v : Voice) → getElem? vs n ≡ some v → fateOf t m vs n (some v) ≡ at k
+    → getElem? (leftOf t m vs) k ≡ some (turnedOf t m v)
+unfolding leftOf fateOf
+left-look t m vs n k v h f = go (leavesOf t (turnedOf t m v)) refl f
   where
     us : List Voice
-    us = map (turnOf t m) vs
+    us = map (turnedOf t m) vs
 
-    go : (b : Bool) → shouldRemoveOf t (turnOf t m v) ≡ b → cond b gone (at (length (keptOf t m (take n vs)))) ≡ at k → getElem? (keptOf t m vs) k ≡ some (turnOf t m v)
+    go : (b : Bool) → leavesOf t (turnedOf t m v) ≡ b → cond b gone (at (length (leftOf t m (take n vs)))) ≡ at k → getElem? (leftOf t m vs) k ≡ some (turnedOf t m v)
     go true e f = absurd (gone-never k f)
     go false e f =
-        subst (λ (j : ℕ). getElem? (keptOf t m vs) j ≡ some (turnOf t m v))
-        (rw (take-map (turnOf t m) n vs) (at-same _ k f))
-        (keep-look (shouldRemoveOf t) us n (turnOf t m v) (look-map (turnOf t m) vs n v h) e)
+        subst (λ (j : ℕ). getElem? (leftOf t m vs) j ≡ some (turnedOf t m v))
+        (rw (take-map (turnedOf t m) n vs) (at-same _ k f))
+        (keep-look (leavesOf t) us n (turnedOf t m v) (look-map (turnedOf t m) vs n v h) e)
 
 -- ---- every event
 pub tracks : (e : Event) (c : Channel) → Housed c → (n k : ℕ) (v : Voice) → voiceAt c n ≡ some v → follow e c n ≡ at k
     → voiceAt (act e c) k ≡ some (becomes e c n v)
-unfolding act follow isReset becomes changedOf startRecordingOf stopRecordingOf
+unfolding act follow isReset becomes startRecordingOf stopRecordingOf
 tracks idle c h n k v s f = rw (← at-same n k f) s
 tracks (changes (change.Start p position note velocity)) c h n k v s f = rw (← at-same n k f) (look-started p position note velocity c h n v s)
 tracks (changes (change.Stop p note)) c h n k v s f = rw (← at-same n k f) (look-stopped p note c h n v s)
@@ -113,6 +107,6 @@ tracks (sounds p x m) c h n k v s f = subst (λ (l : List Voice). getElem? l k �
     mem = memoryOf x c m
 
     go : (b : Bool) → cond b (at n) (fateOf t mem (live c) n (voiceAt c n)) ≡ at k
-        → getElem? (cond b (live c) (keptOf t mem (live c))) k ≡ some (cond b v (turnOf t mem v))
+        → getElem? (cond b (live c) (leftOf t mem (live c))) k ≡ some (cond b v (turnedOf t mem v))
     go true f = rw (← at-same n k f) s
-    go false f = kept-look t mem (live c) n k v s (subst (λ (o : Option Voice). fateOf t mem (live c) n o ≡ at k) s f)
+    go false f = left-look t mem (live c) n k v s (subst (λ (o : Option Voice). fateOf t mem (live c) n o ≡ at k) s f)

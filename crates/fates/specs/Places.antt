@@ -9,13 +9,14 @@ use lib.Dec.{eqb, ltb}
 use lib.ListN.{length, take, getElem?}
 use Rattle.voice.specs.declared.Voice.{Voice}
 use Rattle.voice.specs.declared.Tick.{Tick}
-use Rattle.voice.specs.Voices.{shouldRemoveOf, soundedOf, playedOutOf, turnOf, finishOf, freshOf}
+use Rattle.voice.specs.Voices.{soundedOf, playedOutOf, finishOf}
 use Rattle.channel.specs.declared.Channel.{Channel}
 use Rattle.channel.specs.declared.Change.the-variants as change
 use Rattle.channel.specs.declared.Found.{Found}
 use Rattle.channel.specs.declared.Found.the-variants.{At, Nothing}
-use Rattle.channel.specs.Channels.{live, findOf, spedOf, keptOf, memoryOf}
-use Rattle.promises.specs.Events.{Event, idle, changes, sounds, act, isReset, emptyAt, tickAt}
+use Rattle.channel.specs.Channels.{live, findOf, spedOf, memoryOf}
+use Rattle.fates.specs.Engine.{bornOf, turnedOf, leavesOf, leftOf}
+use Rattle.fates.specs.Events.{Event, idle, changes, sounds, act, isReset, emptyAt, tickAt}
 
 -- a channel as the engine has it: 32 places, and no more voices than those
 pub record Housed (c : Channel) : Type 0 where
@@ -32,10 +33,10 @@ pub data Place : Type 0 where
 
 -- ---- where it is afterwards
 
--- after a sample in which the voices play: one that is to be removed after its turn is gone, and any other stands behind those that are kept before it
+-- after a sample in which the voices play: one that leaves after its turn is gone, and any other stands behind those that are left before it
 unfoldable pub fateOf : Tick → List ℕ → List Voice → ℕ → Option Voice → Place
 fateOf t m vs n none = gone
-fateOf t m vs n (some v) = cond (shouldRemoveOf t (turnOf t m v)) gone (at (length (keptOf t m (take n vs))))
+fateOf t m vs n (some v) = cond (leavesOf t (turnedOf t m v)) gone (at (length (leftOf t m (take n vs))))
 
 -- an empty recording moves nothing; a reset takes all
 unfoldable pub follow : Event → Channel → ℕ → Place
@@ -68,13 +69,13 @@ becomes (changes (change.Speed note speed)) c n v = spedOf note speed v
 becomes (changes change.StartRecording) c n v = v
 becomes (changes change.StopRecording) c n v = v
 becomes (changes change.Reset) c n v = v
-becomes (sounds p x m) c n v = cond (emptyAt m c) v (turnOf (tickAt p m c) (memoryOf x c m) v)
+becomes (sounds p x m) c n v = cond (emptyAt m c) v (turnedOf (tickAt p m c) (memoryOf x c m) v)
 
 -- the voice that the event adds, at the end: a start's own, unless the recording is empty
 unfoldable pub newOf : Event → Channel → List Voice
 newOf idle c = []
 newOf (changes (change.Start p position note velocity)) c =
-    cond (eqb (c .head .«data_len») 0 || not (ltb (c .count) 32)) [] (freshOf p position note velocity (c .head .now) (c .head .«data_len») ∷ [])
+    cond (eqb (c .head .«data_len») 0 || not (ltb (c .count) 32)) [] (bornOf p position note velocity c ∷ [])
 newOf (changes (change.Stop p note)) c = []
 newOf (changes (change.Speed note speed)) c = []
 newOf (changes change.StartRecording) c = []

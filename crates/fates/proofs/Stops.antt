@@ -16,9 +16,9 @@ use Rattle.voice.specs.Voices.{finishOf, blankVoice}
 use Rattle.channel.specs.declared.Channel.{Channel}
 use Rattle.channel.specs.declared.Found.the-variants.{At, Nothing}
 use Rattle.channel.specs.Channels.{live, handledOf, wantedOf, findOf, finishedAtOf, stopPlayingOf}
-use Rattle.promises.specs.Places.{Housed, voiceAt}
-use Rattle.promises.proofs.Looks.{look-below, look-value}
-use Rattle.promises.proofs.Lives.{live-length}
+use Rattle.fates.specs.Places.{Housed, voiceAt}
+use Rattle.fates.proofs.Looks.{look-below, look-value}
+use Rattle.fates.proofs.Lives.{live-length}
 
 module _ {A : Type 0} (p : A → Bool) where
   record Sought (l : List A) (k i : ℕ) : Type 0 where

@@ -15,7 +15,7 @@ use Rattle.common_types.specs.declared.Note.{Note}
 use Rattle.clip.specs.Positions.{zero32}
 use Rattle.voice.specs.declared.Voice.{Voice}
 use Rattle.voice.specs.declared.Tick.{Tick}
-use Rattle.voice.specs.Voices.{finishOf, freshOf, blankVoice}
+use Rattle.voice.specs.Voices.{finishOf, blankVoice}
 use Rattle.channel.specs.declared.Channel.{Channel}
 use Rattle.channel.specs.declared.Played.{Played}
 use Rattle.channel.specs.declared.Change.the-variants as change
@@ -28,7 +28,6 @@ use Rattle.channel.specs.Channels.{
   resetOf,
   handledOf,
   pushedOf,
-  startPlayingOf,
   findOf,
   finishedAtOf,
   stopPlayingOf,
@@ -36,17 +35,13 @@ use Rattle.channel.specs.Channels.{
   setNoteSpeedOf,
   startRecordingOf,
   stopRecordingOf,
-  keptOf,
-  playedOf,
-  playedIfOf,
   takenOf,
   memoryOf,
-  processSampleOf,
-  changedOf,
 }
-use Rattle.promises.specs.Events.{Event, idle, changes, sounds, act, acts, emptyAt, tickAt}
-use Rattle.promises.specs.Places.{Housed}
-use Rattle.promises.proofs.Lives.{live-length, kept-length}
+use Rattle.fates.specs.Engine.{bornOf, begunOf, leftOf, turnsOf, stepOf}
+use Rattle.fates.specs.Events.{Event, idle, changes, sounds, act, acts, emptyAt, tickAt}
+use Rattle.fates.specs.Places.{Housed}
+use Rattle.fates.proofs.Lives.{live-length, left-length}
 
 -- set-up
 pub housed-new : (p : InitParams) → Housed (channelOf p)
@@ -65,12 +60,12 @@ housed-pushed v c h = go (ltb (c .count) 32) refl
     go true e = record { places = length-set (c .voices) (c .count) v ∙ h .places; room = omega (arith, ltb-true (c .count) 32 e) }
     go false e = h
 
-housed-started : (p : Params) (position : Float) (note : Note) (velocity : Float) (c : Channel) → Housed c → Housed (startPlayingOf p position note velocity c)
-unfolding startPlayingOf handledOf
+housed-started : (p : Params) (position : Float) (note : Note) (velocity : Float) (c : Channel) → Housed c → Housed (begunOf p position note velocity c)
+unfolding begunOf handledOf
 housed-started p position note velocity c h = go (eqb (c .head .«data_len») 0)
   where
     v : Voice
-    v = freshOf p position note velocity (c .head .now) (c .head .«data_len»)
+    v = bornOf p position note velocity c
 
     go : (b : Bool) → Housed (cond b c (handledOf p (pushedOf v c)))
     go true = h
@@ -88,19 +83,19 @@ housed-finished p c (At i) h = go (ltb i 32)
     go true = headless (handledOf p (withVoices vs (c .count) c)) c (length-set (c .voices) i _) refl h
     go false = h
 
-housed-played : (t : Tick) (m : List ℕ) (c : Channel) → Housed c → Housed (playedOf t m c .channel)
-unfolding playedOf
-housed-played t m c h = record {
-  places = length-sets (c .voices) 0 (keptOf t m (live c)) ∙ h .places;
-  room = omega (arith, kept-length t m (live c), live-length c h, h .room);
+housed-turned : (t : Tick) (m : List ℕ) (c : Channel) → Housed c → Housed (turnsOf t m c .channel)
+unfolding turnsOf
+housed-turned t m c h = record {
+  places = length-sets (c .voices) 0 (leftOf t m (live c)) ∙ h .places;
+  room = omega (arith, left-length t m (live c), live-length c h, h .room);
 }
 
-housed-sounded : (p : Params) (x : Float) (m : List ℕ) (c : Channel) → Housed c → Housed (processSampleOf p x c m .channel)
-unfolding processSampleOf playedIfOf takenOf
+housed-sounded : (p : Params) (x : Float) (m : List ℕ) (c : Channel) → Housed c → Housed (stepOf p x c m .channel)
+unfolding stepOf takenOf
 housed-sounded p x m c h = go (emptyAt m c)
   where
     q : Played
-    q = playedOf (tickAt p m c) (memoryOf x c m) (takenOf m c)
+    q = turnsOf (tickAt p m c) (memoryOf x c m) (takenOf m c)
 
     r : Bool → Played
     r b = cond {A = Played} b (record { channel = takenOf m c; output = zero32 }) q
@@ -108,14 +103,14 @@ housed-sounded p x m c h = go (emptyAt m c)
     k : Housed (takenOf m c)
     k = headless (takenOf m c) c refl refl h
 
-    go : (b : Bool) → Housed (record { voices = r b .channel .voices; count = r b .channel .count; head = processSampleOf p x c m .channel .head })
+    go : (b : Bool) → Housed (record { voices = r b .channel .voices; count = r b .channel .count; head = stepOf p x c m .channel .head })
     go true = record { places = h .places; room = h .room }
     go false =
-        let s = housed-played (tickAt p m c) (memoryOf x c m) (takenOf m c) k in
+        let s = housed-turned (tickAt p m c) (memoryOf x c m) (takenOf m c) k in
         record { places = s .places; room = s .room }
 
 pub housed : (e : Event) (c : Channel) → Housed c → Housed (act e c)
-unfolding act changedOf stopPlayingOf setNoteSpeedOf startRecordingOf stopRecordingOf resetOf
+unfolding act stopPlayingOf setNoteSpeedOf startRecordingOf stopRecordingOf resetOf
 housed idle c h = h
 housed (changes (change.Start p position note velocity)) c h = housed-started p position note velocity c h
 housed (changes (change.Stop p note)) c h = housed-finished p c (findOf note c) h

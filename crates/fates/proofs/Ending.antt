@@ -20,9 +20,11 @@ use Rattle.volume.proofs.Ends.{stepped-static, stepped-before, stepped-end, fad
 use Rattle.clip.specs.Positions.{zero32}
 use Rattle.voice.specs.declared.Voice.{Voice}
 use Rattle.voice.specs.declared.Tick.{Tick}
-use Rattle.voice.specs.Voices.{lateOf, overOf, shouldRemoveOf, soundedOf, playedOutOf, endedOf, finishOf, volumeStepped, turnOf, atSpeedOf}
+use Rattle.voice.specs.Voices.{lateOf, soundedOf, playedOutOf, endedOf, finishOf, volumeStepped, atSpeedOf}
 use Rattle.channel.specs.Channels.{sameNote, spedOf}
-use Rattle.promises.proofs.Stays.{unfinished-stays}
+use Rattle.fates.specs.Engine.{passesOver, turnedOf, letsGo, leavesOf}
+use Rattle.fates.proofs.Cases.{joined}
+use Rattle.fates.proofs.Stays.{unfinished-sounds}
 
 -- at 0, or on the way there by r + d
 abbrev pub Fades : ℕ → ℕ → Volume → Type 0
@@ -60,11 +62,15 @@ faded-mute r d (Static x) now h l = rw (stepped-static x now) h
 faded-mute r d (Linear a b x y) now h l = faded a b x y now (h .1) (omega (arith, h .0))
 
 -- ---- when the voice goes
-over-both : (mode : NoteOffBehaviour) → overOf mode true true ≡ true
-unfolding overOf
-over-both off.Decay = refl
-over-both off.ZeroCrossing = refl
-over-both off.DecayAndZeroCrossing = refl
+lets-go : (mode : NoteOffBehaviour) (t : Tick) (u : Voice) → isStaticAndMuteOf (u .volume) ≡ true → lateOf t u ≡ true → letsGo mode t u ≡ true
+unfolding letsGo
+lets-go off.Decay t u mute late = mute
+lets-go off.ZeroCrossing t u mute late = late
+lets-go off.DecayAndZeroCrossing t u mute late = rw mute
+
+leaves : (t : Tick) (u : Voice) → u .finished ≡ true → isStaticAndMuteOf (u .volume) ≡ true → lateOf t u ≡ true → leavesOf t u ≡ true
+unfolding leavesOf
+leaves t u finished mute late = joined (u .finished) (letsGo (t .«note_off_behavior») t u) finished (lets-go (t .«note_off_behavior») t u mute late)
 
 late : (t : Tick) (v : Voice) (r : ℕ) → v .«finished_at» ≡ r → r + t .«decay_samples» ≤ t .now → lateOf t v ≡ true
 unfolding lateOf
@@ -75,17 +81,17 @@ module _ (t : Tick) (r d : ℕ) (v : Voice) (h : Ending r d v) where
   unfolding volumeStepped
   ending-stepped = record { done = h .done; when = h .when; fades = stepped-fades r d (v .volume) (t .now) (h .fades) }
 
-  pub ending-over : r + max d (t .«decay_samples») ≤ t .now → shouldRemoveOf t (volumeStepped (t .now) v) ≡ true
-  unfolding shouldRemoveOf volumeStepped
+  pub ending-over : r + max d (t .«decay_samples») ≤ t .now → leavesOf t (volumeStepped (t .now) v) ≡ true
+  unfolding volumeStepped
   ending-over l =
       let a : isStaticAndMuteOf (steppedOf (v .volume) (t .now)) ≡ true = faded-mute r d (v .volume) (t .now) (h .fades) (omega arith) in
       let b : lateOf t (volumeStepped (t .now) v) ≡ true = late t (volumeStepped (t .now) v) r (h .when) (omega arith) in
-      rw (b, a, h .done, over-both (t .«note_off_behavior»))
+      leaves t (volumeStepped (t .now) v) (h .done) a b
 
 -- ---- a turn of a voice that is finished, and the turn in which play-once finishes it
 pub record Turns (t : Tick) (m : List ℕ) (v : Voice) (r d : ℕ) : Type 0 where
   pub voice : Voice
-  pub turn : turnOf t m v ≡ volumeStepped (t .now) voice
+  pub turn : turnedOf t m v ≡ volumeStepped (t .now) voice
   pub ending : Ending r d voice
 
 pub finish-ending : (now decay : ℕ) (v : Voice) → Ending now decay (finishOf now decay v)
@@ -101,10 +107,10 @@ not-out t v h = go (t .once)
     go false = refl
 
 pub ending-turns : (t : Tick) (m : List ℕ) (v : Voice) (r d : ℕ) → Ending r d v → Turns t m v r d
-unfolding turnOf endedOf soundedOf
-ending-turns t m v r d h = go (shouldRemoveOf t v) refl
+unfolding turnedOf endedOf soundedOf
+ending-turns t m v r d h = go (passesOver t v) refl
   where
-    go : (b : Bool) → shouldRemoveOf t v ≡ b → Turns t m v r d
+    go : (b : Bool) → passesOver t v ≡ b → Turns t m v r d
     go true e = record { voice = v; turn = rw e; ending = h }
     go false e = record {
       voice = soundedOf t m v;
@@ -117,17 +123,17 @@ unfolding playedOutOf soundedOf
 out-unfinished t m v h = not-true (v .finished) (both (t .once) (not (v .finished)) (both (t .once && not (v .finished)) _ h .0) .1)
 
 pub out-turns : (t : Tick) (m : List ℕ) (v : Voice) → playedOutOf t (soundedOf t m v) ≡ true → Turns t m v (t .now) (t .«decay_samples»)
-unfolding turnOf endedOf
+unfolding turnedOf endedOf
 out-turns t m v h = record {
   voice = finishOf (t .now) (t .«decay_samples») (soundedOf t m v);
-  turn = rw (unfinished-stays t v (out-unfinished t m v h), h);
+  turn = rw (unfinished-sounds t v (out-unfinished t m v h), h);
   ending = finish-ending (t .now) (t .«decay_samples») (soundedOf t m v);
 }
 
-pub turns-ending : (t : Tick) (m : List ℕ) (v : Voice) (r d : ℕ) → Turns t m v r d → Ending r d (turnOf t m v)
+pub turns-ending : (t : Tick) (m : List ℕ) (v : Voice) (r d : ℕ) → Turns t m v r d → Ending r d (turnedOf t m v)
 turns-ending t m v r d h = rw (h .turn) (ending-stepped t r d (h .voice) (h .ending))
 
-pub turns-over : (t : Tick) (m : List ℕ) (v : Voice) (r d : ℕ) → Turns t m v r d → r + max d (t .«decay_samples») ≤ t .now → shouldRemoveOf t (turnOf t m v) ≡ true
+pub turns-over : (t : Tick) (m : List ℕ) (v : Voice) (r d : ℕ) → Turns t m v r d → r + max d (t .«decay_samples») ≤ t .now → leavesOf t (turnedOf t m v) ≡ true
 turns-over t m v r d h l = rw (h .turn) (ending-over t r d (h .voice) (h .ending) l)
 
 -- ---- another speed

@@ -12,16 +12,17 @@ use Rattle.volume.specs.Levels.{levelOf}
 use Rattle.clip.specs.Positions.{zero32}
 use Rattle.voice.specs.declared.Voice.{Voice}
 use Rattle.voice.specs.declared.Tick.{Tick}
-use Rattle.voice.specs.Voices.{shouldRemoveOf, productOf, atSpeedOf}
+use Rattle.voice.specs.Voices.{productOf, atSpeedOf}
 use Rattle.channel.specs.declared.Channel.{Channel}
-use Rattle.channel.specs.Channels.{live, memoryOf, processSampleOf}
-use Rattle.promises.specs.Events.{tickAt}
-use Rattle.promises.specs.Places.{voiceAt}
+use Rattle.channel.specs.Channels.{live, memoryOf}
+use Rattle.fates.specs.Engine.{passesOver, stepOf}
+use Rattle.fates.specs.Events.{tickAt}
+use Rattle.fates.specs.Places.{voiceAt}
 
--- the products that are added, in the voices' order; a voice that is to be removed adds none
+-- the products that are added, in the voices' order; a voice that is passed over adds none
 unfoldable pub termsOf : Tick → List ℕ → List Voice → List Float
 termsOf t m [] = []
-termsOf t m (v ∷ vs) = cond (shouldRemoveOf t v) (termsOf t m vs) (productOf t m v ∷ termsOf t m vs)
+termsOf t m (v ∷ vs) = cond (passesOver t v) (termsOf t m vs) (productOf t m v ∷ termsOf t m vs)
 
 -- 0 + x₁ + x₂ + .., from the left
 unfoldable pub totalOf : List Float → Float
@@ -32,7 +33,7 @@ totalOf xs = fold (add binary32) zero32 xs
 pub record Sounds (p : Params) (x : Float) (m : List ℕ) (c : Channel) (n : ℕ) (v : Voice) : Type 0 where
   pub stands : voiceAt c n ≡ some v
   pub unfinished : v .finished ≡ false
-  pub output : processSampleOf p x c m .output
+  pub output : stepOf p x c m .output
       ≡ add binary32
       (add binary32 zero32
       (totalOf
