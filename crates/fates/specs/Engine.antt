@@ -1,5 +1,5 @@
--- One channel's engine in parts: the voice that a start makes, the voices that a sample passes over, and those that leave after it. Put together, the parts are what the contracts cite: proofs/Engine shows it, and the
--- fields `does` and `hears` of Demand3 say it of every call. Taken apart, an engine with one wrong part can be tried against the promises (must-fail/). Definitions only. Assumes nothing.
+-- One channel's engine in parts: the voice that a start makes, the voices that a sample passes over, and those that leave after it. Put together, the parts are what the contracts cite: promises/proofs/Engine shows it,
+-- and the fields `does` and `hears` of Demand3 say it of every call. Taken apart, an engine with one wrong part can be tried against the promises (must-fail/). Definitions only. Assumes nothing.
 use Prim.Native.Nat.{ℕ}
 use mathlib.Core.Bool.{Bool, _&&_, _||_, cond}
 use mathlib.Core.List.{List, map}

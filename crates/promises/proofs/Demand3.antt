@@ -23,13 +23,13 @@ use Rattle.channel.specs.Channels.{live, fullOf}
 use Rattle.fates.specs.Engine.{bornOf}
 use Rattle.fates.specs.Events.{Event, idle, sounds, act, acts, isReset, isSample, emptyAt, decayOf, lastOf, beforeLast}
 use Rattle.fates.specs.Places.{Housed, voiceAt, Place, at, gone, follow, becomes, newOf, onward, followAll, stoppedIn, finishes}
-use Rattle.fates.specs.Sounding.{First}
+use Rattle.fates.specs.Sounding.{Sounds, First}
 use Rattle.promises.specs.Runs.{World, setUp, Call, start, stop, speed, startRecording, stopRecording, reset, sample, frame, asks, code, after, run, chan, doneTo, event, events, isResetCall, output, final, before}
 use Rattle.promises.specs.Demands.{isEmpty, Leaves, Demand3}
 use Rattle.fates.proofs.Cases.{neither, either}
 use Rattle.fates.proofs.Tracks.{gone-never, tracks}
 use Rattle.fates.proofs.Order.{Came, ordered, covered, fewer}
-use Rattle.fates.proofs.Terms.{sounds-each}
+use Rattle.fates.proofs.Terms.{sounds-later}
 use Rattle.fates.proofs.Stays.{stays}
 use Rattle.fates.proofs.Goes.{goes}
 use Rattle.fates.proofs.Clocks.{clock-stands, clock-moves, no-sample}
@@ -219,7 +219,10 @@ standing-demand3 w st j k = record {
   does = next w st j k;
   hears = λ s p x m h. heard w st j k p x m s h .output ∙ ap (λ (r : Played). mul binary32 (p .volume) (r .output)) (sym (step-same p x (chan w j) m));
   on-time = λ position note velocity p₀ ok data₀ cs r s p x m h same free full. sooner w st j k position note velocity p₀ ok data₀ cs r s p x m h same free full;
-  sounds-on = λ n v a u s p x m h e. sounds-each p x m (chan w j) n v a u e;
+  sounds-on = λ n v a u cs r f s p x m h e.
+      let q = chan-run w st j k cs in
+      let l = sounds-later (events w cs j) (chan w j) (house w st j k) (events-reset w cs j r) n v a u f p x m (subst (λ (d : Channel). emptyAt m d ≡ false) q e) in
+      (l .place, l .voice, l .follows, subst (λ (d : Channel). Sounds p x m d (l .place) (l .voice)) (sym q) (l .sounds));
   stays = λ n v a u cs r g. stays (events w cs j) (chan w j) (house w st j k) (events-reset w cs j r) n v a u g;
   follows = λ c n i v s f. subst (λ (d : Channel). voiceAt d i ≡ some (becomes (event w c j) (chan w j) n v)) (sym (next w st j k c)) (tracks (event w c j) (chan w j) (house w st j k) n i v s f);
   in-order = λ c i n a b u v o s r f g. ordered (event w c j) (chan w j) i n a b u v o s r f g;

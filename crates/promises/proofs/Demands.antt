@@ -51,10 +51,10 @@ use Rattle.promises.specs.Runs.{
   code,
   after,
 }
-use Rattle.promises.specs.Outcomes.{on, Outcome, Allows}
-use Rattle.promises.specs.Demands.{Untouched, Demand1, Demand2, Demands}
+use Rattle.promises.specs.Outcomes.{on, Outcome, Allows, Untouched}
+use Rattle.promises.specs.Demands.{Demand1, Demand2, Demands}
 use Rattle.promises.proofs.Apart.{part-apart}
-use Rattle.promises.proofs.Outcomes.{settled, number-code, left-after, chain-run}
+use Rattle.promises.proofs.Outcomes.{settled, number-code, left-after, chain-run, run-chain}
 use Rattle.promises.proofs.Table.{table-holds}
 use Rattle.promises.proofs.Demand3.{demand3}
 use Rattle.promises.proofs.Whole.{memory-after, no-panic, whole}
@@ -94,7 +94,7 @@ after-held w (frame xs p) h =
 after-held w (asks q) h = refl
 
 untouched : (w : World) (c : Call) (r : Outcome (on w c)) → Allows (on w c) r → code w c ≢ 0 → Untouched w c r
-unfolding Untouched Allows code questionNumber framedOf listAfter
+unfolding Untouched code questionNumber framedOf listAfter
 untouched w (start position note velocity p) r h n = tt
 untouched w (stop note p) r h n = tt
 untouched w (speed note s) r h n = tt
@@ -173,7 +173,7 @@ plain-rows w c (inr (inl e)) = ap (code w) e
 plain-rows w c (inr (inr e)) = ap (code w) e
 
 demand1 : Demand1
-unfolding Allows setUpOf setUpNumber code questionNumber startNumber stopNumber speedNumber sampleNumber frameNumber infoNumber listNumber
+unfolding setUpOf setUpNumber code questionNumber startNumber stopNumber speedNumber sampleNumber frameNumber infoNumber listNumber
 demand1 = record {
   takes = settled;
   apart = λ w i x p r h j e. ap (partOf (w .sampler) j) (h .1) ∙ part-held w i x p j e;
@@ -223,4 +223,4 @@ demand2 = record {
 }
 
 pub demands : Demands
-demands = record { first = demand1; no-panic = no-panic; second = demand2; third = demand3; whole = whole; runs = λ w u cs h. chain-run h }
+demands = record { first = demand1; no-panic = no-panic; second = demand2; third = demand3; whole = whole; runs = run-chain; no-other = λ w u cs h. chain-run h }

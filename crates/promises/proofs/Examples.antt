@@ -154,9 +154,13 @@ pub hears-met : output older (sample 1 half plain) 1 ≡ mul binary32 one32 (ste
 unfolding computing
 hears-met = promised .hears (sample 1 half plain) plain half part refl
 
-pub sounds-on-met : Sounds plain zero32 part (chan older 1) 0 (freshOf plain zero32 (key 60) one32 2 2)
+-- after a sample in which it sounds, and a second start of its note, the first voice sounds again
+abbrev again : List Call
+again = quiet plain ∷ press 60 ∷ []
+
+pub sounds-on-met : (k : ℕ) × (u : Voice) × (followAll (events older again 1) (chan older 1) 0 ≡ at k) × Sounds plain zero32 part (chan (run older again) 1) k u
 unfolding computing
-sounds-on-met = promised .sounds-on 0 (freshOf plain zero32 (key 60) one32 2 2) refl refl (sample 1 zero32 plain) plain zero32 part refl refl
+sounds-on-met = promised .sounds-on 0 (freshOf plain zero32 (key 60) one32 2 2) refl refl again refl refl (sample 1 zero32 plain) plain zero32 part refl refl
 
 -- ---- stays: play-once finishes the voice in its second sample, and with no decay it leaves in that sample
 pub stays-met : finishedIn (events older (quiet once ∷ quiet once ∷ []) 1) (chan older 1) 0 ≡ true

@@ -1,6 +1,6 @@
 -- Each public call has one outcome that its contract allows, and no other; what it leaves and its number are those that runs go by. Assumes nothing.
-use mathlib.Core.Path.{_≡_, refl, sym, ap, _∙_}
-use mathlib.Core.List.{List}
+use mathlib.Core.Path.{_≡_, refl, sym, ap, _∙_, subst}
+use mathlib.Core.List.{List, [], _∷_}
 use lib.ListN.{length}
 use Rattle.recorder.specs.ErrorText.{errorText}
 use Rattle.channel.specs.Channels.{live}
@@ -39,7 +39,6 @@ use Rattle.promises.specs.Outcomes.{Given, new, on, Outcome, Allows, Set
 
 -- ---- one outcome
 pub settled : (g : Given) → Settled g
-unfolding Allows
 settled (new count p m) = record { outcome = _; allowed = refl; only = λ r h. h }
 settled (on w (start position note velocity p)) = record { outcome = _; allowed = refl; only = λ r h. h }
 settled (on w (stop note p)) = record { outcome = _; allowed = refl; only = λ r h. h }
@@ -84,7 +83,7 @@ one-outcome g r s h k = settled g .only r h ∙ sym (settled g .only s k)
 
 -- ---- the number
 pub number-code : (w : World) (c : Call) (r : Outcome (on w c)) → Allows (on w c) r → numberIn (on w c) r ≡ code w c
-unfolding Allows code questionNumber answerOf processSampleOf
+unfolding code questionNumber answerOf processSampleOf
 number-code w (start position note velocity p) r h = ap (λ (a : Answer). a .number) h
 number-code w (stop note p) r h = ap (λ (a : Answer). a .number) h
 number-code w (speed note s) r h = ap (λ (a : Answer). a .number) h
@@ -103,7 +102,7 @@ number-code w (asks (getVoiceInfo j p room)) r h = ap (λ (a : VoiceInfos). a .n
 
 -- ---- the record and the memory afterwards
 pub left-after : (w : World) (c : Call) (r : Outcome (on w c)) → Allows (on w c) r → leftBy w c r ≡ after w c
-unfolding Allows after
+unfolding after
 left-after w (start position note velocity p) r h = λ t. record { sampler = h t .sampler; memory = w .memory }
 left-after w (stop note p) r h = λ t. record { sampler = h t .sampler; memory = w .memory }
 left-after w (speed note s) r h = λ t. record { sampler = h t .sampler; memory = w .memory }
@@ -119,3 +118,11 @@ pub chain-run : {w u : World} {cs : List Call} → Chain w cs u → u ≡ run w 
 unfolding run
 chain-run ended = refl
 chain-run (called {w} {u} {c} {cs} r h k) = chain-run k ∙ ap (λ (v : World). run v cs) (left-after w c r h)
+
+-- and they do leave that
+pub run-chain : (w : World) (cs : List Call) → Chain w cs (run w cs)
+unfolding run
+run-chain w [] = ended
+run-chain w (c ∷ cs) =
+    let s = settled (on w c) in
+    called (s .outcome) (s .allowed) (subst (λ (v : World). Chain v cs (run (after w c) cs)) (sym (left-after w c (s .outcome) (s .allowed))) (run-chain (after w c) cs))

@@ -73,28 +73,14 @@ use Rattle.promises.specs.Runs.{
   before,
   FittingCall,
 }
-use Rattle.promises.specs.Outcomes.{Given, new, on, Outcome, Allows, Settled, numberIn, leftBy, Chain}
+use Rattle.promises.specs.Outcomes.{Given, new, on, Outcome, Allows, Settled, numberIn, leftBy, Untouched, Chain}
 use Rattle.promises.specs.Table.{TableHolds}
 
--- ==== Demand 1
+-- Names. A World is the record and the memory lent with it. `code w c` is the number of the call c on it, `after w c` what the call leaves, `run w cs` what several leave, `chan w j` channel j, and `event w c j` what the call
+-- does to channel j: nothing where it is refused, a change, or `sounds p x m`, a sample with the parameters p, the input x and the channel's part m of the memory. `live c` are a channel's voices, `voiceAt c n` is the one at
+-- place n, and `follow` says where it is after an event: `at` a place, or `gone`.
 
--- a lent frame or list holds what it held
-unfoldable pub Untouched : (w : World) (c : Call) → Outcome (on w c) → Type 0
-Untouched w (start position note velocity p) r = Unit {0}
-Untouched w (stop note p) r = Unit {0}
-Untouched w (speed note s) r = Unit {0}
-Untouched w startRecording r = Unit {0}
-Untouched w stopRecording r = Unit {0}
-Untouched w reset r = Unit {0}
-Untouched w (sample j x p) r = Unit {0}
-Untouched w (frame xs p) r = r .frame ≡ xs
-Untouched w (asks (getFramesProcessed j)) r = Unit {0}
-Untouched w (asks (getDataLen j)) r = Unit {0}
-Untouched w (asks (isRecording j)) r = Unit {0}
-Untouched w (asks (getLastRecordedOffset j)) r = Unit {0}
-Untouched w (asks (printErrorInfo j text)) r = r .lent ≡ text
-Untouched w (asks (iterActiveNotes j notes)) r = r .lent ≡ notes
-Untouched w (asks (getVoiceInfo j p room)) r = Unit {0}
+-- ==== Demand 1
 
 pub record Demand1 : Type 0 where
   -- "Every public call takes every value of its arguments, NaN, infinities and an empty recording included, stays inside its memory and ends." No public function of the engine has a `requires`, and the check proves each
@@ -234,9 +220,11 @@ pub record Demand3 (w : World) (j : ℕ) : Type 0 where
       → emptyAt m (chan (run w (start position note velocity p₀ ∷ cs)) j) ≡ false
       → First p x m (chan (run w (start position note velocity p₀ ∷ cs)) j) (length (live (chan w j)))
       (freshOf p₀ position note velocity (chan w j .head .now) (chan w j .head .«data_len»))
-  -- An unfinished voice sounds in every accepted sample that finds the recording not empty.
+  -- And until it is finished a voice sounds, where it then stands, in every accepted sample that finds the recording not empty.
   pub sounds-on : (n : ℕ) (v : Voice) → voiceAt (chan w j) n ≡ some v → v .finished ≡ false
-      → (s : Call) (p : Params) (x : Float) (m : List ℕ) → event w s j ≡ sounds p x m → emptyAt m (chan w j) ≡ false → Sounds p x m (chan w j) n v
+      → (cs : List Call) → any isResetCall cs ≡ false → finishedIn (events w cs j) (chan w j) n ≡ false
+      → (s : Call) (p : Params) (x : Float) (m : List ℕ) → event (run w cs) s j ≡ sounds p x m → emptyAt m (chan (run w cs) j) ≡ false
+      → (k : ℕ) × (u : Voice) × (followAll (events w cs j) (chan w j) n ≡ at k) × Sounds p x m (chan (run w cs) j) k u
   -- STAYS. "No voice leaves before a stop or play-once has finished it." The call that it leaves in may be the one that finishes it.
   pub stays : (n : ℕ) (v : Voice) → voiceAt (chan w j) n ≡ some v → v .finished ≡ false
       → (cs : List Call) → any isResetCall cs ≡ false → followAll (events w cs j) (chan w j) n ≡ gone → finishedIn (events w cs j) (chan w j) n ≡ true
@@ -283,5 +271,6 @@ pub record Demands : Type 0 where
   pub third : (count : ℕ) (p : InitParams) (m : List ℕ) (cs : List Call) (j : ℕ) → j < run (setUp count p m) cs .sampler .count → Demand3 (run (setUp count p m) cs) j
   -- and that this isn't met by an engine whose records break
   pub whole : (count : ℕ) (p : InitParams) (m : List ℕ) → setUpNumber count (length m) ≡ 0 → (cs : List Call) → Each FittingCall cs → Whole (run (setUp count p m) cs)
-  -- What calls leave is what their contracts alone allow them to leave.
-  pub runs : (w u : World) (cs : List Call) → Chain w cs u → u ≡ run w cs
+  -- What calls leave, one after the other, is what their contracts allow them to leave, and nothing else is.
+  pub runs : (w : World) (cs : List Call) → Chain w cs (run w cs)
+  pub no-other : (w u : World) (cs : List Call) → Chain w cs u → u ≡ run w cs

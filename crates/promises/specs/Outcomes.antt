@@ -1,5 +1,5 @@
 -- Every public call with all that it is given, and which outcomes its contract allows: the result, and what was lent to it as it is at the end. `Allows` says of each call what the `ensures` lines of its function say,
--- in the same definitions: sampler/src/lib.rt and questions/src/lib.rt. Definitions only. Assumes nothing.
+-- in the same definitions: sampler/src/lib.rt and questions/src/lib.rt. The crate `contracts` shows it of each function. Definitions only. Assumes nothing.
 use mathlib.Core.Path.{_≡_}
 use Prim.Native.Nat.{ℕ}
 use mathlib.Core.List.{List, [], _∷_}
@@ -101,7 +101,7 @@ Outcome (on w (asks (iterActiveNotes j notes))) = ListOutcome
 Outcome (on w (asks (getVoiceInfo j p room))) = VoiceInfos
 
 -- ---- what the contracts allow
-unfoldable pub Allows : (g : Given) → Outcome g → Type 0
+abbrev pub Allows : (g : Given) → Outcome g → Type 0
 Allows (new count p m) r = r ≡ setUpOf count p (length m)
 Allows (on w (start position note velocity p)) r = r ≡ startPlayingOf (w .sampler) position note velocity p
 Allows (on w (stop note p)) r = r ≡ stopPlayingOf (w .sampler) note p
@@ -159,6 +159,24 @@ leftBy w reset r = withSampler (r .sampler) w
 leftBy w (sample j x p) r = record { sampler = r .answer .sampler; memory = r .memory }
 leftBy w (frame xs p) r = record { sampler = r .answer .sampler; memory = r .memory }
 leftBy w (asks q) r = w
+
+-- a frame or list that was lent holds what it held
+unfoldable pub Untouched : (w : World) (c : Call) → Outcome (on w c) → Type 0
+Untouched w (start position note velocity p) r = Unit {0}
+Untouched w (stop note p) r = Unit {0}
+Untouched w (speed note s) r = Unit {0}
+Untouched w startRecording r = Unit {0}
+Untouched w stopRecording r = Unit {0}
+Untouched w reset r = Unit {0}
+Untouched w (sample j x p) r = Unit {0}
+Untouched w (frame xs p) r = r .frame ≡ xs
+Untouched w (asks (getFramesProcessed j)) r = Unit {0}
+Untouched w (asks (getDataLen j)) r = Unit {0}
+Untouched w (asks (isRecording j)) r = Unit {0}
+Untouched w (asks (getLastRecordedOffset j)) r = Unit {0}
+Untouched w (asks (printErrorInfo j text)) r = r .lent ≡ text
+Untouched w (asks (iterActiveNotes j notes)) r = r .lent ≡ notes
+Untouched w (asks (getVoiceInfo j p room)) r = Unit {0}
 
 -- ---- runs by the contracts alone: each call leaves what some outcome that its contract allows leaves
 pub data Chain : World → List Call → World → Type 0 where
