@@ -19,7 +19,7 @@ use Rattle.channel.specs.declared.Channel.{Channel}
 use Rattle.channel.specs.declared.Played.{Played}
 use Rattle.channel.specs.Channels.{withVoices, live, playedOf, playedIfOf}
 use Rattle.channel.proofs.Turns.{restOf, rest-start, rest-end}
-use Rattle.in_place.specs.Turns.{turnsOf, begunOf, countedOf}
+use Rattle.in_place.specs.Turns.{unusedTick, turnsOf, begunOf, countedOf}
 
 pub turns-few : (p : Params) (h : Head) (count : ℕ) → begunOf p h count .turns ≤ 32
 unfolding begunOf turnsOf
@@ -65,10 +65,20 @@ module _ (p : Params) (ms : List ℕ) (h : Channel) (all : length (h .voices) �
     ended-at u true e = ap (λ (r : Played). record { channel = withVoices (r .channel .voices) (h .count) h; output = r .output }) (none-taken u e)
     ended-at u false e = ap left (count-stays u e) ∙ e ∙ ap (restOf u ms h 0 zero32) (take-most (h .voices) (h .count) 32 all) ∙ rest-start u ms h
 
+    -- what no turn sees doesn't matter
+    rest-same : (u v : Tick) (m : ℕ) → m ≡ 0 → restOf u ms h 0 zero32 (take m (h .voices)) ≡ restOf v ms h 0 zero32 (take m (h .voices))
+    rest-same u v m e = ap (λ (j : ℕ). restOf u ms h 0 zero32 (take j (h .voices))) e ∙ rest-end u ms h 0 zero32 ∙ sym (rest-end v ms h 0 zero32) ∙ ap (λ (j : ℕ). restOf v ms h 0 zero32 (take j (h .voices))) (sym e)
+
+    by-tick : (u v : Tick) (m : ℕ) (z : Bool) → eqb m 0 ≡ z → restOf (cond z u v) ms h 0 zero32 (take m (h .voices)) ≡ restOf v ms h 0 zero32 (take m (h .voices))
+    by-tick u v m true f = rest-same u v m (eqb-true m 0 f)
+    by-tick u v m false f = refl
+
     module _ (e : restOf t ms (withVoices l (h .count) h) k out [] ≡ restOf t ms h 0 zero32 (take n (h .voices))) where
       ended : left (countedOf n k (h .count)) ≡ playedIfOf p ms h
       unfolding playedIfOf begunOf turnsOf
-      ended = ended-at (tickOf p (h .head .now) (h .head .«data_len»)) (eqb (h .head .«data_len») 0) (sym (rest-end t ms (withVoices l (h .count) h) k out) ∙ e)
+      ended =
+          let v = tickOf p (h .head .now) (h .head .«data_len») in
+          ended-at v (eqb (h .head .«data_len») 0) (sym (rest-end t ms (withVoices l (h .count) h) k out) ∙ e ∙ by-tick unusedTick v n (eqb n 0) refl)
 
       pub ended-output : out ≡ playedIfOf p ms h .output
       ended-output = ap (λ (r : Played). r .output) ended

@@ -2,9 +2,11 @@
 // equals the same definition as that of crate `channel` by value. Those that take a channel lent are proved by hand.
 ghost use mathlib.Core.Path.{_≡_};
 ghost use Rattle.channel.specs.Channels.{anyUnfinishedOf, playedIfOf, memoryOf, processSampleOf, goodChannel};
-ghost use Rattle.in_place.specs.Turns.{begunOf, countedOf, headGoodOf};
+ghost use Rattle.in_place.specs.Turns.{unusedTick, turnsOf, begunOf, countedOf, headGoodOf};
 use channel::Channel;
 use channel::Head;
+use clip::Mode;
+use common_types::NoteOffBehaviour;
 use common_types::Params;
 use voice::Tick;
 
@@ -14,17 +16,46 @@ pub struct Start {
     pub turns: usize,
 }
 
+// What stands where no voice takes a turn: no voice sees it, and nothing is worked out for it.
+fn unused() -> Tick
+    ensures { λ r. ⌜ r ≡ unusedTick ⌝ }
+{
+    Tick {
+        now: 0,
+        decay_samples: 0,
+        length: 0.0,
+        whole_length: 0.0,
+        data_length: 0.0,
+        speed: 0.0,
+        mode: Mode::Loop,
+        once: false,
+        note_off_behavior: NoteOffBehaviour::Decay,
+    }
+}
+
 // With an empty recording no voice takes a turn.
+fn turns_of(data_len: usize, count: usize) -> usize
+    ensures { λ r. ⌜ r ≡ turnsOf «data_len» count ⌝ }
+{
+    if data_len == 0 {
+        return 0;
+    }
+    channel::places(count)
+}
+
 fn begun(head: Head, count: usize, params: Params) -> Start
     ensures { λ r. ⌜ r ≡ begunOf params head count ⌝ }
 {
-    let tick = Tick::new(params, head.now, head.data_len);
-    if head.data_len == 0 {
-        return Start { tick, turns: 0 };
+    let turns = turns_of(head.data_len, count);
+    if turns == 0 {
+        return Start {
+            tick: unused(),
+            turns,
+        };
     }
     Start {
-        tick,
-        turns: channel::places(count),
+        tick: Tick::new(params, head.now, head.data_len),
+        turns,
     }
 }
 
