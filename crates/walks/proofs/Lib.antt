@@ -1,3 +1,4 @@
 pub mod Loops
 pub mod Every
 pub mod Each
+pub mod Runs

@@ -11,7 +11,7 @@ use lib.Dec.{ltb, leb}
 use lib.ListN.{length, getD, length-append, List·getD-append}
 use lib.Seq.{append-snoc}
 use borrow.Author.Tests.{lt-ltb, le-ltb, ltb-true, ltb-false, le-leb, leb-true}
-use Rattle.recorder.specs.Decimal.{digit, digits, decimal, allDigits, valueAfter, value}
+use Rattle.decimal.specs.Decimal.{digit, digits, decimal, allDigits, valueAfter, value}
 
 -- ---- the two cases of a number, and what holds of every number by them
 

@@ -3,10 +3,10 @@ use mathlib.Core.Path.{_≡_, ap}
 use Prim.Native.Nat.{_+_, _≤_}
 use native.Mathlib.Omega.{arith}
 use lib.ListN.{length}
-use Rattle.recorder.specs.Decimal.{decimal}
-use Rattle.recorder.proofs.Decimals.{decimal-one, decimal-length, decimal-short}
-use Rattle.recorder.proofs.writing.decimal_length.Statement.{statement}
-use Rattle.recorder.proofs.writing.decimal_length.Tie as tie
+use Rattle.decimal.specs.Decimal.{decimal}
+use Rattle.decimal.proofs.Decimals.{decimal-one, decimal-length, decimal-short}
+use Rattle.decimal.proofs.writing.decimal_length.Statement.{statement}
+use Rattle.decimal.proofs.writing.decimal_length.Tie as tie
 
 abbrev Inv-loop : tie.InvT-loop
 Inv-loop n count₀ rest₀ count rest = (count + length (decimal rest) ≡ length (decimal n) + 1) × (length (decimal n) ≤ 20)

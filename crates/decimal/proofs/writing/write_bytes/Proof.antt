@@ -5,9 +5,9 @@ use native.Mathlib.Nat.{add-zero}
 use lib.ListN.{length, drop}
 use lib.Seq.{sets}
 use borrow.Author.Needs.{needs}
-use Rattle.recorder.proofs.Runs.{run-first, run-over}
-use Rattle.recorder.proofs.writing.write_bytes.Statement.{statement}
-use Rattle.recorder.proofs.writing.write_bytes.Tie as tie
+use Rattle.walks.proofs.Runs.{run-first, run-over}
+use Rattle.decimal.proofs.writing.write_bytes.Statement.{statement}
+use Rattle.decimal.proofs.writing.write_bytes.Tie as tie
 
 abbrev Inv-loop : tie.InvT-loop
 Inv-loop text₀ at bytes i₀ text i = (i ≤ length bytes) × (length text ≡ length text₀) × (sets text (at + i) (drop i bytes) ≡ sets text₀ at bytes)

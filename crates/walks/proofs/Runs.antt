@@ -6,7 +6,7 @@ use Prim.Native.Nat.{ℕ, suc, _+_, _≤_, _<_}
 use native.Mathlib.Nat.{add-zero, zero-add, add-suc, suc-add}
 use native.Mathlib.Numerals.{add-one}
 use native.Mathlib.Omega.{arith}
-use lib.ListN.{length, getD, drop, set, drop-of-length-le, length-append}
+use lib.ListN.{length, getD, drop, set, drop-of-length-le}
 use lib.Seq.{sets, sets-eq, drop-cons, set-comm}
 
 module _ {A : Type 0} where
@@ -37,18 +37,3 @@ module _ {A : Type 0} where
   -- a run from the front on
   pub run-front : (l xs : List A) → length xs ≤ length l → sets l 0 xs ≡ xs ++ drop (length xs) l
   run-front l xs h = sets-eq xs l 0 (omega arith) ∙ ap (λ (k : ℕ). xs ++ drop k l) (zero-add (length xs))
-
-  -- what a run from the front on leaves of the list l: the list now, and the place after the run xs
-  pub record Front (l xs now : List A) (place : ℕ) : Type 0 where
-    pub is : now ≡ sets l 0 xs
-    pub after : place ≡ length xs
-
-  pub front-none : (l : List A) → Front l [] l 0
-  front-none l = record { is = refl; after = refl }
-
-  pub front-on : {l xs now next : List A} {place end : ℕ} → Front l xs now place
-      → (ys : List A) → next ≡ sets now place ys → end ≡ place + length ys → Front l (xs ++ ys) next end
-  front-on {l} {xs} f ys n e = record {
-    is = n ∙ rw (f .is, f .after) (ap (λ (k : ℕ). sets (sets l 0 xs) k ys) (sym (zero-add (length xs))) ∙ run-append l xs ys 0);
-    after = omega (arith, length-append xs ys);
-  }

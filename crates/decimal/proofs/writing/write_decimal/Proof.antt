@@ -6,11 +6,11 @@ use native.Mathlib.Omega.{arith}
 use lib.ListN.{length, set}
 use lib.Seq.{sets}
 use borrow.Author.Needs.{needs}
-use Rattle.recorder.specs.Decimal.{digit, decimal}
-use Rattle.recorder.proofs.Decimals.{decimal-one, decimal-more, decimal-length, decimal-some}
-use Rattle.recorder.proofs.Runs.{run-last}
-use Rattle.recorder.proofs.writing.write_decimal.Statement.{statement}
-use Rattle.recorder.proofs.writing.write_decimal.Tie as tie
+use Rattle.decimal.specs.Decimal.{digit, decimal}
+use Rattle.decimal.proofs.Decimals.{decimal-one, decimal-more, decimal-length, decimal-some}
+use Rattle.walks.proofs.Runs.{run-last}
+use Rattle.decimal.proofs.writing.write_decimal.Statement.{statement}
+use Rattle.decimal.proofs.writing.write_decimal.Tie as tie
 
 turn : (l : List ℕ) (at n place b : ℕ) → 10 ≤ n → place ≡ at + length (decimal n) → b ≡ digit (n % 10)
     → sets l at (decimal n) ≡ sets (set l (place - 1) b) at (decimal (n / 10))
