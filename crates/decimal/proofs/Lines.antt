@@ -1,6 +1,6 @@
 -- Laws of a line: a text that fits goes to its end, and what it prints is its text. Assumes nothing.
-use mathlib.Core.Path.{_≡_, refl, sym, ap, _∙_}
-use mathlib.Core.List.{List, [], _∷_, _++_}
+use mathlib.Core.Path.{_≡_, sym, ap, _∙_}
+use mathlib.Core.List.{List, [], _++_}
 use Prim.Native.Nat.{ℕ, _+_, _≤_, _<_, min}
 use native.Mathlib.Nat.{zero-add}
 use native.Mathlib.Omega.{arith}
@@ -10,7 +10,7 @@ use lib.Seq.{sets, take-append-seam}
 use Rattle.walks.proofs.Loops.{take-most}
 use Rattle.walks.proofs.Runs.{run-append, run-front}
 use Rattle.decimal.specs.declared.Line.{Line}
-use Rattle.decimal.specs.Lines.{lineOf, withOf, textOf, fitsIn, printedOf}
+use Rattle.decimal.specs.Lines.{lineOf, withOf, textOf, printedOf}
 
 -- a text that fits
 pub with-more : (l : Line) (text : List ℕ) → l .length + length text ≤ 64

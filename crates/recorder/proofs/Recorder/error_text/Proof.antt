@@ -1,5 +1,4 @@
 -- `error_text` meets its contract: four texts, one after the other, of at most 41 bytes together. Assumes nothing.
-use Prim.Native.Nat.{_+_}
 use native.Mathlib.Omega.{arith}
 use lib.Dec.{lit≤}
 use Rattle.decimal.specs.Decimal.{decimal}
