@@ -6,19 +6,18 @@ use mathlib.Core.List.{List, map}
 use lib.Dec.{leb, ltb, eqb}
 use lib.ListN.{length, take, getD, set, replicate}
 use lib.Seq.{sets}
-use lib.Ieee.{Float, binary32, add, mul}
+use lib.Ieee.{Float, binary32, add}
 use Rattle.binary32.specs.Leaves.{bitsOf}
 use Rattle.walks.specs.Walks.{any, every, without, fold, seek}
 use Rattle.common_types.specs.declared.InitParams.{InitParams}
 use Rattle.common_types.specs.declared.Params.{Params}
 use Rattle.common_types.specs.declared.Note.{Note}
-use Rattle.volume.specs.Levels.{levelOf}
 use Rattle.clip.specs.Positions.{zero32, one32}
 use Rattle.recorder.specs.Recording.{startOf, stopOf, recordedOf, dataAfter}
 use Rattle.voice.specs.declared.Voice.{Voice}
 use Rattle.voice.specs.declared.Tick.{Tick}
 use Rattle.voice.specs.Voices.{tickOf, shouldRemoveOf, productOf, turnOf, finishOf, freshOf, goodVoice, blankVoice, atSpeedOf}
-use Rattle.channel.specs.Heads.{headOf, withRecorded, passthruOf, closedOf, goodHead}
+use Rattle.channel.specs.Heads.{headOf, withRecorded, passthruOf, mixedOf, closedOf, goodHead}
 use Rattle.channel.specs.declared.Head.{Head}
 use Rattle.channel.specs.declared.Channel.{Channel}
 use Rattle.channel.specs.declared.Change.{Change}
@@ -138,7 +137,7 @@ processSampleOf p x c m =
     let h = takenOf m c .head in
     record {
       channel = withHead (closedOf p (anyUnfinishedOf (r .channel)) h) (r .channel);
-      output = add binary32 (add binary32 zero32 (r .output)) (mul binary32 x (levelOf (h .«passthru_volume») (h .now)));
+      output = mixedOf x (r .output) h;
     }
 
 -- ---- what a call other than a sample does

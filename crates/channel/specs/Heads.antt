@@ -2,11 +2,11 @@
 use Prim.Native.Nat.{ℕ, _+_, _^_}
 use mathlib.Core.Bool.{Bool, true, false, not, _&&_, Bool·beq, cond}
 use lib.Dec.{leb, ltb}
-use lib.Ieee.{Float}
+use lib.Ieee.{Float, binary32, add, mul}
 use Rattle.common_types.specs.declared.Params.{Params}
 use Rattle.volume.specs.declared.Volume.{Volume}
 use Rattle.volume.specs.declared.Volume.the-variants.{Static}
-use Rattle.volume.specs.Levels.{towardOf, steppedOf, goodVolume}
+use Rattle.volume.specs.Levels.{levelOf, towardOf, steppedOf, goodVolume}
 use Rattle.clip.specs.Positions.{zero32, one32}
 use Rattle.recorder.specs.declared.Recorded.{Recorded}
 use Rattle.recorder.specs.Recording.{newOf, goodRecorder}
@@ -43,11 +43,17 @@ passthruOf p unfinished h =
     let on = passesOf p unfinished in
     cond (Bool·beq on (h .«passthru_on»)) h (withPassthru on (rampOf (h .«passthru_volume») (h .now) p on) h)
 
+-- what is heard: the voices' sum, and the input at its level
+abbrev pub mixedOf : Float → Float → Head → Float
+mixedOf x played h = add binary32 (add binary32 zero32 played) (mul binary32 x (levelOf (h .«passthru_volume») (h .now)))
+
+-- a sample later
+abbrev pub laterOf : Head → Head
+laterOf h = record { now = nextTime (h .now); «data_len» = h .«data_len»; «passthru_volume» = h .«passthru_volume»; recorder = h .recorder; «passthru_on» = h .«passthru_on» }
+
 -- the end of a sample: the level's step, the change of state, and the clock
 unfoldable pub closedOf : Params → Bool → Head → Head
-closedOf p unfinished h =
-    let g = passthruOf p unfinished (withPassthru (h .«passthru_on») (steppedOf (h .«passthru_volume») (h .now)) h) in
-    record { now = nextTime (g .now); «data_len» = g .«data_len»; «passthru_volume» = g .«passthru_volume»; recorder = g .recorder; «passthru_on» = g .«passthru_on» }
+closedOf p unfinished h = laterOf (passthruOf p unfinished (withPassthru (h .«passthru_on») (steppedOf (h .«passthru_volume») (h .now)) h))
 
 -- ---- a head that may stand in a record of that capacity
 unfoldable pub goodHead : ℕ → Head → Bool

@@ -3,9 +3,12 @@
 ghost use mathlib.Core.Path.{_≡_};
 ghost use Prim.Native.Nat.{min};
 ghost use mathlib.Core.Bool.{cond};
+ghost use lib.ListN.{length};
+ghost use Rattle.binary32.specs.Leaves.{bitsOf};
 ghost use Rattle.clip.specs.Positions.{zero32, one32};
+ghost use Rattle.recorder.specs.Recording.{recordedOf, dataAfter};
 ghost use Rattle.voice.specs.Voices.{shouldRemoveOf};
-ghost use Rattle.channel.specs.Heads.{nextTime, headOf, withRecorded, withPassthru, rampOf, passthruOf, closedOf, goodHead};
+ghost use Rattle.channel.specs.Heads.{nextTime, headOf, laterOf, passesOf, withRecorded, withPassthru, rampOf, passthruOf, mixedOf, closedOf, goodHead};
 ghost use Rattle.channel.specs.Channels.{
   sameNote,
   anyUnfinishedOf,
@@ -113,10 +116,28 @@ impl Head {
         Self {
             now: self.now,
             data_len: r.data_len,
-            passthru_volume: volume,
+            passthru_volume: volume.copied(),
             recorder,
             passthru_on: self.passthru_on,
         }
+    }
+
+    // The head once the sample has been recorded.
+    pub fn recorded(self, input: f32, data: &mut [u32]) -> Self
+        ensures { λ r. ⌜ (r ≡ withRecorded (recordedOf (self .recorder) (self .«data_len») (length (now («data» .entry)))) self)
+            × (now («data» .exit) ≡ dataAfter (self .recorder) (bitsOf input) (now («data» .entry))) ⌝ }
+    {
+        let recorder = self.recorder;
+        let sample = binary32::to_bits(input);
+        self.with_recorded(recorder.process_sample(sample, data, self.data_len))
+    }
+
+    // What is heard: the voices' sum, and the input at its level.
+    pub fn mixed(self, input: f32, played: f32) -> f32
+        ensures { λ r. ⌜ r ≡ mixedOf input played self ⌝ }
+    {
+        let volume = self.passthru_volume;
+        0.0 + played + input * volume.level(self.now)
     }
 
     fn with_passthru(self, on: bool, volume: Volume) -> Self
@@ -136,7 +157,7 @@ impl Head {
     fn handle_passthru(self, params: Params, unfinished: bool) -> Self
         ensures { λ r. ⌜ r ≡ passthruOf params unfinished self ⌝ }
     {
-        let wanted = params.auto_passthru & !unfinished;
+        let wanted = passes(params, unfinished);
         if wanted == self.passthru_on {
             return self;
         }
@@ -145,17 +166,33 @@ impl Head {
     }
 
     // The end of a sample: the level's step, the change of state, and the clock.
-    fn closed(self, params: Params, unfinished: bool) -> Self
+    pub fn closed(self, params: Params, unfinished: bool) -> Self
         ensures { λ r. ⌜ r ≡ closedOf params unfinished self ⌝ }
     {
         let volume = self.passthru_volume;
-        let stepped = self.with_passthru(self.passthru_on, volume.stepped(self.now));
-        let mut head = stepped.handle_passthru(params, unfinished);
-        head.now = next_time(head.now);
-        head
+        let stepped = volume.stepped(self.now);
+        let wanted = passes(params, unfinished);
+        if wanted == self.passthru_on {
+            return self.after(self.passthru_on, stepped);
+        }
+        self.after(wanted, ramp(stepped, self.now, params, wanted))
     }
 
-    fn good(self, capacity: usize) -> bool
+    // The head a sample later, with pass-through at that state and level.
+    fn after(self, on: bool, volume: Volume) -> Self
+        ensures { λ r. ⌜ r ≡ laterOf (withPassthru on volume self) ⌝ }
+    {
+        let recorder = self.recorder;
+        Self {
+            now: next_time(self.now),
+            data_len: self.data_len,
+            passthru_volume: volume.copied(),
+            recorder: recorder.copied(),
+            passthru_on: on,
+        }
+    }
+
+    pub fn good(self, capacity: usize) -> bool
         ensures { λ r. ⌜ r ≡ goodHead capacity self ⌝ }
     {
         if LAST_TIME < self.now {
@@ -168,6 +205,12 @@ impl Head {
         let recorder = self.recorder;
         recorder.good(self.data_len, capacity)
     }
+}
+
+fn passes(params: Params, unfinished: bool) -> bool
+    ensures { λ r. ⌜ r ≡ passesOf params unfinished ⌝ }
+{
+    params.auto_passthru & !unfinished
 }
 
 fn ramp(volume: Volume, now: usize, params: Params, wanted: bool) -> Volume
@@ -370,12 +413,7 @@ impl Channel {
         ensures { λ r. ⌜ now («data» .exit) ≡ memoryOf input self (now («data» .entry)) ⌝ }
     {
         let head = self.head;
-        let recorder = head.recorder;
-        self.head = head.with_recorded(recorder.process_sample(
-            binary32::to_bits(input),
-            data,
-            head.data_len,
-        ));
+        self.head = head.recorded(input, data);
         self
     }
 
@@ -423,16 +461,12 @@ impl Channel {
     {
         let recorded = self.record(input, data);
         let head = recorded.head;
-        let volume = head.passthru_volume;
-        let level = volume.level(head.now);
         let played = recorded.play_voices(params, data);
+        let output = head.mixed(input, played.output);
         let mut channel = played.channel;
         let unfinished = channel.any_unfinished();
         channel.head = head.closed(params, unfinished);
-        Played {
-            channel,
-            output: 0.0 + played.output + input * level,
-        }
+        Played { channel, output }
     }
 
     pub fn changed(self, change: Change) -> Self
@@ -507,7 +541,7 @@ fn sped(v: Voice, note: Note, speed: f32) -> Voice
 }
 
 // The output with the value of voice `v`, after its turn `w`. One that was to be removed is silent.
-fn sound(output: f32, v: Voice, w: Voice, t: Tick) -> f32
+pub fn sound(output: f32, v: Voice, w: Voice, t: Tick) -> f32
     ensures { λ r. ⌜ r ≡ addedOf (shouldRemoveOf t v) output (w .«last_sample_value») ⌝ }
 {
     if v.should_remove(t) {

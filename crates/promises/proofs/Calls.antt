@@ -10,7 +10,7 @@ use lib.ListN.{length, drop, getD, length-set, length-map, List·getD-append, Li
 use lib.Seq.{length-sets, length-take-le, getD-take}
 use lib.Ieee.{Float}
 use Rattle.walks.proofs.Loops.{getD-any}
-use Rattle.recorder.proofs.Runs.{run-front}
+use Rattle.walks.proofs.Runs.{run-front}
 use Rattle.common_types.specs.declared.InitParams.{InitParams}
 use Rattle.common_types.specs.declared.Params.{Params}
 use Rattle.clip.specs.Positions.{zero32}

@@ -1,5 +1,4 @@
 -- `Channel::process_sample` meets its contract: recording first, then the voices, then the input at its level, then the close. Assumes nothing.
-use lib.Ieee.{ofBits}
 use Rattle.channel.specs.Channels.{processSampleOf}
 use borrow.Author.Needs.{needs}
 use Rattle.channel.proofs.Channel.process_sample.Statement.{statement}
@@ -8,11 +7,11 @@ use Rattle.channel.proofs.Channel.process_sample.Tie as tie
 record-requires : tie.Need-record-requires
 record-requires c κs = search needs
 
-level-requires : tie.Need-level-requires
-level-requires c κs = search needs
-
 play-voices-requires : tie.Need-play-voices-requires
 play-voices-requires c κs = search needs
+
+mixed-requires : tie.Need-mixed-requires
+mixed-requires c κs = search needs
 
 any-unfinished-requires : tie.Need-any-unfinished-requires
 any-unfinished-requires c κs = search needs
@@ -24,19 +23,19 @@ same-length : tie.Need-same-length
 same-length c = search needs
 
 returns : tie.Need-returns
-unfolding processSampleOf ofBits
+unfolding processSampleOf
 returns c =
-    let e = c .before .before .before .before .before .before .before .before .before .before .«record» .ensures .1 in
+    let e = c .before .before .before .before .before .before .before .before .before .«record» .ensures .1 in
     let plays = rw e at (c .before .before .before .before .play-voices .ensures) in
-    (simp (c .before .closed .ensures, c .before .before .any-unfinished .ensures, plays, c .before .before .before .before .before .before .level .ensures, c .before .before .before .before .before .before .before .before .before .before .«record» .ensures .0), e)
+    (simp (c .closed .ensures, c .before .any-unfinished .ensures, c .before .before .before .mixed .ensures, plays, c .before .before .before .before .before .before .before .before .before .«record» .ensures .0), e)
 
 pub process-sample-spec : {M : Type 1} → statement M
 process-sample-spec =
     tie.close
     (tie.spec
     record-requires
-    level-requires
     play-voices-requires
+    mixed-requires
     any-unfinished-requires
     closed-requires
     same-length

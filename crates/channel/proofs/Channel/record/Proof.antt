@@ -4,23 +4,15 @@ use borrow.Author.Needs.{needs}
 use Rattle.channel.proofs.Channel.record.Statement.{statement}
 use Rattle.channel.proofs.Channel.record.Tie as tie
 
-to-bits-requires : tie.Need-to-bits-requires
-to-bits-requires c κs = search needs
-
-process-sample-requires : tie.Need-process-sample-requires
-process-sample-requires c κs = search needs
-
-with-recorded-requires : tie.Need-with-recorded-requires
-with-recorded-requires c κs = search needs
+recorded-requires : tie.Need-recorded-requires
+recorded-requires c κs = search needs
 
 same-length : tie.Need-same-length
 same-length c = search needs
 
 returns : tie.Need-returns
 unfolding takenOf memoryOf
-returns c = (simp (c .with-recorded .ensures, c .before .before .before .process-sample .ensures .0), simp (c .before .before .before .process-sample .ensures .1, c .before .before .before .before .before .to-bits .ensures))
+returns c = (simp (c .before .before .recorded .ensures .0), c .before .before .recorded .ensures .1)
 
 pub record-spec : {M : Type 1} → statement M
-record-spec =
-    tie.close
-    (tie.spec to-bits-requires process-sample-requires with-recorded-requires same-length returns)
+record-spec = tie.close (tie.spec recorded-requires same-length returns)

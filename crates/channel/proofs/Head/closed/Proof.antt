@@ -1,5 +1,5 @@
--- `Head::closed` meets its contract. Assumes nothing.
-use Rattle.channel.specs.Heads.{closedOf}
+-- `Head::closed` meets its contract: its test is that of `passthruOf`. Assumes nothing.
+use Rattle.channel.specs.Heads.{passthruOf, closedOf}
 use borrow.Author.Needs.{needs}
 use Rattle.channel.proofs.Head.closed.Statement.{statement}
 use Rattle.channel.proofs.Head.closed.Tie as tie
@@ -7,25 +7,25 @@ use Rattle.channel.proofs.Head.closed.Tie as tie
 stepped-requires : tie.Need-stepped-requires
 stepped-requires c κs = search needs
 
-with-passthru-requires : tie.Need-with-passthru-requires
-with-passthru-requires c κs = search needs
+passes-requires : tie.Need-passes-requires
+passes-requires c κs = search needs
 
-handle-passthru-requires : tie.Need-handle-passthru-requires
-handle-passthru-requires c κs = search needs
-
-next-time-requires : tie.Need-next-time-requires
-next-time-requires c κs = search needs
+after-requires : tie.Need-after-requires
+after-requires c κs = search needs
 
 returns : tie.Need-returns
-unfolding closedOf
-returns c = simp (c .next-time .ensures, c .before .handle-passthru .ensures, c .before .before .with-passthru .ensures, c .before .before .before .stepped .ensures)
+unfolding closedOf passthruOf
+returns c = simp (c .after .ensures, c .before .before .before .before .stepped .ensures, ← (c .before .before .before .passes .ensures), c .before .if1 .taken)
+
+ramp-requires : tie.Need-ramp-requires
+ramp-requires c κs = search needs
+
+after-requires-2 : tie.Need-after-requires-2
+after-requires-2 c κs = search needs
+
+returns-2 : tie.Need-returns-2
+unfolding closedOf passthruOf
+returns-2 c = simp (c .after2 .ensures, c .before .ramp .ensures, c .before .before .before .before .before .stepped .ensures, ← (c .before .before .before .before .passes .ensures), c .before .before .if1 .left)
 
 pub closed-spec : {M : Type 1} → statement M
-closed-spec =
-    tie.close
-    (tie.spec
-    stepped-requires
-    with-passthru-requires
-    handle-passthru-requires
-    next-time-requires
-    returns)
+closed-spec = tie.close (tie.spec stepped-requires passes-requires after-requires returns ramp-requires after-requires-2 returns-2)

@@ -11,9 +11,12 @@ enum-known-state c = search needs
 enum-told : tie.Need-enum-told
 enum-told c = search needs
 
+copied-requires : tie.Need-copied-requires
+copied-requires c κs = search needs
+
 returns : tie.Need-returns
 unfolding recordedOf dataAfter
-returns c = (simp (c .enum-told .given .1), simp (c .enum-told .given .1))
+returns c = (simp (c .before .enum-told .given .1, c .copied .ensures), simp (c .before .enum-told .given .1))
 
 raised-count-requires : tie.Need-raised-count-requires
 raised-count-requires c κs = search needs
@@ -30,8 +33,8 @@ mul-data c = search needs
 slice-write-data : tie.Need-slice-write-data
 slice-write-data c = search needs
 
-add-t7 : tie.Need-add-t7
-add-t7 c = search needs
+add-t8 : tie.Need-add-t8
+add-t8 c = search needs
 
 add-larger : tie.Need-add-larger
 add-larger c = search needs
@@ -54,12 +57,13 @@ process-sample-spec =
     (tie.spec
     enum-known-state
     enum-told
+    copied-requires
     returns
     raised-count-requires
     returns-2
     mul-data
     slice-write-data
-    add-t7
+    add-t8
     add-larger
     larger-requires
     same-length

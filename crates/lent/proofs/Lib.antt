@@ -1,0 +1,10 @@
+pub mod Rows
+pub mod Lent
+pub mod Thin
+pub mod Thin2
+pub mod Thin4
+pub mod ThinFrame
+pub mod Peek
+pub mod PeekList
+pub mod PeekFill
+pub mod Stored
