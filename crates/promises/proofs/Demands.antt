@@ -25,7 +25,9 @@ use Rattle.sampler.specs.declared.Answer.{Answer}
 use Rattle.sampler.specs.Refusals.{channelAt, goodSizes, goodSampler, capacityOf, goodWith, noChannel, row, setUpNumber, startNumber, stopNumber, speedNumber, plainNumber, sampleNumber, frameNumber, channelNumber}
 use Rattle.sampler.specs.Samplers.{samplerOf, setUpOf, partOf, eachOf, answerOf, processSampleOf, sampleMemory, steppedOf, memoryAt, Framed, framed, entriesOf, framedOf}
 use Rattle.sampler.proofs.Rows.{sample-ready}
-use Rattle.questions.specs.Questions.{recorderAt, notesOf, inFront, listNumber, listAfter, infoNumber}
+use Rattle.questions.specs.Questions.{recorderAt, notesOf, inFront, listNumber, listAfter, infoNumber, answered, noInfos, infosWith, getVoiceInfoOf}
+use Rattle.questions.specs.declared.VoiceInfos.{VoiceInfos}
+use Rattle.lent.specs.Lists.{listedOf}
 use Rattle.promises.specs.Runs.{
   World,
   setUp,
@@ -37,6 +39,7 @@ use Rattle.promises.specs.Runs.{
   printErrorInfo,
   iterActiveNotes,
   getVoiceInfo,
+  fillVoiceInfo,
   questionNumber,
   Call,
   start,
@@ -94,7 +97,7 @@ after-held w (frame xs p) h =
 after-held w (asks q) h = refl
 
 untouched : (w : World) (c : Call) (r : Outcome (on w c)) → Allows (on w c) r → code w c ≢ 0 → Untouched w c r
-unfolding Untouched code questionNumber framedOf listAfter
+unfolding Untouched code questionNumber framedOf listAfter getVoiceInfoOf answered listedOf
 untouched w (start position note velocity p) r h n = tt
 untouched w (stop note p) r h n = tt
 untouched w (speed note s) r h n = tt
@@ -116,6 +119,8 @@ untouched w (asks (iterActiveNotes j notes)) r h n =
     let answer = notesOf (live (channelAt (w .sampler) j)) in
     h .1 ∙ other (listNumber (w .sampler) j answer (length notes)) (inFront answer notes) notes n
 untouched w (asks (getVoiceInfo j p room)) r h n = tt
+untouched w (asks (fillVoiceInfo j p list)) r h n =
+    h .1 ∙ ap (λ (v : VoiceInfos). listedOf v list) (other (infoNumber (w .sampler) j p (length list)) _ (infosWith noInfos 0 (infoNumber (w .sampler) j p (length list))) n)
 
 -- ---- a refused set-up
 empty-record : (p : InitParams) (m : List ℕ) (c : Call) → code (record { sampler = samplerOf 0 p 0; memory = m }) c ≡ 9
@@ -135,6 +140,7 @@ empty-record p m (asks (getLastRecordedOffset j)) = refl
 empty-record p m (asks (printErrorInfo j text)) = refl
 empty-record p m (asks (iterActiveNotes j notes)) = refl
 empty-record p m (asks (getVoiceInfo j q room)) = refl
+empty-record p m (asks (fillVoiceInfo j q list)) = refl
 
 unmade : (count : ℕ) (p : InitParams) (m : List ℕ) → setUpNumber count (length m) ≢ 0 → (c : Call) → code (setUp count p m) c ≡ 9
 unfolding setUp setUpOf
@@ -187,6 +193,7 @@ demand1 = record {
   sample-rows = λ w j x p. refl;
   frame-rows = λ w xs p. refl;
   info-rows = λ w j p room. refl;
+  fill-rows = λ w j p list. refl;
   notes-rows = λ w j notes. refl;
   text-rows = λ w j text. refl;
   query-rows = query-rows;

@@ -1,6 +1,9 @@
 -- Each public call has one outcome that its contract allows, and no other; what it leaves and its number are those that runs go by. Assumes nothing.
 use mathlib.Core.Path.{_≡_, refl, sym, ap, _∙_, subst}
+use mathlib.Core.Bool.{Bool, true, false, cond}
 use mathlib.Core.List.{List, [], _∷_}
+use borrow.Author.Tests.{eqb-true}
+use lib.Dec.{eqb}
 use lib.ListN.{length}
 use Rattle.recorder.specs.ErrorText.{errorText}
 use Rattle.channel.specs.Channels.{live}
@@ -9,7 +12,9 @@ use Rattle.sampler.specs.declared.SampleAnswer.{SampleAnswer}
 use Rattle.sampler.specs.Refusals.{channelAt, frameNumber}
 use Rattle.sampler.specs.Samplers.{answerOf, processSampleOf, sampleMemory, framedOf}
 use Rattle.questions.specs.declared.VoiceInfos.{VoiceInfos}
-use Rattle.questions.specs.Questions.{countedNumber, toldNumber, offsetNumber, recorderAt, notesOf, printErrorInfoOf, errorTextAfter, iterActiveNotesOf, activeNotesAfter}
+use Rattle.questions.specs.declared.Counted.the-variants as counted
+use Rattle.lent.specs.Lists.{countedOf, voiceInfoCounted, voiceInfoAfter}
+use Rattle.questions.specs.Questions.{countedNumber, toldNumber, offsetNumber, recorderAt, notesOf, answered, printErrorInfoOf, errorTextAfter, iterActiveNotesOf, activeNotesAfter, getVoiceInfoOf}
 use Rattle.questions.proofs.Numbers.{frames-number, data-len-number, recording-number, offset-number, list-number, info-number}
 use Rattle.promises.specs.Runs.{
   World,
@@ -20,6 +25,7 @@ use Rattle.promises.specs.Runs.{
   printErrorInfo,
   iterActiveNotes,
   getVoiceInfo,
+  fillVoiceInfo,
   questionNumber,
   Call,
   start,
@@ -77,11 +83,24 @@ settled (on w (asks (iterActiveNotes j notes))) = record {
   only = λ r h t. record { answer = (h .0) t; lent = (h .1) t };
 }
 settled (on w (asks (getVoiceInfo j p room))) = record { outcome = _; allowed = refl; only = λ r h. h }
+settled (on w (asks (fillVoiceInfo j p list))) = record {
+  outcome = record { answer = voiceInfoCounted (w .sampler) j p list; lent = voiceInfoAfter (w .sampler) j p list };
+  allowed = (refl, refl);
+  only = λ r h t. record { answer = (h .0) t; lent = (h .1) t };
+}
 
 pub one-outcome : (g : Given) (r s : Outcome g) → Allows g r → Allows g s → r ≡ s
 one-outcome g r s h k = settled g .only r h ∙ sym (settled g .only s k)
 
 -- ---- the number
+counted-number : (v : VoiceInfos) → countedNumber (countedOf v) ≡ v .number
+unfolding countedOf answered
+counted-number v = go (eqb (v .number) 0) refl
+  where
+    go : (b : Bool) → eqb (v .number) 0 ≡ b → countedNumber (cond b (counted.Done (v .count)) (counted.Refused (v .number))) ≡ v .number
+    go true e = sym (eqb-true (v .number) 0 e)
+    go false e = refl
+
 pub number-code : (w : World) (c : Call) (r : Outcome (on w c)) → Allows (on w c) r → numberIn (on w c) r ≡ code w c
 unfolding code questionNumber answerOf processSampleOf
 number-code w (start position note velocity p) r h = ap (λ (a : Answer). a .number) h
@@ -99,6 +118,8 @@ number-code w (asks (getLastRecordedOffset j)) r h = ap offsetNumber h ∙ offse
 number-code w (asks (printErrorInfo j text)) r h = ap countedNumber (h .0) ∙ list-number (w .sampler) j (errorText (recorderAt (w .sampler) j)) (length text)
 number-code w (asks (iterActiveNotes j notes)) r h = ap countedNumber (h .0) ∙ list-number (w .sampler) j (notesOf (live (channelAt (w .sampler) j))) (length notes)
 number-code w (asks (getVoiceInfo j p room)) r h = ap (λ (a : VoiceInfos). a .number) h ∙ info-number (w .sampler) j p room
+number-code w (asks (fillVoiceInfo j p list)) r h =
+    ap countedNumber (h .0) ∙ counted-number (getVoiceInfoOf (w .sampler) j p (length list)) ∙ info-number (w .sampler) j p (length list)
 
 -- ---- the record and the memory afterwards
 pub left-after : (w : World) (c : Call) (r : Outcome (on w c)) → Allows (on w c) r → leftBy w c r ≡ after w c

@@ -44,7 +44,7 @@ use Rattle.sampler.proofs.Kept.{small, channel-sound}
 use Rattle.sampler.proofs.Reach.{passes, another, none, reached-sound, reached-unbroken}
 use Rattle.fates.specs.Events.{lengthAt, tickAt}
 use Rattle.questions.specs.Questions.{recorderAt, notesOf, listNumber, infoNumber}
-use Rattle.promises.specs.Runs.{World, setUp, Question, getFramesProcessed, getDataLen, isRecording, getLastRecordedOffset, printErrorInfo, iterActiveNotes, getVoiceInfo, questionNumber, Call, start, stop, speed, startRecording, stopRecording, reset, sample, frame, asks, code, after, run, chan, FittingCall}
+use Rattle.promises.specs.Runs.{World, setUp, Question, getFramesProcessed, getDataLen, isRecording, getLastRecordedOffset, printErrorInfo, iterActiveNotes, getVoiceInfo, fillVoiceInfo, questionNumber, Call, start, stop, speed, startRecording, stopRecording, reset, sample, frame, asks, code, after, run, chan, FittingCall}
 use Rattle.promises.specs.Demands.{lengthened, toldLength, Asked, Plays, NoPanic, Whole}
 use Rattle.fates.proofs.Looks.{look-below, look-value}
 use Rattle.fates.proofs.Lives.{live-length}
@@ -97,6 +97,8 @@ asked-nine s g (printErrorInfo j text) = passes (goodSampler s) _ g (another (no
 asked-nine s g (iterActiveNotes j notes) = passes (goodSampler s) _ g (another (noChannel s j) 1 _ tt (another (ltb (length notes) (length (notesOf (live (channelAt s j))))) 8 0 tt none))
 asked-nine s g (getVoiceInfo j p room) =
     passes (goodSampler s) _ g (another (noChannel s j) 1 _ tt (another (beyondLimits p) 4 _ tt (another (ltb room (channelAt s j .count)) 8 0 tt none)))
+asked-nine s g (fillVoiceInfo j p list) =
+    passes (goodSampler s) _ g (another (noChannel s j) 1 _ tt (another (beyondLimits p) 4 _ tt (another (ltb (length list) (channelAt s j .count)) 8 0 tt none)))
 
 no-nine : (w : World) → SoundSampler (w .sampler) → Unbroken (w .sampler) (length (w .memory)) → (c : Call) → code w c ≢ 9
 unfolding code

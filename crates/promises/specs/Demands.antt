@@ -35,6 +35,7 @@ use Rattle.channel.specs.Channels.{live, fullOf, memoryOf}
 use Rattle.sampler.specs.declared.Answer.{Answer}
 use Rattle.sampler.specs.Refusals.{channelAt, goodSizes, goodSampler, capacityOf, goodWith, noChannel, badNote, badPosition, anyFull, atEnd, row, setUpNumber}
 use Rattle.sampler.specs.Samplers.{partOf}
+use Rattle.questions.specs.declared.VoiceInfo.{VoiceInfo}
 use Rattle.questions.specs.Questions.{recorderAt, notesOf}
 use Rattle.fates.specs.Engine.{stepOf}
 use Rattle.fates.specs.Events.{act, sounds, lengthAt, isSample, emptyAt, tickAt, decayOf}
@@ -51,6 +52,7 @@ use Rattle.promises.specs.Runs.{
   printErrorInfo,
   iterActiveNotes,
   getVoiceInfo,
+  fillVoiceInfo,
   Call,
   start,
   stop,
@@ -109,6 +111,7 @@ pub record Demand1 : Type 0 where
   -- Voice info: 1, 4, 8.
   pub info-rows : (w : World) (j : ℕ) (p : Params) (room : ℕ) → code w (asks (getVoiceInfo j p room))
       ≡ row (not (goodSampler (w .sampler))) 9 (row (noChannel (w .sampler) j) 1 (row (beyondLimits p) 4 (row (ltb room (channelAt (w .sampler) j .count)) 8 0)))
+  pub fill-rows : (w : World) (j : ℕ) (p : Params) (list : List VoiceInfo) → code w (asks (fillVoiceInfo j p list)) ≡ code w (asks (getVoiceInfo j p (length list)))
   -- Active notes and error text: 1, 8.
   pub notes-rows : (w : World) (j : ℕ) (notes : List ℕ) → code w (asks (iterActiveNotes j notes))
       ≡ row (not (goodSampler (w .sampler))) 9 (row (noChannel (w .sampler) j) 1 (row (ltb (length notes) (length (notesOf (live (channelAt (w .sampler) j))))) 8 0))

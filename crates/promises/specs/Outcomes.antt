@@ -1,5 +1,6 @@
 -- Every public call with all that it is given, and which outcomes its contract allows: the result, and what was lent to it as it is at the end. `Allows` says of each call what the `ensures` lines of its function say,
--- in the same definitions: sampler/src/lib.rt and questions/src/lib.rt. The crate `contracts` shows it of each function. Definitions only. Assumes nothing.
+-- in the same definitions: sampler/src/lib.rt, questions/src/lib.rt and, for voice info in a lent list, lent/src/lib.rt. The crate `contracts` shows it of each function there. The
+-- calls on a record that the host lends have the same definitions in their contracts, with the record in its place: lent/src/lib.rt. Definitions only. Assumes nothing.
 use mathlib.Core.Path.{_≡_}
 use Prim.Native.Nat.{ℕ}
 use mathlib.Core.List.{List, [], _∷_}
@@ -25,6 +26,7 @@ use Rattle.sampler.specs.Samplers.{
 use Rattle.questions.specs.declared.Counted.{Counted}
 use Rattle.questions.specs.declared.Told.{Told}
 use Rattle.questions.specs.declared.OffsetAnswer.{OffsetAnswer}
+use Rattle.questions.specs.declared.VoiceInfo.{VoiceInfo}
 use Rattle.questions.specs.declared.VoiceInfos.{VoiceInfos}
 use Rattle.questions.specs.Questions.{
   countedNumber,
@@ -40,6 +42,7 @@ use Rattle.questions.specs.Questions.{
   activeNotesAfter,
   getVoiceInfoOf,
 }
+use Rattle.lent.specs.Lists.{voiceInfoCounted, voiceInfoAfter}
 use Rattle.promises.specs.Runs.{
   World,
   getFramesProcessed,
@@ -49,6 +52,7 @@ use Rattle.promises.specs.Runs.{
   printErrorInfo,
   iterActiveNotes,
   getVoiceInfo,
+  fillVoiceInfo,
   Call,
   start,
   stop,
@@ -82,6 +86,10 @@ pub record ListOutcome : Type 0 where
   pub answer : Counted
   pub lent : List ℕ
 
+pub record InfoOutcome : Type 0 where
+  pub answer : Counted
+  pub lent : List VoiceInfo
+
 abbrev pub Outcome : Given → Type 0
 Outcome (new count p m) = Answer
 Outcome (on w (start position note velocity p)) = Answer
@@ -99,6 +107,7 @@ Outcome (on w (asks (getLastRecordedOffset j))) = OffsetAnswer
 Outcome (on w (asks (printErrorInfo j text))) = ListOutcome
 Outcome (on w (asks (iterActiveNotes j notes))) = ListOutcome
 Outcome (on w (asks (getVoiceInfo j p room))) = VoiceInfos
+Outcome (on w (asks (fillVoiceInfo j p list))) = InfoOutcome
 
 -- ---- what the contracts allow
 abbrev pub Allows : (g : Given) → Outcome g → Type 0
@@ -120,6 +129,7 @@ Allows (on w (asks (getLastRecordedOffset j))) r = r ≡ getLastRecordedOffsetOf
 Allows (on w (asks (printErrorInfo j text))) r = (r .answer ≡ printErrorInfoOf (w .sampler) j (length text)) × (r .lent ≡ errorTextAfter (w .sampler) j text)
 Allows (on w (asks (iterActiveNotes j notes))) r = (r .answer ≡ iterActiveNotesOf (w .sampler) j (length notes)) × (r .lent ≡ activeNotesAfter (w .sampler) j notes)
 Allows (on w (asks (getVoiceInfo j p room))) r = r ≡ getVoiceInfoOf (w .sampler) j p room
+Allows (on w (asks (fillVoiceInfo j p list))) r = (r .answer ≡ voiceInfoCounted (w .sampler) j p list) × (r .lent ≡ voiceInfoAfter (w .sampler) j p list)
 
 -- one outcome, and no other
 pub record Settled (g : Given) : Type 0 where
@@ -147,6 +157,7 @@ numberIn (on w (asks (getLastRecordedOffset j))) r = offsetNumber r
 numberIn (on w (asks (printErrorInfo j text))) r = countedNumber (r .answer)
 numberIn (on w (asks (iterActiveNotes j notes))) r = countedNumber (r .answer)
 numberIn (on w (asks (getVoiceInfo j p room))) r = r .number
+numberIn (on w (asks (fillVoiceInfo j p list))) r = countedNumber (r .answer)
 
 -- the record and the memory for the next call
 abbrev pub leftBy : (w : World) (c : Call) → Outcome (on w c) → World
@@ -177,6 +188,7 @@ Untouched w (asks (getLastRecordedOffset j)) r = Unit {0}
 Untouched w (asks (printErrorInfo j text)) r = r .lent ≡ text
 Untouched w (asks (iterActiveNotes j notes)) r = r .lent ≡ notes
 Untouched w (asks (getVoiceInfo j p room)) r = Unit {0}
+Untouched w (asks (fillVoiceInfo j p list)) r = r .lent ≡ list
 
 -- ---- runs by the contracts alone: each call leaves what some outcome that its contract allows leaves
 pub data Chain : World → List Call → World → Type 0 where

@@ -30,6 +30,7 @@ use Rattle.sampler.specs.Samplers.{
   sampleMemory,
   framedOf,
 }
+use Rattle.questions.specs.declared.VoiceInfo.{VoiceInfo}
 use Rattle.questions.specs.Questions.{recorderAt, notesOf, listNumber, infoNumber}
 use Rattle.fates.specs.Events.{Event, idle, changes, sounds}
 
@@ -41,7 +42,7 @@ pub record World : Type 0 where
 unfoldable pub setUp : ℕ → InitParams → List ℕ → World
 setUp count p m = record { sampler = setUpOf count p (length m) .sampler; memory = m }
 
--- the questions, each of one channel; a lent list is given as it is lent
+-- the questions, each of one channel; a lent list is given as it is lent. Voice info is answered by value, with the room that the caller has, and in a lent list
 pub data Question : Type 0 where
   getFramesProcessed : (j : ℕ) → Question
   getDataLen : (j : ℕ) → Question
@@ -50,6 +51,7 @@ pub data Question : Type 0 where
   printErrorInfo : (j : ℕ) (text : List ℕ) → Question
   iterActiveNotes : (j : ℕ) (notes : List ℕ) → Question
   getVoiceInfo : (j : ℕ) (p : Params) (room : ℕ) → Question
+  fillVoiceInfo : (j : ℕ) (p : Params) (list : List VoiceInfo) → Question
 
 -- every public call after set-up; a question changes nothing
 pub data Call : Type 0 where
@@ -71,6 +73,7 @@ questionNumber s (getLastRecordedOffset j) = channelNumber s j
 questionNumber s (printErrorInfo j text) = listNumber s j (errorText (recorderAt s j)) (length text)
 questionNumber s (iterActiveNotes j notes) = listNumber s j (notesOf (live (channelAt s j))) (length notes)
 questionNumber s (getVoiceInfo j p room) = infoNumber s j p room
+questionNumber s (fillVoiceInfo j p list) = infoNumber s j p (length list)
 
 -- document 01's number of a call: 0 where it is accepted
 unfoldable pub code : World → Call → ℕ
