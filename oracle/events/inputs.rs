@@ -41,7 +41,7 @@ fn records(r: &mut Random) -> Vec<Vec<u8>> {
         l.push(record(5, vec![]));
     }
     // A crowd: about as many voices as there is room for.
-    let crowd = if r.below(8) == 0 { 30 + r.below(6) } else { 0 };
+    let crowd = if r.below(8) == 0 { 32 + r.below(12) } else { 0 };
     l.extend((0..crowd).map(|_| start(r, false)).collect::<Vec<_>>());
     for _ in 0..r.below(60) {
         l.push(any_record(r, channels, hostile));
