@@ -2,8 +2,8 @@
 use mathlib.Core.Path.{sym}
 use lib.Seq.{length-take-le}
 use borrow.Author.Needs.{needs}
-use Rattle.trace.proofs.calls.set_up.Statement.{statement}
-use Rattle.trace.proofs.calls.set_up.Tie as tie
+use Rattle.acts.proofs.calls.set_up.Statement.{statement}
+use Rattle.acts.proofs.calls.set_up.Tie as tie
 
 clear-requires : tie.Need-clear-requires
 clear-requires c κs = search needs

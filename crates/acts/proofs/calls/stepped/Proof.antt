@@ -2,8 +2,8 @@
 use mathlib.Core.Path.{sym}
 use lib.Seq.{length-take-le}
 use borrow.Author.Needs.{needs}
-use Rattle.trace.proofs.calls.stepped.Statement.{statement}
-use Rattle.trace.proofs.calls.stepped.Tie as tie
+use Rattle.acts.proofs.calls.stepped.Statement.{statement}
+use Rattle.acts.proofs.calls.stepped.Tie as tie
 
 shared-slice-read-wide : tie.Need-shared-slice-read-wide
 shared-slice-read-wide c = search needs

@@ -2,8 +2,8 @@
 use mathlib.Core.Path.{sym}
 use lib.Seq.{length-take-le}
 use borrow.Author.Needs.{needs}
-use Rattle.trace.proofs.calls.sample.Statement.{statement}
-use Rattle.trace.proofs.calls.sample.Tie as tie
+use Rattle.acts.proofs.calls.sample.Statement.{statement}
+use Rattle.acts.proofs.calls.sample.Tie as tie
 
 f32-at-requires : tie.Need-f32-at-requires
 f32-at-requires c κs = search needs

@@ -1,8 +1,8 @@
 -- `trace::recording::recording` meets its contract. The invariant: the text is never empty, and fits. The measure is how many samples are left. Assumes nothing.
 use Prim.Native.Nat.{_-_, _≤_, _<_}
 use borrow.Author.Needs.{needs}
-use Rattle.trace.proofs.recording.recording.Statement.{statement}
-use Rattle.trace.proofs.recording.recording.Tie as tie
+use Rattle.acts.proofs.recording.recording.Statement.{statement}
+use Rattle.acts.proofs.recording.recording.Tie as tie
 
 abbrev Inv-loop : tie.InvT-loop
 Inv-loop memory start n out₀ at from place₀ last i₀ out place i = (0 < place) × (place ≤ 65536)

@@ -3,8 +3,8 @@ use Prim.Native.Nat.{_-_}
 use mathlib.Core.Path.{_≡_}
 use lib.ListN.{length}
 use borrow.Author.Needs.{needs}
-use Rattle.trace.proofs.calls.frames.Statement.{statement}
-use Rattle.trace.proofs.calls.frames.Tie as tie
+use Rattle.acts.proofs.calls.frames.Statement.{statement}
+use Rattle.acts.proofs.calls.frames.Tie as tie
 
 abbrev Inv-loop : tie.InvT-loop
 Inv-loop fields memory₀ p n h₀ i₀ memory h i = length memory ≡ length memory₀

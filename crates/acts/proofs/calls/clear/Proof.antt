@@ -3,8 +3,8 @@ use Prim.Native.Nat.{_-_, _≤_}
 use mathlib.Core.Path.{_≡_}
 use lib.ListN.{length, length-set}
 use borrow.Author.Needs.{needs}
-use Rattle.trace.proofs.calls.clear.Statement.{statement}
-use Rattle.trace.proofs.calls.clear.Tie as tie
+use Rattle.acts.proofs.calls.clear.Statement.{statement}
+use Rattle.acts.proofs.calls.clear.Tie as tie
 
 abbrev Inv-loop : tie.InvT-loop
 Inv-loop memory₀ i₀ memory i = (i ≤ length memory) × (length memory ≡ length memory₀)
