@@ -5,3 +5,4 @@ pub mod Inside
 pub mod Shared
 pub mod Again
 pub mod Runs
+pub mod Rounds
