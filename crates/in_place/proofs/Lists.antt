@@ -16,6 +16,10 @@ pub fails : (t : Bool) → (T t → ⊥) → t ≡ false
 fails true f = absurd (f tt)
 fails false _ = refl
 
+pub denied : (t : Bool) → T (not t) → t ≡ false
+denied true a = absurd a
+denied false _ = refl
+
 pub one-more : (i : ℕ) → i + 1 ≡ suc i
 one-more i = add-suc i zero ∙ ap suc (add-zero i)
 

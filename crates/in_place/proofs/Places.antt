@@ -1,4 +1,4 @@
--- A voice of a channel in memory, read and overwritten, and its count overwritten. A voice takes 104 bytes, so that the count stands at byte 3328.
+-- A voice of a channel in memory, read and overwritten. A voice takes 104 bytes.
 -- Assumes `Given`.
 use mathlib.Core.Path.{_≡_, refl, sym, _∙_}
 use Prim.Native.Nat.{ℕ, _+_, _<_}
@@ -14,7 +14,6 @@ use types.Kit.{Given}
 use denote.Laws.{Is}
 use denote.Array.{Array}
 use denote.Index.{place}
-use denote.Builtin.{usize}
 use denote.Struct.Laws as LL
 use borrow.Struct.Behind.{look-at, put-at}
 use borrow.Struct.Items.{cut-records}
@@ -59,6 +58,3 @@ module _ {M : Type 1} (𝓤 : URA M) (H : Heap 𝓤) (A : Atoms 𝓤) (W : Given
         (cut-records 𝓤 H A q C.the-row R.the-type 32 0 h (withVoices (set (h .voices) i y) (h .count) h) (h .voices) (set (h .voices) i y) (b, o)
         (put-at 𝓤 H A W q C.the-type C′.the-laws 0 0 refl refl (b, o) h (withVoices (set (h .voices) i y) (h .count) h) (C.struct .as-values h) (set (h .voices) i y) refl refl))
         (elem-set 𝓤 H A W q R.the-row tt 32 (h .voices) i d b (o + 0) lt y)
-
-  pub sets-count : (k b o : ℕ) → Inside 𝓤 H A q C.the-row usize h (withVoices (h .voices) k h) (h .count) k b o (o + 3328)
-  sets-count k b o = put-at 𝓤 H A W q C.the-type C′.the-laws 1 3328 refl refl (b, o) h (withVoices (h .voices) k h) (C.struct .as-values h) k refl refl

@@ -1,10 +1,39 @@
 // One channel's sample in place: the channel is lent, and its voices are moved one at a time, so that no channel is copied. Each function
 // equals the same definition as that of crate `channel` by value. Those that take a channel lent are proved by hand.
 ghost use mathlib.Core.Path.{_≡_};
-ghost use Rattle.channel.specs.Channels.{anyUnfinishedOf, goodChannel};
-ghost use Rattle.in_place.specs.Turns.{headGoodOf};
+ghost use Rattle.channel.specs.Channels.{anyUnfinishedOf, playedIfOf, goodChannel};
+ghost use Rattle.in_place.specs.Turns.{begunOf, countedOf, headGoodOf};
 use channel::Channel;
 use channel::Head;
+use common_types::Params;
+use voice::Tick;
+
+// How many voices take a turn, and what they share.
+pub struct Start {
+    pub tick: Tick,
+    pub turns: usize,
+}
+
+// With an empty recording no voice takes a turn.
+fn begun(head: Head, count: usize, params: Params) -> Start
+    ensures { λ r. ⌜ r ≡ begunOf params head count ⌝ }
+{
+    let tick = Tick::new(params, head.now, head.data_len);
+    if head.data_len == 0 {
+        return Start { tick, turns: 0 };
+    }
+    Start {
+        tick,
+        turns: channel::places(count),
+    }
+}
+
+// How many voices there are once `turns` took their turn and `kept` of them stayed.
+fn counted(turns: usize, kept: usize, count: usize) -> usize
+    ensures { λ r. ⌜ r ≡ countedOf turns kept count ⌝ }
+{
+    if turns == 0 { count } else { kept }
+}
 
 // What the voices don't say of whether a channel may stand in a record of that capacity.
 fn head_good(head: Head, count: usize, capacity: usize) -> bool
@@ -42,4 +71,30 @@ pub fn any_unfinished(c: &Channel) -> bool
         i = i + 1;
     }
     found
+}
+
+// Each voice takes its turn if the recording isn't empty; those that are then to be removed leave, and the others move up in order.
+pub fn play(c: &mut Channel, params: Params, data: &[u32]) -> f32
+    ensures { λ r. ⌜ (r ≡ playedIfOf params (now («data» .entry)) (now (c .entry)) .output)
+        × (now (c .exit) ≡ playedIfOf params (now («data» .entry)) (now (c .entry)) .channel) ⌝ }
+{
+    let b = begun(c.head, c.count, params);
+    let t = b.tick;
+    let n = b.turns;
+    let mut output = 0.0;
+    let mut k: usize = 0;
+    let mut i: usize = 0;
+    while i < n {
+        let v = c.voices[i];
+        let w = v.turn(t, data);
+        output = channel::sound(output, v, w, t);
+        let gone = w.should_remove(t);
+        if !gone {
+            c.voices[k] = w;
+            k = k + 1;
+        }
+        i = i + 1;
+    }
+    c.count = counted(n, k, c.count);
+    output
 }
