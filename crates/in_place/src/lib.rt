@@ -1,7 +1,7 @@
 // One channel's sample in place: the channel is lent, and its voices are moved one at a time, so that no channel is copied. Each function
 // equals the same definition as that of crate `channel` by value. Those that take a channel lent are proved by hand.
 ghost use mathlib.Core.Path.{_≡_};
-ghost use Rattle.channel.specs.Channels.{anyUnfinishedOf, playedIfOf, goodChannel};
+ghost use Rattle.channel.specs.Channels.{anyUnfinishedOf, playedIfOf, memoryOf, processSampleOf, goodChannel};
 ghost use Rattle.in_place.specs.Turns.{begunOf, countedOf, headGoodOf};
 use channel::Channel;
 use channel::Head;
@@ -97,4 +97,18 @@ pub fn play(c: &mut Channel, params: Params, data: &[u32]) -> f32
     }
     c.count = counted(n, k, c.count);
     output
+}
+
+pub fn process_sample(c: &mut Channel, params: Params, input: f32, data: &mut [u32]) -> f32
+    ensures { λ r. ⌜ (r ≡ processSampleOf params input (now (c .entry)) (now («data» .entry)) .output)
+        × (now (c .exit) ≡ processSampleOf params input (now (c .entry)) (now («data» .entry)) .channel)
+        × (now («data» .exit) ≡ memoryOf input (now (c .entry)) (now («data» .entry))) ⌝ }
+{
+    let head = c.head;
+    let recorded = head.recorded(input, data);
+    c.head = recorded;
+    let played = play(c, params, data);
+    let unfinished = any_unfinished(c);
+    c.head = recorded.closed(params, unfinished);
+    recorded.mixed(input, played)
 }
