@@ -6,6 +6,8 @@ use Rattle.sampler.proofs.Sampler as T
 use Rattle.sampler.proofs.Sampler.Laws as T′
 use Rattle.sampler.proofs.Answer as S
 use Rattle.sampler.proofs.Answer.Laws as S′
+use Rattle.channel.proofs.Channel as K
+use Rattle.channel.proofs.Channel.Laws as K′
 use Rattle.common_types.proofs.Note as N
 use Rattle.common_types.proofs.Note.Laws as N′
 use Rattle.common_types.proofs.Params as P
@@ -24,6 +26,9 @@ use Rattle.lent.proofs.Rows.{Datum, struct, enum, Answering}
 
 abbrev pub sampler : Datum
 sampler = struct T.the-type T′.the-laws T′.the-plain
+
+abbrev pub channel : Datum
+channel = struct K.the-type K′.the-laws K′.the-plain
 
 abbrev pub note : Datum
 note = struct N.the-type N′.the-laws N′.the-plain
