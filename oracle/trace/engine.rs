@@ -26,7 +26,7 @@ pub struct Engine {
 }
 
 /// What a record's line has after its kind and number.
-enum Shown {
+pub enum Shown {
     Nothing,
     Record,
     Heard([f32; 3]),
@@ -56,14 +56,23 @@ pub fn play(records: &[Record], text: &mut Text, tally: &mut Tally) {
 }
 
 impl Engine {
-    fn new() -> Self {
+    pub fn new() -> Self {
         Engine { sampler: Sampler::new(0, &InitParams::default()), params: Params::default(), count: 0, capacity: 0, skipped: [0; 2] }
     }
 
     fn record(&mut self, r: &Record, text: &mut Text, tally: &mut Tally) {
         let kind = r.u8_at(0);
         let before = Census::of(self);
-        let (number, shown) = match kind {
+        let (number, shown) = self.call(r);
+        text.put(2, kind as u64);
+        text.put(1, number as u64);
+        self.show(shown, text);
+        tally.call(kind, number, &before, &Census::of(self), &self.params);
+    }
+
+    /// Makes a record's call.
+    pub fn call(&mut self, r: &Record) -> (u8, Shown) {
+        match r.u8_at(0) {
             SET_UP => (self.set_up(r), Shown::Record),
             PARAMETERS => (self.parameters(r), Shown::Nothing),
             START => (self.start(r), Shown::Record),
@@ -78,11 +87,7 @@ impl Engine {
             CLOCK => (self.put_on(r), Shown::Record),
             RECORDINGS => (0, Shown::Recordings),
             _ => self.query(r),
-        };
-        text.put(2, kind as u64);
-        text.put(1, number as u64);
-        self.show(shown, text);
-        tally.call(kind, number, &before, &Census::of(self), &self.params);
+        }
     }
 
     fn set_up(&mut self, r: &Record) -> u8 {

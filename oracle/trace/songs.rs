@@ -24,8 +24,8 @@ pub const STYLES: &[Style] = &[
     Style { name: "full", share: 60, make: full },
     Style { name: "resets", share: 30, make: resets },
     Style { name: "edges", share: 100, make: edges },
-    Style { name: "refusals", share: 90, make: refusals },
-    Style { name: "broken", share: 30, make: broken },
+    Style { name: "refusals", share: 120, make: refusals },
+    Style { name: "broken", share: 50, make: broken },
     Style { name: "late", share: 50, make: late },
     Style { name: "noise", share: 30, make: noise },
 ];
@@ -267,7 +267,7 @@ fn broken(s: &mut Song) {
         s.count = 1;
         s.records.push(set_up(count, false, memory));
         s.settings();
-        for _ in 0..s.r.below(10) + 2 {
+        for _ in 0..s.r.below(30) + 6 {
             s.any();
         }
     }
@@ -295,7 +295,11 @@ fn late(s: &mut Song) {
             _ => s.event(),
         }
         let n = s.r.below(4) + 1;
-        s.frames(n);
+        if s.r.below(4) == 0 {
+            s.many(n);
+        } else {
+            s.frames(n);
+        }
     }
 }
 
@@ -517,7 +521,7 @@ impl Song {
 
     fn query(&mut self, kind: u8) {
         let mut room = self.r.pick(&[64, 34, 32, 40, 0xffff_ffff]);
-        if self.chance(self.bad.max(15)) {
+        if self.chance(self.bad.max(25)) {
             room = self.r.pick(&[0, 0, 1, 2, 22, 23, 24, 31]);
         }
         self.ask(kind, room);
@@ -554,7 +558,8 @@ impl Song {
     /// n frames in one record.
     fn many(&mut self, n: u64) {
         let (first, more, lent) = (self.float(level), self.float(|s| s.r.pick(&[0.0, 0.001, 0.37, -1e-6])), self.lent());
-        self.records.push(frames(self.count as u8, first, more, n as u32, lent));
+        let entries = if self.chance(self.bad) { self.count + 1 } else { self.count };
+        self.records.push(frames(entries as u8, first, more, n as u32, lent));
         for _ in 0..n {
             self.stepped();
         }

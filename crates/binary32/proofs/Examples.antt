@@ -1,15 +1,10 @@
--- Document 01's K9, and the values at which a wrong leaf would show. Each holds by computation. Assumes nothing.
+-- Values at which a wrong leaf would show. Each holds by computation. Assumes nothing.
 use mathlib.Core.Path.{_≡_, refl}
 use Prim.Native.Nat.{_+_, _^_}
 use mathlib.Core.Bool.{true, false}
 use lib.IntN.{pos}
 use lib.Ieee.{nan, inf, fin, lt, eq, isNan, ofBits, ofInt, round, toUnsigned}
 use Rattle.binary32.specs.Leaves.{asFloat, asWhole, floorOf, minOf, maxOf, absOf, crossingOf, floatOf}
-
--- K9: 16777217 becomes 16777216, 16777219 becomes 16777220
-pub K9 : (asFloat 16777217 ≡ fin false 1 (pos 24)) × (asFloat 16777219 ≡ fin false 4194305 (pos 2))
-unfolding ofInt
-K9 = (refl, refl)
 
 -- rounded first to 24 digits and then again, this would be 2 ^ 60
 once : asFloat (2 ^ 60 + 2 ^ 36 + 1) ≡ fin false 8388609 (pos 37)

@@ -1,6 +1,6 @@
 -- A NaN told by comparing a value with itself, as the programs here do, and what a NaN does to a sum. Assumes nothing.
 use mathlib.Core.Path.{_≡_, refl, sym}
-use mathlib.Core.Bool.{true, false, true≢false}
+use mathlib.Core.Bool.{Bool, true, false, true≢false}
 use lib.Dec.{T}
 use lib.Ieee.{Float, nan, inf, fin, Format, isNan, ne, lt, add}
 use lib.Ieee.Compare.{differs-from-itself}
@@ -14,6 +14,13 @@ unfolding ne isNan
 no-nan nan h = absurd (true≢false h)
 no-nan (inf s) h = refl
 no-nan (fin s m e) h = refl
+
+pub nan-test : (x : Float) → ne x x ≡ isNan x
+nan-test x = go (ne x x) refl
+  where
+    go : (b : Bool) → ne x x ≡ b → b ≡ isNan x
+    go true h = simp (is-nan x h) (unfold isNan in refl)
+    go false h = sym (no-nan x h)
 
 pub tells-nan : (x : Float) → isNan x ≡ true → x ≡ nan
 unfolding isNan

@@ -8,10 +8,11 @@ use borrow.Author.Tests.{leb-true, leb-false}
 use lib.Dec.{T, leb, eqb, le→leb, T-not}
 use lib.Pow.{pow-pos}
 use lib.IntN.{pos}
-use lib.Ieee.{Float, nan, inf, fin, Format, binary32, eq, le, up, down, prec, low, hid, ones, top, odd, fits, isNan, ofFields, ofBits, toBits}
+use lib.Ieee.{Float, nan, inf, fin, Format, binary32, eq, ne, le, up, down, prec, low, hid, ones, top, odd, fits, isNan, ofFields, ofBits, toBits}
 use lib.Ieee.Fits.{down-pos}
 use lib.Ieee.Bits.{ofBits-toBits, toBits-lt}
 use Rattle.binary32.specs.Leaves.{signOf, crossingOf}
+use Rattle.binary32.proofs.Nans.{nan-test, tells-nan}
 use Rattle.binary32.proofs.Values.{le-value}
 
 odd-sign : (d : ℕ) (s : Bool) (q k l : ℕ) → signOf (odd d s q k l) ≡ s
@@ -53,17 +54,21 @@ sign-bit f x F N =
     upper-half b (top f) (top-pos f) (toBits-lt f x F)
     ∙ ap (λ (t : Bool). cond t 1 0) (sym (pattern-sign f b (ap isNan back ∙ N)) ∙ ap signOf back)
 
--- what the crossing test comes to where neither value is NaN and this one is not zero
-pub crossing-signs : (x y : Float) → T (fits binary32 x) → T (fits binary32 y) → isNan x ≡ false → isNan y ≡ false → eq x (fin false 0 (pos 0)) ≡ false
-    → not (eqb (toBits binary32 x / 0x8000_0000) (toBits binary32 y / 0x8000_0000)) ≡ crossingOf x y
-unfolding crossingOf
-crossing-signs x y F G N M Z = simp (sign-bit binary32 x F N, sign-bit binary32 y G M, N, M, Z) (go (signOf x) (signOf y))
+-- the test by the highest bit, for NaN too, whose pattern has it clear
+pub sign-tells : (x : Float) → T (fits binary32 x) → eqb (toBits binary32 x / 0x8000_0000) 1 ≡ signOf x
+sign-tells x F = go (isNan x) refl
   where
-    go : (s t : Bool) → not (eqb (cond s 1 0) (cond t 1 0)) ≡ (not (Bool·beq s t) || false)
-    go true true = refl
-    go true false = refl
-    go false true = refl
-    go false false = refl
+    one : (s : Bool) → eqb (cond s 1 0) 1 ≡ s
+    one true = refl
+    one false = refl
+
+    go : (n : Bool) → isNan x ≡ n → eqb (toBits binary32 x / 0x8000_0000) 1 ≡ signOf x
+    go true N = simp (tells-nan x N) (unfold toBits in refl)
+    go false N = simp (sign-bit binary32 x F N) (one (signOf x))
+
+pub crossing-tests : (x y : Float) (a b : Bool) → a ≡ signOf x → b ≡ signOf y → (((ne x x || ne y y) || not (Bool·beq a b)) || eq x (ofBits binary32 0)) ≡ crossingOf x y
+unfolding crossingOf ofBits
+crossing-tests x y a b p q = simp (nan-test x, nan-test y, p, q)
 
 -- with no sign bit a value is not below zero
 pub unsigned : (x : Float) → T (not (isNan x)) → signOf x ≡ false → T (le (fin false 0 (pos 0)) x)

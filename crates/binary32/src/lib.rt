@@ -4,7 +4,7 @@ ghost use mathlib.Core.Path.{_≡_};
 ghost use Prim.Native.Nat.{_*_, _^_, _<_};
 ghost use lib.Dec.{T};
 ghost use lib.Ieee.{binary32, lt, ofBits};
-ghost use Rattle.binary32.specs.Leaves.{asFloat, asWhole, floorOf, minOf, maxOf, absOf, crossingOf, bitsOf, floatOf};
+ghost use Rattle.binary32.specs.Leaves.{asFloat, asWhole, floorOf, minOf, maxOf, absOf, signOf, crossingOf, bitsOf, floatOf};
 
 // `n as f32`. Both halves of 24 bits are exact below 2^48, so only their sum rounds.
 pub fn u64_to_f32(n: u64) -> f32
@@ -156,18 +156,17 @@ pub fn from_bits(pattern: u32) -> f32
     }
 }
 
-// Whether the sound crosses zero from `last` to `value`.
+// The sign bit, which NaN has not.
+fn negative(x: f32) -> bool
+    ensures { λ r. ⌜ r ≡ signOf x ⌝ }
+{
+    to_bits(x) / 0x8000_0000 == 1
+}
+
+// Whether the sound crosses zero from `last` to `value`. It is asked for every voice at every sample, of values that no one foresees: so it has no
+// branch, which a processor would take wrongly half of the time.
 pub fn crossing(value: f32, last: f32) -> bool
     ensures { λ r. ⌜ r ≡ crossingOf value last ⌝ }
 {
-    if value != value {
-        return true;
-    }
-    if last != last {
-        return true;
-    }
-    if value == 0.0 {
-        return true;
-    }
-    f32::to_bits(value) / 0x8000_0000 != f32::to_bits(last) / 0x8000_0000
+    (value != value) | (last != last) | (negative(value) != negative(last)) | (value == 0.0)
 }

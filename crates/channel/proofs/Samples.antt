@@ -1,6 +1,6 @@
 -- A sound channel stays sound through a sample, whose clock is then one more; its memory keeps its length; and each voice sounds by a value recorded. Assumes nothing.
 use mathlib.Core.Path.{_≡_, refl, sym, _∙_, subst}
-use Prim.Native.Nat.{ℕ, _+_, _^_, _≤_, _<_}
+use Prim.Native.Nat.{ℕ, _^_, _≤_, _<_}
 use native.Mathlib.Nat.{le-trans, le-of-eq}
 use mathlib.Core.Bool.{Bool, true, false, cond}
 use mathlib.Core.List.{List, map}
@@ -28,7 +28,7 @@ use Rattle.channel.specs.Soundness.{SoundChannel}
 use Rattle.channel.specs.declared.Head.{Head}
 use Rattle.channel.specs.declared.Channel.{Channel}
 use Rattle.channel.specs.declared.Played.{Played}
-use Rattle.channel.proofs.Heads.{next-later, next-one, closed-now, closed-sound}
+use Rattle.channel.proofs.Heads.{next-later, closed-now, closed-sound}
 use Rattle.channel.proofs.Parts.{parts, head-changed, recording-changed, voices-changed, data-within, room, live-count, voice-at, some}
 
 -- ---- recorded first
@@ -94,7 +94,3 @@ module _ (capacity : ℕ) (c : Channel) (s : SoundChannel capacity c) (p : Param
       head-changed capacity r (played-if-sound capacity d k p ok small (memoryOf x c m)) (closedOf p u (d .head)) (closed-sound p u (d .head) capacity ok (parts k .head))
       (subst (λ (h : Head). h .now ≤ closedOf p u (d .head) .now) (sym (played-if-head p (memoryOf x c m) d))
       (subst (λ (n : ℕ). d .head .now ≤ n) (sym (closed-now p u (d .head))) (next-later (d .head .now))))
-
-pub sample-clock : (p : Params) (x : Float) (c : Channel) (m : List ℕ) → c .head .now < 2 ^ 48 → processSampleOf p x c m .channel .head .now ≡ c .head .now + 1
-unfolding processSampleOf takenOf
-sample-clock p x c m h = closed-now p (anyUnfinishedOf (playedIfOf p (memoryOf x c m) (takenOf m c) .channel)) (takenOf m c .head) ∙ next-one (c .head .now) h

@@ -38,10 +38,6 @@ unfoldable pub rampOf : Volume → ℕ → Params → Bool → Volume
 rampOf v now p true = towardOf v now (p .«attack_samples») one32
 rampOf v now p false = towardOf v now (p .«decay_samples») zero32
 
--- the level once it is known whether the input is to pass
-unfoldable pub passedOf : Volume → ℕ → Params → Bool → Bool → Volume
-passedOf v now p wanted on = cond (Bool·beq wanted on) v (rampOf v now p wanted)
-
 unfoldable pub passthruOf : Params → Bool → Head → Head
 passthruOf p unfinished h =
     let on = passesOf p unfinished in
@@ -51,11 +47,13 @@ passthruOf p unfinished h =
 abbrev pub mixedOf : Float → Float → Head → Float
 mixedOf x played h = add binary32 (add binary32 zero32 played) (mul binary32 x (levelOf (h .«passthru_volume») (h .now)))
 
+-- a sample later
+abbrev pub laterOf : Head → Head
+laterOf h = record { now = nextTime (h .now); «data_len» = h .«data_len»; «passthru_volume» = h .«passthru_volume»; recorder = h .recorder; «passthru_on» = h .«passthru_on» }
+
 -- the end of a sample: the level's step, the change of state, and the clock
 unfoldable pub closedOf : Params → Bool → Head → Head
-closedOf p unfinished h =
-    let g = passthruOf p unfinished (withPassthru (h .«passthru_on») (steppedOf (h .«passthru_volume») (h .now)) h) in
-    record { now = nextTime (g .now); «data_len» = g .«data_len»; «passthru_volume» = g .«passthru_volume»; recorder = g .recorder; «passthru_on» = g .«passthru_on» }
+closedOf p unfinished h = laterOf (passthruOf p unfinished (withPassthru (h .«passthru_on») (steppedOf (h .«passthru_volume») (h .now)) h))
 
 -- ---- a head that may stand in a record of that capacity
 unfoldable pub goodHead : ℕ → Head → Bool

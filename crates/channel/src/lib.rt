@@ -8,7 +8,7 @@ ghost use Rattle.binary32.specs.Leaves.{bitsOf};
 ghost use Rattle.clip.specs.Positions.{zero32, one32};
 ghost use Rattle.recorder.specs.Recording.{recordedOf, dataAfter};
 ghost use Rattle.voice.specs.Voices.{shouldRemoveOf};
-ghost use Rattle.channel.specs.Heads.{nextTime, headOf, withRecorded, withPassthru, rampOf, passesOf, passedOf, passthruOf, mixedOf, closedOf, goodHead};
+ghost use Rattle.channel.specs.Heads.{nextTime, headOf, laterOf, passesOf, withRecorded, withPassthru, rampOf, passthruOf, mixedOf, closedOf, goodHead};
 ghost use Rattle.channel.specs.Channels.{
   sameNote,
   anyUnfinishedOf,
@@ -116,7 +116,7 @@ impl Head {
         Self {
             now: self.now,
             data_len: r.data_len,
-            passthru_volume: volume,
+            passthru_volume: volume.copied(),
             recorder,
             passthru_on: self.passthru_on,
         }
@@ -169,16 +169,26 @@ impl Head {
     pub fn closed(self, params: Params, unfinished: bool) -> Self
         ensures { λ r. ⌜ r ≡ closedOf params unfinished self ⌝ }
     {
-        let wanted = passes(params, unfinished);
         let volume = self.passthru_volume;
-        let recorder = self.recorder;
         let stepped = volume.stepped(self.now);
+        let wanted = passes(params, unfinished);
+        if wanted == self.passthru_on {
+            return self.after(self.passthru_on, stepped);
+        }
+        self.after(wanted, ramp(stepped, self.now, params, wanted))
+    }
+
+    // The head a sample later, with pass-through at that state and level.
+    fn after(self, on: bool, volume: Volume) -> Self
+        ensures { λ r. ⌜ r ≡ laterOf (withPassthru on volume self) ⌝ }
+    {
+        let recorder = self.recorder;
         Self {
             now: next_time(self.now),
             data_len: self.data_len,
-            passthru_volume: passed(stepped, self.now, params, wanted, self.passthru_on),
-            recorder,
-            passthru_on: wanted,
+            passthru_volume: volume.copied(),
+            recorder: recorder.copied(),
+            passthru_on: on,
         }
     }
 
@@ -201,17 +211,6 @@ fn passes(params: Params, unfinished: bool) -> bool
     ensures { λ r. ⌜ r ≡ passesOf params unfinished ⌝ }
 {
     params.auto_passthru & !unfinished
-}
-
-// The level once it is known whether the input is to pass: a change begins a ramp. Only the end of a sample asks here, so that the common
-// case, no change, is compiled into it.
-fn passed(volume: Volume, now: usize, params: Params, wanted: bool, on: bool) -> Volume
-    ensures { λ r. ⌜ r ≡ passedOf volume now params wanted on ⌝ }
-{
-    if wanted == on {
-        return volume;
-    }
-    ramp(volume, now, params, wanted)
 }
 
 fn ramp(volume: Volume, now: usize, params: Params, wanted: bool) -> Volume

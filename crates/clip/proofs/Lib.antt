@@ -5,4 +5,3 @@ pub mod WayBack
 pub mod Kept
 pub mod Answers
 pub mod Indices
-pub mod Table

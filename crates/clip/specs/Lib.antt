@@ -2,4 +2,3 @@ pub mod Positions
 pub mod Updates
 pub mod Refusals
 pub mod Bounds
-pub mod Table

@@ -26,10 +26,9 @@ use Rattle.sampler.specs.Refusals.{present, channelAt, goodSampler, goodWith, n
 use Rattle.sampler.specs.Samplers.{partOf, playedAt, outputOf, processSampleOf, framed, entriesOf, framedOf}
 use Rattle.sampler.proofs.Rows.{passed, frame-steps}
 use Rattle.sampler.proofs.Entries.{sample-reaches, frame-reaches}
-use Rattle.promises.specs.Events.{idle, changes, sounds}
-use Rattle.promises.specs.Runs.{World, Call, start, stop, speed, startRecording, stopRecording, reset, sample, frame, asks, code, chan, doneTo, event, output}
-use Rattle.promises.specs.Whole.{FittingCall}
-use Rattle.promises.proofs.Cases.{neither}
+use Rattle.fates.specs.Events.{idle, changes, sounds}
+use Rattle.promises.specs.Runs.{World, Call, start, stop, speed, startRecording, stopRecording, reset, sample, frame, asks, code, chan, doneTo, event, output, FittingCall}
+use Rattle.fates.proofs.Cases.{neither}
 use Rattle.promises.proofs.Apart.{frame-output}
 use Rattle.promises.proofs.Calls.{Standing}
 
@@ -50,16 +49,16 @@ module _ {A : Type 0} (p : A → Bool) where
   any-front l n j d h a b = ap p (sym (getD-take n l j d a)) ∙ any-at (take n l) j d h (omega (arith, length-take-le n l b))
 
 -- ---- a start
-pub start-fits : (s : Sampler) (position : Float) (note : Note) (p : Params) → startNumber s position note p ≡ 0 → anyFull s ≡ false
-unfolding startNumber
-start-fits s position note p h =
-    passed (anyFull s) 4 0 (passed (beyondLimits p) 3 _ (passed (badPosition position) 2 _ (passed (badNote note) 1 _ (passed (not (goodSampler s)) 8 _ h .1) .1) .1) .1) .0
+start-fits : (w : World) (position : Float) (note : Note) (velocity : Float) (p : Params) → code w (start position note velocity p) ≡ 0 → anyFull (w .sampler) ≡ false
+unfolding code startNumber
+start-fits w position note velocity p h =
+    passed (anyFull (w .sampler)) 4 0 (passed (beyondLimits p) 3 _ (passed (badPosition position) 2 _ (passed (badNote note) 1 _ (passed (not (goodSampler (w .sampler))) 8 _ h .1) .1) .1) .1) .0
 
 pub start-room : (w : World) → Standing w → (j : ℕ) → j < w .sampler .count → (position : Float) (note : Note) (velocity : Float) (p : Params)
     → code w (start position note velocity p) ≡ 0 → eqb (chan w j .head .«data_len») 0 ≡ false → chan w j .count < 32
-unfolding code fullOf
+unfolding fullOf
 start-room w s j h position note velocity p k e =
-    let f : fullOf (chan w j) ≡ false = any-front fullOf (w .sampler .channels) (w .sampler .count) j _ (start-fits (w .sampler) position note p k) h (omega (arith, s .two, s .few)) in
+    let f : fullOf (chan w j) ≡ false = any-front fullOf (w .sampler .channels) (w .sampler .count) j _ (start-fits w position note velocity p k) h (omega (arith, s .two, s .few)) in
     leb-false 32 (chan w j .count) (subst (λ (b : Bool). (not b && leb 32 (chan w j .count)) ≡ false) e f)
 
 pub start-opens : (w : World) → Standing w → (position : Float) (note : Note) (velocity : Float) (p : Params) → goodSampler (w .sampler) ≡ true → badNote note ≡ false → badPosition position ≡ false
@@ -186,4 +185,4 @@ module _ (w : World) (st : Standing w) (j : ℕ) (k : j < w .sampler .count) (p 
   heard reset h = absurd (not-change p x m _ (done p x m w reset j h))
   heard (sample i y q) h = sample-heard i y q h
   heard (frame xs q) h = frame-heard xs q h
-  heard asks h = absurd (not-idle p x m (done p x m w asks j h))
+  heard (asks y) h = absurd (not-idle p x m (done p x m w (asks y) j h))

@@ -10,7 +10,7 @@ use lib.ListN.{length, drop, getD, length-set, length-map, List·getD-append, Li
 use lib.Seq.{length-sets, length-take-le, getD-take}
 use lib.Ieee.{Float}
 use Rattle.walks.proofs.Loops.{getD-any}
-use Rattle.recorder.proofs.Runs.{run-front}
+use Rattle.walks.proofs.Runs.{run-front}
 use Rattle.common_types.specs.declared.InitParams.{InitParams}
 use Rattle.common_types.specs.declared.Params.{Params}
 use Rattle.clip.specs.Positions.{zero32}
@@ -22,10 +22,11 @@ use Rattle.sampler.specs.declared.Sampler.{Sampler}
 use Rattle.sampler.specs.Refusals.{present, channelAt, goodSizes, capacityOf, setUpNumber, sampleNumber, frameNumber}
 use Rattle.sampler.specs.Samplers.{samplerOf, setUpOf, eachOf, answerOf, partOf, playedAt, steppedOf, processSampleOf, Framed, framed, entryOf, entriesOf, framedOf}
 use Rattle.sampler.proofs.Rows.{sizes-count, frame-steps}
-use Rattle.promises.specs.Events.{idle, changes, sounds, act, acts}
-use Rattle.promises.specs.Places.{Housed}
-use Rattle.promises.specs.Runs.{World, setUp, Call, start, stop, speed, startRecording, stopRecording, reset, sample, frame, asks, code, after, run, chan, doneTo, event, events}
-use Rattle.promises.proofs.Housing.{housed, housed-new}
+use Rattle.fates.specs.Events.{idle, changes, sounds, act, acts}
+use Rattle.fates.specs.Places.{Housed}
+use Rattle.promises.specs.Runs.{World, setUp, Call, start, stop, speed, startRecording, stopRecording, reset, sample, frame, asks, questionNumber, code, after, run, chan, doneTo, event, events}
+use Rattle.promises.proofs.Engine.{changes-same, sounds-same}
+use Rattle.fates.proofs.Housing.{housed, housed-new}
 use Rattle.promises.proofs.Apart.{channel-apart, channel-own, frame-channel}
 
 -- two channels in the record, of which the first `count` are in use, each with its 32 places
@@ -54,7 +55,7 @@ unfolding answerOf act
 answer-channel number d s two few j h = go (eqb number 0)
   where
     go : (b : Bool) → channelAt (cond b (eachOf d s) s) j ≡ act (cond b (changes d) idle) (channelAt s j)
-    go true = each-channel d s two few j h
+    go true = each-channel d s two few j h ∙ sym (changes-same d (channelAt s j))
     go false = refl
 
 -- ---- every call
@@ -70,7 +71,9 @@ module _ (w : World) (two : length (w .sampler .channels) ≡ 2) (few : w .sampl
       m = w .memory
 
       which : (b : Bool) → eqb i j ≡ b → channelAt (steppedOf s i p x m) j ≡ act (cond b (sounds p x (partOf s j m)) idle) (channelAt s j)
-      which true e = subst (λ (y : ℕ). channelAt (steppedOf s y p x m) j ≡ channelSampleOf p x (channelAt s j) (partOf s j m) .channel) (sym (eqb-true i j e)) (channel-own s j p x m (omega arith))
+      which true e =
+          subst (λ (y : ℕ). channelAt (steppedOf s y p x m) j ≡ channelSampleOf p x (channelAt s j) (partOf s j m) .channel) (sym (eqb-true i j e)) (channel-own s j p x m (omega arith))
+          ∙ sounds-same p x (channelAt s j) (partOf s j m)
       which false e = channel-apart s i p x m j (λ q. eqb-false i j e (sym q))
 
       go : (b : Bool) → eqb (sampleNumber s i p (length m)) 0 ≡ b
@@ -90,7 +93,7 @@ module _ (w : World) (two : length (w .sampler .channels) ≡ 2) (few : w .sampl
 
       which : (b : Bool) → channelAt (entriesOf p (length xs) 0 (framed s xs m) .sampler) j ≡ cond b (channelSampleOf p (getD xs j zero32) (channelAt s j) (partOf s j m) .channel) (channelAt s j)
           → channelAt (entriesOf p (length xs) 0 (framed s xs m) .sampler) j ≡ act (cond b (sounds p (getD xs j zero32) (partOf s j m)) idle) (channelAt s j)
-      which true e = e
+      which true e = e ∙ sounds-same p (getD xs j zero32) (channelAt s j) (partOf s j m)
       which false e = e
 
       go : (b : Bool) → eqb (frameNumber s (length xs) p (length m)) 0 ≡ b
@@ -98,6 +101,11 @@ module _ (w : World) (two : length (w .sampler .channels) ≡ 2) (few : w .sampl
           ≡ act (cond b (cond (ltb j (length xs)) (sounds p (getD xs j zero32) (partOf s j m)) idle) idle) (channelAt s j)
       go true e = which (ltb j (length xs)) (frame-channel s xs p m (frame-steps s (length xs) p (length m) (eqb-true _ 0 e)) two j (omega arith))
       go false e = refl
+
+  nothing : (b : Bool) → chan w j ≡ act (cond b idle idle) (chan w j)
+  unfolding act
+  nothing true = refl
+  nothing false = refl
 
   pub chan-after : (c : Call) → chan (after w c) j ≡ act (event w c j) (chan w j)
   unfolding after event code doneTo act
@@ -109,7 +117,7 @@ module _ (w : World) (two : length (w .sampler .channels) ≡ 2) (few : w .sampl
   chan-after reset = answer-channel _ _ (w .sampler) two few j h
   chan-after (sample i x p) = sample-channel i x p
   chan-after (frame xs p) = frame-channels xs p
-  chan-after asks = refl
+  chan-after (asks q) = nothing (eqb (questionNumber (w .sampler) q) 0)
 
 -- ---- what no call changes
 pub record Kept (s r : Sampler) : Type 0 where
@@ -159,7 +167,7 @@ kept w (frame xs p) = go (eqb (frameNumber (w .sampler) (length xs) p (length (w
     go : (b : Bool) → Kept (w .sampler) (cond b (entriesOf p (length xs) 0 f) f .sampler)
     go true = kept-entries p (length xs) 0 f
     go false = kept-refl (w .sampler)
-kept w asks = kept-refl (w .sampler)
+kept w (asks q) = kept-refl (w .sampler)
 
 -- ---- from set-up on
 pub standing-after : (w : World) (c : Call) → Standing w → Standing (after w c)

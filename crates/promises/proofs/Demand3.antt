@@ -9,7 +9,7 @@ use native.Mathlib.Omega.{arith}
 use borrow.Author.Tests.{lt-leb, eq-eqb}
 use lib.Dec.{eqb, ltb}
 use lib.ListN.{length}
-use lib.Ieee.{Float}
+use lib.Ieee.{Float, binary32, mul}
 use Rattle.walks.specs.Walks.{any}
 use Rattle.common_types.specs.declared.InitParams.{InitParams}
 use Rattle.common_types.specs.declared.Params.{Params}
@@ -17,20 +17,24 @@ use Rattle.common_types.specs.declared.Note.{Note}
 use Rattle.voice.specs.declared.Voice.{Voice}
 use Rattle.voice.specs.Voices.{freshOf}
 use Rattle.channel.specs.declared.Channel.{Channel}
+use Rattle.channel.specs.declared.Played.{Played}
 use Rattle.channel.specs.Heads.{lastTime}
 use Rattle.channel.specs.Channels.{live, fullOf}
-use Rattle.promises.specs.Events.{Event, idle, sounds, act, acts, isReset, isSample, emptyAt, decayOf, lastOf, beforeLast}
-use Rattle.promises.specs.Places.{Housed, voiceAt, at, gone, follow, newOf, followAll, stoppedIn, finishes}
-use Rattle.promises.specs.Sounding.{First}
+use Rattle.fates.specs.Engine.{bornOf}
+use Rattle.fates.specs.Events.{Event, idle, sounds, act, acts, isReset, isSample, emptyAt, decayOf, lastOf, beforeLast}
+use Rattle.fates.specs.Places.{Housed, voiceAt, Place, at, gone, follow, becomes, newOf, onward, followAll, stoppedIn, finishes}
+use Rattle.fates.specs.Sounding.{Sounds, First}
 use Rattle.promises.specs.Runs.{World, setUp, Call, start, stop, speed, startRecording, stopRecording, reset, sample, frame, asks, code, after, run, chan, doneTo, event, events, isResetCall, output, final, before}
-use Rattle.promises.specs.Demand3.{isEmpty, Demand3}
-use Rattle.promises.proofs.Cases.{neither, either}
-use Rattle.promises.proofs.Order.{Came, ordered, covered, fewer}
-use Rattle.promises.proofs.Terms.{sounds-each}
-use Rattle.promises.proofs.Stays.{stays}
-use Rattle.promises.proofs.Goes.{goes}
-use Rattle.promises.proofs.Clocks.{clock-stands, clock-moves, no-sample}
-use Rattle.promises.proofs.OnTime.{begin, madeBy, taken, on-time}
+use Rattle.promises.specs.Demands.{isEmpty, Leaves, Demand3}
+use Rattle.fates.proofs.Cases.{neither, either}
+use Rattle.fates.proofs.Tracks.{gone-never, tracks}
+use Rattle.fates.proofs.Order.{Came, ordered, covered, fewer}
+use Rattle.fates.proofs.Terms.{sounds-later}
+use Rattle.fates.proofs.Stays.{stays}
+use Rattle.fates.proofs.Goes.{goes}
+use Rattle.fates.proofs.Clocks.{clock-stands, clock-moves, no-sample}
+use Rattle.fates.proofs.OnTime.{begin, taken, on-time}
+use Rattle.promises.proofs.Engine.{step-same}
 use Rattle.promises.proofs.Calls.{Standing, chan-after, chan-run, kept, count-run, standing-after, standing-run, standing-new}
 use Rattle.promises.proofs.Accepted.{heard, start-room}
 
@@ -53,7 +57,7 @@ event-reset w stopRecording j h = quiet (eqb (code w stopRecording) 0) _ refl
 event-reset w reset j h = absurd (true≢false h)
 event-reset w (sample i x p) j h = quiet (eqb (code w (sample i x p)) 0) _ (quiet (eqb i j) _ refl)
 event-reset w (frame xs p) j h = quiet (eqb (code w (frame xs p)) 0) _ (quiet (ltb j (length xs)) _ refl)
-event-reset w asks j h = quiet (eqb (code w asks) 0) idle refl
+event-reset w (asks q) j h = quiet (eqb (code w (asks q)) 0) idle refl
 
 events-reset : (w : World) (cs : List Call) (j : ℕ) → any isResetCall cs ≡ false → any isReset (events w cs j) ≡ false
 unfolding events any
@@ -108,7 +112,7 @@ module _ (w : World) (st : Standing w) (j : ℕ) (k : j < w .sampler .count) whe
 
       first : (p : Params) (x : Float) (m : List ℕ) → chan w j .head .now < lastTime → acts (b ∷ es) (chan w j) .head .now ≡ chan w j .head .now
           → stoppedIn es (act b (chan w j)) (length (live (chan w j))) ≡ false → emptyAt m (acts (b ∷ es) (chan w j)) ≡ false
-          → First p x m (acts (b ∷ es) (chan w j)) (length (live (chan w j))) (madeBy p₀ position note velocity (chan w j))
+          → First p x m (acts (b ∷ es) (chan w j)) (length (live (chan w j))) (bornOf p₀ position note velocity (chan w j))
       unfolding b any isReset isSample es
       first p x m early same free full =
           let q = no-sample (b ∷ es) (chan w j) (events-reset (after w (start position note velocity p₀)) cs j r) early same in
@@ -126,7 +130,7 @@ module _ (w : World) (st : Standing w) (j : ℕ) (k : j < w .sampler .count) whe
           let v : World = run w cs' in
           let n : ℕ = length (live (chan w j)) in
           let early = heard v (standing-run w cs' st) j (omega (arith, count-run w cs')) p x m s h .early in
-          subst (λ (c : Channel). First p x m c n (madeBy p₀ position note velocity (chan w j))) (sym ran)
+          subst (λ (c : Channel). First p x m c n (bornOf p₀ position note velocity (chan w j))) (sym ran)
           (first p x m (omega arith) (ap (λ (c : Channel). c .head .now) (sym ran) ∙ same) (subst (λ (c : Channel). stoppedIn es c n ≡ false) made free)
           (subst (λ (c : Channel). emptyAt m c ≡ false) ran full))
 
@@ -170,19 +174,61 @@ ends w st j k c n v s f cs p x m h e l =
     (record { input = x; memory = m; sample = last-event w c cs j ∙ h; finds = subst (λ (d : Channel). emptyAt m d ≡ false) q e })
     (subst (λ (d : Channel). chan w j .head .now + max (decayOf (event w c j)) (p .«decay_samples») ≤ d .head .now) q l)
 
+-- ---- the call in which a voice leaves: the first, or one of those after it
+left-on : (w : World) (c : Call) (cs : List Call) (j n : ℕ) (v : Voice) → voiceAt (chan w j) n ≡ some v → chan (after w c) j ≡ act (event w c j) (chan w j)
+    → (z : Place) → follow (event w c j) (chan w j) n ≡ z → onward z (λ (i : ℕ). followAll (events (after w c) cs j) (act (event w c j) (chan w j)) i) ≡ gone
+    → ((i : ℕ) → follow (event w c j) (chan w j) n ≡ at i → followAll (events (after w c) cs j) (act (event w c j) (chan w j)) i ≡ gone → Leaves (after w c) j i cs)
+    → Leaves w j n (c ∷ cs)
+unfolding events followAll run
+left-on w c cs j n v s moved gone f g on = record { earlier = []; call = c; later = cs; split = refl; place = n; voice = v; follows = refl; stands = s; leaves = f }
+left-on w c cs j n v s moved (at i) f g on =
+    let l = on i f g in
+    record {
+      earlier = c ∷ l .earlier;
+      call = l .call;
+      later = l .later;
+      split = ap (λ (ds : List Call). c ∷ ds) (l .split);
+      place = l .place;
+      voice = l .voice;
+      follows = ap (λ (z : Place). onward z (λ (i : ℕ). followAll (events (after w c) (l .earlier) j) (act (event w c j) (chan w j)) i)) f
+          ∙ ap (λ (d : Channel). followAll (events (after w c) (l .earlier) j) d i) (sym moved)
+          ∙ l .follows;
+      stands = l .stands;
+      leaves = l .leaves;
+    }
+
+left-in : (w : World) → Standing w → (j : ℕ) → j < w .sampler .count → (n : ℕ) (v : Voice) → voiceAt (chan w j) n ≡ some v → (cs : List Call)
+    → followAll (events w cs j) (chan w j) n ≡ gone → Leaves w j n cs
+unfolding events followAll
+left-in w st j k n v s [] g = absurd (gone-never n (sym g))
+left-in w st j k n v s (c ∷ cs) g =
+    let e : Event = event w c j in
+    let moved : chan (after w c) j ≡ act e (chan w j) = next w st j k c in
+    left-on w c cs j n v s moved (follow e (chan w j) n) refl g
+    (λ i f h.
+    left-in (after w c) (standing-after w c st) j (omega (arith, kept w c .count)) i (becomes e (chan w j) n v)
+    (subst (λ (d : Channel). voiceAt d i ≡ some (becomes e (chan w j) n v)) (sym moved) (tracks e (chan w j) (st .housing j k) n i v s f)) cs
+    (subst (λ (d : Channel). followAll (events (after w c) cs j) d i ≡ gone) (sym moved) h))
+
 -- ---- the whole
 standing-demand3 : (w : World) → Standing w → (j : ℕ) → j < w .sampler .count → Demand3 w j
 unfolding events
 standing-demand3 w st j k = record {
   counts = counts w st j k;
   stands = λ cs r q. ap (λ (c : Channel). c .head .now) (chan-run w st j k cs) ∙ clock-stands (events w cs j) (chan w j) (events-reset w cs j r) q;
-  hears = λ s p x m h. heard w st j k p x m s h .output;
+  does = next w st j k;
+  hears = λ s p x m h. heard w st j k p x m s h .output ∙ ap (λ (r : Played). mul binary32 (p .volume) (r .output)) (sym (step-same p x (chan w j) m));
   on-time = λ position note velocity p₀ ok data₀ cs r s p x m h same free full. sooner w st j k position note velocity p₀ ok data₀ cs r s p x m h same free full;
-  sounds-on = λ n v a u s p x m h e. sounds-each p x m (chan w j) n v a u e;
+  sounds-on = λ n v a u cs r f s p x m h e.
+      let q = chan-run w st j k cs in
+      let l = sounds-later (events w cs j) (chan w j) (house w st j k) (events-reset w cs j r) n v a u f p x m (subst (λ (d : Channel). emptyAt m d ≡ false) q e) in
+      (l .place, l .voice, l .follows, subst (λ (d : Channel). Sounds p x m d (l .place) (l .voice)) (sym q) (l .sounds));
   stays = λ n v a u cs r g. stays (events w cs j) (chan w j) (house w st j k) (events-reset w cs j r) n v a u g;
+  follows = λ c n i v s f. subst (λ (d : Channel). voiceAt d i ≡ some (becomes (event w c j) (chan w j) n v)) (sym (next w st j k c)) (tracks (event w c j) (chan w j) (house w st j k) n i v s f);
   in-order = λ c i n a b u v o s r f g. ordered (event w c j) (chan w j) i n a b u v o s r f g;
   none-else = λ c i u s. came w st j k c u i (covered (event w c j) (chan w j) (house w st j k) i u (subst (λ (d : Channel). voiceAt d i ≡ some u) (next w st j k c) s));
   goes = λ c n v s f cs p x m h e l. ends w st j k c n v s f cs p x m h e l;
+  left-in = left-in w st j k;
   free = leaves w st j k;
   taken = λ position note velocity p ok data₀. takes w st j k position note velocity p ok data₀;
 }

@@ -1,11 +1,14 @@
--- Runs, computed, that meet the premises of each statement of demand 3, so that none of them is empty; and runs that show where a bound lies. Assumes nothing.
-use mathlib.Core.Path.{_≡_, refl}
+-- Runs, computed, that meet the premises of each statement of the demands, so that none of them is empty; and runs that show where a bound lies. Assumes nothing.
+use mathlib.Core.Path.{_≡_, refl, ap}
 use mathlib.Core.Bool.{true, false}
+use mathlib.Core.Logic.{_⊎_, inl, inr}
 use mathlib.Core.List.{List, [], _∷_, _++_}
-use Prim.Native.Nat.{ℕ, _<_}
+use mathlib.Core.Option.{some}
+use Prim.Native.Nat.{ℕ, zero, suc, _+_, _^_, _<_}
+use native.Mathlib.Omega.{arith}
 use lib.IntN.{pos, negsuc}
 use lib.Dec.{lit<, lit≤}
-use lib.ListN.{getD, replicate}
+use lib.ListN.{length, getD, replicate}
 use Rattle.common_types.specs.declared.InitParams.{InitParams}
 use Rattle.common_types.specs.declared.Params.{Params}
 use Rattle.common_types.specs.declared.Note.{Note}
@@ -24,22 +27,31 @@ use Rattle.recorder.specs.Recording.{raised, inState, misusedOf, skippedOf, sta
 use Rattle.clip.specs.Positions.{leadOf, travelAt, loopedOf, roundTripOf, mirroredOf, bouncedOf, wrappedOf, placedOf, clipOffsetAt, clipToDataOf, offsetAt, indexAt}
 use Rattle.clip.specs.Updates.{madeOf, backOf, foundAt, reversingAt, shiftFor, settledOf, withSpeed, withMode, withLength, withDataLength}
 use Rattle.clip.specs.Refusals.{goodLength, goodClip}
+use Rattle.walks.specs.Each.{Each}
+use Rattle.voice.specs.declared.Voice.{Voice}
 use Rattle.voice.specs.Voices.{tickOf, lateOf, overOf, shouldRemoveOf, movedOf, productOf, soundedOf, finishOf, playedOutOf, endedOf, volumeStepped, turnOf, freshOf, blankVoice, atSpeedOf, goodVoice}
+use Rattle.channel.specs.declared.Head.{Head}
 use Rattle.channel.specs.Heads.{nextTime, headOf, rampOf, passthruOf, closedOf, goodHead}
-use Rattle.channel.specs.Channels.{live, channelOf, resetOf, anyUnfinishedOf, handledOf, pushedOf, startPlayingOf, wantedOf, findOf, finishedAtOf, stopPlayingOf, spedOf, setNoteSpeedOf, startRecordingOf, stopRecordingOf, keptOf, addedOf, heardOf, playedOf, playedIfOf, takenOf, memoryOf, processSampleOf, changedOf, fullOf, goodVoicesOf, goodChannel}
-use Rattle.sampler.specs.Refusals.{goodSizes, goodSampler, capacityOf, goodWith, setUpNumber, startNumber, stopNumber, speedNumber, plainNumber, sampleNumber, frameNumber}
-use Rattle.sampler.specs.Samplers.{setUpOf, eachOf, answerOf, partOf, playedAt, steppedOf as stepOf, outputOf, memoryAt, processSampleOf as sampleOf, sampleMemory, entryOf, entriesOf, framedOf}
-use Rattle.promises.specs.Events.{act, isReset, isSample, decayOf}
-use Rattle.promises.specs.Places.{at, gone, fateOf, follow, stops, becomes, newOf, outOf, playsOut, followAll, stoppedIn, finishedIn}
-use Rattle.promises.specs.Runs.{World, Call, start, stop, speed, startRecording, stopRecording, sample, frame, asks, chan, setUp, code, after, run, doneTo, event, events, isResetCall, output, before}
-use lib.Ieee.{Float, fin, add, sub, mul, div, rem, neg, lt, le, eq, ofInt, toUnsigned, isNan, ofBits, toBits, nanBits, ofFields}
-use Rattle.promises.specs.Sounding.{Sounds, First}
-use Rattle.promises.specs.Demand3.{Demand3}
+use Rattle.channel.specs.Channels.{live, withHead, channelOf, resetOf, anyUnfinishedOf, handledOf, pushedOf, startPlayingOf, wantedOf, findOf, finishedAtOf, stopPlayingOf, spedOf, setNoteSpeedOf, startRecordingOf, stopRecordingOf, keptOf, addedOf, heardOf, playedOf, playedIfOf, takenOf, memoryOf, processSampleOf, changedOf, fullOf, goodVoicesOf, goodChannel}
+use Rattle.sampler.specs.Refusals.{goodSizes, goodSampler, capacityOf, goodWith, setUpNumber, startNumber, stopNumber, speedNumber, plainNumber, sampleNumber, frameNumber, channelNumber}
+use Rattle.questions.specs.Questions.{notesOf, listNumber}
+use Rattle.sampler.specs.Samplers.{withChannels, setUpOf, eachOf, answerOf, partOf, playedAt, steppedOf as sampledOf, outputOf, memoryAt, processSampleOf as sampleOf, sampleMemory, entryOf, entriesOf, framedOf}
+use Rattle.fates.specs.Engine.{begunOf, passesOver, heardBy, turnedOf, letsGo, leavesOf, leftOf, turnsOf, stepOf}
+use Rattle.fates.specs.Events.{tickAt, act, isReset, isSample, decayOf}
+use Rattle.fates.specs.Places.{voiceAt, at, gone, fateOf, follow, stops, becomes, newOf, outOf, playsOut, followAll, stoppedIn, finishedIn}
+use Rattle.promises.specs.Runs.{World, Call, start, stop, speed, startRecording, stopRecording, sample, frame, getDataLen, iterActiveNotes, asks, FittingCall, chan, setUp, questionNumber, code, after, run, doneTo, event, events, isResetCall, output, before}
+use lib.Ieee.{Float, nan, fin, binary32, fits, add, sub, mul, div, rem, neg, lt, le, eq, ofInt, toUnsigned, isNan, ofBits, toBits, nanBits, ofFields}
+use Rattle.fates.specs.Sounding.{Sounds, First}
+use Rattle.promises.specs.Outcomes.{on, leftBy}
+use Rattle.promises.specs.Demands.{Plays, Asked, Leaves, Demand3}
+use Rattle.promises.proofs.Outcomes.{settled}
+use Rattle.promises.proofs.Whole.{no-panic, whole}
+use Rattle.promises.proofs.Demands.{demands}
 use Rattle.promises.proofs.Demand3.{demand3}
 
 -- whatever a run computes by
 computing : Unit {0}
-unfolding floorOf minOf maxOf crossingOf any every without fold seek speedOf timeLengthOf lengthOf loopLengthOf lengthBeyond beyondLimits progressOf levelOf towardOf steppedOf goodRamp goodVolume raised inState misusedOf skippedOf startOf stopOf recordedOf dataAfter goodRecorder leadOf travelAt loopedOf roundTripOf mirroredOf bouncedOf wrappedOf placedOf clipOffsetAt clipToDataOf offsetAt indexAt madeOf backOf foundAt reversingAt shiftFor settledOf withSpeed withMode withLength withDataLength goodLength goodClip tickOf lateOf overOf shouldRemoveOf movedOf productOf soundedOf finishOf playedOutOf endedOf volumeStepped turnOf freshOf blankVoice atSpeedOf goodVoice nextTime headOf rampOf passthruOf closedOf goodHead channelOf resetOf anyUnfinishedOf handledOf pushedOf startPlayingOf wantedOf findOf finishedAtOf stopPlayingOf spedOf setNoteSpeedOf startRecordingOf stopRecordingOf keptOf addedOf heardOf playedOf playedIfOf takenOf memoryOf processSampleOf changedOf fullOf goodVoicesOf goodChannel goodSizes goodSampler capacityOf goodWith setUpNumber startNumber stopNumber speedNumber plainNumber sampleNumber frameNumber setUpOf eachOf answerOf partOf playedAt stepOf outputOf memoryAt sampleOf sampleMemory entryOf entriesOf framedOf act isReset isSample decayOf fateOf follow stops becomes newOf outOf playsOut followAll stoppedIn finishedIn setUp code after run doneTo event events isResetCall output before add sub mul div rem neg lt le eq ofInt toUnsigned isNan ofBits toBits nanBits ofFields
+unfolding floorOf minOf maxOf crossingOf any every without fold seek speedOf timeLengthOf lengthOf loopLengthOf lengthBeyond beyondLimits progressOf levelOf towardOf steppedOf goodRamp goodVolume raised inState misusedOf skippedOf startOf stopOf recordedOf dataAfter goodRecorder leadOf travelAt loopedOf roundTripOf mirroredOf bouncedOf wrappedOf placedOf clipOffsetAt clipToDataOf offsetAt indexAt madeOf backOf foundAt reversingAt shiftFor settledOf withSpeed withMode withLength withDataLength goodLength goodClip tickOf lateOf overOf shouldRemoveOf movedOf productOf soundedOf finishOf playedOutOf endedOf volumeStepped turnOf freshOf blankVoice atSpeedOf goodVoice nextTime headOf rampOf passthruOf closedOf goodHead channelOf resetOf anyUnfinishedOf handledOf pushedOf startPlayingOf wantedOf findOf finishedAtOf stopPlayingOf spedOf setNoteSpeedOf startRecordingOf stopRecordingOf keptOf addedOf heardOf playedOf playedIfOf takenOf begunOf passesOver heardBy turnedOf letsGo leavesOf leftOf turnsOf stepOf memoryOf processSampleOf changedOf fullOf goodVoicesOf goodChannel goodSizes goodSampler capacityOf goodWith setUpNumber startNumber stopNumber speedNumber plainNumber sampleNumber frameNumber channelNumber notesOf listNumber setUpOf eachOf answerOf partOf playedAt sampledOf outputOf memoryAt sampleOf sampleMemory entryOf entriesOf framedOf act isReset isSample decayOf fateOf follow stops becomes newOf outOf playsOut followAll stoppedIn finishedIn setUp questionNumber code after run doneTo event events isResetCall output before add sub mul div rem neg lt le eq ofInt toUnsigned isNan ofBits toBits nanBits ofFields
 computing = tt
 
 -- ---- parameters, keys, calls
@@ -105,7 +117,7 @@ older = since (press 60 ∷ [])
 
 -- a note speed, a question, a sample of the other channel, a stop that finds the older voice, one that finds none, and a start that is refused
 abbrev between : List Call
-between = speed (key 60) half ∷ asks ∷ sample 0 zero32 plain ∷ stop (key 60) plain ∷ stop (key 61) plain ∷ start two (key 60) one32 plain ∷ []
+between = speed (key 60) half ∷ asks (getDataLen 1) ∷ sample 0 zero32 plain ∷ stop (key 60) plain ∷ stop (key 61) plain ∷ start two (key 60) one32 plain ∷ []
 
 abbrev younger : World
 younger = run older (press 60 ∷ between)
@@ -123,15 +135,32 @@ pub on-time-heard : output younger (quiet plain) 1 ≡ one32
 unfolding computing
 on-time-heard = refl
 
+-- between them no sample of channel 1 was accepted, and its count stood still
+pub stands-met : chan (run older between) 1 .head .now ≡ chan older 1 .head .now
+unfolding computing
+stands-met = promised .stands between refl refl
+
 -- stopped before its first sample, with no decay, a voice never sounds
 pub stopped-first : output (since (press 60 ∷ stop (key 60) plain ∷ [])) (quiet plain) 1 ≡ zero32
 unfolding computing
 stopped-first = refl
 
 -- ---- later samples
-pub sounds-on-met : Sounds plain zero32 part (chan older 1) 0 (freshOf plain zero32 (key 60) one32 2 2)
+pub counts-met : chan (after older (quiet plain)) 1 .head .now ≡ chan older 1 .head .now + 1
 unfolding computing
-sounds-on-met = promised .sounds-on 0 (freshOf plain zero32 (key 60) one32 2 2) refl refl (sample 1 zero32 plain) plain zero32 part refl refl
+counts-met = promised .counts (quiet plain) plain zero32 part refl
+
+pub hears-met : output older (sample 1 half plain) 1 ≡ mul binary32 one32 (stepOf plain half (chan older 1) part .output)
+unfolding computing
+hears-met = promised .hears (sample 1 half plain) plain half part refl
+
+-- after a sample in which it sounds, and a second start of its note, the first voice sounds again
+abbrev again : List Call
+again = quiet plain ∷ press 60 ∷ []
+
+pub sounds-on-met : (k : ℕ) × (u : Voice) × (followAll (events older again 1) (chan older 1) 0 ≡ at k) × Sounds plain zero32 part (chan (run older again) 1) k u
+unfolding computing
+sounds-on-met = promised .sounds-on 0 (freshOf plain zero32 (key 60) one32 2 2) refl refl again refl refl (sample 1 zero32 plain) plain zero32 part refl refl
 
 -- ---- stays: play-once finishes the voice in its second sample, and with no decay it leaves in that sample
 pub stays-met : finishedIn (events older (quiet once ∷ quiet once ∷ []) 1) (chan older 1) 0 ≡ true
@@ -142,6 +171,49 @@ stays-met = promised .stays 0 (freshOf plain zero32 (key 60) one32 2 2) refl ref
 pub stays-before : finishedIn (events older (quiet once ∷ []) 1) (chan older 1) 0 ≡ false
 unfolding computing
 stays-before = refl
+
+-- ---- order: of three voices the first leaves, and the others move up
+abbrev trio : World
+trio = since (press 60 ∷ press 61 ∷ press 62 ∷ stop (key 60) plain ∷ [])
+
+abbrev voice : World → ℕ → Voice
+voice w n = getD (live (chan w 1)) n blankVoice
+
+trio-promised : Demand3 trio 1
+unfolding computing
+trio-promised = demand3 2 init cells (recorded ++ (press 60 ∷ press 61 ∷ press 62 ∷ stop (key 60) plain ∷ [])) 1 (lit< tt)
+
+pub first-leaves : follow (event trio (quiet plain) 1) (chan trio 1) 0 ≡ gone
+unfolding computing
+first-leaves = refl
+
+pub follows-met : voiceAt (chan (after trio (quiet plain)) 1) 0 ≡ some (becomes (event trio (quiet plain) 1) (chan trio 1) 1 (voice trio 1))
+unfolding computing
+follows-met = trio-promised .follows (quiet plain) 1 0 (voice trio 1) refl refl
+
+pub left-in-met : Leaves trio 1 0 (asks (getDataLen 1) ∷ quiet plain ∷ quiet plain ∷ [])
+unfolding computing
+left-in-met = trio-promised .left-in 0 (voice trio 0) refl (asks (getDataLen 1) ∷ quiet plain ∷ quiet plain ∷ []) refl
+
+pub in-order-met : 0 < 1
+unfolding computing
+in-order-met = trio-promised .in-order (quiet plain) 1 2 0 1 (voice trio 1) (voice trio 2) (lit< tt) refl refl refl refl
+
+-- whoever stands at place 1 afterwards came from somewhere
+pub none-else-met : (n : ℕ) × (follow (event trio (quiet plain) 1) (chan trio 1) n ≡ at 1)
+unfolding computing
+none-else-met = came (trio-promised .none-else (quiet plain) 1 (voice (after trio (quiet plain)) 1) refl)
+  where
+    came : ((n : ℕ) × (v : Voice) × (voiceAt (chan trio 1) n ≡ some v) × (follow (event trio (quiet plain) 1) (chan trio 1) n ≡ at 1))
+        ⊎ ((1 ≡ length (live (chan trio 1))) × (newOf (event trio (quiet plain) 1) (chan trio 1) ≡ voice (after trio (quiet plain)) 1 ∷ []))
+        → (n : ℕ) × (follow (event trio (quiet plain) 1) (chan trio 1) n ≡ at 1)
+    came (inl r) = (r .0, r .3)
+    came (inr r) = let z : _≡_ {A = ℕ} 0 1 = ap length (r .1) in absurd (omega arith)
+
+-- a start's own, at the end
+pub none-else-new : newOf (event older (press 61) 1) (chan older 1) ≡ voice (after older (press 61)) 1 ∷ []
+unfolding computing
+none-else-new = refl
 
 -- ---- goes: stopped at count 2 with decay 2, and gone by the end of sample 4, in each of the three modes
 abbrev fades : NoteOffBehaviour → List Call
@@ -212,3 +284,80 @@ taken-met = promised .taken zero32 (key 61) one32 plain refl refl
 pub full-other : code (after stopped (sample 1 zero32 plain)) (press 60) ≡ 5
 unfolding computing
 full-other = refl
+
+-- ---- a start that nothing refuses is accepted: of the 32, one has left
+abbrev gone-by : List Call
+gone-by = stop (key 60) plain ∷ quiet plain ∷ []
+
+abbrev leaving : List Call
+leaving = recorded ++ (replicate 32 (press 60) ++ gone-by)
+
+abbrev left : World
+left = run (setUp 2 init cells) leaving
+
+fitting-joined : (cs ds : List Call) → Each FittingCall cs → Each FittingCall ds → Each FittingCall (cs ++ ds)
+unfolding Each
+fitting-joined [] ds f g = g
+fitting-joined (c ∷ cs) ds f g = (f .0, fitting-joined cs ds (f .1) g)
+
+fitting-presses : (n : ℕ) → Each FittingCall (replicate n (press 60))
+unfolding Each FittingCall fits
+fitting-presses zero = tt
+fitting-presses (suc n) = ((tt, tt, tt), fitting-presses n)
+
+fitting-recorded : Each FittingCall recorded
+unfolding Each FittingCall fits
+fitting-recorded = (tt, (tt, (tt, (tt, tt))))
+
+fitting-leaving : Each FittingCall leaving
+unfolding Each FittingCall fits
+fitting-leaving = fitting-joined recorded (replicate 32 (press 60) ++ gone-by) fitting-recorded (fitting-joined (replicate 32 (press 60)) gone-by (fitting-presses 32) (tt, (tt, tt)))
+
+none-full : (j : ℕ) → j < 2 → fullOf (chan left j) ≡ false
+unfolding computing
+none-full zero h = refl
+none-full (suc zero) h = refl
+none-full (suc (suc j)) h = absurd (omega arith)
+
+pub opens-met : code left (press 60) ≡ 0
+unfolding computing
+opens-met = whole 2 init cells refl leaving fitting-leaving .opens zero32 (key 60) one32 plain refl refl refl none-full
+
+-- ---- no panic: a voice that plays
+plays : Plays older 1 0 (freshOf plain zero32 (key 60) one32 2 2) (quiet plain) plain zero32 part
+unfolding computing FittingCall fits
+plays = record { present = lit< tt; stands = refl; floats = tt; sample = refl; finds = refl }
+
+fitting-older : Each FittingCall (recorded ++ (press 60 ∷ []))
+unfolding Each
+fitting-older = fitting-joined recorded (press 60 ∷ []) fitting-recorded (fitting-presses 1)
+
+pub asked-met : Asked (tickAt plain part (chan older 1)) (freshOf plain zero32 (key 60) one32 2 2)
+unfolding computing
+asked-met = no-panic 2 init cells refl (recorded ++ (press 60 ∷ [])) fitting-older .asked 1 0 _ (quiet plain) plain zero32 part plays
+
+-- ---- each number of the table, given
+abbrev far : Head → Head
+far h = record { now = 2 ^ 48; «data_len» = h .«data_len»; «passthru_volume» = h .«passthru_volume»; recorder = h .recorder; «passthru_on» = h .«passthru_on» }
+
+-- channel 0's clock at its end
+abbrev late : World
+late = record { sampler = withChannels (withHead (far (chan older 0 .head)) (chan older 0) ∷ chan older 1 ∷ []) (older .sampler); memory = older .memory }
+
+pub numbers-met : (code older (quiet plain) ≡ 0)
+    × (code older (sample 2 zero32 plain) ≡ 1)
+    × (code older (stop (record { note = 60; channel = 16 }) plain) ≡ 2)
+    × (code older (start nan (key 60) one32 plain) ≡ 3)
+    × (code older (stop (key 60) (with 16777217 loop.Loop off.Decay)) ≡ 4)
+    × (code late (quiet plain) ≡ 6)
+    × (code older (asks (iterActiveNotes 1 [])) ≡ 8)
+    × (code (setUp 3 init cells) startRecording ≡ 9)
+unfolding computing
+numbers-met = (refl, refl, refl, refl, refl, refl, refl, refl)
+
+-- a refused call leaves all as it was
+pub held-met : leftBy older (start nan (key 60) one32 plain) (settled (on older (start nan (key 60) one32 plain)) .outcome) ≡ older
+unfolding computing
+held-met =
+    let g = on older (start nan (key 60) one32 plain) in
+    demands .first .held older (start nan (key 60) one32 plain) (settled g .outcome) (settled g .allowed) (λ e. omega arith) .0

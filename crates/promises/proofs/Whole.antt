@@ -1,38 +1,53 @@
 -- No record that set-up and calls reach is broken, what a voice sounds by is recorded, and a start that nothing refuses is accepted. Assumes nothing.
 use mathlib.Core.Path.{_≡_, refl, sym, ap, _∙_, subst}
 use mathlib.Core.Logic.{_≢_}
-use mathlib.Core.Bool.{false}
+use mathlib.Core.Bool.{true}
 use mathlib.Core.List.{List, [], _∷_}
-use mathlib.Core.Option.{some}
-use Prim.Native.Nat.{ℕ, _≤_, _<_}
+use Prim.Native.Nat.{ℕ, _^_, _≤_, _<_}
 use native.Mathlib.Nat.{le-trans, le-of-eq}
 use native.Mathlib.Omega.{arith}
 use borrow.Author.Tests.{eqb-false}
+use lib.Dec.{ltb}
 use lib.ListN.{length, getD}
 use lib.Seq.{getD-take}
-use lib.Ieee.{Float}
+use lib.IntN.{pos}
+use lib.Ieee.{Float, binary32, mul}
+use lib.Ieee.Fits.{mul-fits, ofInt-fits}
+use Rattle.binary32.specs.Leaves.{asFloat}
 use Rattle.walks.specs.Each.{Each}
 use Rattle.common_types.specs.declared.InitParams.{InitParams}
 use Rattle.common_types.specs.declared.Params.{Params}
+use Rattle.common_types.specs.Settings.{speedOf, loopLengthOf, beyondLimits}
+use Rattle.common_types.proofs.LoopLengths.{loop-length-fits}
+use Rattle.recorder.specs.ErrorText.{errorText}
 use Rattle.clip.specs.Positions.{indexAt}
 use Rattle.voice.specs.declared.Voice.{Voice}
-use Rattle.voice.specs.Voices.{movedOf, blankVoice}
+use Rattle.clip.specs.Updates.{withSpeed}
+use Rattle.clip.specs.Bounds.{Sound}
+use Rattle.clip.proofs.Lengths.{float-length}
+use Rattle.clip.proofs.Kept.{with-speed-sound, with-length-sound, with-data-length-sound}
+use Rattle.clip.proofs.Answers.{speed-found, mode-found, length-asked}
+use Rattle.voice.specs.Voices.{clipModeOf, tickOf, movedOf, blankVoice}
+use Rattle.voice.specs.Soundness.{SoundParams, SoundVoice}
+use Rattle.voice.proofs.Moves.{loop-length-good}
+use Rattle.voice.proofs.Kept.{clip-sound}
 use Rattle.channel.specs.declared.Change.the-variants as change
 use Rattle.channel.specs.Channels.{live, takenOf, memoryOf}
 use Rattle.channel.specs.Soundness.{FittingChange, SoundChannel}
-use Rattle.channel.proofs.Parts.{data-within}
+use Rattle.channel.proofs.Parts.{data-within, voice-at}
 use Rattle.channel.proofs.Samples.{taken-sound, memory-kept, voice-recorded}
-use Rattle.sampler.specs.Refusals.{setUpNumber}
+use Rattle.sampler.specs.declared.Sampler.{Sampler}
+use Rattle.sampler.specs.Refusals.{channelAt, goodSampler, noChannel, setUpNumber, channelNumber}
 use Rattle.sampler.specs.Soundness.{SoundSampler, Reached, Unbroken}
 use Rattle.sampler.proofs.Entries.{part-length, sample-memory-length, frame-memory-length}
 use Rattle.sampler.proofs.Kept.{small, channel-sound}
-use Rattle.sampler.proofs.Reach.{reached-sound, reached-unbroken}
-use Rattle.promises.specs.Events.{sounds, lengthAt, emptyAt, tickAt}
-use Rattle.promises.specs.Places.{voiceAt}
-use Rattle.promises.specs.Runs.{World, setUp, Call, start, stop, speed, startRecording, stopRecording, reset, sample, frame, asks, code, after, run, chan, event}
-use Rattle.promises.specs.Whole.{FittingCall, Whole}
-use Rattle.promises.proofs.Looks.{look-below, look-value}
-use Rattle.promises.proofs.Lives.{live-length}
+use Rattle.sampler.proofs.Reach.{passes, another, none, reached-sound, reached-unbroken}
+use Rattle.fates.specs.Events.{lengthAt, tickAt}
+use Rattle.questions.specs.Questions.{recorderAt, notesOf, listNumber, infoNumber}
+use Rattle.promises.specs.Runs.{World, setUp, Question, getFramesProcessed, getDataLen, isRecording, getLastRecordedOffset, printErrorInfo, iterActiveNotes, getVoiceInfo, fillVoiceInfo, questionNumber, Call, start, stop, speed, startRecording, stopRecording, reset, sample, frame, asks, code, after, run, chan, FittingCall}
+use Rattle.promises.specs.Demands.{lengthened, toldLength, Asked, Plays, NoPanic, Whole}
+use Rattle.fates.proofs.Looks.{look-below, look-value}
+use Rattle.fates.proofs.Lives.{live-length}
 use Rattle.promises.proofs.Calls.{Standing, standing-run, standing-new}
 use Rattle.promises.proofs.Accepted.{Heard, heard, start-opens}
 
@@ -47,9 +62,9 @@ reached-after size w stopRecording f r = Reached.changed (w .sampler) change.Sto
 reached-after size w reset f r = Reached.changed (w .sampler) change.Reset r f
 reached-after size w (sample j x p) f r = Reached.sampled (w .sampler) j x p (w .memory) r f
 reached-after size w (frame xs p) f r = Reached.framed (w .sampler) xs p (w .memory) r f
-reached-after size w asks f r = r
+reached-after size w (asks q) f r = r
 
-memory-after : (w : World) (c : Call) → length (after w c .memory) ≡ length (w .memory)
+pub memory-after : (w : World) (c : Call) → length (after w c .memory) ≡ length (w .memory)
 unfolding after
 memory-after w (start position note velocity p) = refl
 memory-after w (stop note p) = refl
@@ -59,7 +74,7 @@ memory-after w stopRecording = refl
 memory-after w reset = refl
 memory-after w (sample j x p) = sample-memory-length (w .sampler) j x p (w .memory)
 memory-after w (frame xs p) = frame-memory-length (w .sampler) xs p (w .memory)
-memory-after w asks = refl
+memory-after w (asks q) = refl
 
 reached-run : (size : ℕ) (w : World) (cs : List Call) → Each FittingCall cs → Reached size (w .sampler) → Reached size (run w cs .sampler)
 unfolding run Each
@@ -72,38 +87,53 @@ memory-run w [] = refl
 memory-run w (c ∷ cs) = memory-run (after w c) cs ∙ memory-after w c
 
 -- ---- row 9
-no-nine : (w : World) → Unbroken (w .sampler) (length (w .memory)) → (c : Call) → code w c ≢ 9
+asked-nine : (s : Sampler) → goodSampler s ≡ true → (q : Question) → questionNumber s q ≢ 9
+unfolding questionNumber channelNumber listNumber infoNumber
+asked-nine s g (getFramesProcessed j) = passes (goodSampler s) _ g (another (noChannel s j) 1 0 tt none)
+asked-nine s g (getDataLen j) = passes (goodSampler s) _ g (another (noChannel s j) 1 0 tt none)
+asked-nine s g (isRecording j) = passes (goodSampler s) _ g (another (noChannel s j) 1 0 tt none)
+asked-nine s g (getLastRecordedOffset j) = passes (goodSampler s) _ g (another (noChannel s j) 1 0 tt none)
+asked-nine s g (printErrorInfo j text) = passes (goodSampler s) _ g (another (noChannel s j) 1 _ tt (another (ltb (length text) (length (errorText (recorderAt s j)))) 8 0 tt none))
+asked-nine s g (iterActiveNotes j notes) = passes (goodSampler s) _ g (another (noChannel s j) 1 _ tt (another (ltb (length notes) (length (notesOf (live (channelAt s j))))) 8 0 tt none))
+asked-nine s g (getVoiceInfo j p room) =
+    passes (goodSampler s) _ g (another (noChannel s j) 1 _ tt (another (beyondLimits p) 4 _ tt (another (ltb room (channelAt s j .count)) 8 0 tt none)))
+asked-nine s g (fillVoiceInfo j p list) =
+    passes (goodSampler s) _ g (another (noChannel s j) 1 _ tt (another (beyondLimits p) 4 _ tt (another (ltb (length list) (channelAt s j .count)) 8 0 tt none)))
+
+no-nine : (w : World) → SoundSampler (w .sampler) → Unbroken (w .sampler) (length (w .memory)) → (c : Call) → code w c ≢ 9
 unfolding code
-no-nine w u (start position note velocity p) = u .change (change.Start p position note velocity)
-no-nine w u (stop note p) = u .change (change.Stop p note)
-no-nine w u (speed note s) = u .change (change.Speed note s)
-no-nine w u startRecording = u .change change.StartRecording
-no-nine w u stopRecording = u .change change.StopRecording
-no-nine w u reset = u .change change.Reset
-no-nine w u (sample j x p) = u .sample j p
-no-nine w u (frame xs p) = u .frame (length xs) p
-no-nine w u asks = λ e. omega arith
+no-nine w h u (start position note velocity p) = u .change (change.Start p position note velocity)
+no-nine w h u (stop note p) = u .change (change.Stop p note)
+no-nine w h u (speed note s) = u .change (change.Speed note s)
+no-nine w h u startRecording = u .change change.StartRecording
+no-nine w h u stopRecording = u .change change.StopRecording
+no-nine w h u reset = u .change change.Reset
+no-nine w h u (sample j x p) = u .sample j p
+no-nine w h u (frame xs p) = u .frame (length xs) p
+no-nine w h u (asks q) = asked-nine (w .sampler) (h .good) q
 
 -- ---- what a voice sounds by
-module _ (w : World) (st : Standing w) (h : SoundSampler (w .sampler)) (j : ℕ) (k : j < w .sampler .count) (n : ℕ) (v : Voice) (s : voiceAt (chan w j) n ≡ some v)
-    (c : Call) (f : FittingCall c) (p : Params) (x : Float) (m : List ℕ) (e : event w c j ≡ sounds p x m) (full : emptyAt m (chan w j) ≡ false) where
+module _ (w : World) (st : Standing w) (h : SoundSampler (w .sampler)) (j n : ℕ) (v : Voice) (c : Call) (p : Params) (x : Float) (m : List ℕ) (y : Plays w j n v c p x m) where
   sounds-by : Heard w c j p x m
-  sounds-by = heard w st j k p x m c e
+  sounds-by = heard w st j (y .present) p x m c (y .sample)
+
+  sound-params : SoundParams p
+  sound-params = record { within = sounds-by .within; fitting = sounds-by .floats (y .floats) }
 
   size : length m ≡ w .sampler .capacity
   size = ap length (sounds-by .part) ∙ part-length (w .sampler) j (w .memory) (sounds-by .room)
 
   taken : SoundChannel (w .sampler .capacity) (takenOf m (chan w j))
-  taken = taken-sound (w .sampler .capacity) (chan w j) (channel-sound (w .sampler) h j k) m size
+  taken = taken-sound (w .sampler .capacity) (chan w j) (channel-sound (w .sampler) h j (y .present)) m size
 
   place : n < chan w j .count
-  place = omega (arith, look-below (live (chan w j)) n v s, live-length (chan w j) (st .housing j k))
+  place = omega (arith, look-below (live (chan w j)) n v (y .stands), live-length (chan w j) (st .housing j (y .present)))
 
   itself : getD (chan w j .voices) n blankVoice ≡ v
-  itself = sym (getD-take (chan w j .count) (chan w j .voices) n blankVoice place) ∙ look-value (live (chan w j)) n v blankVoice s
+  itself = sym (getD-take (chan w j .count) (chan w j .voices) n blankVoice place) ∙ look-value (live (chan w j)) n v blankVoice (y .stands)
 
   some-data : 1 ≤ lengthAt m (chan w j)
-  some-data = go (lengthAt m (chan w j)) (eqb-false (lengthAt m (chan w j)) 0 full)
+  some-data = go (lengthAt m (chan w j)) (eqb-false (lengthAt m (chan w j)) 0 (y .finds))
     where
       go : (l : ℕ) → (l ≡ 0 → ⊥) → 1 ≤ l
       go l q = omega arith
@@ -112,10 +142,56 @@ module _ (w : World) (st : Standing w) (h : SoundSampler (w .sampler)) (j : ℕ)
   unfolding takenOf
   index-inside =
       subst (λ (u : Voice). indexAt (movedOf (tickAt p m (chan w j)) u) (chan w j .head .now) < lengthAt m (chan w j)) itself
-      (voice-recorded (w .sampler .capacity) (takenOf m (chan w j)) taken p (record { within = sounds-by .within; fitting = sounds-by .floats f }) (small (w .sampler) h) n blankVoice place some-data)
+      (voice-recorded (w .sampler .capacity) (takenOf m (chan w j)) taken p sound-params (small (w .sampler) h) n blankVoice place some-data)
 
   data-inside : lengthAt m (chan w j) ≤ length (memoryOf x (chan w j) m)
   data-inside = le-trans (data-within (w .sampler .capacity) (takenOf m (chan w j)) taken) (le-of-eq (sym (memory-kept x (chan w j) m ∙ size)))
+
+  short : lengthAt m (chan w j) ≤ 2 ^ 22
+  short = le-trans (data-within (w .sampler .capacity) (takenOf m (chan w j)) taken) (small (w .sampler) h)
+
+  voice-sound : Sound (v .clip2)
+  unfolding takenOf
+  voice-sound = clip-sound (chan w j .head .now) v (subst (SoundVoice (chan w j .head .now)) itself (voice-at (w .sampler .capacity) (takenOf m (chan w j)) taken n blankVoice place))
+
+  lengthened-sound : Sound (lengthened (tickAt p m (chan w j)) v)
+  unfolding tickOf
+  lengthened-sound =
+      let l = lengthAt m (chan w j) in
+      with-length-sound (v .clip2) (chan w j .head .now) (loopLengthOf p l) (loop-length-fits p l (sound-params .fitting)) (loop-length-good p l sound-params short) voice-sound
+
+  told-sound : Sound (toldLength (tickAt p m (chan w j)) v)
+  unfolding tickOf
+  told-sound =
+      let l = lengthAt m (chan w j) in
+      let now = chan w j .head .now in
+      let s = mul binary32 (v .speed) (speedOf p) in
+      let c = lengthened (tickAt p m (chan w j)) v in
+      with-data-length-sound (withSpeed c now s) now (asFloat l) (ofInt-fits binary32 (pos l)) (float-length l some-data short)
+      (with-speed-sound c now s (mul-fits binary32 (v .speed) (speedOf p)) lengthened-sound)
+
+  updates-asked : Asked (tickAt p m (chan w j)) v
+  unfolding tickOf
+  updates-asked =
+      let now = chan w j .head .now in
+      let l = lengthAt m (chan w j) in
+      record {
+        length = length-asked (v .clip2) now voice-sound (loopLengthOf p l) (loop-length-good p l sound-params short);
+        speed = speed-found (lengthened (tickAt p m (chan w j)) v) now lengthened-sound (mul binary32 (v .speed) (speedOf p));
+        mode = mode-found (toldLength (tickAt p m (chan w j)) v) now told-sound (clipModeOf (p .«loop_mode»));
+      }
+
+pub no-panic : (count : ℕ) (q : InitParams) (m : List ℕ) → setUpNumber count (length m) ≡ 0 → (cs : List Call) → Each FittingCall cs → NoPanic (run (setUp count q m) cs)
+unfolding setUp
+no-panic count q m z cs f =
+    let w : World = run (setUp count q m) cs in
+    let st = standing-run (setUp count q m) cs (standing-new count q m) in
+    let h = reached-sound (length m) (w .sampler) (reached-run (length m) (setUp count q m) cs f (Reached.new count q z)) in
+    record {
+      good = h .good;
+      asked = λ j n v c p x l y. updates-asked w st h j n v c p x l y;
+      inside = λ j n v c p x l y. (index-inside w st h j n v c p x l y, data-inside w st h j n v c p x l y);
+    }
 
 pub whole : (count : ℕ) (q : InitParams) (m : List ℕ) → setUpNumber count (length m) ≡ 0 → (cs : List Call) → Each FittingCall cs → Whole (run (setUp count q m) cs)
 unfolding setUp
@@ -125,7 +201,6 @@ whole count q m z cs f =
     let r = reached-run (length m) (setUp count q m) cs f (Reached.new count q z) in
     let h = reached-sound (length m) (w .sampler) r in
     record {
-      unbroken = no-nine w (reached-unbroken (length m) (w .sampler) r (length (w .memory)) (le-of-eq (sym (memory-run (setUp count q m) cs))));
-      inside = λ j k n v s c g p x l e full. (index-inside w st h j k n v s c g p x l e full, data-inside w st h j k n v s c g p x l e full);
+      unbroken = no-nine w h (reached-unbroken (length m) (w .sampler) r (length (w .memory)) (le-of-eq (sym (memory-run (setUp count q m) cs))));
       opens = λ position note velocity p a b d u. start-opens w st position note velocity p (h .good) a b d u;
     }

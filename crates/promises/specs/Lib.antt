@@ -1,6 +1,4 @@
-pub mod Events
-pub mod Places
-pub mod Sounding
 pub mod Runs
-pub mod Demand3
-pub mod Whole
+pub mod Outcomes
+pub mod Table
+pub mod Demands

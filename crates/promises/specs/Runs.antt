@@ -10,10 +10,13 @@ use Rattle.common_types.specs.declared.InitParams.{InitParams}
 use Rattle.common_types.specs.declared.Params.{Params}
 use Rattle.common_types.specs.declared.Note.{Note}
 use Rattle.clip.specs.Positions.{zero32}
+use Rattle.voice.specs.Soundness.{Fits, FittingParams}
 use Rattle.channel.specs.declared.Channel.{Channel}
 use Rattle.channel.specs.declared.Change.the-variants as change
 use Rattle.sampler.specs.declared.Sampler.{Sampler}
-use Rattle.sampler.specs.Refusals.{channelAt, startNumber, stopNumber, speedNumber, plainNumber, sampleNumber, frameNumber}
+use Rattle.recorder.specs.ErrorText.{errorText}
+use Rattle.channel.specs.Channels.{live}
+use Rattle.sampler.specs.Refusals.{channelAt, startNumber, stopNumber, speedNumber, plainNumber, sampleNumber, frameNumber, channelNumber}
 use Rattle.sampler.specs.Samplers.{
   setUpOf,
   startPlayingOf,
@@ -25,10 +28,11 @@ use Rattle.sampler.specs.Samplers.{
   partOf,
   processSampleOf,
   sampleMemory,
-  Framed,
   framedOf,
 }
-use Rattle.promises.specs.Events.{Event, idle, changes, sounds}
+use Rattle.questions.specs.declared.VoiceInfo.{VoiceInfo}
+use Rattle.questions.specs.Questions.{recorderAt, notesOf, listNumber, infoNumber}
+use Rattle.fates.specs.Events.{Event, idle, changes, sounds}
 
 pub record World : Type 0 where
   pub sampler : Sampler
@@ -38,7 +42,18 @@ pub record World : Type 0 where
 unfoldable pub setUp : ℕ → InitParams → List ℕ → World
 setUp count p m = record { sampler = setUpOf count p (length m) .sampler; memory = m }
 
--- the calls after set-up; `asks` stands for every question, which changes nothing
+-- the questions, each of one channel; a lent list is given as it is lent. Voice info is answered by value, with the room that the caller has, and in a lent list
+pub data Question : Type 0 where
+  getFramesProcessed : (j : ℕ) → Question
+  getDataLen : (j : ℕ) → Question
+  isRecording : (j : ℕ) → Question
+  getLastRecordedOffset : (j : ℕ) → Question
+  printErrorInfo : (j : ℕ) (text : List ℕ) → Question
+  iterActiveNotes : (j : ℕ) (notes : List ℕ) → Question
+  getVoiceInfo : (j : ℕ) (p : Params) (room : ℕ) → Question
+  fillVoiceInfo : (j : ℕ) (p : Params) (list : List VoiceInfo) → Question
+
+-- every public call after set-up; a question changes nothing
 pub data Call : Type 0 where
   start : (position : Float) (note : Note) (velocity : Float) (p : Params) → Call
   stop : (note : Note) (p : Params) → Call
@@ -48,9 +63,19 @@ pub data Call : Type 0 where
   reset : Call
   sample : (j : ℕ) (x : Float) (p : Params) → Call
   frame : (xs : List Float) (p : Params) → Call
-  asks : Call
+  asks : (q : Question) → Call
 
--- the number of a call that may change something: 0 where it is accepted
+unfoldable pub questionNumber : Sampler → Question → ℕ
+questionNumber s (getFramesProcessed j) = channelNumber s j
+questionNumber s (getDataLen j) = channelNumber s j
+questionNumber s (isRecording j) = channelNumber s j
+questionNumber s (getLastRecordedOffset j) = channelNumber s j
+questionNumber s (printErrorInfo j text) = listNumber s j (errorText (recorderAt s j)) (length text)
+questionNumber s (iterActiveNotes j notes) = listNumber s j (notesOf (live (channelAt s j))) (length notes)
+questionNumber s (getVoiceInfo j p room) = infoNumber s j p room
+questionNumber s (fillVoiceInfo j p list) = infoNumber s j p (length list)
+
+-- document 01's number of a call: 0 where it is accepted
 unfoldable pub code : World → Call → ℕ
 code w (start position note velocity p) = startNumber (w .sampler) position note p
 code w (stop note p) = stopNumber (w .sampler) note p
@@ -60,7 +85,7 @@ code w stopRecording = plainNumber (w .sampler)
 code w reset = plainNumber (w .sampler)
 code w (sample j x p) = sampleNumber (w .sampler) j p (length (w .memory))
 code w (frame xs p) = frameNumber (w .sampler) (length xs) p (length (w .memory))
-code w asks = 0
+code w (asks q) = questionNumber (w .sampler) q
 
 abbrev pub withSampler : Sampler → World → World
 withSampler s w = record { sampler = s; memory = w .memory }
@@ -74,7 +99,7 @@ after w stopRecording = withSampler (stopRecordingOf (w .sampler) .sampler) w
 after w reset = withSampler (resetOf (w .sampler) .sampler) w
 after w (sample j x p) = record { sampler = processSampleOf (w .sampler) j x p (w .memory) .sampler; memory = sampleMemory (w .sampler) j x p (w .memory) }
 after w (frame xs p) = record { sampler = framedOf (w .sampler) xs p (w .memory) .sampler; memory = framedOf (w .sampler) xs p (w .memory) .memory }
-after w asks = w
+after w (asks q) = w
 
 unfoldable pub run : World → List Call → World
 run w [] = w
@@ -94,7 +119,7 @@ doneTo w stopRecording j = changes change.StopRecording
 doneTo w reset j = changes change.Reset
 doneTo w (sample i x p) j = cond (eqb i j) (sounds p x (partOf (w .sampler) j (w .memory))) idle
 doneTo w (frame xs p) j = cond (ltb j (length xs)) (sounds p (getD xs j zero32) (partOf (w .sampler) j (w .memory))) idle
-doneTo w asks j = idle
+doneTo w (asks q) j = idle
 
 -- a refused call does nothing
 unfoldable pub event : World → Call → ℕ → Event
@@ -113,7 +138,7 @@ isResetCall stopRecording = false
 isResetCall reset = true
 isResetCall (sample j x p) = false
 isResetCall (frame xs p) = false
-isResetCall asks = false
+isResetCall (asks q) = false
 
 -- ---- the output that a call answers for channel j, where it is a sample of it
 unfoldable pub output : World → Call → ℕ → Float
@@ -125,7 +150,7 @@ output w stopRecording j = zero32
 output w reset j = zero32
 output w (sample i x p) j = processSampleOf (w .sampler) i x p (w .memory) .output
 output w (frame xs p) j = getD (framedOf (w .sampler) xs p (w .memory) .frame) j zero32
-output w asks j = zero32
+output w (asks q) j = zero32
 
 -- ---- the last of the calls c ∷ cs, and the world as that one finds it
 abbrev pub final : Call → List Call → Call
@@ -135,3 +160,15 @@ final c (d ∷ ds) = final d ds
 unfoldable pub before : World → Call → List Call → World
 before w c [] = w
 before w c (d ∷ ds) = before (after w c) d ds
+
+-- ---- the floats of a call are of binary32, as every f32 of a program is
+unfoldable pub FittingCall : Call → Type 0
+FittingCall (start position note velocity p) = FittingParams p × Fits position × Fits velocity
+FittingCall (stop note p) = FittingParams p
+FittingCall (speed note s) = Fits s
+FittingCall startRecording = Unit {0}
+FittingCall stopRecording = Unit {0}
+FittingCall reset = Unit {0}
+FittingCall (sample j x p) = FittingParams p
+FittingCall (frame xs p) = FittingParams p
+FittingCall (asks q) = Unit {0}

@@ -3,8 +3,9 @@ use mathlib.Core.Path.{_≡_, refl}
 use mathlib.Core.List.{[], _∷_}
 use lib.ListN.{length}
 use Rattle.recorder.specs.declared.State.the-variants.{Triggered, Idle}
-use Rattle.recorder.specs.Decimal.{digits, decimal}
-use Rattle.recorder.specs.ErrorText.{bytes, errorText}
+use Rattle.decimal.specs.Decimal.{digits, decimal}
+use Rattle.decimal.specs.Lines.{bytes}
+use Rattle.recorder.specs.ErrorText.{errorText}
 use Rattle.recorder.specs.Recording.{raised, inState, skippedOf, newOf, startOf, stopOf, recordedOf, dataAfter}
 
 no-errors : errorText newOf ≡ bytes "skip: 0, neg: 0, inc: 0"

@@ -1,21 +1,15 @@
 -- The error text: the counts in decimal among fixed bytes, and what the call that writes it does to a lent list.
 -- Assumes nothing.
 use mathlib.Core.Bool.{cond}
-use mathlib.Core.List.{List, [], _∷_, _++_}
+use mathlib.Core.List.{List, _++_}
 use Prim.Native.Nat.{ℕ}
-use Prim.Native.Char.{code}
-use Prim.Native.String.{String}
 use lib.Dec.{leb}
-use lib.ListN.{length, drop}
-use Rattle.recorder.specs.Decimal.{decimal}
+use lib.ListN.{length}
+use Rattle.decimal.specs.Decimal.{decimal}
+use Rattle.decimal.specs.Lines.{bytes, printedOf}
 use Rattle.recorder.specs.declared.Recorder.{Recorder}
 use Rattle.recorder.specs.declared.Text.{Text}
 use Rattle.recorder.specs.declared.Text.the-variants.{Written, Short}
-
--- the bytes of an ASCII text
-unfoldable pub bytes : String → List ℕ
-bytes String.[] = []
-bytes (String._∷_ c s) = code c ∷ bytes s
 
 -- of a recorder without errors `skip: 0, neg: 0, inc: 0`
 unfoldable pub errorText : Recorder → List ℕ
@@ -27,7 +21,7 @@ printErrorInfoOf r room = cond (leb (length (errorText r)) room) (Written (lengt
 
 -- the lent list afterwards: it keeps what stood past the text, or all if it is too short
 unfoldable pub textAfter : Recorder → List ℕ → List ℕ
-textAfter r text = cond (leb (length (errorText r)) (length text)) (errorText r ++ drop (length (errorText r)) text) text
+textAfter r text = printedOf (errorText r) text
 
 -- document 01's number for each answer
 abbrev pub textNumber : Text → ℕ

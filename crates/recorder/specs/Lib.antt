@@ -1,3 +1,2 @@
 pub mod Recording
-pub mod Decimal
 pub mod ErrorText

@@ -1,14 +1,10 @@
 // The recorder: writes incoming samples to the memory that its host lends, and counts what went wrong.
 // A sample is its 32-bit pattern. The memory's length is the capacity; data_len is the length of the recording in it.
-mod writing;
-
-use writing::decimal_length;
-use writing::write_bytes;
-use writing::write_decimal;
+use decimal::Line;
 ghost use mathlib.Core.Path.{_≡_};
-ghost use Prim.Native.Nat.{_≤_, max, min};
+ghost use Prim.Native.Nat.{max, min};
 ghost use lib.ListN.{length};
-ghost use lib.Seq.{sets};
+ghost use Rattle.decimal.specs.Lines.{lineOf};
 ghost use Rattle.recorder.specs.ErrorText.{errorText, printErrorInfoOf, textAfter};
 ghost use Rattle.recorder.specs.Recording.{
   raised,
@@ -26,6 +22,17 @@ ghost use Rattle.recorder.specs.Recording.{
 pub enum State {
     Triggered { write: usize },
     Idle,
+}
+
+impl State {
+    fn copied(self) -> Self
+        ensures { λ r. ⌜ r ≡ self ⌝ }
+    {
+        match self {
+            State::Triggered { write } => State::Triggered { write },
+            State::Idle => State::Idle,
+        }
+    }
 }
 
 // Of each list of errors that the Rust keeps, its length is kept.
@@ -134,11 +141,7 @@ impl Recorder {
         let state = self.state;
         let State::Triggered { write } = state else {
             return Recorded {
-                recorder: Recorder {
-                    state: State::Idle,
-                    skipped_samples: self.skipped_samples,
-                    incorrect_state: self.incorrect_state,
-                },
+                recorder: self.copied(),
                 data_len,
             };
         };
@@ -160,6 +163,18 @@ impl Recorder {
                 incorrect_state: self.incorrect_state,
             },
             data_len: larger(data_len, write + 1),
+        }
+    }
+
+    // A copy made case by case, as `Volume::copied` is.
+    pub fn copied(self) -> Self
+        ensures { λ r. ⌜ r ≡ self ⌝ }
+    {
+        let state = self.state;
+        Self {
+            state: state.copied(),
+            skipped_samples: self.skipped_samples,
+            incorrect_state: self.incorrect_state,
         }
     }
 
@@ -199,30 +214,20 @@ impl Recorder {
         ensures { λ r. ⌜ r ≡ printErrorInfoOf self (length (now (text .entry))) ⌝ }
         ensures { λ r. ⌜ now (text .exit) ≡ textAfter self (now (text .entry)) ⌝ }
     {
-        let needed = self.error_text_length();
-        if text.len() < needed {
-            return Text::Short;
+        let line = self.error_text();
+        if line.print(text) {
+            Text::Written(line.length)
+        } else {
+            Text::Short
         }
-        self.write_error_text(text);
-        Text::Written(needed)
     }
 
-    fn error_text_length(self) -> usize
-        ensures { λ r. ⌜ r ≡ length (errorText self) ⌝ }
+    fn error_text(self) -> Line
+        ensures { λ r. ⌜ r ≡ lineOf (errorText self) ⌝ }
     {
-        let fixed = b"skip: , neg: 0, inc: ".len();
-        fixed
-            + decimal_length(self.skipped_samples as u64)
-            + decimal_length(self.incorrect_state as u64)
-    }
-
-    fn write_error_text(self, text: &mut [u8])
-        requires { ⌜ length (errorText self) ≤ length (now text) ⌝ }
-        ensures { λ r. ⌜ now (text .exit) ≡ sets (now (text .entry)) 0 (errorText self) ⌝ }
-    {
-        let skip = write_bytes(text, 0, b"skip: ");
-        let neg = write_decimal(text, skip, self.skipped_samples as u64);
-        let inc = write_bytes(text, neg, b", neg: 0, inc: ");
-        write_decimal(text, inc, self.incorrect_state as u64);
+        let skip = Line::new().with(b"skip: ");
+        let neg = skip.with_decimal(self.skipped_samples as u64);
+        let inc = neg.with(b", neg: 0, inc: ");
+        inc.with_decimal(self.incorrect_state as u64)
     }
 }

@@ -54,15 +54,15 @@ reached-within size _ (Reached.framed s frame p m r f) = frame-keeps (λ (g : Fr
 -- ---- row 9
 
 -- a row that doesn't hold, and rows with other numbers
-passes : (good : Bool) (rest : ℕ) → good ≡ true → rest ≢ 9 → row (not good) 9 rest ≢ 9
+pub passes : (good : Bool) (rest : ℕ) → good ≡ true → rest ≢ 9 → row (not good) 9 rest ≢ 9
 passes true rest g h = h
 passes false rest g h = absurd (true≢false (sym g))
 
-another : (test : Bool) (n rest : ℕ) → T (not (eqb n 9)) → rest ≢ 9 → row test n rest ≢ 9
+pub another : (test : Bool) (n rest : ℕ) → T (not (eqb n 9)) → rest ≢ 9 → row test n rest ≢ 9
 another true n rest k h e = T-not (eqb n 9) k (eq→eqb e)
 another false n rest k h e = h e
 
-none : _≢_ {A = ℕ} 0 9
+pub none : _≢_ {A = ℕ} 0 9
 none e = omega arith
 
 pub good-unbroken : (s : Sampler) (size : ℕ) → goodWith s size ≡ true → Unbroken s size

@@ -82,7 +82,7 @@ struct Stepped {
     output: f32,
 }
 
-fn good_sizes(count: usize, capacity: usize) -> bool
+pub fn good_sizes(count: usize, capacity: usize) -> bool
     ensures { λ r. ⌜ r ≡ goodSizes count capacity ⌝ }
 {
     if (count == 1) | (count == 2) {
@@ -114,7 +114,7 @@ fn capacity_of(count: usize, size: usize) -> usize
 }
 
 // Where channel j's part of the memory begins.
-fn part_start(j: usize, capacity: usize) -> usize
+pub fn part_start(j: usize, capacity: usize) -> usize
     requires { ⌜ j < 2 ⌝ }
     ensures { λ r. ⌜ r ≡ j * capacity ⌝ }
 {
@@ -453,7 +453,7 @@ fn in_range(position: f32) -> bool
 }
 
 // Whether memory of that size holds so many parts.
-fn enough(count: usize, capacity: usize, size: usize) -> bool
+pub fn enough(count: usize, capacity: usize, size: usize) -> bool
     ensures { λ r. ⌜ r ≡ leb (count * capacity) size ⌝ }
 {
     if count == 0 {

@@ -8,20 +8,17 @@
 ghost use mathlib.Core.Path.{_≡_};
 ghost use Prim.Native.Nat.{_+_, _*_, _≤_, _<_};
 ghost use lib.ListN.{length};
+use acts::calls;
+use acts::recording::recordings;
+use acts::run::Run;
+use acts::run::begun;
+use acts::run::room;
 use libc::STDIN_FILENO;
 use lines::line::end;
 use lines::line::tag;
 use lines::line::write;
 use lines::settings::params_of;
-use recording::recordings;
 use replies::query;
-use run::Run;
-use run::begun;
-use run::room;
-
-mod calls;
-mod recording;
-mod run;
 
 fn main() {
     let mut memory = [0u32; 65536];

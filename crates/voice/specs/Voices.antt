@@ -14,6 +14,7 @@ use Rattle.common_types.specs.declared.NoteOffBehaviour.the-variants as off
 use Rattle.common_types.specs.declared.Note.{Note}
 use Rattle.common_types.specs.declared.Params.{Params}
 use Rattle.common_types.specs.Settings.{speedOf, loopLengthOf}
+use Rattle.volume.specs.declared.Volume.{Volume}
 use Rattle.volume.specs.declared.Volume.the-variants.{Static}
 use Rattle.volume.specs.Levels.{isStaticAndMuteOf, levelOf, towardOf, steppedOf, goodVolume}
 use Rattle.clip.specs.declared.Clip.{Clip}
@@ -137,6 +138,10 @@ volumeStepped now v = record {
   finished = v .finished;
   «is_at_zero_crossing» = v .«is_at_zero_crossing»;
 }
+
+-- the level after its step, on its way to 0 if the voice is played out
+abbrev pub fadedOf : Volume → Bool → Tick → Volume
+fadedOf volume out t = steppedOf (cond out (towardOf volume (t .now) (t .«decay_samples») zero32) volume) (t .now)
 
 -- a voice's whole sample: one that is to be removed is skipped, but for its level
 unfoldable pub turnOf : Tick → List ℕ → Voice → Voice

@@ -1,7 +1,8 @@
 // One voice, and what it does in one sample. Each function takes every value of its arguments, and equals a definition in specs/Voices.antt.
 ghost use mathlib.Core.Path.{_≡_};
 ghost use Prim.Native.Nat.{_-_};
-ghost use Rattle.voice.specs.Voices.{tickOf, clipModeOf, playsOnceOf, lateOf, overOf, shouldRemoveOf, recordedOf, movedOf, soundedOf, finishOf, playedOutOf, endedOf, volumeStepped, turnOf, freshOf, blankVoice, atSpeedOf, goodVoice};
+ghost use mathlib.Core.Bool.{cond};
+ghost use Rattle.voice.specs.Voices.{tickOf, clipModeOf, playsOnceOf, lateOf, overOf, shouldRemoveOf, recordedOf, movedOf, soundedOf, finishOf, playedOutOf, endedOf, volumeStepped, fadedOf, turnOf, freshOf, blankVoice, atSpeedOf, goodVoice};
 use clip::Clip;
 use clip::Mode;
 use common_types::LoopMode;
@@ -259,13 +260,27 @@ impl Voice {
         t.whole_length <= binary32::abs(self.played)
     }
 
-    fn ended(self, t: Tick) -> Self
-        ensures { λ r. ⌜ r ≡ endedOf t self ⌝ }
+    // The end of its turn: play-once may finish it, and its level makes its step. It is `finish` and `volume_stepped` in one, so that the voice
+    // is written once.
+    fn settled(self, t: Tick) -> Self
+        ensures { λ r. ⌜ r ≡ volumeStepped (t .now) (endedOf t self) ⌝ }
     {
-        if self.played_out(t) {
-            self.finish(t.now, t.decay_samples)
-        } else {
-            self
+        let clip2 = self.clip2;
+        let volume = self.volume;
+        let note = self.note;
+        let out = self.played_out(t);
+        Self {
+            finished_at: time_of(out, t.now, self.finished_at),
+            last_sample_index: self.last_sample_index,
+            clip2,
+            volume: faded(volume, out, t),
+            loop_start_percent: self.loop_start_percent,
+            played: self.played,
+            last_sample_value: self.last_sample_value,
+            speed: self.speed,
+            note,
+            finished: out | self.finished,
+            is_at_zero_crossing: self.is_at_zero_crossing,
         }
     }
 
@@ -297,7 +312,7 @@ impl Voice {
         if self.should_remove(t) {
             return self.volume_stepped(t.now);
         }
-        self.sounded(t, data).ended(t).volume_stepped(t.now)
+        self.sounded(t, data).settled(t)
     }
 
     // Whether the voice may stand in a record whose clock is at `now`.
@@ -316,6 +331,23 @@ impl Voice {
             return false;
         }
         clip2.good()
+    }
+}
+
+fn time_of(out: bool, now: usize, before: usize) -> usize
+    ensures { λ r. ⌜ r ≡ cond out now before ⌝ }
+{
+    if out { now } else { before }
+}
+
+// The level after its step, once it goes to 0 if the voice is played out.
+fn faded(volume: Volume, out: bool, t: Tick) -> Volume
+    ensures { λ r. ⌜ r ≡ fadedOf volume out t ⌝ }
+{
+    if out {
+        volume.toward(t.now, t.decay_samples, 0.0).stepped(t.now)
+    } else {
+        volume.stepped(t.now)
     }
 }
 

@@ -2,4 +2,3 @@ pub mod Changes
 pub mod Goodness
 pub mod Ends
 pub mod Numbers
-pub mod Examples

@@ -149,6 +149,26 @@ impl Volume {
         }
     }
 
+    // A copy made case by case. One of the whole would carry the gaps between its fields along, in pieces that a processor is slow to join again.
+    pub fn copied(self) -> Self
+        ensures { λ r. ⌜ r ≡ self ⌝ }
+    {
+        match self {
+            Volume::Static(value) => Volume::Static(value),
+            Volume::Linear {
+                time_start,
+                time_end,
+                value_start,
+                value_end,
+            } => Volume::Linear {
+                time_start,
+                time_end,
+                value_start,
+                value_end,
+            },
+        }
+    }
+
     // Whether the volume may stand in a record whose clock is at `now`.
     pub fn good(self, now: usize) -> bool
         ensures { λ r. ⌜ r ≡ goodVolume now self ⌝ }

@@ -4,4 +4,5 @@ pub mod Each
 pub mod Inside
 pub mod Shared
 pub mod Again
+pub mod Runs
 pub mod Rounds

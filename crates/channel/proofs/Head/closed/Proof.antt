@@ -1,25 +1,31 @@
--- `Head::closed` meets its contract. Assumes nothing.
-use Rattle.channel.specs.Heads.{closedOf}
-use Rattle.channel.proofs.Passing.{passes-through}
+-- `Head::closed` meets its contract: its test is that of `passthruOf`. Assumes nothing.
+use Rattle.channel.specs.Heads.{passthruOf, closedOf}
 use borrow.Author.Needs.{needs}
 use Rattle.channel.proofs.Head.closed.Statement.{statement}
 use Rattle.channel.proofs.Head.closed.Tie as tie
 
-passes-requires : tie.Need-passes-requires
-passes-requires c κs = search needs
-
 stepped-requires : tie.Need-stepped-requires
 stepped-requires c κs = search needs
 
-next-time-requires : tie.Need-next-time-requires
-next-time-requires c κs = search needs
+passes-requires : tie.Need-passes-requires
+passes-requires c κs = search needs
 
-passed-requires : tie.Need-passed-requires
-passed-requires c κs = search needs
+after-requires : tie.Need-after-requires
+after-requires c κs = search needs
 
 returns : tie.Need-returns
-unfolding closedOf
-returns c = simp (c .passed .ensures, c .before .next-time .ensures, c .before .before .stepped .ensures, c .before .before .before .before .passes .ensures, passes-through)
+unfolding closedOf passthruOf
+returns c = simp (c .after .ensures, c .before .before .before .before .stepped .ensures, ← (c .before .before .before .passes .ensures), c .before .if1 .taken)
+
+ramp-requires : tie.Need-ramp-requires
+ramp-requires c κs = search needs
+
+after-requires-2 : tie.Need-after-requires-2
+after-requires-2 c κs = search needs
+
+returns-2 : tie.Need-returns-2
+unfolding closedOf passthruOf
+returns-2 c = simp (c .after2 .ensures, c .before .ramp .ensures, c .before .before .before .before .before .stepped .ensures, ← (c .before .before .before .before .passes .ensures), c .before .before .if1 .left)
 
 pub closed-spec : {M : Type 1} → statement M
-closed-spec = tie.close (tie.spec passes-requires stepped-requires next-time-requires passed-requires returns)
+closed-spec = tie.close (tie.spec stepped-requires passes-requires after-requires returns ramp-requires after-requires-2 returns-2)

@@ -2,7 +2,6 @@
 use borrow.Author.Tests.{lt-ltb, le-ltb}
 use borrow.Author.Needs.{needs}
 use Rattle.recorder.specs.Recording.{recordedOf, dataAfter, inState, skippedOf}
-use Rattle.recorder.proofs.Cases.{sample-anew}
 use Rattle.recorder.proofs.Recorder.process_sample.Statement.{statement}
 use Rattle.recorder.proofs.Recorder.process_sample.Tie as tie
 
@@ -12,9 +11,12 @@ enum-known-state c = search needs
 enum-told : tie.Need-enum-told
 enum-told c = search needs
 
+copied-requires : tie.Need-copied-requires
+copied-requires c κs = search needs
+
 returns : tie.Need-returns
-unfolding inState dataAfter
-returns c = (sample-anew _ (c .enum-told .given .1) _ _, simp (c .enum-told .given .1))
+unfolding recordedOf dataAfter
+returns c = (simp (c .before .enum-told .given .1, c .copied .ensures), simp (c .before .enum-told .given .1))
 
 raised-count-requires : tie.Need-raised-count-requires
 raised-count-requires c κs = search needs
@@ -31,8 +33,8 @@ mul-data c = search needs
 slice-write-data : tie.Need-slice-write-data
 slice-write-data c = search needs
 
-add-t9 : tie.Need-add-t9
-add-t9 c = search needs
+add-t8 : tie.Need-add-t8
+add-t8 c = search needs
 
 add-larger : tie.Need-add-larger
 add-larger c = search needs
@@ -55,12 +57,13 @@ process-sample-spec =
     (tie.spec
     enum-known-state
     enum-told
+    copied-requires
     returns
     raised-count-requires
     returns-2
     mul-data
     slice-write-data
-    add-t9
+    add-t8
     add-larger
     larger-requires
     same-length

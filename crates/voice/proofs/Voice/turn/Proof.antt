@@ -17,15 +17,12 @@ returns c = simp (c .volume-stepped .ensures, ← (c .before .before .should-rem
 sounded-requires : tie.Need-sounded-requires
 sounded-requires c κs = search needs
 
-ended-requires : tie.Need-ended-requires
-ended-requires c κs = search needs
-
-volume-stepped-requires-2 : tie.Need-volume-stepped-requires-2
-volume-stepped-requires-2 c κs = search needs
+settled-requires : tie.Need-settled-requires
+settled-requires c κs = search needs
 
 returns-2 : tie.Need-returns-2
 unfolding turnOf
-returns-2 c = simp (c .volume-stepped2 .ensures, c .before .ended .ensures, c .before .before .sounded .ensures, ← (c .before .before .before .before .should-remove .ensures), c .before .before .before .if1 .left)
+returns-2 c = simp (c .settled .ensures, c .before .sounded .ensures, ← (c .before .before .before .should-remove .ensures), c .before .before .if1 .left)
 
 pub turn-spec : {M : Type 1} → statement M
 turn-spec =
@@ -35,6 +32,5 @@ turn-spec =
     volume-stepped-requires
     returns
     sounded-requires
-    ended-requires
-    volume-stepped-requires-2
+    settled-requires
     returns-2)

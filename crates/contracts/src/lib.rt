@@ -1,0 +1,134 @@
+// Each public call of the engine once more, with its contract in the words of promises/specs/Outcomes.antt: what the theorems take a contract to allow is what the contract says. Nothing calls these functions.
+ghost use mathlib.Core.List.{List};
+ghost use Prim.Native.Nat.{ℕ};
+ghost use Rattle.promises.specs.Runs.{
+  getFramesProcessed,
+  getDataLen,
+  isRecording,
+  getLastRecordedOffset,
+  printErrorInfo,
+  iterActiveNotes,
+  getVoiceInfo,
+  start,
+  stop,
+  speed as speedCall,
+  startRecording,
+  stopRecording,
+  reset as resetCall,
+  sample,
+  frame as frameCall,
+  asks,
+};
+ghost use Rattle.promises.specs.Outcomes.{new as setUpCall, on, Allows};
+use common_types::InitParams;
+use common_types::Note;
+use common_types::Params;
+use questions::Counted;
+use questions::OffsetAnswer;
+use questions::Told;
+use questions::VoiceInfos;
+use sampler::Answer;
+use sampler::SampleAnswer;
+use sampler::Sampler;
+
+pub fn new(count: usize, params: InitParams, memory: &[u32]) -> Answer
+    ensures { λ r. ⌜ Allows (setUpCall count params (now (memory .entry))) r ⌝ }
+{
+    Sampler::new(count, params, memory)
+}
+
+pub fn start_playing(s: Sampler, position: f32, note: Note, velocity: f32, params: Params) -> Answer
+    ensures { λ r. ⌜ ((m : List ℕ) → Allows (on (record { sampler = s; memory = m }) (start position note velocity params)) r) ⌝ }
+{
+    s.start_playing(position, note, velocity, params)
+}
+
+pub fn stop_playing(s: Sampler, note: Note, params: Params) -> Answer
+    ensures { λ r. ⌜ ((m : List ℕ) → Allows (on (record { sampler = s; memory = m }) (stop note params)) r) ⌝ }
+{
+    s.stop_playing(note, params)
+}
+
+pub fn set_note_speed(s: Sampler, note: Note, speed: f32) -> Answer
+    ensures { λ r. ⌜ ((m : List ℕ) → Allows (on (record { sampler = s; memory = m }) (speedCall note speed)) r) ⌝ }
+{
+    s.set_note_speed(note, speed)
+}
+
+pub fn start_recording(s: Sampler) -> Answer
+    ensures { λ r. ⌜ ((m : List ℕ) → Allows (on (record { sampler = s; memory = m }) startRecording) r) ⌝ }
+{
+    s.start_recording()
+}
+
+pub fn stop_recording(s: Sampler) -> Answer
+    ensures { λ r. ⌜ ((m : List ℕ) → Allows (on (record { sampler = s; memory = m }) stopRecording) r) ⌝ }
+{
+    s.stop_recording()
+}
+
+pub fn reset(s: Sampler) -> Answer
+    ensures { λ r. ⌜ ((m : List ℕ) → Allows (on (record { sampler = s; memory = m }) resetCall) r) ⌝ }
+{
+    s.reset()
+}
+
+pub fn process_sample(
+    s: Sampler,
+    channel: usize,
+    input: f32,
+    params: Params,
+    memory: &mut [u32],
+) -> SampleAnswer
+    ensures { λ r. ⌜ Allows (on (record { sampler = s; memory = now (memory .entry) }) (sample channel input params)) (record { answer = r; memory = now (memory .exit) }) ⌝ }
+{
+    s.process_sample(channel, input, params, memory)
+}
+
+pub fn process_frame(s: Sampler, frame: &mut [f32], params: Params, memory: &mut [u32]) -> Answer
+    ensures { λ r. ⌜ Allows (on (record { sampler = s; memory = now (memory .entry) }) (frameCall (now (frame .entry)) params)) (record { answer = r; frame = now (frame .exit); memory = now (memory .exit) }) ⌝ }
+{
+    s.process_frame(frame, params, memory)
+}
+
+pub fn get_frames_processed(s: Sampler, channel: usize) -> Counted
+    ensures { λ r. ⌜ ((m : List ℕ) → Allows (on (record { sampler = s; memory = m }) (asks (getFramesProcessed channel))) r) ⌝ }
+{
+    questions::get_frames_processed(s, channel)
+}
+
+pub fn get_data_len(s: Sampler, channel: usize) -> Counted
+    ensures { λ r. ⌜ ((m : List ℕ) → Allows (on (record { sampler = s; memory = m }) (asks (getDataLen channel))) r) ⌝ }
+{
+    questions::get_data_len(s, channel)
+}
+
+pub fn is_recording(s: Sampler, channel: usize) -> Told
+    ensures { λ r. ⌜ ((m : List ℕ) → Allows (on (record { sampler = s; memory = m }) (asks (isRecording channel))) r) ⌝ }
+{
+    questions::is_recording(s, channel)
+}
+
+pub fn get_last_recorded_offset(s: Sampler, channel: usize) -> OffsetAnswer
+    ensures { λ r. ⌜ ((m : List ℕ) → Allows (on (record { sampler = s; memory = m }) (asks (getLastRecordedOffset channel))) r) ⌝ }
+{
+    questions::get_last_recorded_offset(s, channel)
+}
+
+pub fn print_error_info(s: Sampler, channel: usize, text: &mut [u8]) -> Counted
+    ensures { λ r. ⌜ ((m : List ℕ) → Allows (on (record { sampler = s; memory = m }) (asks (printErrorInfo channel (now (text .entry))))) (record { answer = r; lent = now (text .exit) })) ⌝ }
+{
+    questions::print_error_info(s, channel, text)
+}
+
+pub fn iter_active_notes(s: Sampler, channel: usize, notes: &mut [u64]) -> Counted
+    ensures { λ r. ⌜ ((m : List ℕ) → Allows (on (record { sampler = s; memory = m }) (asks (iterActiveNotes channel (now (notes .entry))))) (record { answer = r; lent = now (notes .exit) })) ⌝ }
+{
+    questions::iter_active_notes(s, channel, notes)
+}
+
+pub fn get_voice_info(s: Sampler, channel: usize, params: Params, room: usize) -> VoiceInfos
+    ensures { λ r. ⌜ ((m : List ℕ) → Allows (on (record { sampler = s; memory = m }) (asks (getVoiceInfo channel params room))) r) ⌝ }
+{
+    questions::get_voice_info(s, channel, params, room)
+}

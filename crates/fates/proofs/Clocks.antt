@@ -1,0 +1,107 @@
+-- A channel's clock: a sample moves it on by one below its end, a reset sets it to 0, and nothing else changes it. So events in which it stands still hold no sample. Assumes nothing.
+use mathlib.Core.Path.{_≡_, refl, sym, _∙_, subst}
+use mathlib.Core.Bool.{false, true≢false}
+use mathlib.Core.List.{List, [], _∷_}
+use Prim.Native.Nat.{ℕ, _+_, _≤_, _<_}
+use native.Mathlib.Nat.{le-refl, le-trans, le-of-eq}
+use native.Mathlib.Omega.{arith}
+use lib.Dec.{eqb, ltb}
+use lib.Ieee.{Float}
+use Rattle.walks.specs.Walks.{any}
+use Rattle.common_types.specs.declared.Params.{Params}
+use Rattle.common_types.specs.declared.Note.{Note}
+use Rattle.voice.specs.declared.Voice.{Voice}
+use Rattle.channel.specs.declared.Channel.{Channel}
+use Rattle.channel.specs.declared.Change.the-variants as change
+use Rattle.channel.specs.declared.Found.{Found}
+use Rattle.channel.specs.declared.Found.the-variants.{At, Nothing}
+use Rattle.channel.specs.Heads.{lastTime, nextTime}
+use Rattle.channel.specs.Channels.{
+  anyUnfinishedOf,
+  handledOf,
+  pushedOf,
+  findOf,
+  finishedAtOf,
+  stopPlayingOf,
+  setNoteSpeedOf,
+  startRecordingOf,
+  stopRecordingOf,
+  takenOf,
+}
+use Rattle.channel.proofs.Heads.{passthru-now, next-later, next-one, closed-now}
+use Rattle.fates.specs.Engine.{begunOf, stepOf}
+use Rattle.fates.specs.Events.{Event, idle, changes, sounds, act, acts, isReset, isSample}
+use Rattle.fates.proofs.Cases.{neither, either}
+
+handled-clock : (p : Params) (c : Channel) → handledOf p c .head .now ≡ c .head .now
+unfolding handledOf
+handled-clock p c = passthru-now p (anyUnfinishedOf c) (c .head)
+
+pushed-clock : (v : Voice) (c : Channel) → pushedOf v c .head .now ≡ c .head .now
+unfolding pushedOf
+pushed-clock v c = either (λ (d : Channel). d .head .now) (ltb (c .count) 32) _ c (c .head .now) refl refl
+
+finished-clock : (p : Params) (c : Channel) (f : Found) → finishedAtOf p c f .head .now ≡ c .head .now
+unfolding finishedAtOf
+finished-clock p c Nothing = refl
+finished-clock p c (At i) = either (λ (d : Channel). d .head .now) (ltb i 32) _ c (c .head .now) (handled-clock p _) refl
+
+started-clock : (p : Params) (position : Float) (note : Note) (velocity : Float) (c : Channel) → begunOf p position note velocity c .head .now ≡ c .head .now
+unfolding begunOf
+started-clock p position note velocity c =
+    either (λ (d : Channel). d .head .now) (eqb (c .head .«data_len») 0) c _ (c .head .now) refl (handled-clock p _ ∙ pushed-clock _ c)
+
+sounded-clock : (p : Params) (x : Float) (m : List ℕ) (c : Channel) → stepOf p x c m .channel .head .now ≡ nextTime (c .head .now)
+unfolding stepOf takenOf
+sounded-clock p x m c = closed-now p _ (takenOf m c .head)
+
+-- ---- one event
+pub clock-still : (e : Event) (c : Channel) → isReset e ≡ false → isSample e ≡ false → act e c .head .now ≡ c .head .now
+unfolding act isReset isSample stopPlayingOf setNoteSpeedOf startRecordingOf stopRecordingOf
+clock-still idle c r q = refl
+clock-still (changes (change.Start p position note velocity)) c r q = started-clock p position note velocity c
+clock-still (changes (change.Stop p note)) c r q = finished-clock p c (findOf note c)
+clock-still (changes (change.Speed note speed)) c r q = refl
+clock-still (changes change.StartRecording) c r q = refl
+clock-still (changes change.StopRecording) c r q = refl
+clock-still (changes change.Reset) c r q = absurd (true≢false r)
+clock-still (sounds p x m) c r q = absurd (true≢false q)
+
+pub clock-moves : (p : Params) (x : Float) (m : List ℕ) (c : Channel) → c .head .now < lastTime → act (sounds p x m) c .head .now ≡ c .head .now + 1
+unfolding act
+clock-moves p x m c h = sounded-clock p x m c ∙ next-one (c .head .now) h
+
+clock-up : (e : Event) (c : Channel) → isReset e ≡ false → c .head .now ≤ act e c .head .now
+unfolding act isSample
+clock-up idle c r = le-refl (c .head .now)
+clock-up (changes d) c r = le-of-eq (sym (clock-still (changes d) c r refl))
+clock-up (sounds p x m) c r = subst (λ (n : ℕ). c .head .now ≤ n) (sym (sounded-clock p x m c)) (next-later (c .head .now))
+
+-- ---- any events without a reset
+pub clock-later : (es : List Event) (c : Channel) → any isReset es ≡ false → c .head .now ≤ acts es c .head .now
+unfolding acts any
+clock-later [] c r = le-refl (c .head .now)
+clock-later (e ∷ es) c r =
+    let a = neither (isReset e) (any isReset es) r in
+    le-trans (clock-up e c (a .0)) (clock-later es (act e c) (a .1))
+
+pub clock-stands : (es : List Event) (c : Channel) → any isReset es ≡ false → any isSample es ≡ false → acts es c .head .now ≡ c .head .now
+unfolding acts any
+clock-stands [] c r q = refl
+clock-stands (e ∷ es) c r q =
+    let a = neither (isReset e) (any isReset es) r in
+    let b = neither (isSample e) (any isSample es) q in
+    clock-stands es (act e c) (a .1) (b .1) ∙ clock-still e c (a .0) (b .0)
+
+-- a clock that stands still has met no sample
+pub no-sample : (es : List Event) (c : Channel) → any isReset es ≡ false → c .head .now < lastTime → acts es c .head .now ≡ c .head .now → any isSample es ≡ false
+unfolding acts any isSample isReset
+no-sample [] c r h k = refl
+no-sample (idle ∷ es) c r h k = no-sample es (act idle c) r (subst (λ (n : ℕ). n < lastTime) (sym (clock-still idle c refl refl)) h) (k ∙ sym (clock-still idle c refl refl))
+no-sample (changes d ∷ es) c r h k =
+    let a = neither (isReset (changes d)) (any isReset es) r in
+    let e = clock-still (changes d) c (a .0) refl in
+    no-sample es (act (changes d) c) (a .1) (subst (λ (n : ℕ). n < lastTime) (sym e) h) (k ∙ sym e)
+no-sample (sounds p x m ∷ es) c r h k =
+    let a = neither (isReset (sounds p x m)) (any isReset es) r in
+    absurd (omega (arith, clock-moves p x m c h, clock-later es (act (sounds p x m) c) (a .1)))

@@ -1,0 +1,131 @@
+-- Goes: a voice that an event finishes at count r is gone by the end of any later sample n, or of that sample itself, that finds the recording not empty, if n is at least r plus the larger of the decay at finishing and
+-- the decay at n. Modes and decays may change in between: the larger decay covers all three modes. A sample that finds the recording empty removes nothing, however late. Assumes nothing.
+use mathlib.Core.Path.{_≡_, refl, sym, ap, _∙_, subst}
+use mathlib.Core.Bool.{Bool, true, false, not, _&&_, _||_, cond, true≢false}
+use mathlib.Core.List.{List, [], _∷_}
+use mathlib.Core.Option.{Option, some}
+use Prim.Native.Nat.{ℕ, _+_, _≤_, max}
+use borrow.Author.Tests.{eqb-true, not-true}
+use lib.Ieee.{Float}
+use Rattle.walks.proofs.Every.{both}
+use Rattle.common_types.specs.declared.Params.{Params}
+use Rattle.common_types.specs.declared.Note.{Note}
+use Rattle.voice.specs.declared.Voice.{Voice}
+use Rattle.voice.specs.declared.Tick.{Tick}
+use Rattle.voice.specs.Voices.{tickOf, finishOf}
+use Rattle.channel.specs.declared.Channel.{Channel}
+use Rattle.channel.specs.declared.Change.the-variants as change
+use Rattle.channel.specs.declared.Found.{Found}
+use Rattle.channel.specs.declared.Found.the-variants.{At, Nothing}
+use Rattle.channel.specs.Channels.{sameNote, unfinishedOf, wantedOf, findOf, memoryOf}
+use Rattle.fates.specs.Engine.{turnedOf}
+use Rattle.fates.specs.Events.{Event, idle, changes, sounds, act, emptyAt, tickAt, Sampled, decayOf, lastOf, beforeLast}
+use Rattle.fates.specs.Places.{Housed, voiceAt, Place, at, gone, fateOf, follow, foundAt, becomes, stops, outOf, playsOut, finishes, onward, followAll}
+use Rattle.fates.proofs.Housing.{housed}
+use Rattle.fates.proofs.Stops.{found}
+use Rattle.fates.proofs.Tracks.{tracks}
+use Rattle.fates.proofs.Ending.{Ending, Turns, finish-ending, ending-turns, ending-sped, out-turns, turns-ending, turns-over}
+
+-- ---- a stop finds no finished voice
+stop-unfinished : (note : Note) (c : Channel) (n : ℕ) (v : Voice) → voiceAt c n ≡ some v → foundAt (findOf note c) n ≡ true → v .finished ≡ false
+unfolding wantedOf
+stop-unfinished note c n v s f = go (findOf note c) refl f
+  where
+    go : (g : Found) → findOf note c ≡ g → foundAt g n ≡ true → v .finished ≡ false
+    go Nothing e f = absurd (true≢false (sym f))
+    go (At i) e f =
+        let z : i ≡ n = eqb-true i n f in
+        let w = found note c n (e ∙ ap At z) in
+        let q : w .voice ≡ v = cc (w .stands) in
+        not-true (v .finished) (subst (λ (u : Voice). unfinishedOf u ≡ true) q (both (sameNote (w .voice .note) note) (unfinishedOf (w .voice)) (w .wanted) .1))
+
+-- ---- every event keeps an ending voice ending
+ending-on : (e : Event) (c : Channel) (n : ℕ) (v : Voice) (r d : ℕ) → voiceAt c n ≡ some v → Ending r d v → Ending r d (becomes e c n v)
+unfolding becomes
+ending-on idle c n v r d s h = h
+ending-on (changes (change.Start p position note velocity)) c n v r d s h = h
+ending-on (changes (change.Stop p note)) c n v r d s h = go (foundAt (findOf note c) n) refl
+  where
+    go : (b : Bool) → foundAt (findOf note c) n ≡ b → Ending r d (cond b (finishOf (c .head .now) (p .«decay_samples») v) v)
+    go true e = absurd (true≢false (sym (h .done) ∙ stop-unfinished note c n v s e))
+    go false e = h
+ending-on (changes (change.Speed note speed)) c n v r d s h = ending-sped note speed r d v h
+ending-on (changes change.StartRecording) c n v r d s h = h
+ending-on (changes change.StopRecording) c n v r d s h = h
+ending-on (changes change.Reset) c n v r d s h = h
+ending-on (sounds p x m) c n v r d s h = go (emptyAt m c)
+  where
+    go : (b : Bool) → Ending r d (cond b v (turnedOf (tickAt p m c) (memoryOf x c m) v))
+    go true = h
+    go false = turns-ending (tickAt p m c) (memoryOf x c m) v r d (ending-turns (tickAt p m c) (memoryOf x c m) v r d h)
+
+-- ---- the finishing event
+out-true : (e : Bool) (t : Tick) (m : List ℕ) (o : Option Voice) (v : Voice) → o ≡ some v → (not e && outOf t m o) ≡ true → (e ≡ false) × Turns t m v (t .now) (t .«decay_samples»)
+unfolding outOf
+out-true true t m o v s h = absurd (true≢false (sym h))
+out-true false t m o v s h = (refl, out-turns t m v (subst (λ (z : Option Voice). outOf t m z ≡ true) s h))
+
+finished-ending : (e : Event) (c : Channel) (n : ℕ) (v : Voice) → voiceAt c n ≡ some v → finishes e c n ≡ true → Ending (c .head .now) (decayOf e) (becomes e c n v)
+unfolding stops playsOut becomes decayOf tickOf
+finished-ending idle c n v s f = absurd (true≢false (sym f))
+finished-ending (changes (change.Start p position note velocity)) c n v s f = absurd (true≢false (sym f))
+finished-ending (changes (change.Stop p note)) c n v s f = go (foundAt (findOf note c) n) f
+  where
+    go : (b : Bool) → (b || false) ≡ true → Ending (c .head .now) (p .«decay_samples») (cond b (finishOf (c .head .now) (p .«decay_samples») v) v)
+    go true e = finish-ending (c .head .now) (p .«decay_samples») v
+    go false e = absurd (true≢false (sym e))
+finished-ending (changes (change.Speed note speed)) c n v s f = absurd (true≢false (sym f))
+finished-ending (changes change.StartRecording) c n v s f = absurd (true≢false (sym f))
+finished-ending (changes change.StopRecording) c n v s f = absurd (true≢false (sym f))
+finished-ending (changes change.Reset) c n v s f = absurd (true≢false (sym f))
+finished-ending (sounds p x m) c n v s f =
+    let t : Tick = tickAt p m c in
+    let q = out-true (emptyAt m c) t (memoryOf x c m) (voiceAt c n) v s f in
+    rw (q .0) (turns-ending t (memoryOf x c m) v (c .head .now) (p .«decay_samples») (q .1))
+
+-- ---- a late sample
+turns-gone : (p : Params) (x : Float) (m : List ℕ) (c : Channel) (n : ℕ) (v : Voice) (r d : ℕ) → voiceAt c n ≡ some v → emptyAt m c ≡ false
+    → Turns (tickAt p m c) (memoryOf x c m) v r d → r + max d (p .«decay_samples») ≤ c .head .now → follow (sounds p x m) c n ≡ gone
+unfolding follow fateOf tickOf
+turns-gone p x m c n v r d s e h l = rw (e, s, turns-over (tickAt p m c) (memoryOf x c m) v r d h l)
+
+-- the place after an event, if there is one, and then whatever holds from there on
+gone-on : (e : Event) (c : Channel) (es : List Event) (n : ℕ) → ((k : ℕ) → follow e c n ≡ at k → followAll es (act e c) k ≡ gone) → followAll (e ∷ es) c n ≡ gone
+unfolding followAll
+gone-on e c es n f = go (follow e c n) refl
+  where
+    go : (z : Place) → follow e c n ≡ z → onward z (λ (k : ℕ). followAll es (act e c) k) ≡ gone
+    go (at k) h = f k h
+    go gone h = refl
+
+gone-now : (e : Event) (c : Channel) (n : ℕ) → follow e c n ≡ gone → followAll (e ∷ []) c n ≡ gone
+unfolding followAll
+gone-now e c n h = rw h
+
+fading : (r d : ℕ) (e : Event) (es : List Event) (c : Channel) → Housed c → (n : ℕ) (v : Voice) → voiceAt c n ≡ some v → Ending r d v
+    → (p : Params) → Sampled (lastOf e es) (beforeLast e es c) p → r + max d (p .«decay_samples») ≤ beforeLast e es c .head .now → followAll (e ∷ es) c n ≡ gone
+unfolding beforeLast
+fading r d e [] c h n v s w p q l =
+    gone-now e c n
+    (subst (λ (z : Event). follow z c n ≡ gone) (sym (q .sample))
+    (turns-gone p (q .input) (q .memory) c n v r d s (q .finds) (ending-turns (tickAt p (q .memory) c) (memoryOf (q .input) c (q .memory)) v r d w) l))
+fading r d e (e' ∷ es) c h n v s w p q l =
+    gone-on e c (e' ∷ es) n (λ k f. fading r d e' es (act e c) (housed e c h) k (becomes e c n v) (tracks e c h n k v s f) (ending-on e c n v r d s w) p q l)
+
+pub goes : (e : Event) (es : List Event) (c : Channel) → Housed c → (n : ℕ) (v : Voice) → voiceAt c n ≡ some v
+    → finishes e c n ≡ true
+    → (p : Params) → Sampled (lastOf e es) (beforeLast e es c) p
+    → c .head .now + max (decayOf e) (p .«decay_samples») ≤ beforeLast e es c .head .now
+    → followAll (e ∷ es) c n ≡ gone
+unfolding beforeLast decayOf playsOut stops tickOf
+goes e [] c h n v s f p q l =
+    let t : Tick = tickAt p (q .memory) c in
+    let mem : List ℕ = memoryOf (q .input) c (q .memory) in
+    let w = out-true (emptyAt (q .memory) c) t mem (voiceAt c n) v s (subst (λ (z : Event). finishes z c n ≡ true) (q .sample) f) in
+    let k : c .head .now + max (p .«decay_samples») (p .«decay_samples») ≤ c .head .now
+    = subst (λ (z : Event). c .head .now + max (decayOf z) (p .«decay_samples») ≤ c .head .now) (q .sample) l in
+    gone-now e c n
+    (subst (λ (z : Event). follow z c n ≡ gone) (sym (q .sample)) (turns-gone p (q .input) (q .memory) c n v (c .head .now) (p .«decay_samples») s (q .finds) (w .1) k))
+goes e (e' ∷ es) c h n v s f p q l =
+    gone-on e c (e' ∷ es) n
+    (λ k g. fading (c .head .now) (decayOf e) e' es (act e c) (housed e c h) k (becomes e c n v) (tracks e c h n k v s g) (finished-ending e c n v s f) p q l)

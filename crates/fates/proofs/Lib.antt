@@ -1,0 +1,13 @@
+pub mod Cases
+pub mod Looks
+pub mod Lives
+pub mod Stops
+pub mod Housing
+pub mod Tracks
+pub mod Order
+pub mod Stays
+pub mod Ending
+pub mod Goes
+pub mod Terms
+pub mod Clocks
+pub mod OnTime

@@ -1,0 +1,176 @@
+-- What pins the following of a voice, beside Tracks: voices keep their order, so that no two are followed to one place; each voice after an event was followed there or is the start's own, at the end;
+-- and where one is gone, the count falls. Assumes nothing.
+use mathlib.Core.Path.{_≡_, refl, sym, ap, subst}
+use mathlib.Core.Bool.{Bool, true, false, not, _||_, cond}
+use mathlib.Core.Logic.{_⊎_, inl, inr}
+use mathlib.Core.List.{List, [], _∷_, _++_, map, append-nil}
+use mathlib.Core.Option.{Option, some}
+use Prim.Native.Nat.{ℕ, _<_}
+use native.Mathlib.Omega.{arith}
+use lib.Dec.{eqb, ltb}
+use lib.ListN.{length, take, getD, set, getElem?, length-set, length-map}
+use Rattle.voice.specs.declared.Voice.{Voice}
+use Rattle.voice.specs.declared.Tick.{Tick}
+use Rattle.voice.specs.Voices.{finishOf, blankVoice}
+use Rattle.channel.specs.declared.Channel.{Channel}
+use Rattle.channel.specs.declared.Change.the-variants as change
+use Rattle.channel.specs.declared.Found.{Found}
+use Rattle.channel.specs.declared.Found.the-variants.{At, Nothing}
+use Rattle.channel.specs.Channels.{
+  live,
+  findOf,
+  spedOf,
+  startRecordingOf,
+  stopRecordingOf,
+  resetOf,
+  memoryOf,
+}
+use Rattle.fates.specs.Engine.{bornOf, turnedOf, leavesOf, leftOf}
+use Rattle.fates.specs.Events.{Event, idle, changes, sounds, act, isReset, emptyAt, tickAt}
+use Rattle.fates.specs.Places.{Housed, voiceAt, at, gone, fateOf, follow, newOf}
+use Rattle.fates.proofs.Looks.{never, look-below, look-some, look-back, look-map, look-unmap, take-map, rank-order, keep-stood, without-fewer}
+use Rattle.fates.proofs.Lives.{live-length, live-started, live-sped, live-sounded}
+use Rattle.fates.proofs.Stops.{found, stopped-none, live-stopped}
+use Rattle.fates.proofs.Housing.{housed}
+use Rattle.fates.proofs.Tracks.{at-same, gone-never}
+
+-- ---- order
+fate-order : (t : Tick) (m : List ℕ) (vs : List Voice) (i n a b : ℕ) (v w : Voice) → i < n → getElem? vs i ≡ some v
+    → fateOf t m vs i (some v) ≡ at a → fateOf t m vs n (some w) ≡ at b → a < b
+unfolding fateOf leftOf
+fate-order t m vs i n a b v w o s f g = go (leavesOf t (turnedOf t m v)) refl (leavesOf t (turnedOf t m w)) f g
+  where
+    go : (x : Bool) → leavesOf t (turnedOf t m v) ≡ x → (y : Bool) → cond x gone (at (length (leftOf t m (take i vs)))) ≡ at a
+        → cond y gone (at (length (leftOf t m (take n vs)))) ≡ at b → a < b
+    go true e y f g = absurd (gone-never a f)
+    go false e true f g = absurd (gone-never b g)
+    go false e false f g =
+        let r = rank-order (leavesOf t) (map (turnedOf t m) vs) i n (turnedOf t m v) o (look-map (turnedOf t m) vs i v s) e in
+        omega (arith, rw (take-map (turnedOf t m) i vs, take-map (turnedOf t m) n vs) at r, at-same _ a f, at-same _ b g)
+
+pub ordered : (e : Event) (c : Channel) (i n a b : ℕ) (v w : Voice) → i < n → voiceAt c i ≡ some v → voiceAt c n ≡ some w
+    → follow e c i ≡ at a → follow e c n ≡ at b → a < b
+unfolding follow
+ordered idle c i n a b v w o s r f g = omega (arith, at-same i a f, at-same n b g)
+ordered (changes d) c i n a b v w o s r f g = go (isReset (changes d)) f g
+  where
+    go : (x : Bool) → cond x gone (at i) ≡ at a → cond x gone (at n) ≡ at b → a < b
+    go true f g = absurd (gone-never a f)
+    go false f g = omega (arith, at-same i a f, at-same n b g)
+ordered (sounds p x m) c i n a b v w o s r f g = go (emptyAt m c) f g
+  where
+    t : Tick
+    t = tickAt p m c
+
+    mem : List ℕ
+    mem = memoryOf x c m
+
+    go : (z : Bool) → cond z (at i) (fateOf t mem (live c) i (voiceAt c i)) ≡ at a → cond z (at n) (fateOf t mem (live c) n (voiceAt c n)) ≡ at b → a < b
+    go true f g = omega (arith, at-same i a f, at-same n b g)
+    go false f g =
+        fate-order t mem (live c) i n a b v w o s
+        (subst (λ (y : Option Voice). fateOf t mem (live c) i y ≡ at a) s f)
+        (subst (λ (y : Option Voice). fateOf t mem (live c) n y ≡ at b) r g)
+
+-- ---- whatever stands there afterwards
+-- a voice that was there was followed to place k
+pub record Came (e : Event) (c : Channel) (k : ℕ) : Type 0 where
+  pub place : ℕ
+  pub voice : Voice
+  pub stood : voiceAt c place ≡ some voice
+  pub follows : follow e c place ≡ at k
+
+left-came : (t : Tick) (m : List ℕ) (vs : List Voice) (k : ℕ) (u : Voice) → getElem? (leftOf t m vs) k ≡ some u
+    → (n : ℕ) × (v : Voice) × (getElem? vs n ≡ some v) × (fateOf t m vs n (some v) ≡ at k)
+unfolding leftOf fateOf
+left-came t m vs k u h =
+    let s = keep-stood (leavesOf t) (map (turnedOf t m) vs) k u h in
+    let w = look-unmap (turnedOf t m) vs (s .place) u (s .stood) in
+    let b : leavesOf t (turnedOf t m (w .0)) ≡ false = subst (λ (y : Voice). leavesOf t y ≡ false) (w .2) (s .stays) in
+    (s .place, w .0, w .1, rw (b, ← take-map (turnedOf t m) (s .place) vs) (ap at (s .moves)))
+
+pub covered : (e : Event) (c : Channel) → Housed c → (k : ℕ) (u : Voice) → voiceAt (act e c) k ≡ some u
+    → Came e c k ⊎ ((k ≡ length (live c)) × (newOf e c ≡ u ∷ []))
+unfolding act follow isReset newOf startRecordingOf stopRecordingOf resetOf
+covered idle c h k u s = inl (record { place = k; voice = u; stood = s; follows = refl })
+covered (changes (change.Start p position note velocity)) c h k u s =
+    go (eqb (c .head .«data_len») 0 || not (ltb (c .count) 32)) (subst (λ (l : List Voice). getElem? l k ≡ some u) (live-started p position note velocity c h) s)
+  where
+    e : Event
+    e = changes (change.Start p position note velocity)
+
+    v : Voice
+    v = bornOf p position note velocity c
+
+    last : (getElem? (live c) k ≡ some u) ⊎ ((k ≡ length (live c)) × (u ≡ v)) → Came e c k ⊎ ((k ≡ length (live c)) × (v ∷ [] ≡ u ∷ []))
+    last (inl r) = inl (record { place = k; voice = u; stood = r; follows = refl })
+    last (inr r) = inr (r .0, ap (λ (w : Voice). w ∷ []) (sym (r .1)))
+
+    go : (b : Bool) → getElem? (live c ++ cond b [] (v ∷ [])) k ≡ some u → Came e c k ⊎ ((k ≡ length (live c)) × (cond b [] (v ∷ []) ≡ u ∷ []))
+    go true r = inl (record { place = k; voice = u; stood = subst (λ (l : List Voice). getElem? l k ≡ some u) (append-nil (live c)) r; follows = refl })
+    go false r = last (look-back (live c) v k u r)
+covered (changes (change.Stop p note)) c h k u s = inl (record { place = k; voice = getD (live c) k blankVoice; stood = look-some (live c) k blankVoice (go (findOf note c) refl); follows = refl })
+  where
+    go : (f : Found) → findOf note c ≡ f → k < length (live c)
+    go Nothing e = look-below (live c) k u (subst (λ (d : Channel). voiceAt d k ≡ some u) (stopped-none p note c e) s)
+    go (At i) e =
+        let f = found note c i e in
+        let v : Voice = finishOf (c .head .now) (p .«decay_samples») (f .voice) in
+        omega (arith, look-below (set (live c) i v) k u (subst (λ (l : List Voice). getElem? l k ≡ some u) (live-stopped p note c h i (f .voice) e (f .stands)) s), length-set (live c) i v)
+covered (changes (change.Speed note speed)) c h k u s =
+    let r = look-unmap (spedOf note speed) (live c) k u (subst (λ (l : List Voice). getElem? l k ≡ some u) (live-sped note speed c h) s) in
+    inl (record { place = k; voice = r .0; stood = r .1; follows = refl })
+covered (changes change.StartRecording) c h k u s = inl (record { place = k; voice = u; stood = s; follows = refl })
+covered (changes change.StopRecording) c h k u s = inl (record { place = k; voice = u; stood = s; follows = refl })
+covered (changes change.Reset) c h k u s = absurd (never u s)
+covered (sounds p x m) c h k u s = go (emptyAt m c) refl (subst (λ (l : List Voice). getElem? l k ≡ some u) (live-sounded p x m c h) s)
+  where
+    t : Tick
+    t = tickAt p m c
+
+    mem : List ℕ
+    mem = memoryOf x c m
+
+    go : (b : Bool) → emptyAt m c ≡ b → getElem? (cond b (live c) (leftOf t mem (live c))) k ≡ some u → Came (sounds p x m) c k ⊎ ((k ≡ length (live c)) × ([] ≡ u ∷ []))
+    go true e r = inl (record { place = k; voice = u; stood = r; follows = rw e })
+    go false e r =
+        let q = left-came t mem (live c) k u r in
+        inl (record { place = q .0; voice = q .1; stood = q .2; follows = rw (e, q .2) (q .3) })
+
+-- ---- the count falls
+nowhere : (i : ℕ) → at i ≡ gone → ⊥
+nowhere i h = gone-never i (sym h)
+
+left-fewer : (t : Tick) (m : List ℕ) (vs : List Voice) (n : ℕ) (v : Voice) → getElem? vs n ≡ some v → fateOf t m vs n (some v) ≡ gone
+    → length (leftOf t m vs) < length vs
+unfolding fateOf leftOf
+left-fewer t m vs n v s f = go (leavesOf t (turnedOf t m v)) refl f
+  where
+    go : (b : Bool) → leavesOf t (turnedOf t m v) ≡ b → cond b gone (at (length (leftOf t m (take n vs)))) ≡ gone → length (leftOf t m vs) < length vs
+    go true e f =
+        omega (
+          arith,
+          without-fewer (leavesOf t) (map (turnedOf t m) vs) n (turnedOf t m v) (look-map (turnedOf t m) vs n v s) e,
+          length-map vs (turnedOf t m),
+        )
+    go false e f = absurd (nowhere _ f)
+
+live-fewer : (e : Event) (c : Channel) → Housed c → isReset e ≡ false → (n : ℕ) (v : Voice) → voiceAt c n ≡ some v → follow e c n ≡ gone
+    → length (live (act e c)) < length (live c)
+unfolding act follow
+live-fewer idle c h r n v s f = absurd (nowhere n f)
+live-fewer (changes d) c h r n v s f = absurd (nowhere n (rw r at f))
+live-fewer (sounds p x m) c h r n v s f = subst (λ (l : List Voice). length l < length (live c)) (sym (live-sounded p x m c h)) (go (emptyAt m c) f)
+  where
+    t : Tick
+    t = tickAt p m c
+
+    mem : List ℕ
+    mem = memoryOf x c m
+
+    go : (b : Bool) → cond b (at n) (fateOf t mem (live c) n (voiceAt c n)) ≡ gone → length (cond b (live c) (leftOf t mem (live c))) < length (live c)
+    go true f = absurd (nowhere n f)
+    go false f = left-fewer t mem (live c) n v s (subst (λ (y : Option Voice). fateOf t mem (live c) n y ≡ gone) s f)
+
+pub fewer : (e : Event) (c : Channel) → Housed c → isReset e ≡ false → (n : ℕ) (v : Voice) → voiceAt c n ≡ some v → follow e c n ≡ gone → act e c .count < c .count
+fewer e c h r n v s f = omega (arith, live-fewer e c h r n v s f, live-length c h, live-length (act e c) (housed e c h))

@@ -1,0 +1,75 @@
+-- One channel's engine in parts: the voice that a start makes, the voices that a sample passes over, and those that leave after it. Put together, the parts are what the contracts cite: promises/proofs/Engine shows it,
+-- and the fields `does` and `hears` of Demand3 say it of every call. Taken apart, an engine with one wrong part can be tried against the promises (must-fail/). Definitions only. Assumes nothing.
+use Prim.Native.Nat.{ℕ}
+use mathlib.Core.Bool.{Bool, _&&_, _||_, cond}
+use mathlib.Core.List.{List, map}
+use lib.Dec.{eqb}
+use lib.ListN.{length}
+use lib.Seq.{sets}
+use lib.Ieee.{Float, binary32, add, mul}
+use Rattle.walks.specs.Walks.{without, fold}
+use Rattle.common_types.specs.declared.Params.{Params}
+use Rattle.common_types.specs.declared.Note.{Note}
+use Rattle.common_types.specs.declared.NoteOffBehaviour.{NoteOffBehaviour}
+use Rattle.common_types.specs.declared.NoteOffBehaviour.the-variants as off
+use Rattle.volume.specs.Levels.{isStaticAndMuteOf, levelOf}
+use Rattle.clip.specs.Positions.{zero32}
+use Rattle.voice.specs.declared.Voice.{Voice}
+use Rattle.voice.specs.declared.Tick.{Tick}
+use Rattle.voice.specs.Voices.{tickOf, lateOf, shouldRemoveOf, productOf, soundedOf, endedOf, volumeStepped, freshOf}
+use Rattle.channel.specs.declared.Channel.{Channel}
+use Rattle.channel.specs.declared.Played.{Played}
+use Rattle.channel.specs.Heads.{closedOf}
+use Rattle.channel.specs.Channels.{live, withHead, withVoices, anyUnfinishedOf, handledOf, pushedOf, addedOf, takenOf, memoryOf}
+
+-- ---- a start
+
+-- the voice that it makes: the clip begins at the channel's count
+abbrev pub bornOf : Params → Float → Note → Float → Channel → Voice
+bornOf p position note velocity c = freshOf p position note velocity (c .head .now) (c .head .«data_len»)
+
+-- an empty recording takes none
+unfoldable pub begunOf : Params → Float → Note → Float → Channel → Channel
+begunOf p position note velocity c = cond (eqb (c .head .«data_len») 0) c (handledOf p (pushedOf (bornOf p position note velocity c) c))
+
+-- ---- a sample
+
+-- a voice that is passed over adds nothing and doesn't move on
+unfoldable pub passesOver : Tick → Voice → Bool
+passesOver t v = shouldRemoveOf t v
+
+unfoldable pub heardBy : Tick → List ℕ → List Voice → Float
+heardBy t m vs = fold (λ (out : Float) (v : Voice). addedOf (passesOver t v) out (productOf t m v)) zero32 vs
+
+-- a voice after its turn
+unfoldable pub turnedOf : Tick → List ℕ → Voice → Voice
+turnedOf t m v = volumeStepped (t .now) (cond (passesOver t v) v (endedOf t (soundedOf t m v)))
+
+-- the mode lets a finished voice go
+unfoldable pub letsGo : NoteOffBehaviour → Tick → Voice → Bool
+letsGo off.Decay t u = isStaticAndMuteOf (u .volume)
+letsGo off.ZeroCrossing t u = lateOf t u
+letsGo off.DecayAndZeroCrossing t u = isStaticAndMuteOf (u .volume) || lateOf t u
+
+-- after its turn, only a finished voice leaves
+unfoldable pub leavesOf : Tick → Voice → Bool
+leavesOf t u = u .finished && letsGo (t .«note_off_behavior») t u
+
+unfoldable pub leftOf : Tick → List ℕ → List Voice → List Voice
+leftOf t m vs = without (leavesOf t) (map (turnedOf t m) vs)
+
+unfoldable pub turnsOf : Tick → List ℕ → Channel → Played
+turnsOf t m c = record {
+  channel = withVoices (sets (c .voices) 0 (leftOf t m (live c))) (length (leftOf t m (live c))) c;
+  output = heardBy t m (live c);
+}
+
+-- records first, then its voices take their turns if the recording isn't empty, then the input is added
+unfoldable pub stepOf : Params → Float → Channel → List ℕ → Played
+stepOf p x c m =
+    let d = takenOf m c in
+    let r = cond {A = Played} (eqb (d .head .«data_len») 0) (record { channel = d; output = zero32 }) (turnsOf (tickOf p (d .head .now) (d .head .«data_len»)) (memoryOf x c m) d) in
+    record {
+      channel = withHead (closedOf p (anyUnfinishedOf (r .channel)) (d .head)) (r .channel);
+      output = add binary32 (add binary32 zero32 (r .output)) (mul binary32 x (levelOf (d .head .«passthru_volume») (d .head .now)));
+    }

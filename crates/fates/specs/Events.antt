@@ -1,0 +1,92 @@
+-- What one call does to one channel: nothing, a change, or a sample with the channel's part of the memory. A start and a sample are put together of their parts (Engine); the other changes are as the contracts cite them.
+-- Definitions only. Assumes nothing.
+use mathlib.Core.Path.{_≡_}
+use Prim.Native.Nat.{ℕ}
+use mathlib.Core.Bool.{Bool, true, false}
+use mathlib.Core.List.{List, [], _∷_}
+use lib.Dec.{eqb}
+use lib.Ieee.{Float}
+use Rattle.common_types.specs.declared.Params.{Params}
+use Rattle.voice.specs.declared.Tick.{Tick}
+use Rattle.voice.specs.Voices.{tickOf}
+use Rattle.channel.specs.declared.Channel.{Channel}
+use Rattle.channel.specs.declared.Change.{Change}
+use Rattle.channel.specs.declared.Change.the-variants as change
+use Rattle.channel.specs.Channels.{resetOf, stopPlayingOf, setNoteSpeedOf, startRecordingOf, stopRecordingOf, takenOf}
+use Rattle.fates.specs.Engine.{begunOf, stepOf}
+
+pub data Event : Type 0 where
+  idle : Event
+  changes : (change : Change) → Event
+  sounds : (p : Params) (x : Float) (m : List ℕ) → Event
+
+unfoldable pub act : Event → Channel → Channel
+act idle c = c
+act (changes (change.Start p position note velocity)) c = begunOf p position note velocity c
+act (changes (change.Stop p note)) c = stopPlayingOf p note c
+act (changes (change.Speed note speed)) c = setNoteSpeedOf note speed c
+act (changes change.StartRecording) c = startRecordingOf c
+act (changes change.StopRecording) c = stopRecordingOf c
+act (changes change.Reset) c = resetOf c
+act (sounds p x m) c = stepOf p x c m .channel
+
+unfoldable pub acts : List Event → Channel → Channel
+acts [] c = c
+acts (e ∷ es) c = acts es (act e c)
+
+-- ---- what a sample finds
+
+-- how many samples are recorded, once this one has been
+abbrev pub lengthAt : List ℕ → Channel → ℕ
+lengthAt m c = takenOf m c .head .«data_len»
+
+-- the recording is then still empty
+abbrev pub emptyAt : List ℕ → Channel → Bool
+emptyAt m c = eqb (lengthAt m c) 0
+
+-- what its voices share
+abbrev pub tickAt : Params → List ℕ → Channel → Tick
+tickAt p m c = tickOf p (c .head .now) (lengthAt m c)
+
+-- the event is a sample with these parameters, and finds the recording not empty
+pub record Sampled (e : Event) (c : Channel) (p : Params) : Type 0 where
+  pub input : Float
+  pub memory : List ℕ
+  pub sample : e ≡ sounds p input memory
+  pub finds : emptyAt memory c ≡ false
+
+-- ---- kinds of events
+unfoldable pub isReset : Event → Bool
+isReset idle = false
+isReset (changes (change.Start p position note velocity)) = false
+isReset (changes (change.Stop p note)) = false
+isReset (changes (change.Speed note speed)) = false
+isReset (changes change.StartRecording) = false
+isReset (changes change.StopRecording) = false
+isReset (changes change.Reset) = true
+isReset (sounds p x m) = false
+
+unfoldable pub isSample : Event → Bool
+isSample idle = false
+isSample (changes change) = false
+isSample (sounds p x m) = true
+
+-- the decay that comes with an event: that of a stop, or of a sample, in which play-once may finish a voice
+unfoldable pub decayOf : Event → ℕ
+decayOf idle = 0
+decayOf (changes (change.Start p position note velocity)) = p .«decay_samples»
+decayOf (changes (change.Stop p note)) = p .«decay_samples»
+decayOf (changes (change.Speed note speed)) = 0
+decayOf (changes change.StartRecording) = 0
+decayOf (changes change.StopRecording) = 0
+decayOf (changes change.Reset) = 0
+decayOf (sounds p x m) = p .«decay_samples»
+
+-- ---- the last of the events e ∷ es, and the channel as that one finds it
+abbrev pub lastOf : Event → List Event → Event
+lastOf e [] = e
+lastOf e (d ∷ ds) = lastOf d ds
+
+unfoldable pub beforeLast : Event → List Event → Channel → Channel
+beforeLast e [] c = c
+beforeLast e (d ∷ ds) c = beforeLast d ds (act e c)

@@ -1,0 +1,4 @@
+pub mod Engine
+pub mod Events
+pub mod Places
+pub mod Sounding

@@ -1,0 +1,15 @@
+pub mod Rows
+pub mod Lent
+pub mod Thin
+pub mod Thin2
+pub mod Thin4
+pub mod Peek
+pub mod PeekList
+pub mod PeekFill
+pub mod Stored
+pub mod Numbers
+pub mod Middle
+pub mod Seats
+pub mod Judging
+pub mod Turned
+pub mod Stepping

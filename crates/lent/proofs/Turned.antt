@@ -1,0 +1,124 @@
+-- The loop of a frame on a lent record: what stands after i entries, by the laws of the call by value. A refused frame has no entry to step. Assumes nothing.
+use mathlib.Core.Path.{_≡_, refl, sym, ap, _∙_, subst}
+use mathlib.Core.Bool.{Bool, true, false, cond, true≢false}
+use mathlib.Core.List.{List, _++_}
+use Prim.Native.Nat.{ℕ, suc, _+_, _-_, _*_, _≤_, _<_}
+use native.Mathlib.Numerals.{add-one}
+use native.Mathlib.Omega.{arith}
+use borrow.Author.Tests.{eqb-true, eq-eqb}
+use lib.Dec.{eqb}
+use lib.ListN.{length, getD, take, drop, set, length-set}
+use lib.Ieee.{Float, nan, binary32, mul}
+use Rattle.common_types.specs.declared.Params.{Params}
+use Rattle.channel.specs.declared.Played.{Played}
+use Rattle.channel.specs.Channels.{memoryOf}
+use Rattle.channel.specs.Channels.{processSampleOf as channelSampleOf}
+use Rattle.sampler.specs.declared.Sampler.{Sampler}
+use Rattle.sampler.specs.Refusals.{channelAt, frameNumber}
+use Rattle.sampler.specs.Samplers.{withChannels, memoryAt, Ready, Frames, framed, entriesOf, framedOf}
+use Rattle.sampler.proofs.Rows.{frame-steps}
+use Rattle.sampler.proofs.Parts.{stepped-is, output-is, memory-is}
+use Rattle.sampler.proofs.Entries.{memory-at-length}
+use Rattle.sampler.proofs.Framing.{Framing, framing-starts, framing-ready, framing-on, framing-ends, frame-refused, frame-done}
+
+-- how many entries are stepped
+abbrev pub stepsOf : ℕ → ℕ → ℕ
+stepsOf number entries = cond (eqb number 0) entries 0
+
+module _ (s : Sampler) (l : List Float) (p : Params) (m : List ℕ) where
+  abbrev number : ℕ
+  number = frameNumber s (length l) p (length m)
+
+  abbrev steps : ℕ
+  steps = stepsOf number (length l)
+
+  -- the record, the frame and the memory after i entries
+  pub record Turned (i : ℕ) (t : Sampler) (io : List Float) (k : List ℕ) : Type 0 where
+    pub two : length (t .channels) ≡ 2
+    pub capacity : t .capacity ≡ s .capacity
+    pub entries : length io ≡ length l
+    pub size : length k ≡ length m
+    pub done : number ≡ 0 → Framing (entriesOf p (length l) 0 (framed s l m)) p (length l) (length m) t io k i
+    pub kept : i ≡ 0 → (t ≡ s) × (io ≡ l) × (k ≡ m)
+
+  pub turned-starts : length (s .channels) ≡ 2 → Turned 0 s l m
+  turned-starts two = record {
+    two = two;
+    capacity = refl;
+    entries = refl;
+    size = refl;
+    done = λ e. framing-starts p s l m (frame-steps s (length l) p (length m) e);
+    kept = λ _. (refl, refl, refl);
+  }
+
+  -- a step is taken by a frame that isn't refused
+  accepted : (i : ℕ) → i < steps → (number ≡ 0) × (i < length l)
+  accepted i h = go (eqb number 0) refl h
+    where
+      go : (b : Bool) → eqb number 0 ≡ b → i < cond b (length l) 0 → (number ≡ 0) × (i < length l)
+      go true e k = (eqb-true number 0 e, k)
+      go false e k = absurd (omega arith)
+
+  module _ {i : ℕ} {t : Sampler} {io : List Float} {k : List ℕ} (z : Turned i t io k) where
+    pub turned-ready : i < steps → Ready t i (length k)
+    turned-ready h = framing-ready (z .done (accepted i h .0)) (accepted i h .1)
+
+    -- the channel is one of the two, the entry is there, and so is the part
+    pub turned-low : i < steps → (i < 2) × (i < length l) × (i * s .capacity + s .capacity ≤ length k)
+    turned-low h = (turned-ready h .below, accepted i h .1, subst (λ (c : ℕ). i * c + c ≤ length k) (z .capacity) (turned-ready h .part))
+
+    pub turned-ends : i ≡ steps → Frames (framedOf s l p m) t io k
+    turned-ends e = go (eqb number 0) refl
+      where
+        go : (b : Bool) → eqb number 0 ≡ b → Frames (framedOf s l p m) t io k
+        go true a =
+            let n = eqb-true number 0 a in
+            frame-done s l p m n (framing-ends (z .done n) (omega (arith, e, ap (λ (b : Bool). cond b (length l) 0) a)))
+        go false a =
+            let w = z .kept (e ∙ ap (λ (b : Bool). cond b (length l) 0) a) in
+            subst (λ (u : Sampler). Frames (framedOf s l p m) u io k) (sym (w .0))
+            (subst (λ (u : List Float). Frames (framedOf s l p m) s u k) (sym (w .1))
+            (subst (λ (u : List ℕ). Frames (framedOf s l p m) s l u) (sym (w .2)) (frame-refused s l p m (λ n. true≢false (sym (eq-eqb number 0 n) ∙ a)))))
+
+    -- one entry more: channel i's sample on its part, which begins at a
+    module _ (h : i < steps) (a : ℕ) (starts : a ≡ i * s .capacity) where
+      abbrev e : ℕ
+      e = a + s .capacity
+
+      abbrev x : Float
+      x = getD io i nan
+
+      abbrev played : Played
+      played = channelSampleOf p x (channelAt t i) (take (e - a) (drop a k))
+
+      abbrev t′ : Sampler
+      t′ = withChannels (set (t .channels) i (played .channel)) t
+
+      abbrev k′ : List ℕ
+      k′ = take a k ++ (memoryOf x (channelAt t i) (take (e - a) (drop a k)) ++ drop (e - a) (drop a k))
+
+      abbrev y : Float
+      y = mul binary32 (p .volume) (played .output)
+
+      starts′ : a ≡ i * t .capacity
+      starts′ = starts ∙ ap (λ (c : ℕ). i * c) (sym (z .capacity))
+
+      ends′ : e ≡ a + t .capacity
+      ends′ = ap (λ (c : ℕ). a + c) (sym (z .capacity))
+
+      written : k′ ≡ memoryAt t i x k
+      written = memory-is t i a e k starts′ ends′ x (channelAt t i) _ refl refl
+
+      long : length k′ ≡ length k
+      long = ap length written ∙ memory-at-length t i k (turned-ready h .part) x
+
+      pub turned-on : Turned (suc i) t′ (set io i y) k′
+      turned-on = record {
+        two = length-set (t .channels) i (played .channel) ∙ z .two;
+        capacity = z .capacity;
+        entries = length-set io i y ∙ z .entries;
+        size = long ∙ z .size;
+        done = λ n. subst (λ (j : ℕ). Framing (entriesOf p (length l) 0 (framed s l m)) p (length l) (length m) t′ (set io i y) k′ j) (add-one i)
+            (framing-on (z .done n) (accepted i h .1) t′ y k′ (stepped-is t i a e k starts′ ends′ p x (channelAt t i) refl played refl) (output-is t i a e k starts′ ends′ p x (channelAt t i) refl played refl) written long);
+        kept = λ q. absurd (omega (arith, q));
+      }

@@ -1,0 +1,4 @@
+pub mod Outputs
+pub mod Frames
+pub mod Printed
+pub mod Examples

@@ -1,0 +1,31 @@
+-- `loop_length` meets its contract. Assumes nothing.
+use mathlib.Core.Path.{sym}
+use native.Mathlib.Omega.{arith}
+use Rattle.common_types.specs.declared.time_value.TimeOrRatio.the-variants.{Ratio}
+use lib.ListN.{List·getD-eq-default}
+use Rattle.listing.specs.Records.{times, loopLengthOf}
+use Rattle.listing.proofs.records.loop_length.Statement.{statement}
+use Rattle.listing.proofs.records.loop_length.Tie as tie
+
+returns : tie.Need-returns
+unfolding loopLengthOf
+returns c = rw (c .match .keys1)
+
+returns-2 : tie.Need-returns-2
+unfolding loopLengthOf
+returns-2 c = rw (c .match .keys2)
+
+returns-3 : tie.Need-returns-3
+unfolding loopLengthOf
+returns-3 c = rw (c .match .keys3)
+
+returns-4 : tie.Need-returns-4
+unfolding loopLengthOf
+returns-4 c = rw (c .match .keys4)
+
+returns-5 : tie.Need-returns-5
+unfolding loopLengthOf
+returns-5 c = sym (List·getD-eq-default (times (c .before .args .value)) (Ratio (c .before .args .value)) {n = c .before .args .kind} (omega (arith, c .match .rest .0 .0 .0 .1, c .match .rest .0 .0 .1, c .match .rest .0 .1, c .match .rest .1)))
+
+pub loop-length-spec : {M : Type 1} → statement M
+loop-length-spec = tie.close (tie.spec returns returns-2 returns-3 returns-4 returns-5)

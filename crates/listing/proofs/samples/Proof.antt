@@ -1,0 +1,12 @@
+-- `samples` meets its contract. Assumes nothing.
+use Rattle.listing.proofs.samples.Statement.{statement}
+use Rattle.listing.proofs.samples.Tie as tie
+
+returns : tie.Need-returns
+returns c = simp (c .if1 .taken)
+
+returns-2 : tie.Need-returns-2
+returns-2 c = simp (c .if1 .left)
+
+pub samples-spec : {M : Type 1} → statement M
+samples-spec = tie.close (tie.spec returns returns-2)

@@ -1,0 +1,235 @@
+// Which header and which record of a listing is good, and what call a good record is.
+ghost use mathlib.Core.Path.{_≡_};
+ghost use Prim.Native.Nat.{_+_, _*_, _≤_};
+ghost use Rattle.listing.specs.Records.{channelCount, goodHeader, headerOf, lengthOf, restOf, goodSettings, goodRecord, noteAt, loopModeOf, noteOffOf, loopLengthOf, transportOf, paramsOf, frameCallOf, callOf, recordOf};
+use crate::fields::byte_at;
+use crate::fields::float_at;
+use crate::fields::half_at;
+use crate::fields::word_at;
+use common_types::LoopMode;
+use common_types::Note;
+use common_types::NoteOffBehaviour;
+use common_types::Params;
+use common_types::Transport;
+use common_types::time_value::TimeOrRatio;
+use common_types::time_value::TimeValue;
+
+// A listing has one channel or two.
+pub struct Header {
+    pub stereo: bool,
+    pub auto_passthru: bool,
+}
+
+pub enum Opening {
+    Good(Header),
+    Bad,
+}
+
+// What a record asks for. A frame is one float a channel.
+pub enum Call {
+    Parameters(Params),
+    Start {
+        note: Note,
+        position: f32,
+        velocity: f32,
+    },
+    Stop {
+        note: Note,
+    },
+    Speed {
+        note: Note,
+        speed: f32,
+    },
+    StartRecording,
+    StopRecording,
+    Mono {
+        input: f32,
+    },
+    Stereo {
+        first: f32,
+        second: f32,
+    },
+    Reset,
+}
+
+pub enum Reading {
+    Good(Call),
+    Bad,
+}
+
+fn good_header(bytes: &[u8]) -> bool
+    ensures { λ r. ⌜ r ≡ goodHeader (now (bytes .entry)) ⌝ }
+{
+    let count = byte_at(bytes, 1);
+    (bytes.len() == 3)
+        & (byte_at(bytes, 0) == 1)
+        & ((count == 1) | (count == 2))
+        & (byte_at(bytes, 2) <= 1)
+}
+
+pub fn read_header(bytes: &[u8]) -> Opening
+    ensures { λ r. ⌜ r ≡ headerOf (now (bytes .entry)) ⌝ }
+{
+    if good_header(bytes) {
+        Opening::Good(Header {
+            stereo: byte_at(bytes, 1) == 2,
+            auto_passthru: byte_at(bytes, 2) == 1,
+        })
+    } else {
+        Opening::Bad
+    }
+}
+
+// How many bytes a record has after the two of its length. A length that no kind has is answered 0, and such a record is bad.
+pub fn rest(bytes: &[u8]) -> usize
+    ensures { λ r. ⌜ r ≡ restOf (now (bytes .entry)) ⌝ }
+    ensures { λ r. ⌜ r ≤ 45 ⌝ }
+{
+    let size = half_at(bytes, 0) as usize;
+    if bytes.len() != 2 {
+        return 0;
+    }
+    if size <= 45 { size } else { 0 }
+}
+
+fn frame_length(h: Header) -> usize
+    ensures { λ r. ⌜ r ≡ 1 + 4 * channelCount h ⌝ }
+{
+    if h.stereo { 9 } else { 5 }
+}
+
+fn length_of(h: Header, kind: u8) -> usize
+    ensures { λ r. ⌜ r ≡ lengthOf h kind ⌝ }
+{
+    let lengths = [45, 11, 3, 7, 1, 1, frame_length(h), 1];
+    let at = kind as usize;
+    if at < 8 { lengths[at] } else { 0 }
+}
+
+fn good_settings(r: &[u8]) -> bool
+    ensures { λ b. ⌜ b ≡ goodSettings (now (r .entry)) ⌝ }
+{
+    (byte_at(r, 11) <= 1) & (byte_at(r, 12) <= 2) & (byte_at(r, 13) <= 4) & (byte_at(r, 26) <= 2)
+}
+
+fn good_record(h: Header, r: &[u8]) -> bool
+    ensures { λ b. ⌜ b ≡ goodRecord h (now (r .entry)) ⌝ }
+{
+    let kind = byte_at(r, 2);
+    let size = half_at(r, 0) as usize;
+    (r.len() == size + 2) & (size == length_of(h, kind)) & ((kind != 0) | good_settings(r))
+}
+
+fn loop_mode(index: u8) -> LoopMode
+    ensures { λ r. ⌜ r ≡ loopModeOf index ⌝ }
+{
+    match index {
+        0 => LoopMode::PlayOnce,
+        1 => LoopMode::Loop,
+        _ => LoopMode::PingPong,
+    }
+}
+
+fn note_off(index: u8) -> NoteOffBehaviour
+    ensures { λ r. ⌜ r ≡ noteOffOf index ⌝ }
+{
+    match index {
+        0 => NoteOffBehaviour::Decay,
+        1 => NoteOffBehaviour::ZeroCrossing,
+        _ => NoteOffBehaviour::DecayAndZeroCrossing,
+    }
+}
+
+fn loop_length(kind: u8, value: f32) -> TimeOrRatio
+    ensures { λ r. ⌜ r ≡ loopLengthOf kind value ⌝ }
+{
+    match kind {
+        0 => TimeOrRatio::Time(TimeValue::QuarterNotes(value)),
+        1 => TimeOrRatio::Time(TimeValue::Samples(value)),
+        2 => TimeOrRatio::Time(TimeValue::Seconds(value)),
+        3 => TimeOrRatio::Time(TimeValue::Bars(value)),
+        _ => TimeOrRatio::Ratio(value),
+    }
+}
+
+fn transport(r: &[u8]) -> Transport
+    ensures { λ t. ⌜ t ≡ transportOf (now (r .entry)) ⌝ }
+{
+    Transport {
+        sample_rate: float_at(r, 31),
+        tempo: float_at(r, 35),
+        time_sig_numerator: word_at(r, 39),
+        time_sig_denominator: word_at(r, 43),
+    }
+}
+
+fn params(r: &[u8]) -> Params
+    ensures { λ p. ⌜ p ≡ paramsOf (now (r .entry)) ⌝ }
+{
+    Params {
+        attack_samples: word_at(r, 3) as usize,
+        decay_samples: word_at(r, 7) as usize,
+        transport: transport(r),
+        loop_length: loop_length(byte_at(r, 13), float_at(r, 14)),
+        speed: float_at(r, 18),
+        reverse_speed: float_at(r, 22),
+        volume: float_at(r, 27),
+        auto_passthru: byte_at(r, 11) == 1,
+        loop_mode: loop_mode(byte_at(r, 12)),
+        note_off_behavior: note_off(byte_at(r, 26)),
+    }
+}
+
+fn note(r: &[u8]) -> Note
+    ensures { λ n. ⌜ n ≡ noteAt (now (r .entry)) ⌝ }
+{
+    Note::new(byte_at(r, 3), byte_at(r, 4))
+}
+
+fn frame_call(h: Header, r: &[u8]) -> Call
+    ensures { λ c. ⌜ c ≡ frameCallOf h (now (r .entry)) ⌝ }
+{
+    if h.stereo {
+        Call::Stereo {
+            first: float_at(r, 3),
+            second: float_at(r, 7),
+        }
+    } else {
+        Call::Mono {
+            input: float_at(r, 3),
+        }
+    }
+}
+
+fn call_of(h: Header, r: &[u8]) -> Call
+    ensures { λ c. ⌜ c ≡ callOf h (now (r .entry)) ⌝ }
+{
+    let kind = byte_at(r, 2);
+    match kind {
+        0 => Call::Parameters(params(r)),
+        1 => Call::Start {
+            note: note(r),
+            position: float_at(r, 5),
+            velocity: float_at(r, 9),
+        },
+        2 => Call::Stop { note: note(r) },
+        3 => Call::Speed {
+            note: note(r),
+            speed: float_at(r, 5),
+        },
+        4 => Call::StartRecording,
+        5 => Call::StopRecording,
+        6 => frame_call(h, r),
+        _ => Call::Reset,
+    }
+}
+
+pub fn read_record(h: Header, r: &[u8]) -> Reading
+    ensures { λ x. ⌜ x ≡ recordOf h (now (r .entry)) ⌝ }
+{
+    if good_record(h, r) {
+        Reading::Good(call_of(h, r))
+    } else {
+        Reading::Bad
+    }
+}

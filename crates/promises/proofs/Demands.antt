@@ -1,0 +1,234 @@
+-- The demands hold. Assumes nothing.
+use mathlib.Core.Path.{_≡_, refl, ap, _∙_}
+use mathlib.Core.Bool.{Bool, true, false, not, cond}
+use mathlib.Core.Logic.{_⊎_, inl, inr, _≢_}
+use mathlib.Core.List.{List}
+use Prim.Native.Nat.{ℕ}
+use borrow.Author.Tests.{eqb-true}
+use lib.Dec.{eqb}
+use lib.ListN.{length}
+use lib.Ieee.{Float, nan, inf, fin, isNan, lt, binary32}
+use Rattle.binary32.specs.Leaves.{minOf, maxOf}
+use Rattle.binary32.proofs.Halves.{ofInt-whole}
+use Rattle.binary32.proofs.Casts.{narrow}
+use Rattle.binary32.proofs.Floors.{floor-exact, floor-cast}
+use Rattle.binary32.proofs.Patterns.{value-back, pattern-back}
+use Rattle.common_types.proofs.Packing.{unpack-pack, pack-unpack}
+use Rattle.common_types.specs.declared.InitParams.{InitParams}
+use Rattle.common_types.specs.declared.Params.{Params}
+use Rattle.recorder.specs.ErrorText.{errorText}
+use Rattle.clip.proofs.Offsets.{clip-offset-inside, offset-within}
+use Rattle.channel.specs.declared.Change.{Change}
+use Rattle.channel.specs.Channels.{live}
+use Rattle.sampler.specs.declared.Sampler.{Sampler}
+use Rattle.sampler.specs.declared.Answer.{Answer}
+use Rattle.sampler.specs.Refusals.{channelAt, goodSizes, goodSampler, capacityOf, goodWith, noChannel, row, setUpNumber, startNumber, stopNumber, speedNumber, plainNumber, sampleNumber, frameNumber, channelNumber}
+use Rattle.sampler.specs.Samplers.{samplerOf, setUpOf, partOf, eachOf, answerOf, processSampleOf, sampleMemory, steppedOf, memoryAt, Framed, framed, entriesOf, framedOf}
+use Rattle.sampler.proofs.Rows.{sample-ready}
+use Rattle.questions.specs.Questions.{recorderAt, notesOf, inFront, listNumber, listAfter, infoNumber, answered, noInfos, infosWith, getVoiceInfoOf}
+use Rattle.questions.specs.declared.VoiceInfos.{VoiceInfos}
+use Rattle.lent.specs.Lists.{listedOf}
+use Rattle.promises.specs.Runs.{
+  World,
+  setUp,
+  Question,
+  getFramesProcessed,
+  getDataLen,
+  isRecording,
+  getLastRecordedOffset,
+  printErrorInfo,
+  iterActiveNotes,
+  getVoiceInfo,
+  fillVoiceInfo,
+  questionNumber,
+  Call,
+  start,
+  stop,
+  speed,
+  startRecording,
+  stopRecording,
+  reset,
+  sample,
+  frame,
+  asks,
+  code,
+  after,
+}
+use Rattle.promises.specs.Outcomes.{on, Outcome, Allows, Untouched}
+use Rattle.promises.specs.Demands.{Demand1, Demand2, Demands}
+use Rattle.promises.proofs.Apart.{part-apart}
+use Rattle.promises.proofs.Outcomes.{settled, one-outcome, number-code, left-after, chain-run, run-chain}
+use Rattle.promises.proofs.Table.{table-holds}
+use Rattle.promises.proofs.Demand3.{demand3}
+use Rattle.promises.proofs.Whole.{memory-after, no-panic, whole}
+
+-- ---- a refusal
+
+refused : (n : ℕ) → n ≢ 0 → eqb n 0 ≡ false
+refused n h = go (eqb n 0) refl
+  where
+    go : (b : Bool) → eqb n 0 ≡ b → b ≡ false
+    go true e = absurd (h (eqb-true n 0 e))
+    go false e = refl
+
+-- the branch that a refused call takes
+other : {A : Type 0} (n : ℕ) (x y : A) → n ≢ 0 → cond (eqb n 0) x y ≡ y
+other n x y h = rw (refused n h)
+
+answer-held : (w : World) (n : ℕ) (d : Change) → n ≢ 0 → record { sampler = answerOf n d (w .sampler) .sampler; memory = w .memory } ≡ w
+unfolding answerOf
+answer-held w n d h = λ t. record { sampler = other n (eachOf d (w .sampler)) (w .sampler) h t; memory = w .memory }
+
+after-held : (w : World) (c : Call) → code w c ≢ 0 → after w c ≡ w
+unfolding after code processSampleOf sampleMemory framedOf
+after-held w (start position note velocity p) h = answer-held w _ _ h
+after-held w (stop note p) h = answer-held w _ _ h
+after-held w (speed note s) h = answer-held w _ _ h
+after-held w startRecording h = answer-held w _ _ h
+after-held w stopRecording h = answer-held w _ _ h
+after-held w reset h = answer-held w _ _ h
+after-held w (sample j x p) h =
+    let n = sampleNumber (w .sampler) j p (length (w .memory)) in
+    λ t. record { sampler = other n (steppedOf (w .sampler) j p x (w .memory)) (w .sampler) h t; memory = other n (memoryAt (w .sampler) j x (w .memory)) (w .memory) h t }
+after-held w (frame xs p) h =
+    let f = framed (w .sampler) xs (w .memory) in
+    let e = other (frameNumber (w .sampler) (length xs) p (length (w .memory))) (entriesOf p (length xs) 0 f) f h in
+    λ t. record { sampler = e t .sampler; memory = e t .memory }
+after-held w (asks q) h = refl
+
+untouched : (w : World) (c : Call) (r : Outcome (on w c)) → Allows (on w c) r → code w c ≢ 0 → Untouched w c r
+unfolding Untouched code questionNumber framedOf listAfter getVoiceInfoOf answered listedOf
+untouched w (start position note velocity p) r h n = tt
+untouched w (stop note p) r h n = tt
+untouched w (speed note s) r h n = tt
+untouched w startRecording r h n = tt
+untouched w stopRecording r h n = tt
+untouched w reset r h n = tt
+untouched w (sample j x p) r h n = tt
+untouched w (frame xs p) r h n =
+    let f = framed (w .sampler) xs (w .memory) in
+    h .1 .frame ∙ ap (λ (g : Framed). g .frame) (other (frameNumber (w .sampler) (length xs) p (length (w .memory))) (entriesOf p (length xs) 0 f) f n)
+untouched w (asks (getFramesProcessed j)) r h n = tt
+untouched w (asks (getDataLen j)) r h n = tt
+untouched w (asks (isRecording j)) r h n = tt
+untouched w (asks (getLastRecordedOffset j)) r h n = tt
+untouched w (asks (printErrorInfo j text)) r h n =
+    let answer = errorText (recorderAt (w .sampler) j) in
+    h .1 ∙ other (listNumber (w .sampler) j answer (length text)) (inFront answer text) text n
+untouched w (asks (iterActiveNotes j notes)) r h n =
+    let answer = notesOf (live (channelAt (w .sampler) j)) in
+    h .1 ∙ other (listNumber (w .sampler) j answer (length notes)) (inFront answer notes) notes n
+untouched w (asks (getVoiceInfo j p room)) r h n = tt
+untouched w (asks (fillVoiceInfo j p list)) r h n =
+    h .1 ∙ ap (λ (v : VoiceInfos). listedOf v list) (other (infoNumber (w .sampler) j p (length list)) _ (infosWith noInfos 0 (infoNumber (w .sampler) j p (length list))) n)
+
+-- ---- a refused set-up
+empty-record : (p : InitParams) (m : List ℕ) (c : Call) → code (record { sampler = samplerOf 0 p 0; memory = m }) c ≡ 9
+unfolding code questionNumber startNumber stopNumber speedNumber plainNumber sampleNumber frameNumber channelNumber listNumber infoNumber goodWith goodSampler goodSizes
+empty-record p m (start position note velocity q) = refl
+empty-record p m (stop note q) = refl
+empty-record p m (speed note s) = refl
+empty-record p m startRecording = refl
+empty-record p m stopRecording = refl
+empty-record p m reset = refl
+empty-record p m (sample j x q) = refl
+empty-record p m (frame xs q) = refl
+empty-record p m (asks (getFramesProcessed j)) = refl
+empty-record p m (asks (getDataLen j)) = refl
+empty-record p m (asks (isRecording j)) = refl
+empty-record p m (asks (getLastRecordedOffset j)) = refl
+empty-record p m (asks (printErrorInfo j text)) = refl
+empty-record p m (asks (iterActiveNotes j notes)) = refl
+empty-record p m (asks (getVoiceInfo j q room)) = refl
+empty-record p m (asks (fillVoiceInfo j q list)) = refl
+
+unmade : (count : ℕ) (p : InitParams) (m : List ℕ) → setUpNumber count (length m) ≢ 0 → (c : Call) → code (setUp count p m) c ≡ 9
+unfolding setUp setUpOf
+unmade count p m h c =
+    ap (λ (s : Sampler). code (record { sampler = s; memory = m }) c) (other (setUpNumber count (length m)) (samplerOf count p (capacityOf count (length m))) (samplerOf 0 p 0) h)
+    ∙ empty-record p m c
+
+-- ---- the parts of the memory
+part-held : (w : World) (i : ℕ) (x : Float) (p : Params) (j : ℕ) → j ≢ i → partOf (w .sampler) j (sampleMemory (w .sampler) i x p (w .memory)) ≡ partOf (w .sampler) j (w .memory)
+unfolding sampleMemory
+part-held w i x p j e = go (eqb (sampleNumber s i p (length m)) 0) refl
+  where
+    s : Sampler
+    s = w .sampler
+
+    m : List ℕ
+    m = w .memory
+
+    go : (b : Bool) → eqb (sampleNumber s i p (length m)) 0 ≡ b → partOf s j (cond b (memoryAt s i x m) m) ≡ partOf s j m
+    go true q = part-apart s i m (sample-ready s i p (length m) (eqb-true _ 0 q) .part) x j e
+    go false q = refl
+
+-- ---- rows
+query-rows : (w : World) (j : ℕ) (q : Question) → (q ≡ getFramesProcessed j) ⊎ ((q ≡ getDataLen j) ⊎ ((q ≡ isRecording j) ⊎ (q ≡ getLastRecordedOffset j)))
+    → code w (asks q) ≡ row (not (goodSampler (w .sampler))) 9 (row (noChannel (w .sampler) j) 1 0)
+unfolding code questionNumber channelNumber
+query-rows w j q (inl e) = ap (λ (q : Question). code w (asks q)) e
+query-rows w j q (inr (inl e)) = ap (λ (q : Question). code w (asks q)) e
+query-rows w j q (inr (inr (inl e))) = ap (λ (q : Question). code w (asks q)) e
+query-rows w j q (inr (inr (inr e))) = ap (λ (q : Question). code w (asks q)) e
+
+plain-rows : (w : World) (c : Call) → (c ≡ startRecording) ⊎ ((c ≡ stopRecording) ⊎ (c ≡ reset)) → code w c ≡ row (not (goodSampler (w .sampler))) 9 0
+unfolding code plainNumber
+plain-rows w c (inl e) = ap (code w) e
+plain-rows w c (inr (inl e)) = ap (code w) e
+plain-rows w c (inr (inr e)) = ap (code w) e
+
+demand1 : Demand1
+unfolding setUpOf setUpNumber code questionNumber startNumber stopNumber speedNumber sampleNumber frameNumber infoNumber listNumber
+demand1 = record {
+  takes = settled;
+  one = one-outcome;
+  apart = λ w i x p r h j e. ap (partOf (w .sampler) j) (h .1) ∙ part-held w i x p j e;
+  unmade = unmade;
+  sized = λ w c r h. ap (λ (v : World). length (v .memory)) (left-after w c r h) ∙ memory-after w c;
+  numbered = number-code;
+  start-rows = λ w position note velocity p. refl;
+  stop-rows = λ w note p. refl;
+  speed-rows = λ w note s. refl;
+  sample-rows = λ w j x p. refl;
+  frame-rows = λ w xs p. refl;
+  info-rows = λ w j p room. refl;
+  fill-rows = λ w j p list. refl;
+  notes-rows = λ w j notes. refl;
+  text-rows = λ w j text. refl;
+  query-rows = query-rows;
+  plain-rows = plain-rows;
+  set-up-rows = λ count p m r h. ap (λ (a : Answer). a .number) h;
+  held = λ w c r h n. (left-after w c r h ∙ after-held w c n, untouched w c r h n);
+}
+
+-- ---- demand 2
+nan-first : (x : Float) → (minOf nan x ≡ x) × (maxOf nan x ≡ x)
+unfolding minOf maxOf isNan
+nan-first x = (refl, refl)
+
+nan-second : (x : Float) → (minOf x nan ≡ x) × (maxOf x nan ≡ x)
+unfolding minOf maxOf isNan lt
+nan-second nan = (refl, refl)
+nan-second (inf s) = (refl, refl)
+nan-second (fin s m e) = (refl, refl)
+
+demand2 : Demand2
+demand2 = record {
+  exact = ofInt-whole binary32;
+  narrow = narrow;
+  whole-part = floor-cast;
+  floors-down = floor-exact false;
+  floors-up = floor-exact true;
+  smaller = λ x. (nan-first x .0, nan-second x .0);
+  larger = λ x. (nan-first x .1, nan-second x .1);
+  patterns = value-back;
+  values = λ b h n. pattern-back b h ∙ ap (λ (t : Bool). cond t 0x7fc0_0000 b) n;
+  positions = λ c now h. (clip-offset-inside c now h, offset-within c now h);
+  packed = unpack-pack;
+  unpacked = pack-unpack;
+  table = table-holds;
+}
+
+pub demands : Demands
+demands = record { first = demand1; no-panic = no-panic; second = demand2; third = demand3; whole = whole; runs = run-chain; no-other = λ w u cs h. chain-run h }

@@ -1,0 +1,149 @@
+-- Each public call has one outcome that its contract allows, and no other; what it leaves and its number are those that runs go by. Assumes nothing.
+use mathlib.Core.Path.{_≡_, refl, sym, ap, _∙_, subst}
+use mathlib.Core.Bool.{Bool, true, false, cond}
+use mathlib.Core.List.{List, [], _∷_}
+use borrow.Author.Tests.{eqb-true}
+use lib.Dec.{eqb}
+use lib.ListN.{length}
+use Rattle.recorder.specs.ErrorText.{errorText}
+use Rattle.channel.specs.Channels.{live}
+use Rattle.sampler.specs.declared.Answer.{Answer}
+use Rattle.sampler.specs.declared.SampleAnswer.{SampleAnswer}
+use Rattle.sampler.specs.Refusals.{channelAt, frameNumber}
+use Rattle.sampler.specs.Samplers.{answerOf, processSampleOf, sampleMemory, framedOf}
+use Rattle.questions.specs.declared.VoiceInfos.{VoiceInfos}
+use Rattle.questions.specs.declared.Counted.the-variants as counted
+use Rattle.lent.specs.Lists.{countedOf, voiceInfoCounted, voiceInfoAfter}
+use Rattle.questions.specs.Questions.{countedNumber, toldNumber, offsetNumber, recorderAt, notesOf, answered, printErrorInfoOf, errorTextAfter, iterActiveNotesOf, activeNotesAfter, getVoiceInfoOf}
+use Rattle.questions.proofs.Numbers.{frames-number, data-len-number, recording-number, offset-number, list-number, info-number}
+use Rattle.promises.specs.Runs.{
+  World,
+  getFramesProcessed,
+  getDataLen,
+  isRecording,
+  getLastRecordedOffset,
+  printErrorInfo,
+  iterActiveNotes,
+  getVoiceInfo,
+  fillVoiceInfo,
+  questionNumber,
+  Call,
+  start,
+  stop,
+  speed,
+  startRecording,
+  stopRecording,
+  reset,
+  sample,
+  frame,
+  asks,
+  code,
+  after,
+  run,
+}
+use Rattle.promises.specs.Outcomes.{Given, new, on, Outcome, Allows, Settled, numberIn, leftBy, Chain, ended, called}
+
+-- ---- one outcome
+pub settled : (g : Given) → Settled g
+settled (new count p m) = record { outcome = _; allowed = refl; only = λ r h. h }
+settled (on w (start position note velocity p)) = record { outcome = _; allowed = refl; only = λ r h. h }
+settled (on w (stop note p)) = record { outcome = _; allowed = refl; only = λ r h. h }
+settled (on w (speed note s)) = record { outcome = _; allowed = refl; only = λ r h. h }
+settled (on w startRecording) = record { outcome = _; allowed = refl; only = λ r h. h }
+settled (on w stopRecording) = record { outcome = _; allowed = refl; only = λ r h. h }
+settled (on w reset) = record { outcome = _; allowed = refl; only = λ r h. h }
+settled (on w (sample j x p)) = record {
+  outcome = record { answer = processSampleOf (w .sampler) j x p (w .memory); memory = sampleMemory (w .sampler) j x p (w .memory) };
+  allowed = (refl, refl);
+  only = λ r h t. record { answer = (h .0) t; memory = (h .1) t };
+}
+settled (on w (frame xs p)) =
+    let f = framedOf (w .sampler) xs p (w .memory) in
+    record {
+      outcome = record {
+        answer = record { sampler = f .sampler; number = frameNumber (w .sampler) (length xs) p (length (w .memory)) };
+        frame = f .frame;
+        memory = f .memory;
+      };
+      allowed = (refl, record { sampler = refl; frame = refl; memory = refl });
+      only = λ r h t. record { answer = record { sampler = (h .1 .sampler) t; number = (h .0) t }; frame = (h .1 .frame) t; memory = (h .1 .memory) t };
+    }
+settled (on w (asks (getFramesProcessed j))) = record { outcome = _; allowed = refl; only = λ r h. h }
+settled (on w (asks (getDataLen j))) = record { outcome = _; allowed = refl; only = λ r h. h }
+settled (on w (asks (isRecording j))) = record { outcome = _; allowed = refl; only = λ r h. h }
+settled (on w (asks (getLastRecordedOffset j))) = record { outcome = _; allowed = refl; only = λ r h. h }
+settled (on w (asks (printErrorInfo j text))) = record {
+  outcome = record { answer = printErrorInfoOf (w .sampler) j (length text); lent = errorTextAfter (w .sampler) j text };
+  allowed = (refl, refl);
+  only = λ r h t. record { answer = (h .0) t; lent = (h .1) t };
+}
+settled (on w (asks (iterActiveNotes j notes))) = record {
+  outcome = record { answer = iterActiveNotesOf (w .sampler) j (length notes); lent = activeNotesAfter (w .sampler) j notes };
+  allowed = (refl, refl);
+  only = λ r h t. record { answer = (h .0) t; lent = (h .1) t };
+}
+settled (on w (asks (getVoiceInfo j p room))) = record { outcome = _; allowed = refl; only = λ r h. h }
+settled (on w (asks (fillVoiceInfo j p list))) = record {
+  outcome = record { answer = voiceInfoCounted (w .sampler) j p list; lent = voiceInfoAfter (w .sampler) j p list };
+  allowed = (refl, refl);
+  only = λ r h t. record { answer = (h .0) t; lent = (h .1) t };
+}
+
+pub one-outcome : (g : Given) (r s : Outcome g) → Allows g r → Allows g s → r ≡ s
+one-outcome g r s h k = settled g .only r h ∙ sym (settled g .only s k)
+
+-- ---- the number
+counted-number : (v : VoiceInfos) → countedNumber (countedOf v) ≡ v .number
+unfolding countedOf answered
+counted-number v = go (eqb (v .number) 0) refl
+  where
+    go : (b : Bool) → eqb (v .number) 0 ≡ b → countedNumber (cond b (counted.Done (v .count)) (counted.Refused (v .number))) ≡ v .number
+    go true e = sym (eqb-true (v .number) 0 e)
+    go false e = refl
+
+pub number-code : (w : World) (c : Call) (r : Outcome (on w c)) → Allows (on w c) r → numberIn (on w c) r ≡ code w c
+unfolding code questionNumber answerOf processSampleOf
+number-code w (start position note velocity p) r h = ap (λ (a : Answer). a .number) h
+number-code w (stop note p) r h = ap (λ (a : Answer). a .number) h
+number-code w (speed note s) r h = ap (λ (a : Answer). a .number) h
+number-code w startRecording r h = ap (λ (a : Answer). a .number) h
+number-code w stopRecording r h = ap (λ (a : Answer). a .number) h
+number-code w reset r h = ap (λ (a : Answer). a .number) h
+number-code w (sample j x p) r h = ap (λ (a : SampleAnswer). a .number) (h .0)
+number-code w (frame xs p) r h = h .0
+number-code w (asks (getFramesProcessed j)) r h = ap countedNumber h ∙ frames-number (w .sampler) j
+number-code w (asks (getDataLen j)) r h = ap countedNumber h ∙ data-len-number (w .sampler) j
+number-code w (asks (isRecording j)) r h = ap toldNumber h ∙ recording-number (w .sampler) j
+number-code w (asks (getLastRecordedOffset j)) r h = ap offsetNumber h ∙ offset-number (w .sampler) j
+number-code w (asks (printErrorInfo j text)) r h = ap countedNumber (h .0) ∙ list-number (w .sampler) j (errorText (recorderAt (w .sampler) j)) (length text)
+number-code w (asks (iterActiveNotes j notes)) r h = ap countedNumber (h .0) ∙ list-number (w .sampler) j (notesOf (live (channelAt (w .sampler) j))) (length notes)
+number-code w (asks (getVoiceInfo j p room)) r h = ap (λ (a : VoiceInfos). a .number) h ∙ info-number (w .sampler) j p room
+number-code w (asks (fillVoiceInfo j p list)) r h =
+    ap countedNumber (h .0) ∙ counted-number (getVoiceInfoOf (w .sampler) j p (length list)) ∙ info-number (w .sampler) j p (length list)
+
+-- ---- the record and the memory afterwards
+pub left-after : (w : World) (c : Call) (r : Outcome (on w c)) → Allows (on w c) r → leftBy w c r ≡ after w c
+unfolding after
+left-after w (start position note velocity p) r h = λ t. record { sampler = h t .sampler; memory = w .memory }
+left-after w (stop note p) r h = λ t. record { sampler = h t .sampler; memory = w .memory }
+left-after w (speed note s) r h = λ t. record { sampler = h t .sampler; memory = w .memory }
+left-after w startRecording r h = λ t. record { sampler = h t .sampler; memory = w .memory }
+left-after w stopRecording r h = λ t. record { sampler = h t .sampler; memory = w .memory }
+left-after w reset r h = λ t. record { sampler = h t .sampler; memory = w .memory }
+left-after w (sample j x p) r h = λ t. record { sampler = (h .0) t .sampler; memory = (h .1) t }
+left-after w (frame xs p) r h = λ t. record { sampler = (h .1 .sampler) t; memory = (h .1 .memory) t }
+left-after w (asks q) r h = refl
+
+-- the contracts leave no other record and memory than `run` gives
+pub chain-run : {w u : World} {cs : List Call} → Chain w cs u → u ≡ run w cs
+unfolding run
+chain-run ended = refl
+chain-run (called {w} {u} {c} {cs} r h k) = chain-run k ∙ ap (λ (v : World). run v cs) (left-after w c r h)
+
+-- and they do leave that
+pub run-chain : (w : World) (cs : List Call) → Chain w cs (run w cs)
+unfolding run
+run-chain w [] = ended
+run-chain w (c ∷ cs) =
+    let s = settled (on w c) in
+    called (s .outcome) (s .allowed) (subst (λ (v : World). Chain v cs (run (after w c) cs)) (sym (left-after w c (s .outcome) (s .allowed))) (run-chain (after w c) cs))
