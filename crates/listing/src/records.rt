@@ -7,8 +7,10 @@ use crate::fields::float_at;
 use crate::fields::half_at;
 use crate::fields::word_at;
 use common_types::LoopMode;
+use common_types::LoopModeAnswer;
 use common_types::Note;
 use common_types::NoteOffBehaviour;
+use common_types::NoteOffBehaviourAnswer;
 use common_types::Params;
 use common_types::Transport;
 use common_types::time_value::TimeOrRatio;
@@ -123,20 +125,18 @@ fn good_record(h: Header, r: &[u8]) -> bool
 fn loop_mode(index: u8) -> LoopMode
     ensures { λ r. ⌜ r ≡ loopModeOf index ⌝ }
 {
-    match index {
-        0 => LoopMode::PlayOnce,
-        1 => LoopMode::Loop,
-        _ => LoopMode::PingPong,
+    match LoopMode::from_index(index as usize) {
+        LoopModeAnswer::Done(mode) => mode,
+        LoopModeAnswer::Refused => LoopMode::PingPong,
     }
 }
 
 fn note_off(index: u8) -> NoteOffBehaviour
     ensures { λ r. ⌜ r ≡ noteOffOf index ⌝ }
 {
-    match index {
-        0 => NoteOffBehaviour::Decay,
-        1 => NoteOffBehaviour::ZeroCrossing,
-        _ => NoteOffBehaviour::DecayAndZeroCrossing,
+    match NoteOffBehaviour::from_index(index as usize) {
+        NoteOffBehaviourAnswer::Done(behaviour) => behaviour,
+        NoteOffBehaviourAnswer::Refused => NoteOffBehaviour::DecayAndZeroCrossing,
     }
 }
 
