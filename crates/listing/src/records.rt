@@ -82,7 +82,7 @@ pub fn read_header(bytes: &[u8]) -> Opening
     }
 }
 
-// How many bytes a record has after the two of its length. A length that no kind has is answered 0, and such a record is bad.
+// How many bytes to read after the two of a record's length. One above 45, which no kind has, is answered 0: such a record is bad as it stands.
 pub fn rest(bytes: &[u8]) -> usize
     ensures { λ r. ⌜ r ≡ restOf (now (bytes .entry)) ⌝ }
     ensures { λ r. ⌜ r ≤ 45 ⌝ }
