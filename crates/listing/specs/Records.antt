@@ -7,14 +7,17 @@ use lib.Dec.{eqb, leb}
 use lib.ListN.{length, getD}
 use lib.Ieee.{Float}
 use Rattle.binary32.specs.Leaves.{floatOf}
+use Rattle.common_types.specs.Modes.{loopModeFromIndexOf, noteOffFromIndexOf}
 use Rattle.common_types.specs.Notes.{noteOf}
 use Rattle.common_types.specs.declared.Note.{Note}
 use Rattle.common_types.specs.declared.Params.{Params}
 use Rattle.common_types.specs.declared.Transport.{Transport}
 use Rattle.common_types.specs.declared.LoopMode.{LoopMode}
-use Rattle.common_types.specs.declared.LoopMode.the-variants.{PlayOnce, Loop, PingPong}
+use Rattle.common_types.specs.declared.LoopMode.the-variants.{PingPong}
+use Rattle.common_types.specs.declared.LoopModeAnswer.the-variants as loop-mode
 use Rattle.common_types.specs.declared.NoteOffBehaviour.{NoteOffBehaviour}
-use Rattle.common_types.specs.declared.NoteOffBehaviour.the-variants.{Decay, ZeroCrossing, DecayAndZeroCrossing}
+use Rattle.common_types.specs.declared.NoteOffBehaviour.the-variants.{DecayAndZeroCrossing}
+use Rattle.common_types.specs.declared.NoteOffBehaviourAnswer.the-variants as note-off
 use Rattle.common_types.specs.declared.time_value.TimeValue.the-variants.{QuarterNotes, Samples, Seconds, Bars}
 use Rattle.common_types.specs.declared.time_value.TimeOrRatio.{TimeOrRatio}
 use Rattle.common_types.specs.declared.time_value.TimeOrRatio.the-variants.{Time, Ratio}
@@ -78,12 +81,12 @@ goodRecord h r =
 abbrev pub noteAt : List ℕ → Note
 noteAt r = noteOf (byteAt r 3) (byteAt r 4)
 
--- the modes by their index: the last is what is left
+-- the modes by their index, as the engine numbers them; for one that it refuses, the last
 unfoldable pub loopModeOf : ℕ → LoopMode
-loopModeOf index = getD (PlayOnce ∷ Loop ∷ []) index PingPong
+loopModeOf index = elim (loopModeFromIndexOf index) [ loop-mode.Done mode ↦ mode | loop-mode.Refused ↦ PingPong ]
 
 unfoldable pub noteOffOf : ℕ → NoteOffBehaviour
-noteOffOf index = getD (Decay ∷ ZeroCrossing ∷ []) index DecayAndZeroCrossing
+noteOffOf index = elim (noteOffFromIndexOf index) [ note-off.Done behaviour ↦ behaviour | note-off.Refused ↦ DecayAndZeroCrossing ]
 
 -- length kinds 0 to 3; 4 is the ratio
 abbrev pub times : Float → List TimeOrRatio

@@ -7,8 +7,10 @@ use crate::fields::float_at;
 use crate::fields::half_at;
 use crate::fields::word_at;
 use common_types::LoopMode;
+use common_types::LoopModeAnswer;
 use common_types::Note;
 use common_types::NoteOffBehaviour;
+use common_types::NoteOffBehaviourAnswer;
 use common_types::Params;
 use common_types::Transport;
 use common_types::time_value::TimeOrRatio;
@@ -80,7 +82,7 @@ pub fn read_header(bytes: &[u8]) -> Opening
     }
 }
 
-// How many bytes a record has after the two of its length. A length that no kind has is answered 0, and such a record is bad.
+// How many bytes to read after the two of a record's length. One above 45, which no kind has, is answered 0: such a record is bad as it stands.
 pub fn rest(bytes: &[u8]) -> usize
     ensures { λ r. ⌜ r ≡ restOf (now (bytes .entry)) ⌝ }
     ensures { λ r. ⌜ r ≤ 45 ⌝ }
@@ -123,20 +125,18 @@ fn good_record(h: Header, r: &[u8]) -> bool
 fn loop_mode(index: u8) -> LoopMode
     ensures { λ r. ⌜ r ≡ loopModeOf index ⌝ }
 {
-    match index {
-        0 => LoopMode::PlayOnce,
-        1 => LoopMode::Loop,
-        _ => LoopMode::PingPong,
+    match LoopMode::from_index(index as usize) {
+        LoopModeAnswer::Done(mode) => mode,
+        LoopModeAnswer::Refused => LoopMode::PingPong,
     }
 }
 
 fn note_off(index: u8) -> NoteOffBehaviour
     ensures { λ r. ⌜ r ≡ noteOffOf index ⌝ }
 {
-    match index {
-        0 => NoteOffBehaviour::Decay,
-        1 => NoteOffBehaviour::ZeroCrossing,
-        _ => NoteOffBehaviour::DecayAndZeroCrossing,
+    match NoteOffBehaviour::from_index(index as usize) {
+        NoteOffBehaviourAnswer::Done(behaviour) => behaviour,
+        NoteOffBehaviourAnswer::Refused => NoteOffBehaviour::DecayAndZeroCrossing,
     }
 }
 

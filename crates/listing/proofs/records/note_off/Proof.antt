@@ -1,24 +1,26 @@
 -- `note_off` meets its contract. Assumes nothing.
-use mathlib.Core.Path.{sym}
-use native.Mathlib.Omega.{arith}
-use mathlib.Core.List.{[], _∷_}
-use Rattle.common_types.specs.declared.NoteOffBehaviour.the-variants.{Decay, ZeroCrossing, DecayAndZeroCrossing}
-use lib.ListN.{List·getD-eq-default}
 use Rattle.listing.specs.Records.{noteOffOf}
+use borrow.Author.Needs.{needs}
 use Rattle.listing.proofs.records.note_off.Statement.{statement}
 use Rattle.listing.proofs.records.note_off.Tie as tie
 
+from-index-requires : tie.Need-from-index-requires
+from-index-requires c κs = search needs
+
+enum-known-behaviour : tie.Need-enum-known-behaviour
+enum-known-behaviour c = search needs
+
+enum-told : tie.Need-enum-told
+enum-told c = search needs
+
 returns : tie.Need-returns
 unfolding noteOffOf
-returns c = rw (c .match .keys1)
+returns c = simp (← (c .before .before .before .from-index .ensures), c .before .behaviour .given .1)
 
 returns-2 : tie.Need-returns-2
 unfolding noteOffOf
-returns-2 c = rw (c .match .keys2)
-
-returns-3 : tie.Need-returns-3
-unfolding noteOffOf
-returns-3 c = sym (List·getD-eq-default (Decay ∷ ZeroCrossing ∷ []) DecayAndZeroCrossing {n = c .before .args .index} (omega (arith, c .match .rest .0 .1, c .match .rest .1)))
+returns-2 c = simp (← (c .before .before .from-index .ensures), c .enum-told .given .1)
 
 pub note-off-spec : {M : Type 1} → statement M
-note-off-spec = tie.close (tie.spec returns returns-2 returns-3)
+note-off-spec =
+    tie.close (tie.spec from-index-requires enum-known-behaviour enum-told returns returns-2)
