@@ -38,6 +38,10 @@ unfoldable pub rampOf : Volume → ℕ → Params → Bool → Volume
 rampOf v now p true = towardOf v now (p .«attack_samples») one32
 rampOf v now p false = towardOf v now (p .«decay_samples») zero32
 
+-- the level once it is known whether the input is to pass
+unfoldable pub passedOf : Volume → ℕ → Params → Bool → Bool → Volume
+passedOf v now p wanted on = cond (Bool·beq wanted on) v (rampOf v now p wanted)
+
 unfoldable pub passthruOf : Params → Bool → Head → Head
 passthruOf p unfinished h =
     let on = passesOf p unfinished in

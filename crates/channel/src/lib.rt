@@ -8,7 +8,7 @@ ghost use Rattle.binary32.specs.Leaves.{bitsOf};
 ghost use Rattle.clip.specs.Positions.{zero32, one32};
 ghost use Rattle.recorder.specs.Recording.{recordedOf, dataAfter};
 ghost use Rattle.voice.specs.Voices.{shouldRemoveOf};
-ghost use Rattle.channel.specs.Heads.{nextTime, headOf, withRecorded, withPassthru, rampOf, passthruOf, mixedOf, closedOf, goodHead};
+ghost use Rattle.channel.specs.Heads.{nextTime, headOf, withRecorded, withPassthru, rampOf, passesOf, passedOf, passthruOf, mixedOf, closedOf, goodHead};
 ghost use Rattle.channel.specs.Channels.{
   sameNote,
   anyUnfinishedOf,
@@ -157,7 +157,7 @@ impl Head {
     fn handle_passthru(self, params: Params, unfinished: bool) -> Self
         ensures { λ r. ⌜ r ≡ passthruOf params unfinished self ⌝ }
     {
-        let wanted = params.auto_passthru & !unfinished;
+        let wanted = passes(params, unfinished);
         if wanted == self.passthru_on {
             return self;
         }
@@ -169,11 +169,17 @@ impl Head {
     pub fn closed(self, params: Params, unfinished: bool) -> Self
         ensures { λ r. ⌜ r ≡ closedOf params unfinished self ⌝ }
     {
+        let wanted = passes(params, unfinished);
         let volume = self.passthru_volume;
-        let stepped = self.with_passthru(self.passthru_on, volume.stepped(self.now));
-        let mut head = stepped.handle_passthru(params, unfinished);
-        head.now = next_time(head.now);
-        head
+        let recorder = self.recorder;
+        let stepped = volume.stepped(self.now);
+        Self {
+            now: next_time(self.now),
+            data_len: self.data_len,
+            passthru_volume: passed(stepped, self.now, params, wanted, self.passthru_on),
+            recorder,
+            passthru_on: wanted,
+        }
     }
 
     pub fn good(self, capacity: usize) -> bool
@@ -189,6 +195,23 @@ impl Head {
         let recorder = self.recorder;
         recorder.good(self.data_len, capacity)
     }
+}
+
+fn passes(params: Params, unfinished: bool) -> bool
+    ensures { λ r. ⌜ r ≡ passesOf params unfinished ⌝ }
+{
+    params.auto_passthru & !unfinished
+}
+
+// The level once it is known whether the input is to pass: a change begins a ramp. Only the end of a sample asks here, so that the common
+// case, no change, is compiled into it.
+fn passed(volume: Volume, now: usize, params: Params, wanted: bool, on: bool) -> Volume
+    ensures { λ r. ⌜ r ≡ passedOf volume now params wanted on ⌝ }
+{
+    if wanted == on {
+        return volume;
+    }
+    ramp(volume, now, params, wanted)
 }
 
 fn ramp(volume: Volume, now: usize, params: Params, wanted: bool) -> Volume

@@ -17,27 +17,28 @@ use Rattle.voice.specs.Voices.{tickOf}
 use Rattle.channel.specs.declared.Head.{Head}
 use Rattle.channel.specs.declared.Channel.{Channel}
 use Rattle.channel.specs.declared.Played.{Played}
-use Rattle.channel.specs.Channels.{withVoices, live, playedOf, playedIfOf}
+use Rattle.channel.specs.Heads.{mixedOf, closedOf}
+use Rattle.channel.specs.Channels.{withHead, withVoices, anyUnfinishedOf, playedOf, playedIfOf}
 use Rattle.channel.proofs.Turns.{restOf, rest-start, rest-end}
-use Rattle.in_place.specs.Turns.{turnsOf, begunOf, countedOf}
+use Rattle.in_place.specs.Turns.{unusedTick, turnsOf, begunOf, countedOf, playedBy}
 
-pub turns-few : (p : Params) (h : Head) (count : ℕ) → begunOf p h count .turns ≤ 32
+pub turns-few : (p : Params) (time len count : ℕ) → begunOf p time len count .turns ≤ 32
 unfolding begunOf turnsOf
-turns-few p h count = go (eqb (h .«data_len») 0)
+turns-few p time len count = go (eqb len 0)
   where
     go : (z : Bool) → cond z 0 (min count 32) ≤ 32
     go true = omega arith
     go false = omega arith
 
-module _ (p : Params) (ms : List ℕ) (h : Channel) (all : length (h .voices) ≡ 32) where
+module _ (p : Params) (time len : ℕ) (ms : List ℕ) (h : Channel) (all : length (h .voices) ≡ 32) where
   abbrev t : Tick
-  t = begunOf p (h .head) (h .count) .tick
+  t = begunOf p time len (h .count) .tick
 
   abbrev n : ℕ
-  n = begunOf p (h .head) (h .count) .turns
+  n = begunOf p time len (h .count) .turns
 
   pub begins-there : Walk (restOf t ms h 0 zero32 (take n (h .voices))) (restOf t ms (withVoices (h .voices) (h .count) h) 0 zero32) (h .voices) n 0
-  begins-there = record { upto = zero-le; within = omega (arith, turns-few p (h .head) (h .count), all); same = refl }
+  begins-there = record { upto = zero-le; within = omega (arith, turns-few p time len (h .count), all); same = refl }
 
   -- what the loop leaves, with k voices kept and `out` heard
   module _ (l : List Voice) (k : ℕ) (out : Float) where
@@ -65,13 +66,44 @@ module _ (p : Params) (ms : List ℕ) (h : Channel) (all : length (h .voices) �
     ended-at u true e = ap (λ (r : Played). record { channel = withVoices (r .channel .voices) (h .count) h; output = r .output }) (none-taken u e)
     ended-at u false e = ap left (count-stays u e) ∙ e ∙ ap (restOf u ms h 0 zero32) (take-most (h .voices) (h .count) 32 all) ∙ rest-start u ms h
 
-    module _ (e : restOf t ms (withVoices l (h .count) h) k out [] ≡ restOf t ms h 0 zero32 (take n (h .voices))) where
-      ended : left (countedOf n k (h .count)) ≡ playedIfOf p ms h
-      unfolding playedIfOf begunOf turnsOf
-      ended = ended-at (tickOf p (h .head .now) (h .head .«data_len»)) (eqb (h .head .«data_len») 0) (sym (rest-end t ms (withVoices l (h .count) h) k out) ∙ e)
+    -- what no turn sees doesn't matter
+    rest-same : (u v : Tick) (m : ℕ) → m ≡ 0 → restOf u ms h 0 zero32 (take m (h .voices)) ≡ restOf v ms h 0 zero32 (take m (h .voices))
+    rest-same u v m e = ap (λ (j : ℕ). restOf u ms h 0 zero32 (take j (h .voices))) e ∙ rest-end u ms h 0 zero32 ∙ sym (rest-end v ms h 0 zero32) ∙ ap (λ (j : ℕ). restOf v ms h 0 zero32 (take j (h .voices))) (sym e)
 
-      pub ended-output : out ≡ playedIfOf p ms h .output
+    by-tick : (u v : Tick) (m : ℕ) (z : Bool) → eqb m 0 ≡ z → restOf (cond z u v) ms h 0 zero32 (take m (h .voices)) ≡ restOf v ms h 0 zero32 (take m (h .voices))
+    by-tick u v m true f = rest-same u v m (eqb-true m 0 f)
+    by-tick u v m false f = refl
+
+    module _ (e : restOf t ms (withVoices l (h .count) h) k out [] ≡ restOf t ms h 0 zero32 (take n (h .voices))) where
+      ended : left (countedOf n k (h .count)) ≡ playedBy p time len ms h
+      unfolding playedBy begunOf turnsOf
+      ended =
+          let v = tickOf p time len in
+          ended-at v (eqb len 0) (sym (rest-end t ms (withVoices l (h .count) h) k out) ∙ e ∙ by-tick unusedTick v n (eqb n 0) refl)
+
+      pub ended-output : out ≡ playedBy p time len ms h .output
       ended-output = ap (λ (r : Played). r .output) ended
 
-      pub ended-channel : withVoices l (countedOf n k (h .count)) h ≡ playedIfOf p ms h .channel
+      pub ended-channel : withVoices l (countedOf n k (h .count)) h ≡ playedBy p time len ms h .channel
       ended-channel = ap (λ (r : Played). r .channel) ended
+
+-- ---- a sample, once it is recorded: the voices play whatever head stands in the channel, which is overwritten at the end
+module _ (p : Params) (time len : ℕ) (m : List ℕ) (t : Head) (c : Channel) where
+  other-head : record { channel = withHead t (playedBy p time len m c .channel); output = playedBy p time len m c .output } ≡ playedBy p time len m (withHead t c)
+  unfolding playedBy playedOf
+  other-head = go (eqb len 0)
+    where
+      go : (z : Bool) → record {
+        channel = withHead t (cond z (record { channel = c; output = zero32 }) (playedOf (tickOf p time len) m c) .channel);
+        output = cond z (record { channel = c; output = zero32 }) (playedOf (tickOf p time len) m c) .output;
+      }
+          ≡ cond z (record { channel = withHead t c; output = zero32 }) (playedOf (tickOf p time len) m (withHead t c))
+      go true = refl
+      go false = refl
+
+abbrev closing : Params → Float → Head → Played → Played
+closing p x t r = record { channel = withHead (closedOf p (anyUnfinishedOf (r .channel)) t) (r .channel); output = mixedOf x (r .output) t }
+
+pub sample-by : (p : Params) (x : Float) (t : Head) (m : List ℕ) (c : Channel) → closing p x t (playedBy p (t .now) (t .«data_len») m c) ≡ closing p x t (playedIfOf p m (withHead t c))
+unfolding playedIfOf playedBy anyUnfinishedOf
+sample-by p x t m c = ap (closing p x t) (other-head p (t .now) (t .«data_len») m t c)

@@ -1,10 +1,12 @@
 // One channel's sample in place: the channel is lent, and its voices are moved one at a time, so that no channel is copied. Each function
 // equals the same definition as that of crate `channel` by value. Those that take a channel lent are proved by hand.
 ghost use mathlib.Core.Path.{_≡_};
-ghost use Rattle.channel.specs.Channels.{anyUnfinishedOf, playedIfOf, memoryOf, processSampleOf, goodChannel};
-ghost use Rattle.in_place.specs.Turns.{begunOf, countedOf, headGoodOf};
+ghost use Rattle.channel.specs.Channels.{anyUnfinishedOf, memoryOf, processSampleOf, goodChannel};
+ghost use Rattle.in_place.specs.Turns.{unusedTick, turnsOf, begunOf, countedOf, playedBy, headGoodOf};
 use channel::Channel;
 use channel::Head;
+use clip::Mode;
+use common_types::NoteOffBehaviour;
 use common_types::Params;
 use voice::Tick;
 
@@ -14,17 +16,46 @@ pub struct Start {
     pub turns: usize,
 }
 
-// With an empty recording no voice takes a turn.
-fn begun(head: Head, count: usize, params: Params) -> Start
-    ensures { λ r. ⌜ r ≡ begunOf params head count ⌝ }
+// What stands where no voice takes a turn: no voice sees it, and nothing is worked out for it.
+fn unused() -> Tick
+    ensures { λ r. ⌜ r ≡ unusedTick ⌝ }
 {
-    let tick = Tick::new(params, head.now, head.data_len);
-    if head.data_len == 0 {
-        return Start { tick, turns: 0 };
+    Tick {
+        now: 0,
+        decay_samples: 0,
+        length: 0.0,
+        whole_length: 0.0,
+        data_length: 0.0,
+        speed: 0.0,
+        mode: Mode::Loop,
+        once: false,
+        note_off_behavior: NoteOffBehaviour::Decay,
+    }
+}
+
+// With an empty recording no voice takes a turn.
+fn turns_of(data_len: usize, count: usize) -> usize
+    ensures { λ r. ⌜ r ≡ turnsOf «data_len» count ⌝ }
+{
+    if data_len == 0 {
+        return 0;
+    }
+    channel::places(count)
+}
+
+fn begun(time: usize, data_len: usize, count: usize, params: Params) -> Start
+    ensures { λ r. ⌜ r ≡ begunOf params time «data_len» count ⌝ }
+{
+    let turns = turns_of(data_len, count);
+    if turns == 0 {
+        return Start {
+            tick: unused(),
+            turns,
+        };
     }
     Start {
-        tick,
-        turns: channel::places(count),
+        tick: Tick::new(params, time, data_len),
+        turns,
     }
 }
 
@@ -73,12 +104,13 @@ pub fn any_unfinished(c: &Channel) -> bool
     found
 }
 
-// Each voice takes its turn if the recording isn't empty; those that are then to be removed leave, and the others move up in order.
-pub fn play(c: &mut Channel, params: Params, data: &[u32]) -> f32
-    ensures { λ r. ⌜ (r ≡ playedIfOf params (now («data» .entry)) (now (c .entry)) .output)
-        × (now (c .exit) ≡ playedIfOf params (now («data» .entry)) (now (c .entry)) .channel) ⌝ }
+// Each voice takes its turn if the recording isn't empty; those that are then to be removed leave, and the others move up in order. The
+// clock and the recording's length are those that the head will have: it is stored once, at the sample's end.
+fn play(c: &mut Channel, time: usize, data_len: usize, params: Params, data: &[u32]) -> f32
+    ensures { λ r. ⌜ (r ≡ playedBy params time «data_len» (now («data» .entry)) (now (c .entry)) .output)
+        × (now (c .exit) ≡ playedBy params time «data_len» (now («data» .entry)) (now (c .entry)) .channel) ⌝ }
 {
-    let b = begun(c.head, c.count, params);
+    let b = begun(time, data_len, c.count, params);
     let t = b.tick;
     let n = b.turns;
     let mut output = 0.0;
@@ -106,8 +138,7 @@ pub fn process_sample(c: &mut Channel, params: Params, input: f32, data: &mut [u
 {
     let head = c.head;
     let recorded = head.recorded(input, data);
-    c.head = recorded;
-    let played = play(c, params, data);
+    let played = play(c, recorded.now, recorded.data_len, params, data);
     let unfinished = any_unfinished(c);
     c.head = recorded.closed(params, unfinished);
     recorded.mixed(input, played)

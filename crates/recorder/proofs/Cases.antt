@@ -1,5 +1,5 @@
 -- What each call does in each state of the recorder. Assumes nothing.
-use mathlib.Core.Path.{_≡_, refl, sym}
+use mathlib.Core.Path.{_≡_, refl, sym, ap, _∙_}
 use mathlib.Core.Bool.{Bool, true, false, cond, _&&_}
 use mathlib.Core.List.{List}
 use Prim.Native.Nat.{ℕ, _+_, max, min, _≤_, _<_}
@@ -41,6 +41,11 @@ module _ (r : Recorder) (idle : r .state ≡ Idle) where
   pub sample-idle : (len capacity : ℕ) → recordedOf r len capacity ≡ record { recorder = r; «data_len» = len }
   unfolding recordedOf
   sample-idle len capacity = simp (idle, recordedOf)
+
+  -- an idle recorder, made anew of its parts
+  pub sample-anew : (len capacity : ℕ) → record { recorder = inState Idle r; «data_len» = len } ≡ recordedOf r len capacity
+  unfolding inState
+  sample-anew len capacity = ap (λ (s : State). record { recorder = inState s r; «data_len» = len }) (sym idle) ∙ sym (sample-idle len capacity)
 
   pub memory-idle : (x : ℕ) (mem : List ℕ) → dataAfter r x mem ≡ mem
   unfolding dataAfter

@@ -134,7 +134,11 @@ impl Recorder {
         let state = self.state;
         let State::Triggered { write } = state else {
             return Recorded {
-                recorder: self,
+                recorder: Recorder {
+                    state: State::Idle,
+                    skipped_samples: self.skipped_samples,
+                    incorrect_state: self.incorrect_state,
+                },
                 data_len,
             };
         };

@@ -4,3 +4,4 @@ pub mod Each
 pub mod Inside
 pub mod Shared
 pub mod Again
+pub mod Rounds

@@ -1,23 +1,26 @@
--- `begun` meets its contract: its test is that of `turnsOf`. Assumes nothing.
+-- `begun` meets its contract: its test is that of `begunOf`. Assumes nothing.
 use borrow.Author.Needs.{needs}
 use borrow.Author.Tests.{eq-eqb, ne-eqb}
-use Rattle.in_place.specs.Turns.{turnsOf, begunOf}
+use Rattle.in_place.specs.Turns.{begunOf}
 use Rattle.in_place.proofs.begun.Statement.{statement}
 use Rattle.in_place.proofs.begun.Tie as tie
+
+turns-of-requires : tie.Need-turns-of-requires
+turns-of-requires c κs = search needs
+
+unused-requires : tie.Need-unused-requires
+unused-requires c κs = search needs
+
+returns : tie.Need-returns
+unfolding begunOf
+returns c = simp (c .unused .ensures, ← (c .before .before .turns-of .ensures), eq-eqb _ _ (c .before .if1 .taken))
 
 new-requires : tie.Need-new-requires
 new-requires c κs = search needs
 
-returns : tie.Need-returns
-unfolding begunOf turnsOf
-returns c = simp (c .before .before .new .ensures, eq-eqb _ _ (c .if1 .taken))
-
-places-requires : tie.Need-places-requires
-places-requires c κs = search needs
-
 returns-2 : tie.Need-returns-2
-unfolding begunOf turnsOf
-returns-2 c = simp (c .before .before .before .new .ensures, ne-eqb _ _ (c .before .if1 .left), c .places .ensures)
+unfolding begunOf
+returns-2 c = simp (c .new .ensures, ← (c .before .before .turns-of .ensures), ne-eqb _ _ (c .before .if1 .left))
 
 pub begun-spec : {M : Type 1} → statement M
-begun-spec = tie.close (tie.spec new-requires returns places-requires returns-2)
+begun-spec = tie.close (tie.spec turns-of-requires unused-requires returns new-requires returns-2)

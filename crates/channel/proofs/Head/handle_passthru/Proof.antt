@@ -4,9 +4,12 @@ use borrow.Author.Needs.{needs}
 use Rattle.channel.proofs.Head.handle_passthru.Statement.{statement}
 use Rattle.channel.proofs.Head.handle_passthru.Tie as tie
 
+passes-requires : tie.Need-passes-requires
+passes-requires c κs = search needs
+
 returns : tie.Need-returns
 unfolding passthruOf
-returns c = simp (c .if1 .taken)
+returns c = simp (← (c .before .before .passes .ensures), c .if1 .taken)
 
 ramp-requires : tie.Need-ramp-requires
 ramp-requires c κs = search needs
@@ -16,7 +19,7 @@ with-passthru-requires c κs = search needs
 
 returns-2 : tie.Need-returns-2
 unfolding passthruOf
-returns-2 c = simp (c .with-passthru .ensures, c .before .ramp .ensures, c .before .before .if1 .left)
+returns-2 c = simp (c .with-passthru .ensures, c .before .ramp .ensures, ← (c .before .before .before .before .passes .ensures), c .before .before .if1 .left)
 
 pub handle-passthru-spec : {M : Type 1} → statement M
-handle-passthru-spec = tie.close (tie.spec returns ramp-requires with-passthru-requires returns-2)
+handle-passthru-spec = tie.close (tie.spec passes-requires returns ramp-requires with-passthru-requires returns-2)

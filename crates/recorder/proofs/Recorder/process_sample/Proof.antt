@@ -2,6 +2,7 @@
 use borrow.Author.Tests.{lt-ltb, le-ltb}
 use borrow.Author.Needs.{needs}
 use Rattle.recorder.specs.Recording.{recordedOf, dataAfter, inState, skippedOf}
+use Rattle.recorder.proofs.Cases.{sample-anew}
 use Rattle.recorder.proofs.Recorder.process_sample.Statement.{statement}
 use Rattle.recorder.proofs.Recorder.process_sample.Tie as tie
 
@@ -12,8 +13,8 @@ enum-told : tie.Need-enum-told
 enum-told c = search needs
 
 returns : tie.Need-returns
-unfolding recordedOf dataAfter
-returns c = (simp (c .enum-told .given .1), simp (c .enum-told .given .1))
+unfolding inState dataAfter
+returns c = (sample-anew _ (c .enum-told .given .1) _ _, simp (c .enum-told .given .1))
 
 raised-count-requires : tie.Need-raised-count-requires
 raised-count-requires c κs = search needs
@@ -30,8 +31,8 @@ mul-data c = search needs
 slice-write-data : tie.Need-slice-write-data
 slice-write-data c = search needs
 
-add-t7 : tie.Need-add-t7
-add-t7 c = search needs
+add-t9 : tie.Need-add-t9
+add-t9 c = search needs
 
 add-larger : tie.Need-add-larger
 add-larger c = search needs
@@ -59,7 +60,7 @@ process-sample-spec =
     returns-2
     mul-data
     slice-write-data
-    add-t7
+    add-t9
     add-larger
     larger-requires
     same-length
