@@ -71,7 +71,7 @@ use Rattle.channel.proofs.places.Symbol.{name as #channel·places}
 use Rattle.channel.proofs.places.Met as places-thm
 use Rattle.in_place.specs.Turns.{headGoodOf}
 use Rattle.in_place.proofs.Lists.{holds, fails, one-more, and-true, and-assoc, every-next}
-use Rattle.in_place.proofs.Places.{cv, vv, ev, spot, places-are, reads-voice}
+use Rattle.in_place.proofs.Places.{Places, to-places, goes-places, places-of, cv, vv, ev, spot, places-are, reads-voice}
 use Rattle.in_place.proofs.head_good as head-good
 use Rattle.in_place.proofs.head_good.Symbol as head-good-def
 use Rattle.in_place.proofs.head_good.Symbol.{name as #in-place·head-good}
@@ -107,9 +107,6 @@ abbrev stayed : Stays (good.ended .signature .params) (good.ended .kept)
 stayed = (stay-none-ref (0 ∷ []) tt (plain (λ _. C.the-row)) yes, (stay-none (λ _. usize) yes, tt))
 
 module _ {M : Type 1} (𝓤 : URA M) (H : Heap 𝓤) (A : Atoms 𝓤) (mem : Memory → SProp 𝓤) (run : Routine → Fun 𝓤) where
-  abbrev Places : Contract 𝓤
-  Places = tripleOf 𝓤 H A places.signature (places.spec 𝓤 H A mem run)
-
   abbrev HeadGood : Contract 𝓤
   HeadGood = tripleOf 𝓤 H A head-good.signature (head-good.spec 𝓤 H A mem run)
 
@@ -153,16 +150,6 @@ module _ {M : Type 1} (𝓤 : URA M) (H : Heap 𝓤) (A : Atoms 𝓤) (W : Given
       owned ! bool (Is bool) (bool-makes 𝓤 H A W) (ok n) _ refl $ done !
 
   -- ---- the calls
-  abbrev to-places : Places 𝓤 H A at-mem run .Ghost
-  to-places = ((tt, tt, tt, (h .count, tt), (vint w64 (h .count) ∷ [], tt)), tt)
-
-  goes-places : h .count < 2 ^ 64 → ent 𝓤 (sem 𝓤 H A ftrue) (Places 𝓤 H A at-mem run .pre to-places)
-  goes-places fits =
-      qed W (‵ ftrue ∷ []) ∵ nothing ! $ owned ! usize (Is usize) (uint-makes 𝓤 H A W w64) (h .count) _ (refl, fits) $ fjoin ! $ move ! (1 ∷ 0 ∷ []) $ join ! $ nothing ! $ move ! (1 ∷ 0 ∷ []) $ join ! $ done !
-
-  places-of : (r : ℕ) → ent 𝓤 (ensured 𝓤 H A places.ended (places.clauses 𝓤 H A at-mem run) tt (h .count, tt) tt r) (fact 𝓤 (r ≡ n))
-  places-of r = exE 𝓤 _ (λ ws. snd∗ 𝓤 (sem 𝓤 H A (lasts places.ended tt (h .count, tt) ws)) (fact 𝓤 (r ≡ n)))
-
   abbrev to-head-good : HeadGood 𝓤 H A at-mem run .Ghost
   to-head-good = ((tt, tt, tt, (h .head, (h .count, (size, tt))), (ev (h .head) ∷ [], (vint w64 (h .count) ∷ [], (vint w64 size ∷ [], tt)))), tt)
 
@@ -296,10 +283,10 @@ module _ {M : Type 1} (𝓤 : URA M) (H : Heap 𝓤) (A : Atoms 𝓤) (W : Given
       rewrite ! 27 (λ (y : Bool). ‵ (fat fullShare truth l₃ 0 (vbool y))) (e-r ∙ ok-first) refl $
       assigns ! (of-opd ! (load ! (from ! (hop ! (look ! 31 refl) (fld ! refl (fld ! refl (stop !))))) (look-in ! 0 (sub ! 0 refl (sub ! 2 refl (whole !)))))) (from ! (stop !)) (init ! 25 refl (tt, record { fits = (LL.owed E.the-type E′.the-laws (h .head) _ (LL.owed C.the-type C′.the-laws h _ g .1 .1 .0) .0 .1) })) $
       assigns ! (of-opd ! (load ! (from ! (hop ! (look ! 31 refl) (fld ! refl (stop !)))) (look-in ! 0 (sub ! 1 refl (whole !))))) (from ! (stop !)) (store ! 17 refl (tt, record { fits = (LL.owed C.the-type C′.the-laws h _ g .1 .0 .1) })) $
-      nothing ! $ use1 W (raw (Places 𝓤 H A at-mem run .pre to-places)) (goes-places (LL.owed C.the-type C′.the-laws h _ g .1 .0 .1)) $
-      calls-at ! (fmOf 𝓤 H (W .laws) 𝓣) (Places 𝓤 H A at-mem run) known-Places to-places (and-then ! (load ! (from ! (stop !)) (look ! 18 refl)) (no-more !)) (λ w′.
+      nothing ! $ use1 W (raw (Places 𝓤 H A at-mem run .pre (to-places 𝓤 H A W at-mem run (h .count)))) (goes-places 𝓤 H A W at-mem run (h .count) (LL.owed C.the-type C′.the-laws h _ g .1 .0 .1)) $
+      calls-at ! (fmOf 𝓤 H (W .laws) 𝓣) (Places 𝓤 H A at-mem run) known-Places (to-places 𝓤 H A W at-mem run (h .count)) (and-then ! (load ! (from ! (stop !)) (look ! 18 refl)) (no-more !)) (λ w′.
       use1 W (later (some (λ (m : ℕ). (‵ ftrue ⊛ ‵ (usize .own m (w′ ∷ []))) ⊛ raw (ensured 𝓤 H A places.ended (places.clauses 𝓤 H A at-mem run) tt (h .count, tt) tt m)))) (id⊢ 𝓤 _) $ await ! tt $ pick ! (λ m.
-      split ! $ move ! (1 ∷ []) $ use1 W (raw (fact 𝓤 (m ≡ n))) (places-of m) $ heard ! (m ≡ n) (λ e-m. split ! $ drop ! $ peeks ! usize (Is usize) (shows 𝓤 H A usize) m (w′ ∷ []) (λ is′. drop ! $
+      split ! $ move ! (1 ∷ []) $ use1 W (raw (fact 𝓤 (m ≡ n))) (places-of 𝓤 H A W at-mem run (h .count) m) $ heard ! (m ≡ n) (λ e-m. split ! $ drop ! $ peeks ! usize (Is usize) (shows 𝓤 H A usize) m (w′ ∷ []) (λ is′. drop ! $
       land ! (from ! (stop !)) (init ! 23 refl (uint-lawful 𝓤 H A W w64 .typed m _ is′ .0)) $ rewrite ! 23 (λ (u : Val). ‵ (fat fullShare word l₅ 0 u)) (ap only (is′ .0)) refl $
       rewrite ! 23 (λ (j : ℕ). ‵ (fat fullShare word l₅ 0 (vint w64 j))) (e-m) refl $ assigns ! (of-opd ! (lit ! tt)) (from ! (stop !)) (init ! 21 refl (tt, record { fits = lit< tt })) $
       forget ! 19 refl $ forget ! 17 refl $ use2 W (‵ (partAt C.the-row q′ h b o)) (part-in 𝓤 H A W C.the-row refl q′ h b o (cv h)) $
