@@ -1,4 +1,6 @@
-// The sampler's calls on one record that its host lends: over the by-value calls, with the same definitions in their contracts.
+// The sampler's calls on one record that its host lends, with the definitions of the calls by value in their contracts. A frame is played where
+// the record stands. The other calls hand a copy of it to the call by value. What takes a record, a channel or a list of records lent is
+// proved by hand.
 ghost use mathlib.Core.Path.{_≡_};
 ghost use Rattle.sampler.specs.Samplers.{
   startPlayingOf,
@@ -163,6 +165,7 @@ fn fill(list: &mut [VoiceInfo], v: VoiceInfos) -> Counted
     counted(v)
 }
 
+// Writes the figures of each voice to the front of the list.
 pub fn get_voice_info(
     s: &Sampler,
     channel: usize,
@@ -229,6 +232,7 @@ fn number_of(
     first_of(!good, 9, first_of(count < entries, 1, beyond))
 }
 
+// The number of a frame, with no channel copied.
 fn frame_number(s: &Sampler, entries: usize, params: Params, size: usize) -> u8
     ensures { λ r. ⌜ r ≡ frameNumber (now (s .entry)) entries params size ⌝ }
 {
