@@ -114,7 +114,7 @@ fn capacity_of(count: usize, size: usize) -> usize
 }
 
 // Where channel j's part of the memory begins.
-pub fn part_start(j: usize, capacity: usize) -> usize
+fn part_start(j: usize, capacity: usize) -> usize
     requires { ⌜ j < 2 ⌝ }
     ensures { λ r. ⌜ r ≡ j * capacity ⌝ }
 {
