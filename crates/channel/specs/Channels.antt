@@ -13,15 +13,16 @@ use Rattle.common_types.specs.declared.InitParams.{InitParams}
 use Rattle.common_types.specs.declared.Params.{Params}
 use Rattle.common_types.specs.declared.Note.{Note}
 use Rattle.clip.specs.Positions.{zero32, one32}
-use Rattle.recorder.specs.Recording.{startOf, stopOf, recordedOf, dataAfter}
+use Rattle.recorder.specs.Recording.{recordedOf, dataAfter}
 use Rattle.voice.specs.declared.Voice.{Voice}
 use Rattle.voice.specs.declared.Tick.{Tick}
 use Rattle.voice.specs.Voices.{tickOf, shouldRemoveOf, productOf, turnOf, finishOf, freshOf, goodVoice, blankVoice, atSpeedOf}
-use Rattle.channel.specs.Heads.{headOf, withRecorded, passthruOf, mixedOf, closedOf, goodHead}
+use Rattle.channel.specs.Heads.{headOf, headChangedOf, withRecorded, passthruOf, mixedOf, closedOf, goodHead}
 use Rattle.channel.specs.declared.Head.{Head}
 use Rattle.channel.specs.declared.Channel.{Channel}
 use Rattle.channel.specs.declared.Change.{Change}
 use Rattle.channel.specs.declared.Change.the-variants as change
+use Rattle.channel.specs.declared.HeadChange.the-variants.{StartRecording, StopRecording}
 use Rattle.channel.specs.declared.Played.{Played}
 use Rattle.channel.specs.declared.Found.{Found}
 use Rattle.channel.specs.declared.Found.the-variants.{At, Nothing}
@@ -92,11 +93,11 @@ unfoldable pub setNoteSpeedOf : Note → Float → Channel → Channel
 setNoteSpeedOf note speed c = withVoices (sets (c .voices) 0 (map (spedOf note speed) (live c))) (c .count) c
 
 -- ---- recording
-unfoldable pub startRecordingOf : Channel → Channel
-startRecordingOf c = withHead (withRecorded (record { recorder = startOf (c .head .recorder); «data_len» = c .head .«data_len» }) (c .head)) c
+abbrev pub startRecordingOf : Channel → Channel
+startRecordingOf c = withHead (headChangedOf StartRecording (c .head)) c
 
-unfoldable pub stopRecordingOf : Channel → Channel
-stopRecordingOf c = withHead (withRecorded (stopOf (c .head .recorder) (c .head .«data_len»)) (c .head)) c
+abbrev pub stopRecordingOf : Channel → Channel
+stopRecordingOf c = withHead (headChangedOf StopRecording (c .head)) c
 
 -- ---- a sample
 
@@ -145,8 +146,7 @@ unfoldable pub changedOf : Change → Channel → Channel
 changedOf (change.Start p position note velocity) c = startPlayingOf p position note velocity c
 changedOf (change.Stop p note) c = stopPlayingOf p note c
 changedOf (change.Speed note speed) c = setNoteSpeedOf note speed c
-changedOf change.StartRecording c = startRecordingOf c
-changedOf change.StopRecording c = stopRecordingOf c
+changedOf (change.Head d) c = withHead (headChangedOf d (c .head)) c
 changedOf change.Reset c = resetOf c
 
 -- ---- questions

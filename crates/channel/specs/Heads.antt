@@ -9,8 +9,10 @@ use Rattle.volume.specs.declared.Volume.the-variants.{Static}
 use Rattle.volume.specs.Levels.{levelOf, towardOf, steppedOf, goodVolume}
 use Rattle.clip.specs.Positions.{zero32, one32}
 use Rattle.recorder.specs.declared.Recorded.{Recorded}
-use Rattle.recorder.specs.Recording.{newOf, goodRecorder}
+use Rattle.recorder.specs.Recording.{newOf, startOf, stopOf, goodRecorder}
 use Rattle.channel.specs.declared.Head.{Head}
+use Rattle.channel.specs.declared.HeadChange.{HeadChange}
+use Rattle.channel.specs.declared.HeadChange.the-variants.{StartRecording, StopRecording}
 
 -- ---- parts of a head changed
 abbrev pub withRecorded : Recorded → Head → Head
@@ -29,6 +31,11 @@ nextTime now = cond (ltb now lastTime) (now + 1) now
 -- ---- a new head, and what a reset leaves: pass-through at 0 whatever set-up had
 unfoldable pub headOf : Float → Head
 headOf level = record { now = 0; «data_len» = 0; «passthru_volume» = Static level; recorder = newOf; «passthru_on» = false }
+
+-- ---- the changes that touch no voice
+unfoldable pub headChangedOf : HeadChange → Head → Head
+headChangedOf StartRecording h = withRecorded (record { recorder = startOf (h .recorder); «data_len» = h .«data_len» }) h
+headChangedOf StopRecording h = withRecorded (stopOf (h .recorder) (h .«data_len»)) h
 
 -- ---- handle_passthru: the input passes while it is asked for and no voice is unfinished; a change of that begins a ramp
 abbrev pub passesOf : Params → Bool → Bool

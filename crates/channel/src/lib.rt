@@ -8,8 +8,10 @@ ghost use Rattle.binary32.specs.Leaves.{bitsOf};
 ghost use Rattle.clip.specs.Positions.{zero32, one32};
 ghost use Rattle.recorder.specs.Recording.{recordedOf, dataAfter};
 ghost use Rattle.voice.specs.Voices.{shouldRemoveOf};
-ghost use Rattle.channel.specs.Heads.{nextTime, headOf, laterOf, passesOf, withRecorded, withPassthru, rampOf, passthruOf, mixedOf, closedOf, goodHead};
+ghost use Rattle.channel.specs.declared.HeadChange.the-variants.{StartRecording, StopRecording};
+ghost use Rattle.channel.specs.Heads.{nextTime, headOf, headChangedOf, laterOf, passesOf, withRecorded, withPassthru, rampOf, passthruOf, mixedOf, closedOf, goodHead};
 ghost use Rattle.channel.specs.Channels.{
+  withHead,
   sameNote,
   anyUnfinishedOf,
   channelOf,
@@ -90,9 +92,14 @@ pub enum Change {
         note: Note,
         speed: f32,
     },
+    Head(HeadChange),
+    Reset,
+}
+
+// A change that touches no voice.
+pub enum HeadChange {
     StartRecording,
     StopRecording,
-    Reset,
 }
 
 impl Head {
@@ -119,6 +126,32 @@ impl Head {
             passthru_volume: volume.copied(),
             recorder,
             passthru_on: self.passthru_on,
+        }
+    }
+
+    fn start_recording(self) -> Self
+        ensures { λ r. ⌜ r ≡ headChangedOf StartRecording self ⌝ }
+    {
+        let recorder = self.recorder;
+        self.with_recorded(Recorded {
+            recorder: recorder.start(),
+            data_len: self.data_len,
+        })
+    }
+
+    fn stop_recording(self) -> Self
+        ensures { λ r. ⌜ r ≡ headChangedOf StopRecording self ⌝ }
+    {
+        let recorder = self.recorder;
+        self.with_recorded(recorder.stop(self.data_len))
+    }
+
+    fn changed(self, change: HeadChange) -> Self
+        ensures { λ r. ⌜ r ≡ headChangedOf change self ⌝ }
+    {
+        match change {
+            HeadChange::StartRecording => self.start_recording(),
+            HeadChange::StopRecording => self.stop_recording(),
         }
     }
 
@@ -386,25 +419,25 @@ impl Channel {
         self
     }
 
-    pub fn start_recording(mut self) -> Self
-        ensures { λ r. ⌜ r ≡ startRecordingOf self ⌝ }
+    // A change that touches no voice.
+    fn head_changed(mut self, change: HeadChange) -> Self
+        ensures { λ r. ⌜ r ≡ withHead (headChangedOf change (self .head)) self ⌝ }
     {
         let head = self.head;
-        let recorder = head.recorder;
-        self.head = head.with_recorded(Recorded {
-            recorder: recorder.start(),
-            data_len: head.data_len,
-        });
+        self.head = head.changed(change);
         self
     }
 
-    pub fn stop_recording(mut self) -> Self
+    pub fn start_recording(self) -> Self
+        ensures { λ r. ⌜ r ≡ startRecordingOf self ⌝ }
+    {
+        self.head_changed(HeadChange::StartRecording)
+    }
+
+    pub fn stop_recording(self) -> Self
         ensures { λ r. ⌜ r ≡ stopRecordingOf self ⌝ }
     {
-        let head = self.head;
-        let recorder = head.recorder;
-        self.head = head.with_recorded(recorder.stop(head.data_len));
-        self
+        self.head_changed(HeadChange::StopRecording)
     }
 
     // The channel once the sample has been recorded.
@@ -481,8 +514,7 @@ impl Channel {
             } => self.start_playing(params, position, note, velocity),
             Change::Stop { params, note } => self.stop_playing(params, note),
             Change::Speed { note, speed } => self.set_note_speed(note, speed),
-            Change::StartRecording => self.start_recording(),
-            Change::StopRecording => self.stop_recording(),
+            Change::Head(change) => self.head_changed(change),
             Change::Reset => self.reset(),
         }
     }

@@ -22,20 +22,14 @@ enum-known-change-3 c = search needs
 set-note-speed-requires : tie.Need-set-note-speed-requires
 set-note-speed-requires c κs = search needs
 
+enum-known-change-4 : tie.Need-enum-known-change-4
+enum-known-change-4 c = search needs
+
+head-changed-requires : tie.Need-head-changed-requires
+head-changed-requires c κs = search needs
+
 enum-told : tie.Need-enum-told
 enum-told c = search needs
-
-start-recording-requires : tie.Need-start-recording-requires
-start-recording-requires c κs = search needs
-
-enum-told-2 : tie.Need-enum-told-2
-enum-told-2 c = search needs
-
-stop-recording-requires : tie.Need-stop-recording-requires
-stop-recording-requires c κs = search needs
-
-enum-told-3 : tie.Need-enum-told-3
-enum-told-3 c = search needs
 
 reset-requires : tie.Need-reset-requires
 reset-requires c κs = search needs
@@ -54,15 +48,11 @@ returns-3 c = simp (c .set-note-speed .ensures, c .before .before .change3 .give
 
 returns-4 : tie.Need-returns-4
 unfolding changedOf
-returns-4 c = simp (c .start-recording .ensures, c .before .enum-told .given .1)
+returns-4 c = simp (c .head-changed .ensures, c .before .before .change4 .given .1)
 
 returns-5 : tie.Need-returns-5
 unfolding changedOf
-returns-5 c = simp (c .stop-recording .ensures, c .before .enum-told2 .given .1)
-
-returns-6 : tie.Need-returns-6
-unfolding changedOf
-returns-6 c = simp (c .reset .ensures, c .before .enum-told3 .given .1)
+returns-5 c = simp (c .reset .ensures, c .before .enum-told .given .1)
 
 pub changed-spec : {M : Type 1} → statement M
 changed-spec =
@@ -74,15 +64,12 @@ changed-spec =
     stop-playing-requires
     enum-known-change-3
     set-note-speed-requires
+    enum-known-change-4
+    head-changed-requires
     enum-told
-    start-recording-requires
-    enum-told-2
-    stop-recording-requires
-    enum-told-3
     reset-requires
     returns
     returns-2
     returns-3
     returns-4
-    returns-5
-    returns-6)
+    returns-5)

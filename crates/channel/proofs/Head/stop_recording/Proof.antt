@@ -1,8 +1,8 @@
--- `Channel::stop_recording` meets its contract. Assumes nothing.
-use Rattle.channel.specs.Channels.{stopRecordingOf}
+-- `Head::stop_recording` meets its contract. Assumes nothing.
+use Rattle.channel.specs.Heads.{headChangedOf}
 use borrow.Author.Needs.{needs}
-use Rattle.channel.proofs.Channel.stop_recording.Statement.{statement}
-use Rattle.channel.proofs.Channel.stop_recording.Tie as tie
+use Rattle.channel.proofs.Head.stop_recording.Statement.{statement}
+use Rattle.channel.proofs.Head.stop_recording.Tie as tie
 
 stop-requires : tie.Need-stop-requires
 stop-requires c κs = search needs
@@ -11,7 +11,7 @@ with-recorded-requires : tie.Need-with-recorded-requires
 with-recorded-requires c κs = search needs
 
 returns : tie.Need-returns
-unfolding stopRecordingOf
+unfolding headChangedOf
 returns c = simp (c .with-recorded .ensures, c .before .stop .ensures)
 
 pub stop-recording-spec : {M : Type 1} → statement M
