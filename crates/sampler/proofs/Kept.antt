@@ -26,9 +26,9 @@ use Rattle.channel.specs.Channels.{channelOf, changedOf, goodChannel}
 use Rattle.channel.specs.Soundness.{FittingChannel, SoundChannel, FittingChange, SoundChange}
 use Rattle.channel.proofs.Kept.{new-channel-sound, change-sound}
 use Rattle.channel.proofs.Samples.{sample-sound}
-use Rattle.sampler.specs.Refusals.{present, channelAt, goodSizes, goodSampler, badNote, badPosition, startNumber, stopNumber, setUpNumber, sampleNumber, capacityOf}
-use Rattle.sampler.specs.Samplers.{withChannels, samplerOf, setUpOf, eachOf, answerOf, partOf, playedAt, steppedOf, processSampleOf, Framed, entryOf, framedOf}
-use Rattle.sampler.specs.Soundness.{SoundSampler, changeNumber}
+use Rattle.sampler.specs.Refusals.{present, channelAt, goodSizes, goodSampler, badNote, badPosition, startNumber, stopNumber, changeNumber, setUpNumber, sampleNumber, capacityOf}
+use Rattle.sampler.specs.Samplers.{withChannels, samplerOf, setUpOf, eachOf, answerOf, changeOf, partOf, playedAt, steppedOf, processSampleOf, Framed, entryOf, framedOf}
+use Rattle.sampler.specs.Soundness.{SoundSampler}
 use Rattle.sampler.specs.declared.Sampler.{Sampler}
 use Rattle.sampler.proofs.Rows.{passed, is-true, sizes-count}
 use Rattle.sampler.proofs.Entries.{Reaches, sample-reaches, part-length, frame-keeps}
@@ -111,11 +111,10 @@ change-let-through s (change.Stop p note) h f =
     let a = passed (badNote note) 1 _ (passed (not (goodSampler s)) 8 _ h .1) in
     record { within = no (passed (beyondLimits p) 3 _ (a .1) .0); fitting = f }
 change-let-through s (change.Speed note speed) h f = f
-change-let-through s change.StartRecording h f = tt
-change-let-through s change.StopRecording h f = tt
+change-let-through s (change.Head d) h f = tt
 change-let-through s change.Reset h f = tt
 
-pub change-kept : (s : Sampler) → SoundSampler s → (x : Change) → FittingChange x → SoundSampler (answerOf (changeNumber s x) x s .sampler)
+pub change-kept : (s : Sampler) → SoundSampler s → (x : Change) → FittingChange x → SoundSampler (changeOf s x .sampler)
 unfolding answerOf
 change-kept s h x f =
     cond-split SoundSampler (eqb (changeNumber s x) 0) (eachOf x s) s

@@ -15,9 +15,9 @@ use Rattle.binary32.proofs.Truth.{cond-split}
 use Rattle.common_types.specs.Settings.{beyondLimits}
 use Rattle.channel.specs.declared.Change.{Change}
 use Rattle.channel.specs.declared.Change.the-variants as change
-use Rattle.sampler.specs.Refusals.{row, capacityOf, goodSampler, goodWith, noChannel, badNote, badPosition, anyFull, atEnd, channelAt, startNumber, stopNumber, speedNumber, plainNumber, sampleNumber, frameNumber, channelNumber}
+use Rattle.sampler.specs.Refusals.{row, capacityOf, goodSampler, goodWith, noChannel, badNote, badPosition, anyFull, atEnd, channelAt, startNumber, stopNumber, speedNumber, plainNumber, changeNumber, sampleNumber, frameNumber, channelNumber}
 use Rattle.sampler.specs.Samplers.{setUpOf, eachOf, answerOf, steppedOf, processSampleOf, Framed, framed, entryOf}
-use Rattle.sampler.specs.Soundness.{SoundSampler, changeNumber, Reached, Unbroken}
+use Rattle.sampler.specs.Soundness.{SoundSampler, Reached, Unbroken}
 use Rattle.sampler.specs.declared.Sampler.{Sampler}
 use Rattle.sampler.proofs.Rows.{quotient-test}
 use Rattle.sampler.proofs.Entries.{frame-keeps}
@@ -81,8 +81,7 @@ good-unbroken s size h =
         passes (goodSampler s) _ g (another (badNote note) 2 _ tt (another (badPosition position) 3 _ tt (another (beyondLimits p) 4 _ tt (another (anyFull s) 5 0 tt none))))
     of-change g (change.Stop p note) = passes (goodSampler s) _ g (another (badNote note) 2 _ tt (another (beyondLimits p) 4 0 tt none))
     of-change g (change.Speed note speed) = passes (goodSampler s) _ g (another (badNote note) 2 0 tt none)
-    of-change g change.StartRecording = passes (goodSampler s) 0 g none
-    of-change g change.StopRecording = passes (goodSampler s) 0 g none
+    of-change g (change.Head d) = passes (goodSampler s) 0 g none
     of-change g change.Reset = passes (goodSampler s) 0 g none
 
 -- with memory at least as long as set-up's

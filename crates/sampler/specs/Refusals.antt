@@ -10,6 +10,8 @@ use Rattle.clip.specs.Positions.{zero32, one32}
 use Rattle.common_types.specs.declared.Params.{Params}
 use Rattle.common_types.specs.declared.Note.{Note}
 use Rattle.common_types.specs.Settings.{beyondLimits}
+use Rattle.channel.specs.declared.Change.{Change}
+use Rattle.channel.specs.declared.Change.the-variants as change
 use Rattle.channel.specs.declared.Channel.{Channel}
 use Rattle.channel.specs.Heads.{lastTime}
 use Rattle.channel.specs.Channels.{channelOf, fullOf, goodChannel}
@@ -76,6 +78,14 @@ speedNumber s note = row (not (goodSampler s)) 9 (row (badNote note) 2 0)
 -- start and stop of recording, and reset
 unfoldable pub plainNumber : Sampler → ℕ
 plainNumber s = row (not (goodSampler s)) 9 0
+
+-- a call that changes every channel, by its change
+abbrev pub changeNumber : Sampler → Change → ℕ
+changeNumber s (change.Start p position note velocity) = startNumber s position note p
+changeNumber s (change.Stop p note) = stopNumber s note p
+changeNumber s (change.Speed note speed) = speedNumber s note
+changeNumber s (change.Head d) = plainNumber s
+changeNumber s change.Reset = plainNumber s
 
 unfoldable pub sampleNumber : Sampler → ℕ → Params → ℕ → ℕ
 sampleNumber s j p size = row (not (goodWith s size)) 9 (row (noChannel s j) 1 (row (beyondLimits p) 4 (row (atEnd (channelAt s j)) 6 0)))

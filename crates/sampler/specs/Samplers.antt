@@ -13,11 +13,12 @@ use Rattle.common_types.specs.declared.Params.{Params}
 use Rattle.common_types.specs.declared.Note.{Note}
 use Rattle.channel.specs.declared.Change.{Change}
 use Rattle.channel.specs.declared.Change.the-variants as change
+use Rattle.channel.specs.declared.HeadChange.the-variants.{StartRecording, StopRecording}
 use Rattle.channel.specs.declared.Channel.{Channel}
 use Rattle.channel.specs.declared.Played.{Played}
 use Rattle.channel.specs.Channels.{channelOf, changedOf, memoryOf}
 use Rattle.channel.specs.Channels.{processSampleOf as channelSampleOf}
-use Rattle.sampler.specs.Refusals.{present, channelAt, capacityOf, setUpNumber, startNumber, stopNumber, speedNumber, plainNumber, sampleNumber, frameNumber}
+use Rattle.sampler.specs.Refusals.{present, channelAt, capacityOf, setUpNumber, changeNumber, sampleNumber, frameNumber}
 use Rattle.sampler.specs.declared.Sampler.{Sampler}
 use Rattle.sampler.specs.declared.Answer.{Answer}
 use Rattle.sampler.specs.declared.SampleAnswer.{SampleAnswer}
@@ -44,23 +45,27 @@ eachOf change s = withChannels (sets (s .channels) 0 (map (changedOf change) (pr
 unfoldable pub answerOf : ℕ → Change → Sampler → Answer
 answerOf number change s = record { sampler = cond (eqb number 0) (eachOf change s) s; number = number }
 
+-- the call that makes it, under whatever name
+abbrev pub changeOf : Sampler → Change → Answer
+changeOf s change = answerOf (changeNumber s change) change s
+
 abbrev pub startPlayingOf : Sampler → Float → Note → Float → Params → Answer
-startPlayingOf s position note velocity p = answerOf (startNumber s position note p) (change.Start p position note velocity) s
+startPlayingOf s position note velocity p = changeOf s (change.Start p position note velocity)
 
 abbrev pub stopPlayingOf : Sampler → Note → Params → Answer
-stopPlayingOf s note p = answerOf (stopNumber s note p) (change.Stop p note) s
+stopPlayingOf s note p = changeOf s (change.Stop p note)
 
 abbrev pub setNoteSpeedOf : Sampler → Note → Float → Answer
-setNoteSpeedOf s note speed = answerOf (speedNumber s note) (change.Speed note speed) s
+setNoteSpeedOf s note speed = changeOf s (change.Speed note speed)
 
 abbrev pub startRecordingOf : Sampler → Answer
-startRecordingOf s = answerOf (plainNumber s) change.StartRecording s
+startRecordingOf s = changeOf s (change.Head StartRecording)
 
 abbrev pub stopRecordingOf : Sampler → Answer
-stopRecordingOf s = answerOf (plainNumber s) change.StopRecording s
+stopRecordingOf s = changeOf s (change.Head StopRecording)
 
 abbrev pub resetOf : Sampler → Answer
-resetOf s = answerOf (plainNumber s) change.Reset s
+resetOf s = changeOf s change.Reset
 
 -- ---- a sample of one channel
 

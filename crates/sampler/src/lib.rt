@@ -23,6 +23,7 @@ ghost use Rattle.sampler.specs.Refusals.{
   stopNumber,
   speedNumber,
   plainNumber,
+  changeNumber,
   sampleNumber,
   frameNumber,
   channelNumber,
@@ -31,6 +32,7 @@ ghost use Rattle.sampler.specs.Samplers.{
   setUpOf,
   eachOf,
   answerOf,
+  changeOf,
   startPlayingOf,
   stopPlayingOf,
   setNoteSpeedOf,
@@ -51,6 +53,7 @@ ghost use Rattle.sampler.specs.Samplers.{
 };
 use channel::Change;
 use channel::Channel;
+use channel::HeadChange;
 use common_types::InitParams;
 use common_types::Note;
 use common_types::Params;
@@ -307,54 +310,70 @@ impl Sampler {
         )
     }
 
-    pub fn start_playing(self, position: f32, note: Note, velocity: f32, params: Params) -> Answer
-        ensures { λ r. ⌜ r ≡ startPlayingOf self position note velocity params ⌝ }
+    fn change_number(self, change: Change) -> u8
+        ensures { λ r. ⌜ r ≡ changeNumber self change ⌝ }
     {
-        let number = self.start_number(position, note, params);
-        self.answer(
-            number,
+        match change {
             Change::Start {
                 params,
                 position,
                 note,
-                velocity,
-            },
-        )
+                ..
+            } => self.start_number(position, note, params),
+            Change::Stop { params, note } => self.stop_number(note, params),
+            Change::Speed { note, .. } => self.speed_number(note),
+            Change::Head(_) => self.plain_number(),
+            Change::Reset => self.plain_number(),
+        }
+    }
+
+    // The call that makes a change of every channel, all or none. The six below are it under the Rust's names.
+    pub fn changed(self, change: Change) -> Answer
+        ensures { λ r. ⌜ r ≡ changeOf self change ⌝ }
+    {
+        let number = self.change_number(change);
+        self.answer(number, change)
+    }
+
+    pub fn start_playing(self, position: f32, note: Note, velocity: f32, params: Params) -> Answer
+        ensures { λ r. ⌜ r ≡ startPlayingOf self position note velocity params ⌝ }
+    {
+        self.changed(Change::Start {
+            params,
+            position,
+            note,
+            velocity,
+        })
     }
 
     pub fn stop_playing(self, note: Note, params: Params) -> Answer
         ensures { λ r. ⌜ r ≡ stopPlayingOf self note params ⌝ }
     {
-        let number = self.stop_number(note, params);
-        self.answer(number, Change::Stop { params, note })
+        self.changed(Change::Stop { params, note })
     }
 
     pub fn set_note_speed(self, note: Note, speed: f32) -> Answer
         ensures { λ r. ⌜ r ≡ setNoteSpeedOf self note speed ⌝ }
     {
-        let number = self.speed_number(note);
-        self.answer(number, Change::Speed { note, speed })
+        self.changed(Change::Speed { note, speed })
     }
 
     pub fn start_recording(self) -> Answer
         ensures { λ r. ⌜ r ≡ startRecordingOf self ⌝ }
     {
-        let number = self.plain_number();
-        self.answer(number, Change::StartRecording)
+        self.changed(Change::Head(HeadChange::StartRecording))
     }
 
     pub fn stop_recording(self) -> Answer
         ensures { λ r. ⌜ r ≡ stopRecordingOf self ⌝ }
     {
-        let number = self.plain_number();
-        self.answer(number, Change::StopRecording)
+        self.changed(Change::Head(HeadChange::StopRecording))
     }
 
     pub fn reset(self) -> Answer
         ensures { λ r. ⌜ r ≡ resetOf self ⌝ }
     {
-        let number = self.plain_number();
-        self.answer(number, Change::Reset)
+        self.changed(Change::Reset)
     }
 
     // A sample of channel j, on its part of the memory.
