@@ -61,8 +61,7 @@ wait-same (changes (change.Start p position note velocity)) c n v q f = itself v
 wait-same (changes (change.Stop p note)) c n v q f =
     subst (λ (b : Bool). cond b (finishOf (c .head .now) (p .«decay_samples») v) v ≡ atSpeedOf (cond b (finishOf (c .head .now) (p .«decay_samples») v) v .speed) v) (sym f) (itself v)
 wait-same (changes (change.Speed note speed)) c n v q f = sped-same note speed v
-wait-same (changes change.StartRecording) c n v q f = itself v
-wait-same (changes change.StopRecording) c n v q f = itself v
+wait-same (changes (change.Head d)) c n v q f = itself v
 wait-same (changes change.Reset) c n v q f = itself v
 wait-same (sounds p x m) c n v q f = absurd (true≢false q)
 

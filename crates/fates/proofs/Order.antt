@@ -20,8 +20,6 @@ use Rattle.channel.specs.Channels.{
   live,
   findOf,
   spedOf,
-  startRecordingOf,
-  stopRecordingOf,
   resetOf,
   memoryOf,
 }
@@ -91,7 +89,7 @@ left-came t m vs k u h =
 
 pub covered : (e : Event) (c : Channel) → Housed c → (k : ℕ) (u : Voice) → voiceAt (act e c) k ≡ some u
     → Came e c k ⊎ ((k ≡ length (live c)) × (newOf e c ≡ u ∷ []))
-unfolding act follow isReset newOf startRecordingOf stopRecordingOf resetOf
+unfolding act follow isReset newOf resetOf
 covered idle c h k u s = inl (record { place = k; voice = u; stood = s; follows = refl })
 covered (changes (change.Start p position note velocity)) c h k u s =
     go (eqb (c .head .«data_len») 0 || not (ltb (c .count) 32)) (subst (λ (l : List Voice). getElem? l k ≡ some u) (live-started p position note velocity c h) s)
@@ -120,8 +118,7 @@ covered (changes (change.Stop p note)) c h k u s = inl (record { place = k; voic
 covered (changes (change.Speed note speed)) c h k u s =
     let r = look-unmap (spedOf note speed) (live c) k u (subst (λ (l : List Voice). getElem? l k ≡ some u) (live-sped note speed c h) s) in
     inl (record { place = k; voice = r .0; stood = r .1; follows = refl })
-covered (changes change.StartRecording) c h k u s = inl (record { place = k; voice = u; stood = s; follows = refl })
-covered (changes change.StopRecording) c h k u s = inl (record { place = k; voice = u; stood = s; follows = refl })
+covered (changes (change.Head d)) c h k u s = inl (record { place = k; voice = u; stood = s; follows = refl })
 covered (changes change.Reset) c h k u s = absurd (never u s)
 covered (sounds p x m) c h k u s = go (emptyAt m c) refl (subst (λ (l : List Voice). getElem? l k ≡ some u) (live-sounded p x m c h) s)
   where

@@ -71,8 +71,7 @@ stays-one idle c r n v s u f = record { place = n; follows = refl; unfinished = 
 stays-one (changes (change.Start p position note velocity)) c r n v s u f = record { place = n; follows = refl; unfinished = u }
 stays-one (changes (change.Stop p note)) c r n v s u f = record { place = n; follows = refl; unfinished = rw (neither (foundAt (findOf note c) n) false f .0) u }
 stays-one (changes (change.Speed note speed)) c r n v s u f = record { place = n; follows = refl; unfinished = sped-finished note speed v ∙ u }
-stays-one (changes change.StartRecording) c r n v s u f = record { place = n; follows = refl; unfinished = u }
-stays-one (changes change.StopRecording) c r n v s u f = record { place = n; follows = refl; unfinished = u }
+stays-one (changes (change.Head d)) c r n v s u f = record { place = n; follows = refl; unfinished = u }
 stays-one (changes change.Reset) c r n v s u f = absurd (true≢false r)
 stays-one (sounds p x m) c r n v s u f = go (emptyAt m c) refl f
   where

@@ -23,8 +23,6 @@ use Rattle.channel.specs.Channels.{
   findOf,
   stopPlayingOf,
   spedOf,
-  startRecordingOf,
-  stopRecordingOf,
   memoryOf,
 }
 use Rattle.fates.specs.Engine.{begunOf, turnedOf, leavesOf, leftOf}
@@ -88,15 +86,14 @@ left-look t m vs n k v h f = go (leavesOf t (turnedOf t m v)) refl f
 -- ---- every event
 pub tracks : (e : Event) (c : Channel) → Housed c → (n k : ℕ) (v : Voice) → voiceAt c n ≡ some v → follow e c n ≡ at k
     → voiceAt (act e c) k ≡ some (becomes e c n v)
-unfolding act follow isReset becomes startRecordingOf stopRecordingOf
+unfolding act follow isReset becomes
 tracks idle c h n k v s f = rw (← at-same n k f) s
 tracks (changes (change.Start p position note velocity)) c h n k v s f = rw (← at-same n k f) (look-started p position note velocity c h n v s)
 tracks (changes (change.Stop p note)) c h n k v s f = rw (← at-same n k f) (look-stopped p note c h n v s)
 tracks (changes (change.Speed note speed)) c h n k v s f =
     rw (← at-same n k f)
     (subst (λ (l : List Voice). getElem? l n ≡ some (spedOf note speed v)) (sym (live-sped note speed c h)) (look-map (spedOf note speed) (live c) n v s))
-tracks (changes change.StartRecording) c h n k v s f = rw (← at-same n k f) s
-tracks (changes change.StopRecording) c h n k v s f = rw (← at-same n k f) s
+tracks (changes (change.Head d)) c h n k v s f = rw (← at-same n k f) s
 tracks (changes change.Reset) c h n k v s f = absurd (gone-never k f)
 tracks (sounds p x m) c h n k v s f = subst (λ (l : List Voice). getElem? l k ≡ some (becomes (sounds p x m) c n v)) (sym (live-sounded p x m c h)) (go (emptyAt m c) f)
   where

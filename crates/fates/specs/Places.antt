@@ -56,8 +56,7 @@ stops idle c n = false
 stops (changes (change.Start p position note velocity)) c n = false
 stops (changes (change.Stop p note)) c n = foundAt (findOf note c) n
 stops (changes (change.Speed note speed)) c n = false
-stops (changes change.StartRecording) c n = false
-stops (changes change.StopRecording) c n = false
+stops (changes (change.Head d)) c n = false
 stops (changes change.Reset) c n = false
 stops (sounds p x m) c n = false
 
@@ -66,8 +65,7 @@ becomes idle c n v = v
 becomes (changes (change.Start p position note velocity)) c n v = v
 becomes (changes (change.Stop p note)) c n v = cond (foundAt (findOf note c) n) (finishOf (c .head .now) (p .«decay_samples») v) v
 becomes (changes (change.Speed note speed)) c n v = spedOf note speed v
-becomes (changes change.StartRecording) c n v = v
-becomes (changes change.StopRecording) c n v = v
+becomes (changes (change.Head d)) c n v = v
 becomes (changes change.Reset) c n v = v
 becomes (sounds p x m) c n v = cond (emptyAt m c) v (turnedOf (tickAt p m c) (memoryOf x c m) v)
 
@@ -78,8 +76,7 @@ newOf (changes (change.Start p position note velocity)) c =
     cond (eqb (c .head .«data_len») 0 || not (ltb (c .count) 32)) [] (bornOf p position note velocity c ∷ [])
 newOf (changes (change.Stop p note)) c = []
 newOf (changes (change.Speed note speed)) c = []
-newOf (changes change.StartRecording) c = []
-newOf (changes change.StopRecording) c = []
+newOf (changes (change.Head d)) c = []
 newOf (changes change.Reset) c = []
 newOf (sounds p x m) c = []
 
