@@ -27,7 +27,7 @@ use Rattle.sampler.specs.Samplers.{partOf, playedAt, outputOf, processSampleOf,
 use Rattle.sampler.proofs.Rows.{passed, frame-steps}
 use Rattle.sampler.proofs.Entries.{sample-reaches, frame-reaches}
 use Rattle.fates.specs.Events.{idle, changes, sounds}
-use Rattle.promises.specs.Runs.{World, Call, start, stop, speed, startRecording, stopRecording, reset, sample, frame, asks, code, chan, doneTo, event, output, FittingCall}
+use Rattle.promises.specs.Runs.{World, Call, change, start, sample, frame, asks, code, chan, doneTo, event, output, FittingCall}
 use Rattle.fates.proofs.Cases.{neither}
 use Rattle.promises.proofs.Apart.{frame-output}
 use Rattle.promises.proofs.Calls.{Standing}
@@ -177,12 +177,7 @@ module _ (w : World) (st : Standing w) (j : ℕ) (k : j < w .sampler .count) (p 
 
   pub heard : (c : Call) → event w c j ≡ sounds p x m → Heard w c j p x m
   unfolding doneTo
-  heard (start position note velocity q) h = absurd (not-change p x m _ (done p x m w (start position note velocity q) j h))
-  heard (stop note q) h = absurd (not-change p x m _ (done p x m w (stop note q) j h))
-  heard (speed note y) h = absurd (not-change p x m _ (done p x m w (speed note y) j h))
-  heard startRecording h = absurd (not-change p x m _ (done p x m w startRecording j h))
-  heard stopRecording h = absurd (not-change p x m _ (done p x m w stopRecording j h))
-  heard reset h = absurd (not-change p x m _ (done p x m w reset j h))
+  heard (change d) h = absurd (not-change p x m _ (done p x m w (change d) j h))
   heard (sample i y q) h = sample-heard i y q h
   heard (frame xs q) h = frame-heard xs q h
   heard (asks y) h = absurd (not-idle p x m (done p x m w (asks y) j h))

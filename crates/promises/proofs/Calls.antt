@@ -24,7 +24,7 @@ use Rattle.sampler.specs.Samplers.{samplerOf, setUpOf, eachOf, answerOf, partOf
 use Rattle.sampler.proofs.Rows.{sizes-count, frame-steps}
 use Rattle.fates.specs.Events.{idle, changes, sounds, act, acts}
 use Rattle.fates.specs.Places.{Housed}
-use Rattle.promises.specs.Runs.{World, setUp, Call, start, stop, speed, startRecording, stopRecording, reset, sample, frame, asks, questionNumber, code, after, run, chan, doneTo, event, events}
+use Rattle.promises.specs.Runs.{World, setUp, Call, change, sample, frame, asks, questionNumber, code, after, run, chan, doneTo, event, events}
 use Rattle.promises.proofs.Engine.{changes-same, sounds-same}
 use Rattle.fates.proofs.Housing.{housed, housed-new}
 use Rattle.promises.proofs.Apart.{channel-apart, channel-own, frame-channel}
@@ -109,15 +109,10 @@ module _ (w : World) (two : length (w .sampler .channels) ≡ 2) (few : w .sampl
 
   pub chan-after : (c : Call) → chan (after w c) j ≡ act (event w c j) (chan w j)
   unfolding after event code doneTo act
-  chan-after (start position note velocity p) = answer-channel _ _ (w .sampler) two few j h
-  chan-after (stop note p) = answer-channel _ _ (w .sampler) two few j h
-  chan-after (speed note s) = answer-channel _ _ (w .sampler) two few j h
-  chan-after startRecording = answer-channel _ _ (w .sampler) two few j h
-  chan-after stopRecording = answer-channel _ _ (w .sampler) two few j h
-  chan-after reset = answer-channel _ _ (w .sampler) two few j h
+  chan-after (change d) = answer-channel _ _ (w .sampler) two few j h
   chan-after (sample i x p) = sample-channel i x p
   chan-after (frame xs p) = frame-channels xs p
-  chan-after (asks q) = nothing (eqb (questionNumber (w .sampler) q) 0)
+  chan-after (asks q) = nothing (eqb (questionNumber w q) 0)
 
 -- ---- what no call changes
 pub record Kept (s r : Sampler) : Type 0 where
@@ -152,12 +147,7 @@ kept-entries p (suc n) j f =
 
 pub kept : (w : World) (c : Call) → Kept (w .sampler) (after w c .sampler)
 unfolding after processSampleOf framedOf
-kept w (start position note velocity p) = kept-answer _ _ (w .sampler)
-kept w (stop note p) = kept-answer _ _ (w .sampler)
-kept w (speed note s) = kept-answer _ _ (w .sampler)
-kept w startRecording = kept-answer _ _ (w .sampler)
-kept w stopRecording = kept-answer _ _ (w .sampler)
-kept w reset = kept-answer _ _ (w .sampler)
+kept w (change d) = kept-answer _ _ (w .sampler)
 kept w (sample j x p) = kept-if (w .sampler) _ _ (eqb (sampleNumber (w .sampler) j p (length (w .memory))) 0) (kept-step (w .sampler) j p x (w .memory)) (kept-refl (w .sampler))
 kept w (frame xs p) = go (eqb (frameNumber (w .sampler) (length xs) p (length (w .memory))) 0)
   where

@@ -24,7 +24,7 @@ use Rattle.fates.specs.Engine.{bornOf}
 use Rattle.fates.specs.Events.{Event, idle, sounds, act, acts, isReset, isSample, emptyAt, decayOf, lastOf, beforeLast}
 use Rattle.fates.specs.Places.{Housed, voiceAt, Place, at, gone, follow, becomes, newOf, onward, followAll, stoppedIn, finishes}
 use Rattle.fates.specs.Sounding.{Sounds, First}
-use Rattle.promises.specs.Runs.{World, setUp, Call, start, stop, speed, startRecording, stopRecording, reset, sample, frame, asks, code, after, run, chan, doneTo, event, events, isResetCall, output, final, before}
+use Rattle.promises.specs.Runs.{World, setUp, Call, change, start, sample, frame, asks, code, after, run, chan, doneTo, event, events, isResetCall, output, final, before}
 use Rattle.promises.specs.Demands.{isEmpty, Leaves, Demand3}
 use Rattle.fates.proofs.Cases.{neither, either}
 use Rattle.fates.proofs.Tracks.{gone-never, tracks}
@@ -49,12 +49,7 @@ quiet b e h = either isReset b e idle false h refl
 
 event-reset : (w : World) (c : Call) (j : ℕ) → isResetCall c ≡ false → isReset (event w c j) ≡ false
 unfolding event doneTo isReset isResetCall
-event-reset w (start position note velocity p) j h = quiet (eqb (code w (start position note velocity p)) 0) _ refl
-event-reset w (stop note p) j h = quiet (eqb (code w (stop note p)) 0) _ refl
-event-reset w (speed note s) j h = quiet (eqb (code w (speed note s)) 0) _ refl
-event-reset w startRecording j h = quiet (eqb (code w startRecording) 0) _ refl
-event-reset w stopRecording j h = quiet (eqb (code w stopRecording) 0) _ refl
-event-reset w reset j h = absurd (true≢false h)
+event-reset w (change d) j h = quiet (eqb (code w (change d)) 0) _ h
 event-reset w (sample i x p) j h = quiet (eqb (code w (sample i x p)) 0) _ (quiet (eqb i j) _ refl)
 event-reset w (frame xs p) j h = quiet (eqb (code w (frame xs p)) 0) _ (quiet (ltb j (length xs)) _ refl)
 event-reset w (asks q) j h = quiet (eqb (code w (asks q)) 0) idle refl

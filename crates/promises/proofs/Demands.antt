@@ -28,6 +28,7 @@ use Rattle.sampler.proofs.Rows.{sample-ready}
 use Rattle.questions.specs.Questions.{recorderAt, notesOf, inFront, listNumber, listAfter, infoNumber, answered, noInfos, infosWith, getVoiceInfoOf}
 use Rattle.questions.specs.declared.VoiceInfos.{VoiceInfos}
 use Rattle.lent.specs.Lists.{listedOf}
+use Rattle.channel.specs.declared.Change.the-variants.{Start, Stop, Speed, Head, Reset}
 use Rattle.promises.specs.Runs.{
   World,
   setUp,
@@ -42,6 +43,7 @@ use Rattle.promises.specs.Runs.{
   fillVoiceInfo,
   questionNumber,
   Call,
+  change,
   start,
   stop,
   speed,
@@ -81,12 +83,7 @@ answer-held w n d h = λ t. record { sampler = other n (eachOf d (w .sampler)) (
 
 after-held : (w : World) (c : Call) → code w c ≢ 0 → after w c ≡ w
 unfolding after code processSampleOf sampleMemory framedOf
-after-held w (start position note velocity p) h = answer-held w _ _ h
-after-held w (stop note p) h = answer-held w _ _ h
-after-held w (speed note s) h = answer-held w _ _ h
-after-held w startRecording h = answer-held w _ _ h
-after-held w stopRecording h = answer-held w _ _ h
-after-held w reset h = answer-held w _ _ h
+after-held w (change d) h = answer-held w _ _ h
 after-held w (sample j x p) h =
     let n = sampleNumber (w .sampler) j p (length (w .memory)) in
     λ t. record { sampler = other n (steppedOf (w .sampler) j p x (w .memory)) (w .sampler) h t; memory = other n (memoryAt (w .sampler) j x (w .memory)) (w .memory) h t }
@@ -98,12 +95,7 @@ after-held w (asks q) h = refl
 
 untouched : (w : World) (c : Call) (r : Outcome (on w c)) → Allows (on w c) r → code w c ≢ 0 → Untouched w c r
 unfolding Untouched code questionNumber framedOf listAfter getVoiceInfoOf answered listedOf
-untouched w (start position note velocity p) r h n = tt
-untouched w (stop note p) r h n = tt
-untouched w (speed note s) r h n = tt
-untouched w startRecording r h n = tt
-untouched w stopRecording r h n = tt
-untouched w reset r h n = tt
+untouched w (change d) r h n = tt
 untouched w (sample j x p) r h n = tt
 untouched w (frame xs p) r h n =
     let f = framed (w .sampler) xs (w .memory) in
@@ -125,12 +117,11 @@ untouched w (asks (fillVoiceInfo j p list)) r h n =
 -- ---- a refused set-up
 empty-record : (p : InitParams) (m : List ℕ) (c : Call) → code (record { sampler = samplerOf 0 p 0; memory = m }) c ≡ 9
 unfolding code questionNumber startNumber stopNumber speedNumber plainNumber sampleNumber frameNumber channelNumber listNumber infoNumber goodWith goodSampler goodSizes
-empty-record p m (start position note velocity q) = refl
-empty-record p m (stop note q) = refl
-empty-record p m (speed note s) = refl
-empty-record p m startRecording = refl
-empty-record p m stopRecording = refl
-empty-record p m reset = refl
+empty-record p m (change (Start q position note velocity)) = refl
+empty-record p m (change (Stop q note)) = refl
+empty-record p m (change (Speed note s)) = refl
+empty-record p m (change (Head d)) = refl
+empty-record p m (change Reset) = refl
 empty-record p m (sample j x q) = refl
 empty-record p m (frame xs q) = refl
 empty-record p m (asks (getFramesProcessed j)) = refl

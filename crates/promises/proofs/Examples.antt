@@ -31,8 +31,9 @@ use Rattle.walks.specs.Each.{Each}
 use Rattle.voice.specs.declared.Voice.{Voice}
 use Rattle.voice.specs.Voices.{tickOf, lateOf, overOf, shouldRemoveOf, movedOf, productOf, soundedOf, finishOf, playedOutOf, endedOf, volumeStepped, turnOf, freshOf, blankVoice, atSpeedOf, goodVoice}
 use Rattle.channel.specs.declared.Head.{Head}
-use Rattle.channel.specs.Heads.{nextTime, headOf, rampOf, passthruOf, closedOf, goodHead}
-use Rattle.channel.specs.Channels.{live, withHead, channelOf, resetOf, anyUnfinishedOf, handledOf, pushedOf, startPlayingOf, wantedOf, findOf, finishedAtOf, stopPlayingOf, spedOf, setNoteSpeedOf, startRecordingOf, stopRecordingOf, keptOf, addedOf, heardOf, playedOf, playedIfOf, takenOf, memoryOf, processSampleOf, changedOf, fullOf, goodVoicesOf, goodChannel}
+use Rattle.channel.specs.Soundness.{FittingChange}
+use Rattle.channel.specs.Heads.{headChangedOf, nextTime, headOf, rampOf, passthruOf, closedOf, goodHead}
+use Rattle.channel.specs.Channels.{live, withHead, channelOf, resetOf, anyUnfinishedOf, handledOf, pushedOf, startPlayingOf, wantedOf, findOf, finishedAtOf, stopPlayingOf, spedOf, setNoteSpeedOf, keptOf, addedOf, heardOf, playedOf, playedIfOf, takenOf, memoryOf, processSampleOf, changedOf, fullOf, goodVoicesOf, goodChannel}
 use Rattle.sampler.specs.Refusals.{goodSizes, goodSampler, capacityOf, goodWith, setUpNumber, startNumber, stopNumber, speedNumber, plainNumber, sampleNumber, frameNumber, channelNumber}
 use Rattle.questions.specs.Questions.{notesOf, listNumber}
 use Rattle.sampler.specs.Samplers.{withChannels, setUpOf, eachOf, answerOf, partOf, playedAt, steppedOf as sampledOf, outputOf, memoryAt, processSampleOf as sampleOf, sampleMemory, entryOf, entriesOf, framedOf}
@@ -51,7 +52,7 @@ use Rattle.promises.proofs.Demand3.{demand3}
 
 -- whatever a run computes by
 computing : Unit {0}
-unfolding floorOf minOf maxOf crossingOf any every without fold seek speedOf timeLengthOf lengthOf loopLengthOf lengthBeyond beyondLimits progressOf levelOf towardOf steppedOf goodRamp goodVolume raised inState misusedOf skippedOf startOf stopOf recordedOf dataAfter goodRecorder leadOf travelAt loopedOf roundTripOf mirroredOf bouncedOf wrappedOf placedOf clipOffsetAt clipToDataOf offsetAt indexAt madeOf backOf foundAt reversingAt shiftFor settledOf withSpeed withMode withLength withDataLength goodLength goodClip tickOf lateOf overOf shouldRemoveOf movedOf productOf soundedOf finishOf playedOutOf endedOf volumeStepped turnOf freshOf blankVoice atSpeedOf goodVoice nextTime headOf rampOf passthruOf closedOf goodHead channelOf resetOf anyUnfinishedOf handledOf pushedOf startPlayingOf wantedOf findOf finishedAtOf stopPlayingOf spedOf setNoteSpeedOf startRecordingOf stopRecordingOf keptOf addedOf heardOf playedOf playedIfOf takenOf begunOf passesOver heardBy turnedOf letsGo leavesOf leftOf turnsOf stepOf memoryOf processSampleOf changedOf fullOf goodVoicesOf goodChannel goodSizes goodSampler capacityOf goodWith setUpNumber startNumber stopNumber speedNumber plainNumber sampleNumber frameNumber channelNumber notesOf listNumber setUpOf eachOf answerOf partOf playedAt sampledOf outputOf memoryAt sampleOf sampleMemory entryOf entriesOf framedOf act isReset isSample decayOf fateOf follow stops becomes newOf outOf playsOut followAll stoppedIn finishedIn setUp questionNumber code after run doneTo event events isResetCall output before add sub mul div rem neg lt le eq ofInt toUnsigned isNan ofBits toBits nanBits ofFields
+unfolding floorOf minOf maxOf crossingOf any every without fold seek speedOf timeLengthOf lengthOf loopLengthOf lengthBeyond beyondLimits progressOf levelOf towardOf steppedOf goodRamp goodVolume raised inState misusedOf skippedOf startOf stopOf recordedOf dataAfter goodRecorder leadOf travelAt loopedOf roundTripOf mirroredOf bouncedOf wrappedOf placedOf clipOffsetAt clipToDataOf offsetAt indexAt madeOf backOf foundAt reversingAt shiftFor settledOf withSpeed withMode withLength withDataLength goodLength goodClip tickOf lateOf overOf shouldRemoveOf movedOf productOf soundedOf finishOf playedOutOf endedOf volumeStepped turnOf freshOf blankVoice atSpeedOf goodVoice nextTime headOf rampOf passthruOf closedOf goodHead channelOf resetOf anyUnfinishedOf handledOf pushedOf startPlayingOf wantedOf findOf finishedAtOf stopPlayingOf spedOf setNoteSpeedOf headChangedOf keptOf addedOf heardOf playedOf playedIfOf takenOf begunOf passesOver heardBy turnedOf letsGo leavesOf leftOf turnsOf stepOf memoryOf processSampleOf changedOf fullOf goodVoicesOf goodChannel goodSizes goodSampler capacityOf goodWith setUpNumber startNumber stopNumber speedNumber plainNumber sampleNumber frameNumber channelNumber notesOf listNumber setUpOf eachOf answerOf partOf playedAt sampledOf outputOf memoryAt sampleOf sampleMemory entryOf entriesOf framedOf act isReset isSample decayOf fateOf follow stops becomes newOf outOf playsOut followAll stoppedIn finishedIn setUp questionNumber code after run doneTo event events isResetCall output before add sub mul div rem neg lt le eq ofInt toUnsigned isNan ofBits toBits nanBits ofFields
 computing = tt
 
 -- ---- parameters, keys, calls
@@ -301,16 +302,16 @@ fitting-joined [] ds f g = g
 fitting-joined (c ∷ cs) ds f g = (f .0, fitting-joined cs ds (f .1) g)
 
 fitting-presses : (n : ℕ) → Each FittingCall (replicate n (press 60))
-unfolding Each FittingCall fits
+unfolding Each FittingCall FittingChange fits
 fitting-presses zero = tt
 fitting-presses (suc n) = ((tt, tt, tt), fitting-presses n)
 
 fitting-recorded : Each FittingCall recorded
-unfolding Each FittingCall fits
+unfolding Each FittingCall FittingChange fits
 fitting-recorded = (tt, (tt, (tt, (tt, tt))))
 
 fitting-leaving : Each FittingCall leaving
-unfolding Each FittingCall fits
+unfolding Each FittingCall FittingChange fits
 fitting-leaving = fitting-joined recorded (replicate 32 (press 60) ++ gone-by) fitting-recorded (fitting-joined (replicate 32 (press 60)) gone-by (fitting-presses 32) (tt, (tt, tt)))
 
 none-full : (j : ℕ) → j < 2 → fullOf (chan left j) ≡ false

@@ -28,12 +28,7 @@ use Rattle.promises.specs.Runs.{
   fillVoiceInfo,
   questionNumber,
   Call,
-  start,
-  stop,
-  speed,
-  startRecording,
-  stopRecording,
-  reset,
+  change,
   sample,
   frame,
   asks,
@@ -46,12 +41,7 @@ use Rattle.promises.specs.Outcomes.{Given, new, on, Outcome, Allows, Set
 -- ---- one outcome
 pub settled : (g : Given) → Settled g
 settled (new count p m) = record { outcome = _; allowed = refl; only = λ r h. h }
-settled (on w (start position note velocity p)) = record { outcome = _; allowed = refl; only = λ r h. h }
-settled (on w (stop note p)) = record { outcome = _; allowed = refl; only = λ r h. h }
-settled (on w (speed note s)) = record { outcome = _; allowed = refl; only = λ r h. h }
-settled (on w startRecording) = record { outcome = _; allowed = refl; only = λ r h. h }
-settled (on w stopRecording) = record { outcome = _; allowed = refl; only = λ r h. h }
-settled (on w reset) = record { outcome = _; allowed = refl; only = λ r h. h }
+settled (on w (change d)) = record { outcome = _; allowed = refl; only = λ r h. h }
 settled (on w (sample j x p)) = record {
   outcome = record { answer = processSampleOf (w .sampler) j x p (w .memory); memory = sampleMemory (w .sampler) j x p (w .memory) };
   allowed = (refl, refl);
@@ -103,12 +93,7 @@ counted-number v = go (eqb (v .number) 0) refl
 
 pub number-code : (w : World) (c : Call) (r : Outcome (on w c)) → Allows (on w c) r → numberIn (on w c) r ≡ code w c
 unfolding code questionNumber answerOf processSampleOf
-number-code w (start position note velocity p) r h = ap (λ (a : Answer). a .number) h
-number-code w (stop note p) r h = ap (λ (a : Answer). a .number) h
-number-code w (speed note s) r h = ap (λ (a : Answer). a .number) h
-number-code w startRecording r h = ap (λ (a : Answer). a .number) h
-number-code w stopRecording r h = ap (λ (a : Answer). a .number) h
-number-code w reset r h = ap (λ (a : Answer). a .number) h
+number-code w (change d) r h = ap (λ (a : Answer). a .number) h
 number-code w (sample j x p) r h = ap (λ (a : SampleAnswer). a .number) (h .0)
 number-code w (frame xs p) r h = h .0
 number-code w (asks (getFramesProcessed j)) r h = ap countedNumber h ∙ frames-number (w .sampler) j
@@ -124,12 +109,7 @@ number-code w (asks (fillVoiceInfo j p list)) r h =
 -- ---- the record and the memory afterwards
 pub left-after : (w : World) (c : Call) (r : Outcome (on w c)) → Allows (on w c) r → leftBy w c r ≡ after w c
 unfolding after
-left-after w (start position note velocity p) r h = λ t. record { sampler = h t .sampler; memory = w .memory }
-left-after w (stop note p) r h = λ t. record { sampler = h t .sampler; memory = w .memory }
-left-after w (speed note s) r h = λ t. record { sampler = h t .sampler; memory = w .memory }
-left-after w startRecording r h = λ t. record { sampler = h t .sampler; memory = w .memory }
-left-after w stopRecording r h = λ t. record { sampler = h t .sampler; memory = w .memory }
-left-after w reset r h = λ t. record { sampler = h t .sampler; memory = w .memory }
+left-after w (change d) r h = λ t. record { sampler = h t .sampler; memory = w .memory }
 left-after w (sample j x p) r h = λ t. record { sampler = (h .0) t .sampler; memory = (h .1) t }
 left-after w (frame xs p) r h = λ t. record { sampler = (h .1 .sampler) t; memory = (h .1 .memory) t }
 left-after w (asks q) r h = refl

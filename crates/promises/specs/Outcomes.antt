@@ -12,12 +12,7 @@ use Rattle.sampler.specs.declared.SampleAnswer.{SampleAnswer}
 use Rattle.sampler.specs.Refusals.{frameNumber}
 use Rattle.sampler.specs.Samplers.{
   setUpOf,
-  startPlayingOf,
-  stopPlayingOf,
-  setNoteSpeedOf,
-  startRecordingOf,
-  stopRecordingOf,
-  resetOf,
+  changeOf,
   processSampleOf,
   sampleMemory,
   Frames,
@@ -54,12 +49,7 @@ use Rattle.promises.specs.Runs.{
   getVoiceInfo,
   fillVoiceInfo,
   Call,
-  start,
-  stop,
-  speed,
-  startRecording,
-  stopRecording,
-  reset,
+  change,
   sample,
   frame,
   asks,
@@ -92,12 +82,7 @@ pub record InfoOutcome : Type 0 where
 
 abbrev pub Outcome : Given → Type 0
 Outcome (new count p m) = Answer
-Outcome (on w (start position note velocity p)) = Answer
-Outcome (on w (stop note p)) = Answer
-Outcome (on w (speed note s)) = Answer
-Outcome (on w startRecording) = Answer
-Outcome (on w stopRecording) = Answer
-Outcome (on w reset) = Answer
+Outcome (on w (change d)) = Answer
 Outcome (on w (sample j x p)) = SampleOutcome
 Outcome (on w (frame xs p)) = FrameOutcome
 Outcome (on w (asks (getFramesProcessed j))) = Counted
@@ -112,12 +97,7 @@ Outcome (on w (asks (fillVoiceInfo j p list))) = InfoOutcome
 -- ---- what the contracts allow
 abbrev pub Allows : (g : Given) → Outcome g → Type 0
 Allows (new count p m) r = r ≡ setUpOf count p (length m)
-Allows (on w (start position note velocity p)) r = r ≡ startPlayingOf (w .sampler) position note velocity p
-Allows (on w (stop note p)) r = r ≡ stopPlayingOf (w .sampler) note p
-Allows (on w (speed note s)) r = r ≡ setNoteSpeedOf (w .sampler) note s
-Allows (on w startRecording) r = r ≡ startRecordingOf (w .sampler)
-Allows (on w stopRecording) r = r ≡ stopRecordingOf (w .sampler)
-Allows (on w reset) r = r ≡ resetOf (w .sampler)
+Allows (on w (change d)) r = r ≡ changeOf (w .sampler) d
 Allows (on w (sample j x p)) r = (r .answer ≡ processSampleOf (w .sampler) j x p (w .memory)) × (r .memory ≡ sampleMemory (w .sampler) j x p (w .memory))
 Allows (on w (frame xs p)) r =
     (r .answer .number ≡ frameNumber (w .sampler) (length xs) p (length (w .memory)))
@@ -142,12 +122,7 @@ pub record Settled (g : Given) : Type 0 where
 -- document 01's number
 abbrev pub numberIn : (g : Given) → Outcome g → ℕ
 numberIn (new count p m) r = r .number
-numberIn (on w (start position note velocity p)) r = r .number
-numberIn (on w (stop note p)) r = r .number
-numberIn (on w (speed note s)) r = r .number
-numberIn (on w startRecording) r = r .number
-numberIn (on w stopRecording) r = r .number
-numberIn (on w reset) r = r .number
+numberIn (on w (change d)) r = r .number
 numberIn (on w (sample j x p)) r = r .answer .number
 numberIn (on w (frame xs p)) r = r .answer .number
 numberIn (on w (asks (getFramesProcessed j))) r = countedNumber r
@@ -161,24 +136,14 @@ numberIn (on w (asks (fillVoiceInfo j p list))) r = countedNumber (r .answer)
 
 -- the record and the memory for the next call
 abbrev pub leftBy : (w : World) (c : Call) → Outcome (on w c) → World
-leftBy w (start position note velocity p) r = withSampler (r .sampler) w
-leftBy w (stop note p) r = withSampler (r .sampler) w
-leftBy w (speed note s) r = withSampler (r .sampler) w
-leftBy w startRecording r = withSampler (r .sampler) w
-leftBy w stopRecording r = withSampler (r .sampler) w
-leftBy w reset r = withSampler (r .sampler) w
+leftBy w (change d) r = withSampler (r .sampler) w
 leftBy w (sample j x p) r = record { sampler = r .answer .sampler; memory = r .memory }
 leftBy w (frame xs p) r = record { sampler = r .answer .sampler; memory = r .memory }
 leftBy w (asks q) r = w
 
 -- a frame or list that was lent holds what it held
 unfoldable pub Untouched : (w : World) (c : Call) → Outcome (on w c) → Type 0
-Untouched w (start position note velocity p) r = Unit {0}
-Untouched w (stop note p) r = Unit {0}
-Untouched w (speed note s) r = Unit {0}
-Untouched w startRecording r = Unit {0}
-Untouched w stopRecording r = Unit {0}
-Untouched w reset r = Unit {0}
+Untouched w (change d) r = Unit {0}
 Untouched w (sample j x p) r = Unit {0}
 Untouched w (frame xs p) r = r .frame ≡ xs
 Untouched w (asks (getFramesProcessed j)) r = Unit {0}
