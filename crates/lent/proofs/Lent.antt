@@ -1,5 +1,6 @@
 -- The sampler and what its calls answer, as rows of `Rows.antt`.
-use mathlib.Core.Path.{refl, ap}
+use mathlib.Core.Path.{_≡_, refl, ap}
+use Prim.Native.Nat.{ℕ}
 use denote.Steps.{only}
 use denote.Struct.Laws as LL
 use Rattle.sampler.proofs.Sampler as T
@@ -8,6 +9,8 @@ use Rattle.sampler.proofs.Answer as S
 use Rattle.sampler.proofs.Answer.Laws as S′
 use Rattle.channel.proofs.Channel as K
 use Rattle.channel.proofs.Channel.Laws as K′
+use Rattle.channel.proofs.Change as X
+use Rattle.channel.proofs.Change.Laws as X′
 use Rattle.common_types.proofs.Note as N
 use Rattle.common_types.proofs.Note.Laws as N′
 use Rattle.common_types.proofs.Params as P
@@ -22,6 +25,9 @@ use Rattle.questions.proofs.VoiceInfo as I
 use Rattle.questions.proofs.VoiceInfo.Laws as I′
 use Rattle.questions.proofs.VoiceInfos as L
 use Rattle.questions.proofs.VoiceInfos.Laws as L′
+use Rattle.channel.specs.declared.Change.{Change}
+use Rattle.sampler.specs.declared.Sampler.{Sampler}
+use Rattle.sampler.specs.Samplers.{changeOf}
 use Rattle.lent.proofs.Rows.{Datum, struct, enum, Answering}
 
 abbrev pub sampler : Datum
@@ -29,6 +35,9 @@ sampler = struct T.the-type T′.the-laws T′.the-plain
 
 abbrev pub channel : Datum
 channel = struct K.the-type K′.the-laws K′.the-plain
+
+abbrev pub change : Datum
+change = enum X.the-type X′.the-laws X′.the-plain tt
 
 abbrev pub note : Datum
 note = struct N.the-type N′.the-laws N′.the-plain
@@ -63,3 +72,7 @@ answer = record {
   owed = λ r v is. (LL.owed S.the-type S′.the-laws r _ is .0, LL.owed S.the-type S′.the-laws r _ is .1 .0 .1);
   typed = λ 𝓤 H A W r v is. LL.lawful S.the-type S′.the-laws 𝓤 H A W .typed r _ is .0;
 }
+
+-- what `change` ensures: the record at entry, the change, the number and the record at exit
+abbrev pub changes : Sampler → Change → ℕ → Sampler → Type 0
+changes h x r h′ = record { sampler = h′; number = r } ≡ changeOf h x

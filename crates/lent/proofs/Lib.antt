@@ -1,8 +1,8 @@
 pub mod Rows
+pub mod Arguments
 pub mod Lent
 pub mod Thin
-pub mod Thin2
-pub mod Thin4
+pub mod Named
 pub mod Peek
 pub mod PeekList
 pub mod PeekFill
