@@ -3,8 +3,8 @@ pub mod Arguments
 pub mod Lent
 pub mod Thin
 pub mod Named
+pub mod Copied
 pub mod Peek
-pub mod PeekList
 pub mod PeekFill
 pub mod Stored
 pub mod Numbers

@@ -8,6 +8,7 @@ use mir.Syntax.{w8}
 use Rattle.channel.specs.declared.Change.the-variants as change
 use Rattle.lent.proofs.Rows.{float, word}
 use Rattle.lent.proofs.Lent.{sampler, change as changing, note, params, changes}
+use Rattle.lent.proofs.Arguments.{value}
 use Rattle.lent.proofs.Named.{named}
 use Rattle.lent.proofs.change as j
 use Rattle.lent.proofs.change.Symbol as j-def
@@ -27,6 +28,6 @@ unfolding code.routine tablesOf
 start-playing-spec 𝓤 H 𝓜 𝓖 𝓡 =
     entered 𝓤 H (tripleOf 𝓤 H (𝓖 .A) f.signature (f.spec 𝓤 H (𝓖 .A) (𝓜 .mem) (𝓡 .run)))
     (tables 𝓤 H 𝓜 𝓡 code.env .C) (tables 𝓤 H 𝓜 𝓡 code.env .Λ) #f code.function (code.unfolded 𝓤 H 𝓜 𝓡)
-    (named sampler (word w8) changing (float binary32 ∷ note ∷ float binary32 ∷ params ∷ []) #k #j (λ v. change.Start (v .1 .1 .1 .0) (v .0) (v .1 .0) (v .1 .1 .0)) changes 𝓤 H (𝓖 .A) (givenOf 𝓤 H 𝓜 𝓖) (tablesOf 𝓤 H 𝓜 (tables 𝓤 H 𝓜 𝓡 code.env))
+    (named sampler (word w8) changing (value (float binary32) ∷ value note ∷ value (float binary32) ∷ value params ∷ []) #k #j (λ v. change.Start (v .1 .1 .1 .0) (v .0) (v .1 .0) (v .1 .1 .0)) changes 𝓤 H (𝓖 .A) (givenOf 𝓤 H 𝓜 𝓖) (tablesOf 𝓤 H 𝓜 (tables 𝓤 H 𝓜 𝓡 code.env))
     (cited 𝓤 H (tripleOf 𝓤 H (𝓖 .A) k.signature (k.spec 𝓤 H (𝓖 .A) (𝓜 .mem) (𝓡 .run))) 𝓜 𝓡 code.env #k k-def.routine code.calls-lent·start-of (k-thm.met 𝓤 H 𝓜 𝓖 𝓡))
     (cited 𝓤 H (tripleOf 𝓤 H (𝓖 .A) j.signature (j.spec 𝓤 H (𝓖 .A) (𝓜 .mem) (𝓡 .run))) 𝓜 𝓡 code.env #j j-def.routine code.calls-lent·change (j-thm.met 𝓤 H 𝓜 𝓖 𝓡)))
