@@ -6,7 +6,6 @@ pub mod Named
 pub mod Copied
 pub mod Peek
 pub mod PeekFill
-pub mod Stored
 pub mod Numbers
 pub mod Middle
 pub mod Seats
