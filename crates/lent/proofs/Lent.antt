@@ -1,6 +1,7 @@
 -- The sampler and what its calls answer, as rows of `Rows.antt`.
 use mathlib.Core.Path.{_≡_, refl, ap}
 use Prim.Native.Nat.{ℕ}
+use mir.Syntax.{w8}
 use denote.Steps.{only}
 use denote.Struct.Laws as LL
 use Rattle.sampler.proofs.Sampler as T
@@ -28,7 +29,7 @@ use Rattle.questions.proofs.VoiceInfos.Laws as L′
 use Rattle.channel.specs.declared.Change.{Change}
 use Rattle.sampler.specs.declared.Sampler.{Sampler}
 use Rattle.sampler.specs.Samplers.{changeOf}
-use Rattle.lent.proofs.Rows.{Datum, struct, enum, Answering}
+use Rattle.lent.proofs.Rows.{Datum, struct, enum, word, Answering}
 
 abbrev pub sampler : Datum
 sampler = struct T.the-type T′.the-laws T′.the-plain
@@ -60,16 +61,16 @@ info = struct I.the-type I′.the-laws I′.the-plain
 abbrev pub infos : Datum
 infos = struct L.the-type L′.the-laws L′.the-plain
 
-abbrev pub answer : Answering sampler
+abbrev pub answer : Answering sampler (word w8)
 answer = record {
   like = S.the-row;
   name = S.struct .name;
-  sampler = λ r. r .sampler;
-  number = λ r. r .number;
+  record-of = λ r. r .sampler;
+  answer-of = λ r. r .number;
   make = λ s n. record { sampler = s; number = n };
   eta = λ r. refl;
   tells = λ r v is. ap only (LL.tells S.the-type S′.the-laws r _ is);
-  owed = λ r v is. (LL.owed S.the-type S′.the-laws r _ is .0, LL.owed S.the-type S′.the-laws r _ is .1 .0 .1);
+  owed = λ r v is. (LL.owed S.the-type S′.the-laws r _ is .0, LL.owed S.the-type S′.the-laws r _ is .1 .0);
   typed = λ 𝓤 H A W r v is. LL.lawful S.the-type S′.the-laws 𝓤 H A W .typed r _ is .0;
 }
 
