@@ -8,6 +8,10 @@ use Rattle.sampler.proofs.Sampler as T
 use Rattle.sampler.proofs.Sampler.Laws as T′
 use Rattle.sampler.proofs.Answer as S
 use Rattle.sampler.proofs.Answer.Laws as S′
+use Rattle.lent.proofs.Sampled as Y
+use Rattle.lent.proofs.Sampled.Laws as Y′
+use Rattle.lent.proofs.Sampling as Z
+use Rattle.lent.proofs.Sampling.Laws as Z′
 use Rattle.channel.proofs.Channel as K
 use Rattle.channel.proofs.Channel.Laws as K′
 use Rattle.channel.proofs.Change as X
@@ -72,6 +76,22 @@ answer = record {
   tells = λ r v is. ap only (LL.tells S.the-type S′.the-laws r _ is);
   owed = λ r v is. (LL.owed S.the-type S′.the-laws r _ is .0, LL.owed S.the-type S′.the-laws r _ is .1 .0);
   typed = λ 𝓤 H A W r v is. LL.lawful S.the-type S′.the-laws 𝓤 H A W .typed r _ is .0;
+}
+
+abbrev pub sampled : Datum
+sampled = struct Y.the-type Y′.the-laws Y′.the-plain
+
+abbrev pub sampling : Answering sampler sampled
+sampling = record {
+  like = Z.the-row;
+  name = Z.struct .name;
+  record-of = λ r. r .sampler;
+  answer-of = λ r. r .sampled;
+  make = λ s y. record { sampler = s; sampled = y };
+  eta = λ r. refl;
+  tells = λ r v is. ap only (LL.tells Z.the-type Z′.the-laws r _ is);
+  owed = λ r v is. (LL.owed Z.the-type Z′.the-laws r _ is .0, LL.owed Z.the-type Z′.the-laws r _ is .1 .0);
+  typed = λ 𝓤 H A W r v is. LL.lawful Z.the-type Z′.the-laws 𝓤 H A W .typed r _ is .0;
 }
 
 -- what `change` ensures: the record at entry, the change, the number and the record at exit

@@ -10,9 +10,11 @@ ghost use Rattle.sampler.specs.Samplers.{
   stopRecordingOf,
   resetOf,
   changeOf,
+  sampleMemory,
   Frames,
   framedOf,
 };
+ghost use Rattle.sampler.specs.Samplers.{processSampleOf as sampleOf};
 ghost use Rattle.sampler.specs.Refusals.{goodSizes, frameNumber};
 ghost use Rattle.channel.specs.Channels.{processSampleOf, memoryOf};
 ghost use Prim.Native.Nat.{_*_, _-_, _≤_, _<_};
@@ -138,6 +140,46 @@ pub fn reset(s: &mut Sampler) -> u8
     ensures { λ r. ⌜ record { sampler = now (s .exit); number = r } ≡ resetOf (now (s .entry)) ⌝ }
 {
     change(s, all_reset())
+}
+
+// What a sample of one channel answers: its output, and the number of document 01.
+pub struct Sampled {
+    pub output: f32,
+    pub number: u8,
+}
+
+struct Sampling {
+    sampler: Sampler,
+    sampled: Sampled,
+}
+
+fn sample_of(s: Sampler, channel: usize, input: f32, params: Params, memory: &mut [u32]) -> Sampling
+    ensures { λ r. ⌜ record { sampler = r .sampler; output = r .sampled .output; number = r .sampled .number } ≡ sampleOf s channel input params (now (memory .entry)) ⌝ }
+    ensures { λ r. ⌜ now (memory .exit) ≡ sampleMemory s channel input params (now (memory .entry)) ⌝ }
+{
+    let r = s.process_sample(channel, input, params, memory);
+    let sampler = r.sampler;
+    let sampled = Sampled {
+        output: r.output,
+        number: r.number,
+    };
+    Sampling { sampler, sampled }
+}
+
+// A sample of one channel.
+pub fn process_sample(
+    s: &mut Sampler,
+    channel: usize,
+    input: f32,
+    params: Params,
+    memory: &mut [u32],
+) -> Sampled
+    ensures { λ r. ⌜ (record { sampler = now (s .exit); output = r .output; number = r .number } ≡ sampleOf (now (s .entry)) channel input params (now (memory .entry)))
+        × (now (memory .exit) ≡ sampleMemory (now (s .entry)) channel input params (now (memory .entry))) ⌝ }
+{
+    let r = sample_of(*s, channel, input, params, memory);
+    *s = r.sampler;
+    r.sampled
 }
 
 pub fn get_frames_processed(s: &Sampler, channel: usize) -> Counted
