@@ -8,6 +8,7 @@ pub mod Peek
 pub mod PeekFill
 pub mod Numbers
 pub mod Middle
+pub mod Bytes
 pub mod Seats
 pub mod Judging
 pub mod Turned
