@@ -1,4 +1,4 @@
--- A voice of a channel in memory, read and overwritten, and the call that says how many are walked. A voice takes 104 bytes.
+-- A voice of a channel in memory, read and overwritten, and the call that says how many are walked.
 -- Assumes `Given`.
 use mathlib.Core.Path.{_≡_, refl, sym, _∙_}
 use Prim.Native.Nat.{ℕ, _+_, _<_, _^_, min}
@@ -39,6 +39,7 @@ use Rattle.channel.proofs.Head.Laws as E′
 use Rattle.channel.proofs.Channel as C
 use Rattle.channel.proofs.Channel.Laws as C′
 use Rattle.channel.proofs.places as places
+use Rattle.in_place.proofs.Bytes.{voice-bytes}
 
 -- the machine values
 abbrev pub cv : Channel → Val
@@ -52,7 +53,7 @@ ev t = LL.val E.the-type E′.the-laws t
 
 -- where voice i of a channel at o stands
 abbrev pub spot : ℕ → ℕ → ℕ
-spot o i = place 104 (o + 0) i
+spot o i = place voice-bytes (o + 0) i
 
 pub places-are : (h : Channel) → Is C.the-row h (cv h ∷ []) → length (h .voices) ≡ 32
 places-are h g = sym (length-map (h .voices) _) ∙ LL.owed C.the-type C′.the-laws h _ g .0 .1 .0 .1

@@ -42,6 +42,8 @@ use denote.Triple.Call.{calls-at}
 use denote.Triple.Clauses.{Ended, Clauses, ensured, lasts, closing}
 use denote.Triple.Walked.{says, Stays, stay-dropped, stay-none, walkOf, ends-at, walked, goes-silent, goes-none, walk-meets}
 use Rattle.walks.proofs.Inside.{Back, goes-in, comes-out, big}
+use Rattle.in_place.proofs.Bytes.{channel-bytes}
+use Rattle.lent.proofs.Bytes.{count-at, capacity-at}
 use Rattle.lent.proofs.Rows.{Datum, row}
 use Rattle.lent.proofs.Rows.{copy as twice}
 use Rattle.lent.proofs.Seats.{Seats, seat, clock, lies}
@@ -68,14 +70,14 @@ module _ (T C P : Datum) (S : Seats T C) (g n : Name) (good : ℕ → C .like .D
         seq (assign (place 12 []) (addrOf (place 11 (deref (C .ty) ∷ [])))) (
         seq (call g (copy (place 12 []) ∷ copy (place 5 []) ∷ []) (place 6 [])) (
         seq (assign (place 13 []) (addrOf (place 1 (deref (T .ty) ∷ field 0 ∷ [])))) (
-        seq (assign (place 14 []) (op2 offset (copy (place 13 [])) (intBig w64 3416))) (
+        seq (assign (place 14 []) (op2 offset (copy (place 13 [])) (intBig w64 channel-bytes))) (
         seq (assign (place 15 []) (addrOf (place 14 (deref (C .ty) ∷ [])))) (
         seq (call g (copy (place 15 []) ∷ copy (place 5 []) ∷ []) (place 7 [])) (
         seq (assign (place 16 []) (addrOf (place 1 (deref (T .ty) ∷ field 0 ∷ [])))) (
         seq (assign (place 17 []) (op2 offset (copy (place 16 [])) (int w64 0))) (
         seq (assign (place 8 []) (rvOpd (copy (place 17 (deref (C .ty) ∷ field 2 ∷ field 0 ∷ []))))) (
         seq (assign (place 18 []) (addrOf (place 1 (deref (T .ty) ∷ field 0 ∷ [])))) (
-        seq (assign (place 19 []) (op2 offset (copy (place 18 [])) (intBig w64 3416))) (
+        seq (assign (place 19 []) (op2 offset (copy (place 18 [])) (intBig w64 channel-bytes))) (
         seq (assign (place 9 []) (rvOpd (copy (place 19 (deref (C .ty) ∷ field 2 ∷ field 0 ∷ []))))) (
         seq (assign (place 20 []) (rvOpd (copy (place 1 (deref (T .ty) ∷ field 1 ∷ []))))) (
         seq (call n (copy (place 20 []) ∷ copy (place 5 []) ∷ copy (place 6 []) ∷ copy (place 7 []) ∷ copy (place 8 []) ∷ copy (place 9 []) ∷ copy (place 2 []) ∷ copy (place 3 []) ∷ copy (place 4 []) ∷ []) (place 0 [])) (
@@ -194,11 +196,11 @@ module _ (T C P : Datum) (S : Seats T C) (g n : Name) (good : ℕ → C .like .D
         looks ! tt Tr (Is Tr) (shows 𝓤 H A Tr) (λ x. T .val x ∷ []) (T .tells) (twice T 𝓤 H A W) h b o (λ q′ vs.
         spelt ! Tr (Is Tr) (shows 𝓤 H A Tr) (λ x. T .val x ∷ []) (T .tells) q′ h vs b o $ move ! (1 ∷ []) $ peeks ! Tr (Is Tr) (shows 𝓤 H A Tr) h (T .val h ∷ []) (λ is. move ! (1 ∷ 0 ∷ []) $
         use2 W (‵ (partAt Tr q′ h b o)) (lies 𝓤 H A W Tr q′ h (T .val h ∷ []) b o) $
-        goes-in ! q′ Tr usize (Is usize) (shows 𝓤 H A usize) (uint-vals w64) (uint-tells w64) h h (S .capacity h) (S .capacity h) b o (o + 6840) (S .reads-capacity 𝓤 H A W q′ h b o) (λ is-capacity.
-        assigns ! (of-opd ! (load ! (from ! (hop ! (look ! 46 refl) (fld ! (S .field₂) (stop !)))) (look ! 0 refl))) (from ! (stop !)) (init ! 38 refl (tt, record { fits = is-capacity .1 })) $ comes-out ! q′ Tr usize h (S .capacity h) (vint w64 (S .capacity h) ∷ []) b o (o + 6840) $
+        goes-in ! q′ Tr usize (Is usize) (shows 𝓤 H A usize) (uint-vals w64) (uint-tells w64) h h (S .capacity h) (S .capacity h) b o (o + capacity-at) (S .reads-capacity 𝓤 H A W q′ h b o) (λ is-capacity.
+        assigns ! (of-opd ! (load ! (from ! (hop ! (look ! 46 refl) (fld ! (S .field₂) (stop !)))) (look ! 0 refl))) (from ! (stop !)) (init ! 38 refl (tt, record { fits = is-capacity .1 })) $ comes-out ! q′ Tr usize h (S .capacity h) (vint w64 (S .capacity h) ∷ []) b o (o + capacity-at) $
         assigns ! (addr ! (from ! (hop ! (look ! 44 refl) (fld ! (S .field₀) (stop !))))) (from ! (stop !)) (init ! 26 refl (tt, tt)) $
         assigns ! (bin ! (load ! (from ! (stop !)) (look ! 26 refl)) (lit ! tt) tt) (from ! (stop !)) (init ! 24 refl (tt, tt)) $
-        rewrite ! 24 (λ (z : ℕ). ‵ (fat fullShare tyPtr l₁₁ 0 (vptr b z))) (sym (place-is 3416 (o + 0) 0)) refl $
+        rewrite ! 24 (λ (z : ℕ). ‵ (fat fullShare tyPtr l₁₁ 0 (vptr b z))) (sym (place-is channel-bytes (o + 0) 0)) refl $
         assigns ! (addr ! (from ! (hop ! (look ! 24 refl) (stop !)))) (from ! (stop !)) (init ! 22 refl (tt, tt)) $
         use1 W (‵ (partAt Cr q′ (c 0) b (seat o 0)) ⊛ raw (Back 𝓤 H A q′ Tr Cr h (c 0) b o (seat o 0))) (S .reads-channel 𝓤 H A W q′ h b o 0 (S .two h is) (omega arith)) $ split ! $ lft-new ! tt (λ α₀. move ! (1 ∷ []) $
         use1 W (later (some (λ (δ : GName). ‵ (ShrRef (named 0) (α₀ ∷ []) Cr .own (lent 0 δ) (vptr b (seat o 0) ∷ [])) ⊛ ‵ (flent (α₀ ∷ []) (partAt Cr q′ (c 0) b (seat o 0)))))) (lends-shr 𝓤 H A W Cr (named 0) (α₀ ∷ []) q′ (c 0) b (seat o 0)) $ await ! tt $ pick ! (λ δ₀. split ! $
@@ -210,7 +212,7 @@ module _ (T C P : Datum) (S : Seats T C) (g n : Name) (good : ℕ → C .like .D
         split ! $ lft-end ! tt $ move ! (0 ∷ 2 ∷ []) $ lent-back ! tt $ move ! (0 ∷ 2 ∷ []) $ use2 W (‵ (partAt Tr q′ h b o)) (apply∗ 𝓤 (sem 𝓤 H A (partAt Cr q′ (c 0) b (seat o 0))) (sem 𝓤 H A (partAt Tr q′ h b o))) $
         assigns ! (addr ! (from ! (hop ! (look ! 45 refl) (fld ! (S .field₀) (stop !))))) (from ! (stop !)) (init ! 21 refl (tt, tt)) $
         assigns ! (bin ! (load ! (from ! (stop !)) (look ! 21 refl)) (big ! (record { fits = lit< tt })) tt) (from ! (stop !)) (init ! 19 refl (tt, tt)) $
-        rewrite ! 19 (λ (z : ℕ). ‵ (fat fullShare tyPtr l₁₄ 0 (vptr b z))) (sym (place-is 3416 (o + 0) 1)) refl $
+        rewrite ! 19 (λ (z : ℕ). ‵ (fat fullShare tyPtr l₁₄ 0 (vptr b z))) (sym (place-is channel-bytes (o + 0) 1)) refl $
         assigns ! (addr ! (from ! (hop ! (look ! 19 refl) (stop !)))) (from ! (stop !)) (init ! 17 refl (tt, tt)) $
         use1 W (‵ (partAt Cr q′ (c 1) b (seat o 1)) ⊛ raw (Back 𝓤 H A q′ Tr Cr h (c 1) b o (seat o 1))) (S .reads-channel 𝓤 H A W q′ h b o 1 (S .two h is) (omega arith)) $ split ! $ lft-new ! tt (λ α₁. move ! (1 ∷ []) $
         use1 W (later (some (λ (δ : GName). ‵ (ShrRef (named 0) (α₁ ∷ []) Cr .own (lent 1 δ) (vptr b (seat o 1) ∷ [])) ⊛ ‵ (flent (α₁ ∷ []) (partAt Cr q′ (c 1) b (seat o 1)))))) (lends-shr 𝓤 H A W Cr (named 0) (α₁ ∷ []) q′ (c 1) b (seat o 1)) $ await ! tt $ pick ! (λ δ₁. split ! $
@@ -222,16 +224,16 @@ module _ (T C P : Datum) (S : Seats T C) (g n : Name) (good : ℕ → C .like .D
         split ! $ lft-end ! tt $ move ! (0 ∷ 2 ∷ []) $ lent-back ! tt $ move ! (0 ∷ 2 ∷ []) $ use2 W (‵ (partAt Tr q′ h b o)) (apply∗ 𝓤 (sem 𝓤 H A (partAt Cr q′ (c 1) b (seat o 1))) (sem 𝓤 H A (partAt Tr q′ h b o))) $
         assigns ! (addr ! (from ! (hop ! (look ! 46 refl) (fld ! (S .field₀) (stop !))))) (from ! (stop !)) (init ! 16 refl (tt, tt)) $
         assigns ! (bin ! (load ! (from ! (stop !)) (look ! 16 refl)) (lit ! tt) tt) (from ! (stop !)) (init ! 14 refl (tt, tt)) $
-        rewrite ! 14 (λ (z : ℕ). ‵ (fat fullShare tyPtr l₁₇ 0 (vptr b z))) (sym (place-is 3416 (o + 0) 0)) refl $
+        rewrite ! 14 (λ (z : ℕ). ‵ (fat fullShare tyPtr l₁₇ 0 (vptr b z))) (sym (place-is channel-bytes (o + 0) 0)) refl $
         goes-in ! q′ Tr usize (Is usize) (shows 𝓤 H A usize) (uint-vals w64) (uint-tells w64) h h (time 0) (time 0) b o (clock o 0) (S .reads-clock 𝓤 H A W q′ h b o 0 (S .two h is) (omega arith)) (λ is-time₀.
         assigns ! (of-opd ! (load ! (from ! (hop ! (look ! 16 refl) (fld ! (S .head₂) (fld ! (S .time₀) (stop !))))) (look ! 0 refl))) (from ! (stop !)) (init ! 34 refl (tt, record { fits = is-time₀ .1 })) $ comes-out ! q′ Tr usize h (time 0) (vint w64 (time 0) ∷ []) b o (clock o 0) $
         assigns ! (addr ! (from ! (hop ! (look ! 46 refl) (fld ! (S .field₀) (stop !))))) (from ! (stop !)) (init ! 12 refl (tt, tt)) $
         assigns ! (bin ! (load ! (from ! (stop !)) (look ! 12 refl)) (big ! (record { fits = lit< tt })) tt) (from ! (stop !)) (init ! 10 refl (tt, tt)) $
-        rewrite ! 10 (λ (z : ℕ). ‵ (fat fullShare tyPtr l₁₉ 0 (vptr b z))) (sym (place-is 3416 (o + 0) 1)) refl $
+        rewrite ! 10 (λ (z : ℕ). ‵ (fat fullShare tyPtr l₁₉ 0 (vptr b z))) (sym (place-is channel-bytes (o + 0) 1)) refl $
         goes-in ! q′ Tr usize (Is usize) (shows 𝓤 H A usize) (uint-vals w64) (uint-tells w64) h h (time 1) (time 1) b o (clock o 1) (S .reads-clock 𝓤 H A W q′ h b o 1 (S .two h is) (omega arith)) (λ is-time₁.
         assigns ! (of-opd ! (load ! (from ! (hop ! (look ! 12 refl) (fld ! (S .head₂) (fld ! (S .time₀) (stop !))))) (look ! 0 refl))) (from ! (stop !)) (init ! 32 refl (tt, record { fits = is-time₁ .1 })) $ comes-out ! q′ Tr usize h (time 1) (vint w64 (time 1) ∷ []) b o (clock o 1) $
-        goes-in ! q′ Tr usize (Is usize) (shows 𝓤 H A usize) (uint-vals w64) (uint-tells w64) h h (S .count h) (S .count h) b o (o + 6832) (S .reads-count 𝓤 H A W q′ h b o) (λ is-count.
-        assigns ! (of-opd ! (load ! (from ! (hop ! (look ! 48 refl) (fld ! (S .field₁) (stop !)))) (look ! 0 refl))) (from ! (stop !)) (init ! 10 refl (tt, record { fits = is-count .1 })) $ comes-out ! q′ Tr usize h (S .count h) (vint w64 (S .count h) ∷ []) b o (o + 6832) $
+        goes-in ! q′ Tr usize (Is usize) (shows 𝓤 H A usize) (uint-vals w64) (uint-tells w64) h h (S .count h) (S .count h) b o (o + count-at) (S .reads-count 𝓤 H A W q′ h b o) (λ is-count.
+        assigns ! (of-opd ! (load ! (from ! (hop ! (look ! 48 refl) (fld ! (S .field₁) (stop !)))) (look ! 0 refl))) (from ! (stop !)) (init ! 10 refl (tt, record { fits = is-count .1 })) $ comes-out ! q′ Tr usize h (S .count h) (vint w64 (S .count h) ∷ []) b o (o + count-at) $
         move ! (3 ∷ 0 ∷ []) $ obor-close ! tt $ drop ! $ nothing ! $ use1 W (raw (N 𝓤 H A .pre to-n)) (goes-n (is-count .1) (is-capacity .1) (is-time₀ .1) (is-time₁ .1)) $
         calls-at ! fm (N 𝓤 H A) known-n to-n (and-then ! (load ! (from ! (stop !)) (look ! 8 refl)) (and-then ! (load ! (from ! (stop !)) (look ! 38 refl)) (and-then ! (load ! (from ! (stop !)) (look ! 36 refl)) (and-then ! (load ! (from ! (stop !)) (look ! 34 refl)) (and-then ! (load ! (from ! (stop !)) (look ! 32 refl)) (and-then ! (load ! (from ! (stop !)) (look ! 30 refl)) (and-then ! (load ! (from ! (stop !)) (look ! 44 refl)) (and-then ! (load ! (from ! (stop !)) (look ! 42 refl)) (and-then ! (load ! (from ! (stop !)) (look ! 40 refl)) (no-more !)))))))))) (λ w.
         use1 W (later (some (λ (r : ℕ). (‵ ftrue ⊛ ‵ (u8 .own r (w ∷ []))) ⊛ raw (ensured 𝓤 H A n-ended (n-clauses 𝓤) tt asked tt r)))) (id⊢ 𝓤 _) $ await ! tt $ pick ! (λ r.

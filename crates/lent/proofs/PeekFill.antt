@@ -17,7 +17,7 @@ use prog.Wp.{Heap, Calls, Loops, WpFn, Tables}
 use ghost.Atoms.{Atoms, sem}
 use contract.Monad.{fact}
 use types.Kit.{Given, ‵, raw, some, later, _⊛_, ⋆, _$_, _∵_, !, qed, by, move, keep, drop, use1, use2, split, join, pick, fsplit, fsplit3, fjoin, feqL, suffices, frame, await, done}
-use types.Run.{look, look-raw, init, forget, stop, hop, fld, from, load, addr, of-opd, and-then, no-more, assigns, land, returns, enter, alloc1, alloc0, params1, pass1, pass0, free1, free0}
+use types.Run.{look, init, forget, stop, hop, fld, from, load, addr, of-opd, and-then, no-more, assigns, land, returns, enter, alloc1, alloc0, params1, pass1, pass0, free1, free0}
 use types.Part.{agg, whole, sub, look-in}
 use sound.WpLaws.{FmC, fmOf, WpFn-mono}
 use denote.RattleType.{RattleType, owns}
@@ -28,8 +28,7 @@ use denote.Builtin.{usize, RefOf, SliceRefMutOf}
 use denote.Ref.{RefT, ShrRef, now, ptr-vals, shr-tells}
 use denote.Slice.{sliceTy, sliceVal, MutSlice, Room, finally, slice-vals, mut-slice-tells}
 use denote.Signature.{plain}
-use denote.Steps.{looks, shuts, owned, peeks, heard, nothing}
-use denote.Struct.Steps.{spelt}
+use denote.Steps.{owned, peeks, heard, nothing}
 use denote.Triple.Entry.{onEntry}
 use denote.Triple.Spec.{Meets, tripleOf}
 use denote.Triple.Statement.{Contract, Triple}
@@ -38,7 +37,7 @@ use denote.Triple.Clauses.{Ended, Clauses, ensured, lasts, closing}
 use denote.Triple.Walked.{says, Stays, stay-none, stay-dropped, gave-slice, walkOf, goes-none, goes-silent, goes-gave-slice, ends-at, walked, walk-meets}
 use denote.Exit.{yes}
 use Rattle.lent.proofs.Rows.{Datum, row}
-use Rattle.lent.proofs.Rows.{copy as twice}
+use Rattle.lent.proofs.Copied.{copies-out}
 
 module _ (T X Y E I Q : Datum) (g h : Name) (gives : T .like .Denot → X .like .Denot → Y .like .Denot → ℕ → I .like .Denot) (Fits : List (E .like .Denot) → I .like .Denot → Type 0)
     (fits : (s : T .like .Denot) (x : X .like .Denot) (y : Y .like .Denot) (l : List (E .like .Denot)) → Fits l (gives s x y (length l)))
@@ -150,10 +149,8 @@ module _ (T X Y E I Q : Datum) (g h : Name) (gives : T .like .Denot → X .like 
           qed W ((‵ (flft κ q) ⊛ ‵ (flft κ₁ q₁) ⊛ ‵ ftrue) ∷ ‵ (owns (ShrRef (named 0) κ Tr ∷ row X ∷ row Y ∷ MutSlice (named 1) κ₁ (row E) ∷ []) a vals) ∷ []) ∵ enter ! C Λ function (vptr b o ∷ X .val x ∷ Y .val y ∷ sl ∷ []) _ $
           alloc1 ! (λ l₀. alloc1 ! (λ l₁. alloc1 ! (λ l₂. alloc1 ! (λ l₃. alloc1 ! (λ l₄. alloc1 ! (λ l₅. alloc1 ! (λ l₆. alloc1 ! (λ l₇. alloc1 ! (λ l₈. alloc1 ! (λ l₉. alloc0 ! $ params1 ! $
           pass1 ! (init ! 16 refl (tt, tt)) $ pass1 ! (init ! 14 refl (X .typed 𝓤 H A W x _ isx)) $ pass1 ! (init ! 12 refl (Y .typed 𝓤 H A W y _ isy)) $ pass1 ! (init ! 10 refl (tt, (tt, (record { fits = room .0 }, tt)))) $ pass0 ! $
-          move ! (21 ∷ []) $ fsplit ! $ fsplit3 ! $ drop ! $ move ! (23 ∷ []) $ split ! $ move ! (3 ∷ 0 ∷ []) $
-          looks ! tt Tr (Is Tr) (shows 𝓤 H A Tr) (λ z. T .val z ∷ []) (T .tells) (twice T 𝓤 H A W) s b o (λ q′ vs. spelt ! Tr (Is Tr) (shows 𝓤 H A Tr) (λ z. T .val z ∷ []) (T .tells) q′ s vs b o $
-          move ! (1 ∷ []) $ peeks ! Tr (Is Tr) (shows 𝓤 H A Tr) s (T .val s ∷ []) (λ is. move ! (1 ∷ 0 ∷ []) $
-          assigns ! (of-opd ! (load ! (from ! (hop ! (look ! 23 refl) (stop !))) (look-raw ! 0 refl))) (from ! (stop !)) (init ! 13 refl (T .typed 𝓤 H A W s _ is)) $ shuts ! tt Tr q′ s (T .val s ∷ []) b o $
+          move ! (21 ∷ []) $ fsplit ! $ fsplit3 ! $ drop ! $ move ! (23 ∷ []) $ split ! $ move ! (3 ∷ 0 ∷ 11 ∷ 21 ∷ []) $ copies-out ! T s b o refl refl (λ is.
+          move ! (0 ∷ 1 ∷ 4 ∷ 5 ∷ 6 ∷ 7 ∷ 8 ∷ 9 ∷ 10 ∷ 11 ∷ 12 ∷ 2 ∷ 13 ∷ 14 ∷ 15 ∷ 16 ∷ 17 ∷ 18 ∷ 19 ∷ 20 ∷ 21 ∷ 3 ∷ []) $
           assigns ! (of-opd ! (load ! (from ! (fld ! refl (stop !))) (look-in ! 15 (sub ! 1 refl (whole !))))) (from ! (stop !)) (init ! 9 refl (tt, record { fits = room .0 })) $
           nothing ! $ use1 W (raw (G 𝓤 H A .pre to-g)) (goes-g is) $ calls-at ! fm (G 𝓤 H A) known-g to-g (and-then ! (load ! (from ! (stop !)) (look ! 12 refl)) (and-then ! (load ! (from ! (stop !)) (look ! 20 refl)) (and-then ! (load ! (from ! (stop !)) (look ! 18 refl)) (and-then ! (load ! (from ! (stop !)) (look ! 10 refl)) (no-more !))))) (λ w.
           use1 W (later (some (λ (r : I .like .Denot). (‵ ftrue ⊛ ‵ (I .like .own r (w ∷ []))) ⊛ raw (ensured 𝓤 H A g-ended (g-clauses 𝓤) tt (s, (x, (y, (length l, tt)))) tt r)))) (id⊢ 𝓤 _) $ await ! tt $ pick ! (λ r.
@@ -169,7 +166,7 @@ module _ (T X Y E I Q : Datum) (g h : Name) (gives : T .like .Denot → X .like 
           land ! (from ! (stop !)) (init ! 29 refl (Q .typed 𝓤 H A W r′ w′ isq)) $ returns ! (look ! 29 refl) $
           forget ! 11 refl $ forget ! 13 refl $ forget ! 15 refl $ forget ! 17 refl $ forget ! 19 refl $ forget ! 21 refl $ forget ! 23 refl $ forget ! 25 refl $ forget ! 27 refl $ forget ! 29 refl $
           move ! (29 ∷ 30 ∷ []) $ free1 ! $ move ! (27 ∷ 28 ∷ []) $ free1 ! $ move ! (25 ∷ 26 ∷ []) $ free1 ! $ move ! (23 ∷ 24 ∷ []) $ free1 ! $ move ! (21 ∷ 22 ∷ []) $ free1 ! $ move ! (19 ∷ 20 ∷ []) $ free1 ! $ move ! (17 ∷ 18 ∷ []) $ free1 ! $ move ! (15 ∷ 16 ∷ []) $ free1 ! $ move ! (13 ∷ 14 ∷ []) $ free1 ! $ move ! (11 ∷ 12 ∷ []) $ free1 ! $ free0 ! $
-          keep ! (8 ∷ 1 ∷ 0 ∷ 2 ∷ []) $ by ! (exits r′ w′ (ys .0) e′ len))))))))))))))))))))))))
+          keep ! (8 ∷ 1 ∷ 0 ∷ 2 ∷ []) $ by ! (exits r′ w′ (ys .0) e′ len)))))))))))))))))))))))
 
   pub peek : {M : Type 1} (𝓤 : URA M) (H : Heap 𝓤) (A : Atoms 𝓤) (W : Given 𝓤 H A) (𝓣 : Tables 𝓤 H) → Triple 𝓤 (𝓣 .C g) (G 𝓤 H A) → Triple 𝓤 (𝓣 .C h) (Hc 𝓤 H A)
       → Meets 𝓤 H A (ended .signature) (WpFn 𝓤 H (𝓣 .C) (𝓣 .Λ) function) (closing 𝓤 H A ended (clauses 𝓤))

@@ -1,4 +1,4 @@
--- A sampler in memory: its channels, read and overwritten, and its numbers, read. A channel takes 3416 bytes, and its head stands at byte 3336.
+-- A sampler in memory: its channels, read and overwritten, and its numbers, read.
 --     Seats T C        a T of two C's, by its MIR type's fields and by what is done to it: no more is known of either row
 --     seats            the sampler and its channels are so
 -- Assumes `Given`.
@@ -40,6 +40,8 @@ use Rattle.sampler.specs.Refusals.{channelAt}
 use Rattle.sampler.specs.Samplers.{withChannels}
 use Rattle.sampler.proofs.Sampler as T
 use Rattle.sampler.proofs.Sampler.Laws as T′
+use Rattle.in_place.proofs.Bytes.{channel-bytes, head-at}
+use Rattle.lent.proofs.Bytes.{count-at, capacity-at}
 use Rattle.lent.proofs.Rows.{Datum, row}
 use Rattle.lent.proofs.Lent.{sampler, channel}
 
@@ -48,18 +50,18 @@ sv h = LL.val T.the-type T′.the-laws h
 
 -- where channel j of a sampler at o stands, and its clock
 abbrev pub seat : ℕ → ℕ → ℕ
-seat o j = place 3416 (o + 0) j
+seat o j = place channel-bytes (o + 0) j
 
 abbrev pub clock : ℕ → ℕ → ℕ
-clock o j = seat o j + 3336 + 0
+clock o j = seat o j + head-at + 0
 
 pub record Seats (T C : Datum) : Type 2 where
   pub channels : Ty
   pub head : Ty
   pub field₀ : fieldOf (T .ty) 0 ≡ some (channels, 0)
-  pub field₁ : fieldOf (T .ty) 1 ≡ some (tyInt w64, 6832)
-  pub field₂ : fieldOf (T .ty) 2 ≡ some (tyInt w64, 6840)
-  pub head₂ : fieldOf (C .ty) 2 ≡ some (head, 3336)
+  pub field₁ : fieldOf (T .ty) 1 ≡ some (tyInt w64, count-at)
+  pub field₂ : fieldOf (T .ty) 2 ≡ some (tyInt w64, capacity-at)
+  pub head₂ : fieldOf (C .ty) 2 ≡ some (head, head-at)
   pub time₀ : fieldOf head 0 ≡ some (tyInt w64, 0)
   pub channel : T .like .Denot → ℕ → C .like .Denot
   pub changed : T .like .Denot → ℕ → C .like .Denot → T .like .Denot
@@ -71,8 +73,8 @@ pub record Seats (T C : Datum) : Type 2 where
   pub reads-channel : {M : Type 1} (𝓤 : URA M) (H : Heap 𝓤) (A : Atoms 𝓤) → Given 𝓤 H A → (q : Share) (h : T .like .Denot) (b o j : ℕ) → Two h → j < 2 → Inside 𝓤 H A q (row T) (row C) h h (channel h j) (channel h j) b o (seat o j)
   pub sets-channel : {M : Type 1} (𝓤 : URA M) (H : Heap 𝓤) (A : Atoms 𝓤) → Given 𝓤 H A → (q : Share) (h : T .like .Denot) (b o j : ℕ) → Two h → j < 2 → (y : C .like .Denot) → Inside 𝓤 H A q (row T) (row C) h (changed h j y) (channel h j) y b o (seat o j)
   pub reads-clock : {M : Type 1} (𝓤 : URA M) (H : Heap 𝓤) (A : Atoms 𝓤) → Given 𝓤 H A → (q : Share) (h : T .like .Denot) (b o j : ℕ) → Two h → j < 2 → Inside 𝓤 H A q (row T) usize h h (time (channel h j)) (time (channel h j)) b o (clock o j)
-  pub reads-count : {M : Type 1} (𝓤 : URA M) (H : Heap 𝓤) (A : Atoms 𝓤) → Given 𝓤 H A → (q : Share) (h : T .like .Denot) (b o : ℕ) → Inside 𝓤 H A q (row T) usize h h (count h) (count h) b o (o + 6832)
-  pub reads-capacity : {M : Type 1} (𝓤 : URA M) (H : Heap 𝓤) (A : Atoms 𝓤) → Given 𝓤 H A → (q : Share) (h : T .like .Denot) (b o : ℕ) → Inside 𝓤 H A q (row T) usize h h (capacity h) (capacity h) b o (o + 6840)
+  pub reads-count : {M : Type 1} (𝓤 : URA M) (H : Heap 𝓤) (A : Atoms 𝓤) → Given 𝓤 H A → (q : Share) (h : T .like .Denot) (b o : ℕ) → Inside 𝓤 H A q (row T) usize h h (count h) (count h) b o (o + count-at)
+  pub reads-capacity : {M : Type 1} (𝓤 : URA M) (H : Heap 𝓤) (A : Atoms 𝓤) → Given 𝓤 H A → (q : Share) (h : T .like .Denot) (b o : ℕ) → Inside 𝓤 H A q (row T) usize h h (capacity h) (capacity h) b o (o + capacity-at)
 
 pub seats-are : (h : Sampler) → Is T.the-row h (sv h ∷ []) → length (h .channels) ≡ 2
 seats-are h g = sym (length-map (h .channels) _) ∙ LL.owed T.the-type T′.the-laws h _ g .0 .1 .0 .1
@@ -102,15 +104,15 @@ module _ {M : Type 1} (𝓤 : URA M) (H : Heap 𝓤) (A : Atoms 𝓤) (W : Given
     clock-read =
         let c = channelAt h j in
         within 𝓤 H A W q T.the-row C.the-row usize h h c c (c .head .now) (c .head .now) b o (seat o j) (clock o j) channel-read
-        (within 𝓤 H A W q C.the-row E.the-row usize c c (c .head) (c .head) (c .head .now) (c .head .now) b (seat o j) (seat o j + 3336) (clock o j)
-        (cut-record 𝓤 H A q C.the-row E.the-type 3336 c c (c .head) (c .head) (b, seat o j) (look-at 𝓤 H A W q C.the-type C′.the-laws 2 3336 refl refl (b, seat o j) c (C.struct .as-values c) refl))
-        (look-at 𝓤 H A W q E.the-type E′.the-laws 0 0 refl refl (b, seat o j + 3336) (c .head) (E.struct .as-values (c .head)) refl))
+        (within 𝓤 H A W q C.the-row E.the-row usize c c (c .head) (c .head) (c .head .now) (c .head .now) b (seat o j) (seat o j + head-at) (clock o j)
+        (cut-record 𝓤 H A q C.the-row E.the-type head-at c c (c .head) (c .head) (b, seat o j) (look-at 𝓤 H A W q C.the-type C′.the-laws 2 head-at refl refl (b, seat o j) c (C.struct .as-values c) refl))
+        (look-at 𝓤 H A W q E.the-type E′.the-laws 0 0 refl refl (b, seat o j + head-at) (c .head) (E.struct .as-values (c .head)) refl))
 
-  pub count-read : Inside 𝓤 H A q T.the-row usize h h (h .count) (h .count) b o (o + 6832)
-  count-read = look-at 𝓤 H A W q T.the-type T′.the-laws 1 6832 refl refl (b, o) h (T.struct .as-values h) refl
+  pub count-read : Inside 𝓤 H A q T.the-row usize h h (h .count) (h .count) b o (o + count-at)
+  count-read = look-at 𝓤 H A W q T.the-type T′.the-laws 1 count-at refl refl (b, o) h (T.struct .as-values h) refl
 
-  pub capacity-read : Inside 𝓤 H A q T.the-row usize h h (h .capacity) (h .capacity) b o (o + 6840)
-  capacity-read = look-at 𝓤 H A W q T.the-type T′.the-laws 2 6840 refl refl (b, o) h (T.struct .as-values h) refl
+  pub capacity-read : Inside 𝓤 H A q T.the-row usize h h (h .capacity) (h .capacity) b o (o + capacity-at)
+  capacity-read = look-at 𝓤 H A W q T.the-type T′.the-laws 2 capacity-at refl refl (b, o) h (T.struct .as-values h) refl
 
 abbrev pub seats : Seats sampler channel
 seats = record {

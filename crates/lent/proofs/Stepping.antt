@@ -53,6 +53,8 @@ use borrow.Rule.Slice.PartMut.{midOf, putMid, same-len-mid}
 use Rattle.walks.proofs.Inside.{Back, goes-in, comes-out, opened, big}
 use Rattle.walks.proofs.Again.{LentAgain, lends-again, comes-back}
 use Rattle.walks.proofs.Rounds.{rounds}
+use Rattle.in_place.proofs.Bytes.{channel-bytes}
+use Rattle.lent.proofs.Bytes.{capacity-at}
 use Rattle.lent.proofs.Rows.{Datum, row}
 use Rattle.lent.proofs.Seats.{Seats, seat, lies}
 
@@ -98,7 +100,7 @@ module _ (T C P : Datum) (S : Seats T C) (#number #steps #start #sample : Name) 
       seq (cond (copy (place 14 [])) skip (exit 1)) (
       seq (call #start (copy (place 9 []) ∷ copy (place 8 []) ∷ []) (place 10 [])) (
       seq (assign (place 11 []) (op2 (add unsigned) (copy (place 10 [])) (copy (place 8 [])))) (
-      seq (assign (place 16 []) (op2 (mul unsigned) (copy (place 9 [])) (intBig w64 3416))) (
+      seq (assign (place 16 []) (op2 (mul unsigned) (copy (place 9 [])) (intBig w64 channel-bytes))) (
       seq (assign (place 17 []) (addrOf (place 1 (deref (T .ty) ∷ field 0 ∷ [])))) (
       seq (assign (place 18 []) (op2 offset (copy (place 17 [])) (copy (place 16 [])))) (
       seq (assign (place 19 []) (addrOf (place 18 (deref (C .ty) ∷ [])))) (
@@ -384,7 +386,7 @@ module _ (T C P : Datum) (S : Seats T C) (#number #steps #start #sample : Name) 
           next-fits : i + 1 < 2 ^ 64
           next-fits = omega (arith, ready .0)
 
-          seat-fits : i * 3416 < 2 ^ 64
+          seat-fits : i * channel-bytes < 2 ^ 64
           seat-fits = omega (arith, ready .0)
 
           place-fits : i * 4 < 2 ^ 64
@@ -405,7 +407,7 @@ module _ (T C P : Datum) (S : Seats T C) (#number #steps #start #sample : Name) 
               assigns ! (bin ! (load ! (from ! (stop !)) (look ! 5 refl)) (load ! (from ! (stop !)) (look ! 27 refl)) (record { fits = end-fits a e })) (from ! (stop !)) (init ! 6 refl (tt, record { fits = end-fits a e })) $
               assigns ! (bin ! (load ! (from ! (stop !)) (look ! 4 refl)) (big ! (record { fits = lit< tt })) (record { fits = seat-fits })) (from ! (stop !)) (init ! 9 refl (tt, record { fits = seat-fits })) $
               assigns ! (addr ! (from ! (hop ! (look ! 20 refl) (fld ! (S .field₀) (stop !))))) (from ! (stop !)) (init ! 10 refl (tt, tt)) $
-              assigns ! (bin ! (load ! (from ! (stop !)) (look ! 10 refl)) (load ! (from ! (stop !)) (look ! 9 refl)) tt) (from ! (stop !)) (init ! 11 refl (tt, tt)) $ rewrite ! 11 (λ (u : ℕ). ‵ (fat fullShare tyPtr l₁₈ 0 (vptr b u))) (sym (place-is 3416 (o + 0) i)) refl $
+              assigns ! (bin ! (load ! (from ! (stop !)) (look ! 10 refl)) (load ! (from ! (stop !)) (look ! 9 refl)) tt) (from ! (stop !)) (init ! 11 refl (tt, tt)) $ rewrite ! 11 (λ (u : ℕ). ‵ (fat fullShare tyPtr l₁₈ 0 (vptr b u))) (sym (place-is channel-bytes (o + 0) i)) refl $
               assigns ! (addr ! (from ! (hop ! (look ! 11 refl) (stop !)))) (from ! (stop !)) (init ! 12 refl (tt, tt)) $
               assigns ! (bin ! (load ! (from ! (stop !)) (look ! 4 refl)) (lit ! tt) (record { fits = place-fits })) (from ! (stop !)) (init ! 13 refl (tt, record { fits = place-fits })) $
               assigns ! (bin ! (load ! (from ! (fld ! refl (stop !))) (look-in ! 21 (sub ! 0 refl (whole !)))) (load ! (from ! (stop !)) (look ! 13 refl)) tt) (from ! (stop !)) (init ! 14 refl (tt, tt)) $ rewrite ! 14 (λ (u : ℕ). ‵ (fat fullShare tyPtr l₂₁ 0 (vptr b₁ u))) (sym (place-is 4 o₁ i)) refl $
@@ -509,8 +511,8 @@ module _ (T C P : Datum) (S : Seats T C) (#number #steps #start #sample : Name) 
           use1 W (later (some (λ (r′ : ℕ). (‵ ftrue ⊛ ‵ (usize .own r′ (w′ ∷ []))) ⊛ raw (ensured 𝓤 H A steps-ended (steps-clauses 𝓤) tt (number, (length l, tt)) tt r′)))) (id⊢ 𝓤 _) $ await ! tt $ pick ! (λ r′.
           split ! $ move ! (1 ∷ []) $ use1 W (raw (fact 𝓤 (r′ ≡ n))) (steps-of r′) $ heard ! (r′ ≡ n) (λ e′. split ! $ drop ! $ peeks ! usize (Is usize) (shows 𝓤 H A usize) r′ (w′ ∷ []) (λ isr′. drop ! $
           land ! (from ! (stop !)) (init ! 52 refl (uint-lawful 𝓤 H A W w64 .typed r′ _ isr′ .0)) $ rewrite ! 52 (λ (u : Val). ‵ (fat fullShare (tyInt w64) l₇ 0 u)) (ap only (isr′ .0)) refl $ rewrite ! 52 (λ (j : ℕ). ‵ (fat fullShare (tyInt w64) l₇ 0 (vint w64 j))) e′ refl $
-          goes-in ! fullShare Tr usize (Is usize) (shows 𝓤 H A usize) (uint-vals w64) (uint-tells w64) s s size size b o (o + 6840) (S .reads-capacity 𝓤 H A W fullShare s b o) (λ isc.
-          assigns ! (of-opd ! (load ! (from ! (hop ! (look ! 66 refl) (fld ! (S .field₂) (stop !)))) (look ! 0 refl))) (from ! (stop !)) (init ! 52 refl (tt, record { fits = isc .1 })) $ comes-out ! fullShare Tr usize s size (vint w64 size ∷ []) b o (o + 6840) $
+          goes-in ! fullShare Tr usize (Is usize) (shows 𝓤 H A usize) (uint-vals w64) (uint-tells w64) s s size size b o (o + capacity-at) (S .reads-capacity 𝓤 H A W fullShare s b o) (λ isc.
+          assigns ! (of-opd ! (load ! (from ! (hop ! (look ! 66 refl) (fld ! (S .field₂) (stop !)))) (look ! 0 refl))) (from ! (stop !)) (init ! 52 refl (tt, record { fits = isc .1 })) $ comes-out ! fullShare Tr usize s size (vint w64 size ∷ []) b o (o + capacity-at) $
           assigns ! (of-opd ! (lit ! tt)) (from ! (stop !)) (init ! 48 refl (tt, record { fits = lit< tt })) $
           keep ! (0 ∷ 5 ∷ 11 ∷ 9 ∷ 48 ∷ 46 ∷ 44 ∷ 38 ∷ 36 ∷ 34 ∷ 32 ∷ 30 ∷ 28 ∷ 26 ∷ 24 ∷ 22 ∷ 20 ∷ 18 ∷ 16 ∷ 14 ∷ 64 ∷ 62 ∷ 60 ∷ 58 ∷ 56 ∷ 54 ∷ 52 ∷ 50 ∷ 42 ∷ 40 ∷ 66 ∷ 2 ∷ 3 ∷ 4 ∷ 6 ∷ 7 ∷ 8 ∷ 10 ∷ 67 ∷ 65 ∷ 63 ∷ 61 ∷ 59 ∷ 57 ∷ 55 ∷ 53 ∷ 51 ∷ 49 ∷ 47 ∷ 45 ∷ 43 ∷ 41 ∷ 39 ∷ 37 ∷ 35 ∷ 33 ∷ 31 ∷ 29 ∷ 27 ∷ 25 ∷ 23 ∷ 21 ∷ 19 ∷ 17 ∷ 15 ∷ []) $ by ! (loops (subst (λ (j : ℕ). j < 2 ^ 8) e (isr .1)) (subst (λ (j : ℕ). j < 2 ^ 64) e′ (isr′ .1)) (isc .1) l₀ l₁ l₂ l₃ l₄ l₅ l₆ l₇ l₈ l₉ l₁₀ l₁₁ l₁₂ l₁₃ l₁₄ l₁₅ l₁₆ l₁₇ l₁₈ l₁₉ l₂₀ l₂₁ l₂₂ l₂₃ l₂₄ l₂₅ l₂₆ (S .two s iss)))))))))))))))))))))))))))))))))))))))))
 

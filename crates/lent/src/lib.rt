@@ -9,9 +9,12 @@ ghost use Rattle.sampler.specs.Samplers.{
   startRecordingOf,
   stopRecordingOf,
   resetOf,
+  changeOf,
+  sampleMemory,
   Frames,
   framedOf,
 };
+ghost use Rattle.sampler.specs.Samplers.{processSampleOf as sampleOf};
 ghost use Rattle.sampler.specs.Refusals.{goodSizes, frameNumber};
 ghost use Rattle.channel.specs.Channels.{processSampleOf, memoryOf};
 ghost use Prim.Native.Nat.{_*_, _-_, _≤_, _<_};
@@ -33,7 +36,9 @@ ghost use Rattle.questions.specs.Questions.{
 };
 ghost use Rattle.lent.specs.Lists.{countedOf, listedOf, voiceInfoCounted, voiceInfoAfter};
 ghost use Rattle.lent.specs.Numbers.{allGood, anyEnded, numberOf};
+use channel::Change;
 use channel::Channel;
+use channel::HeadChange;
 use common_types::Note;
 use common_types::Params;
 use questions::Counted;
@@ -44,6 +49,57 @@ use questions::VoiceInfos;
 use sampler::Sampler;
 use sampler::first_of;
 
+// The call that makes a change of every channel, all or none. The six names are it, each at the change that a function
+// makes of the name's arguments.
+pub fn change(s: &mut Sampler, change: Change) -> u8
+    ensures { λ r. ⌜ record { sampler = now (s .exit); number = r } ≡ changeOf (now (s .entry)) change ⌝ }
+{
+    let r = Sampler::changed(*s, change);
+    *s = r.sampler;
+    r.number
+}
+
+fn start_of(position: f32, note: Note, velocity: f32, params: Params) -> Change
+    ensures { λ r. ⌜ r ≡ Change.Start params position note velocity ⌝ }
+{
+    Change::Start {
+        params,
+        position,
+        note,
+        velocity,
+    }
+}
+
+fn stop_of(note: Note, params: Params) -> Change
+    ensures { λ r. ⌜ r ≡ Change.Stop params note ⌝ }
+{
+    Change::Stop { params, note }
+}
+
+fn speed_of(note: Note, speed: f32) -> Change
+    ensures { λ r. ⌜ r ≡ Change.Speed note speed ⌝ }
+{
+    Change::Speed { note, speed }
+}
+
+fn recording_started() -> Change
+    ensures { λ r. ⌜ r ≡ Change.Head HeadChange.StartRecording ⌝ }
+{
+    Change::Head(HeadChange::StartRecording)
+}
+
+fn recording_stopped() -> Change
+    ensures { λ r. ⌜ r ≡ Change.Head HeadChange.StopRecording ⌝ }
+{
+    Change::Head(HeadChange::StopRecording)
+}
+
+fn all_reset() -> Change
+    ensures { λ r. ⌜ r ≡ Change.Reset ⌝ }
+{
+    Change::Reset
+}
+
 pub fn start_playing(
     s: &mut Sampler,
     position: f32,
@@ -53,49 +109,77 @@ pub fn start_playing(
 ) -> u8
     ensures { λ r. ⌜ record { sampler = now (s .exit); number = r } ≡ startPlayingOf (now (s .entry)) position note velocity params ⌝ }
 {
-    let r = Sampler::start_playing(*s, position, note, velocity, params);
-    *s = r.sampler;
-    r.number
+    change(s, start_of(position, note, velocity, params))
 }
 
 pub fn stop_playing(s: &mut Sampler, note: Note, params: Params) -> u8
     ensures { λ r. ⌜ record { sampler = now (s .exit); number = r } ≡ stopPlayingOf (now (s .entry)) note params ⌝ }
 {
-    let r = Sampler::stop_playing(*s, note, params);
-    *s = r.sampler;
-    r.number
+    change(s, stop_of(note, params))
 }
 
 pub fn set_note_speed(s: &mut Sampler, note: Note, speed: f32) -> u8
     ensures { λ r. ⌜ record { sampler = now (s .exit); number = r } ≡ setNoteSpeedOf (now (s .entry)) note speed ⌝ }
 {
-    let r = Sampler::set_note_speed(*s, note, speed);
-    *s = r.sampler;
-    r.number
+    change(s, speed_of(note, speed))
 }
 
 pub fn start_recording(s: &mut Sampler) -> u8
     ensures { λ r. ⌜ record { sampler = now (s .exit); number = r } ≡ startRecordingOf (now (s .entry)) ⌝ }
 {
-    let r = Sampler::start_recording(*s);
-    *s = r.sampler;
-    r.number
+    change(s, recording_started())
 }
 
 pub fn stop_recording(s: &mut Sampler) -> u8
     ensures { λ r. ⌜ record { sampler = now (s .exit); number = r } ≡ stopRecordingOf (now (s .entry)) ⌝ }
 {
-    let r = Sampler::stop_recording(*s);
-    *s = r.sampler;
-    r.number
+    change(s, recording_stopped())
 }
 
 pub fn reset(s: &mut Sampler) -> u8
     ensures { λ r. ⌜ record { sampler = now (s .exit); number = r } ≡ resetOf (now (s .entry)) ⌝ }
 {
-    let r = Sampler::reset(*s);
+    change(s, all_reset())
+}
+
+// What a sample of one channel answers: its output, and the number of document 01.
+pub struct Sampled {
+    pub output: f32,
+    pub number: u8,
+}
+
+struct Sampling {
+    sampler: Sampler,
+    sampled: Sampled,
+}
+
+fn sample_of(s: Sampler, channel: usize, input: f32, params: Params, memory: &mut [u32]) -> Sampling
+    ensures { λ r. ⌜ record { sampler = r .sampler; output = r .sampled .output; number = r .sampled .number } ≡ sampleOf s channel input params (now (memory .entry)) ⌝ }
+    ensures { λ r. ⌜ now (memory .exit) ≡ sampleMemory s channel input params (now (memory .entry)) ⌝ }
+{
+    let r = s.process_sample(channel, input, params, memory);
+    let sampler = r.sampler;
+    let sampled = Sampled {
+        output: r.output,
+        number: r.number,
+    };
+    Sampling { sampler, sampled }
+}
+
+// A sample of one channel.
+pub fn process_sample(
+    s: &mut Sampler,
+    channel: usize,
+    input: f32,
+    params: Params,
+    memory: &mut [u32],
+) -> Sampled
+    ensures { λ r. ⌜ (record { sampler = now (s .exit); output = r .output; number = r .number } ≡ sampleOf (now (s .entry)) channel input params (now (memory .entry)))
+        × (now (memory .exit) ≡ sampleMemory (now (s .entry)) channel input params (now (memory .entry))) ⌝ }
+{
+    let r = sample_of(*s, channel, input, params, memory);
     *s = r.sampler;
-    r.number
+    r.sampled
 }
 
 pub fn get_frames_processed(s: &Sampler, channel: usize) -> Counted

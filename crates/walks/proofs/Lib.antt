@@ -6,3 +6,4 @@ pub mod Shared
 pub mod Again
 pub mod Runs
 pub mod Rounds
+pub mod Fronts

@@ -70,6 +70,7 @@ use Rattle.channel.proofs.places.Symbol as places-def
 use Rattle.channel.proofs.places.Symbol.{name as #channel·places}
 use Rattle.channel.proofs.places.Met as places-thm
 use Rattle.in_place.specs.Turns.{headGoodOf}
+use Rattle.in_place.proofs.Bytes.{voice-bytes}
 use Rattle.in_place.proofs.Lists.{holds, fails, one-more, and-true, and-assoc, every-next}
 use Rattle.in_place.proofs.Places.{Places, to-places, goes-places, places-of, cv, vv, ev, spot, places-are, reads-voice}
 use Rattle.in_place.proofs.head_good as head-good
@@ -200,7 +201,7 @@ module _ {M : Type 1} (𝓤 : URA M) (H : Heap 𝓤) (A : Atoms 𝓤) (W : Given
       next-fits : i + 1 < 2 ^ 64
       next-fits = omega (arith, small)
 
-      place-fits : i * 104 < 2 ^ 64
+      place-fits : i * voice-bytes < 2 ^ 64
       place-fits = omega (arith, small)
 
       inside : i < length (h .voices)
@@ -223,7 +224,7 @@ module _ {M : Type 1} (𝓤 : URA M) (H : Heap 𝓤) (A : Atoms 𝓤) (W : Given
           assigns ! (bin ! (load ! (from ! (stop !)) (look ! 1 refl)) (lit ! tt) (record { fits = place-fits })) (from ! (stop !)) (init ! 4 refl (tt, record { fits = place-fits })) $
           assigns ! (addr ! (from ! (hop ! (look ! 8 refl) (fld ! refl (stop !))))) (from ! (stop !)) (init ! 5 refl (tt, tt)) $
           assigns ! (bin ! (load ! (from ! (stop !)) (look ! 5 refl)) (load ! (from ! (stop !)) (look ! 4 refl)) tt) (from ! (stop !)) (init ! 6 refl (tt, tt)) $
-          rewrite ! 6 (λ (z : ℕ). ‵ (fat fullShare ptr l₁₂ 0 (vptr b z))) (sym (place-is 104 (o + 0) i)) refl $
+          rewrite ! 6 (λ (z : ℕ). ‵ (fat fullShare ptr l₁₂ 0 (vptr b z))) (sym (place-is voice-bytes (o + 0) i)) refl $
           goes-in ! q′ C.the-row R.the-row (Is R.the-row) (shows 𝓤 H A R.the-row) (LL.vals R.the-type R′.the-laws) (LL.tells R.the-type R′.the-laws) h h v v b o (spot o i) (reads-voice 𝓤 H A W q′ h i none b o inside) (λ isv.
           use1 W (‵ (fat q′ R′.mir b (spot o i) (vv v))) (W .laws .raw-at q′ R′.mir b (spot o i) (vv v)) $
           assigns ! (of-opd ! (load ! (from ! (hop ! (look ! 8 refl) (stop !))) (look ! 0 refl))) (from ! (stop !)) (init ! 9 refl (LL.lawful R.the-type R′.the-laws 𝓤 H A W .typed v _ isv .0)) $

@@ -88,6 +88,7 @@ use Rattle.channel.proofs.sound.Symbol.{name as #channel·sound}
 use Rattle.channel.proofs.sound.Met as sounds-thm
 use Rattle.in_place.specs.declared.Start.{Start}
 use Rattle.in_place.specs.Turns.{begunOf, countedOf, playedBy}
+use Rattle.in_place.proofs.Bytes.{voice-bytes, count-at}
 use Rattle.in_place.proofs.Lists.{holds, fails, denied}
 use Rattle.in_place.proofs.Turns.{turns-few, begins-there, ended-output, ended-channel}
 use Rattle.in_place.proofs.Places.{cv, vv, spot, places-are, reads-voice, sets-voice}
@@ -360,7 +361,7 @@ module _ {M : Type 1} (𝓤 : URA M) (H : Heap 𝓤) (A : Atoms 𝓤) (W : Given
       next-fits : i + 1 < 2 ^ 64
       next-fits = omega (arith, small, few)
 
-      place-fits : i * 104 < 2 ^ 64
+      place-fits : i * voice-bytes < 2 ^ 64
       place-fits = omega (arith, small, few)
 
       inside : i < length l
@@ -369,7 +370,7 @@ module _ {M : Type 1} (𝓤 : URA M) (H : Heap 𝓤) (A : Atoms 𝓤) (W : Given
       more-fits : k + 1 < 2 ^ 64
       more-fits = omega (arith, g .less, small, few)
 
-      put-fits : k * 104 < 2 ^ 64
+      put-fits : k * voice-bytes < 2 ^ 64
       put-fits = omega (arith, g .less, small, few)
 
       inside-k : k < length l
@@ -416,7 +417,7 @@ module _ {M : Type 1} (𝓤 : URA M) (H : Heap 𝓤) (A : Atoms 𝓤) (W : Given
           assigns ! (bin ! (load ! (from ! (stop !)) (look ! 1 refl)) (lit ! tt) (record { fits = place-fits })) (from ! (stop !)) (init ! 10 refl (tt, record { fits = place-fits })) $
           assigns ! (addr ! (from ! (hop ! (look ! 17 refl) (fld ! {τ = voices} {d = 0} refl (stop !))))) (from ! (stop !)) (init ! 11 refl (tt, tt)) $
           assigns ! (bin ! (load ! (from ! (stop !)) (look ! 11 refl)) (load ! (from ! (stop !)) (look ! 10 refl)) tt) (from ! (stop !)) (init ! 12 refl (tt, tt)) $
-          rewrite ! 12 (λ (z : ℕ). ‵ (fat fullShare ptr l₁₉ 0 (vptr b z))) (sym (place-is 104 (o + 0) i)) refl $
+          rewrite ! 12 (λ (z : ℕ). ‵ (fat fullShare ptr l₁₉ 0 (vptr b z))) (sym (place-is voice-bytes (o + 0) i)) refl $
           goes-in ! fullShare C.the-row R.the-row (Is R.the-row) (shows 𝓤 H A R.the-row) (LL.vals R.the-type R′.the-laws) (LL.tells R.the-type R′.the-laws) (turned l) (turned l) v v b o (spot o i) (reads-voice 𝓤 H A W fullShare (turned l) i none b o inside) (λ isv.
           use1 W (‵ (fat fullShare R′.mir b (spot o i) (vv v))) (W .laws .raw-at fullShare R′.mir b (spot o i) (vv v)) $
           assigns ! (of-opd ! (load ! (from ! (hop ! (look ! 14 refl) (stop !))) (look ! 0 refl))) (from ! (stop !)) (init ! 15 refl (LL.lawful R.the-type R′.the-laws 𝓤 H A W .typed v _ isv .0)) $
@@ -451,7 +452,7 @@ module _ {M : Type 1} (𝓤 : URA M) (H : Heap 𝓤) (A : Atoms 𝓤) (W : Given
           assigns ! (bin ! (load ! (from ! (stop !)) (look ! 4 refl)) (lit ! tt) (record { fits = put-fits })) (from ! (stop !)) (init ! 14 refl (tt, record { fits = put-fits })) $
           assigns ! (addr ! (from ! (hop ! (look ! 17 refl) (fld ! {τ = voices} {d = 0} refl (stop !))))) (from ! (stop !)) (init ! 15 refl (tt, tt)) $
           assigns ! (bin ! (load ! (from ! (stop !)) (look ! 15 refl)) (load ! (from ! (stop !)) (look ! 14 refl)) tt) (from ! (stop !)) (init ! 16 refl (tt, tt)) $
-          rewrite ! 16 (λ (z : ℕ). ‵ (fat fullShare ptr l₂₃ 0 (vptr b z))) (sym (place-is 104 (o + 0) k)) refl $ move ! (2 ∷ []) $
+          rewrite ! 16 (λ (z : ℕ). ‵ (fat fullShare ptr l₂₃ 0 (vptr b z))) (sym (place-is voice-bytes (o + 0) k)) refl $ move ! (2 ∷ []) $
           goes-in ! fullShare C.the-row R.the-row (Is R.the-row) (shows 𝓤 H A R.the-row) (LL.vals R.the-type R′.the-laws) (LL.tells R.the-type R′.the-laws) (turned l) (turned (set l k w)) u w b o (spot o k) (sets-voice 𝓤 H A W fullShare (turned l) k none b o inside-k w) (λ _.
           use1 W (‵ (fat fullShare R′.mir b (spot o k) (vv u))) (W .laws .raw-at fullShare R′.mir b (spot o k) (vv u)) $
           assigns ! (of-opd ! (load ! (from ! (stop !)) (look ! 9 refl))) (from ! (hop ! (look ! 18 refl) (stop !))) (store ! 0 refl (LL.lawful R.the-type R′.the-laws 𝓤 H A W .typed w _ isw .0)) $
@@ -494,13 +495,13 @@ module _ {M : Type 1} (𝓤 : URA M) (H : Heap 𝓤) (A : Atoms 𝓤) (W : Given
           -- the count is overwritten
           opened ! fullShare C.the-row (Is C.the-row) (shows 𝓤 H A C.the-row) (LL.vals C.the-type C′.the-laws) (LL.tells C.the-type C′.the-laws) (turned (s .voices)) b o (λ is. let fits : h .count < 2 ^ 64 = LL.owed C.the-type C′.the-laws (turned (s .voices)) _ is .1 .0 .1 in
           use1 W (‵ (fat fullShare C′.mir b o (cv (turned (s .voices))))) (W .laws .raw-at fullShare C′.mir b o (cv (turned (s .voices)))) $
-          assigns ! (of-opd ! (load ! (from ! (hop ! (look ! 18 refl) (fld ! {τ = word} {d = 3328} refl (stop !)))) (look-in ! 0 (sub ! 1 {τ = word} {d = 3328} refl (whole !))))) (from ! (stop !)) (init ! 28 refl (tt, record { fits = fits })) $
+          assigns ! (of-opd ! (load ! (from ! (hop ! (look ! 18 refl) (fld ! {τ = word} {d = count-at} refl (stop !)))) (look-in ! 0 (sub ! 1 {τ = word} {d = count-at} refl (whole !))))) (from ! (stop !)) (init ! 28 refl (tt, record { fits = fits })) $
           nothing ! $ use1 W (raw (Counted 𝓤 H A at-mem run .pre (to-counted (s .k)))) (goes-counted (s .k) (omega (arith, few)) k-fits fits) $
           calls-at ! (fmOf 𝓤 H (W .laws) 𝓣) (Counted 𝓤 H A at-mem run) known-Counted (to-counted (s .k)) (and-then ! (load ! (from ! (stop !)) (look ! 25 refl)) (and-then ! (load ! (from ! (stop !)) (look ! 4 refl)) (and-then ! (load ! (from ! (stop !)) (look ! 29 refl)) (no-more !)))) (λ a-m.
           use1 W (later (some (λ (m : ℕ). (‵ ftrue ⊛ ‵ (usize .own m (a-m ∷ []))) ⊛ raw (ensured 𝓤 H A counted.ended (counted.clauses 𝓤 H A at-mem run) tt (n, (s .k, (h .count, tt))) tt m)))) (id⊢ 𝓤 _) $ await ! tt $ pick ! (λ m.
           split ! $ move ! (1 ∷ []) $ use1 W (raw (fact 𝓤 (m ≡ countedOf n (s .k) (h .count)))) (counted-of (s .k) m) $ heard ! (m ≡ countedOf n (s .k) (h .count)) (λ e-m. split ! $ drop ! $ peeks ! usize (Is usize) (shows 𝓤 H A usize) m (a-m ∷ []) (λ is-m. drop ! $
           land ! (from ! (stop !)) (init ! 27 refl (uint-lawful 𝓤 H A W w64 .typed m _ is-m .0)) $ rewrite ! 27 (λ (z : Val). ‵ (fat fullShare word l₁₅ 0 z)) (ap only (is-m .0)) refl $
-          assigns ! (of-opd ! (load ! (from ! (stop !)) (look ! 27 refl))) (from ! (hop ! (look ! 18 refl) (fld ! {τ = word} {d = 3328} refl (stop !)))) (store-in ! 0 (sub ! 1 {τ = word} {d = 3328} refl (whole !)) (tt, record { fits = is-m .1 })) $
+          assigns ! (of-opd ! (load ! (from ! (stop !)) (look ! 27 refl))) (from ! (hop ! (look ! 18 refl) (fld ! {τ = word} {d = count-at} refl (stop !)))) (store-in ! 0 (sub ! 1 {τ = word} {d = count-at} refl (whole !)) (tt, record { fits = is-m .1 })) $
           move ! (1 ∷ []) $ drop ! $ owned ! C.the-row (Is C.the-row) (LL.makes C.the-type C′.the-plain 𝓤 H A) (withVoices (s .voices) m h) _ (changed m (is-m .1) is) $ move ! (1 ∷ 0 ∷ []) $
           use2 W (‵ (partAt C.the-row fullShare (withVoices (s .voices) m h) b o)) (part-in 𝓤 H A W C.the-row refl fullShare (withVoices (s .voices) m h) b o (cv (withVoices (s .voices) m h))) $
           rewrite ! 0 (λ (y : ℕ). ‵ (partAt C.the-row fullShare (withVoices (s .voices) y h) b o)) (e-m) refl $
@@ -544,7 +545,7 @@ module _ {M : Type 1} (𝓤 : URA M) (H : Heap 𝓤) (A : Atoms 𝓤) (W : Given
         spelt ! C.the-row (Is C.the-row) (shows 𝓤 H A C.the-row) (LL.vals C.the-type C′.the-laws) (LL.tells C.the-type C′.the-laws) fullShare h vs b o $
         use1 W (‵ (fat fullShare C′.mir b o (cv h))) (W .laws .raw-at fullShare C′.mir b o (cv h)) $ move ! (1 ∷ []) $ peeks ! C.the-row (Is C.the-row) (shows 𝓤 H A C.the-row) h (cv h ∷ []) (λ g.
         move ! (6 ∷ []) $ fsplit ! $ move ! (1 ∷ []) $ fsplit ! $ move ! (1 ∷ []) $ fsplit ! $ move ! (1 ∷ []) $ fsplit ! $ move ! (6 ∷ 5 ∷ []) $
-        assigns ! (of-opd ! (load ! (from ! (hop ! (look ! 57 refl) (fld ! {τ = word} {d = 3328} refl (stop !)))) (look-in ! 0 (sub ! 1 {τ = word} {d = 3328} refl (whole !))))) (from ! (stop !)) (init ! 29 refl (tt, record { fits = (LL.owed C.the-type C′.the-laws h _ g .1 .0 .1) })) $
+        assigns ! (of-opd ! (load ! (from ! (hop ! (look ! 57 refl) (fld ! {τ = word} {d = count-at} refl (stop !)))) (look-in ! 0 (sub ! 1 {τ = word} {d = count-at} refl (whole !))))) (from ! (stop !)) (init ! 29 refl (tt, record { fits = (LL.owed C.the-type C′.the-laws h _ g .1 .0 .1) })) $
         nothing ! $ use1 W (raw (Begun 𝓤 H A at-mem run .pre to-begun)) (goes-begun (LL.owed C.the-type C′.the-laws h _ g .1 .0 .1)) $
         calls-at ! (fmOf 𝓤 H (W .laws) 𝓣) (Begun 𝓤 H A at-mem run) known-Begun to-begun (and-then ! (load ! (from ! (stop !)) (look ! 56 refl)) (and-then ! (load ! (from ! (stop !)) (look ! 54 refl)) (and-then ! (load ! (from ! (stop !)) (look ! 30 refl)) (and-then ! (load ! (from ! (stop !)) (look ! 52 refl)) (no-more !))))) (λ a-s.
         use1 W (later (some (λ (s : Start). (‵ ftrue ⊛ ‵ (S.the-row .own s (a-s ∷ []))) ⊛ raw (ensured 𝓤 H A begun.ended (begun.clauses 𝓤 H A at-mem run) tt (time, (len, (h .count, (p, tt)))) tt s)))) (id⊢ 𝓤 _) $ await ! tt $ pick ! (λ s.

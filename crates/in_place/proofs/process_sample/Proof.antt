@@ -79,6 +79,7 @@ use Rattle.channel.proofs.Head.mixed.Symbol as mixed-def
 use Rattle.channel.proofs.Head.mixed.Symbol.{name as #channel·Head·mixed}
 use Rattle.channel.proofs.Head.mixed.Met as mixed-thm
 use Rattle.in_place.specs.Turns.{playedBy}
+use Rattle.in_place.proofs.Bytes.{head-at}
 use Rattle.in_place.proofs.Turns.{sample-by}
 use Rattle.in_place.proofs.Places.{cv, ev}
 use Rattle.in_place.proofs.play as play
@@ -279,7 +280,7 @@ module _ {M : Type 1} (𝓤 : URA M) (H : Heap 𝓤) (A : Atoms 𝓤) (W : Given
         use1 W (‵ (fat fullShare C′.mir b o (cv h))) (W .laws .raw-at fullShare C′.mir b o (cv h)) $ move ! (1 ∷ []) $
         peeks ! C.the-row (Is C.the-row) (shows 𝓤 H A C.the-row) h (cv h ∷ []) (λ g. let ish : Is E.the-row (h .head) (ev (h .head) ∷ []) = LL.owed C.the-type C′.the-laws h _ g .1 .1 .0 in
         -- the sample is recorded: the memory is lent again
-        assigns ! (of-opd ! (load ! (from ! (hop ! (look ! 39 refl) (fld ! {τ = headed} {d = 3336} refl (stop !)))) (look-in ! 1 (sub ! 2 {τ = headed} {d = 3336} refl (whole !))))) (from ! (stop !)) (init ! 31 refl (LL.lawful E.the-type E′.the-laws 𝓤 H A W .typed (h .head) _ ish .0)) $
+        assigns ! (of-opd ! (load ! (from ! (hop ! (look ! 39 refl) (fld ! {τ = headed} {d = head-at} refl (stop !)))) (look-in ! 1 (sub ! 2 {τ = headed} {d = head-at} refl (whole !))))) (from ! (stop !)) (init ! 31 refl (LL.lawful E.the-type E′.the-laws 𝓤 H A W .typed (h .head) _ ish .0)) $
         assigns ! (addr ! (from ! (fld ! {τ = cells} {d = 0} refl (hop ! (look-in ! 33 (sub ! 0 {τ = cells} {d = 0} refl (whole !))) (stop !))))) (from ! (stop !)) (init ! 23 refl (tt, tt)) $
         assigns ! (agg ! (and-then ! (load ! (from ! (stop !)) (look ! 23 refl)) (and-then ! (load ! (from ! (fld ! {τ = word} {d = 8} refl (stop !))) (look-in ! 33 (sub ! 1 {τ = word} {d = 8} refl (whole !)))) (no-more !)))) (from ! (stop !)) (init ! 21 refl (tt, (tt, (record { fits = room .0 }, tt)))) $
         lft-new ! tt (λ α. move ! (8 ∷ 6 ∷ []) $
@@ -335,7 +336,7 @@ module _ {M : Type 1} (𝓤 : URA M) (H : Heap 𝓤) (A : Atoms 𝓤) (W : Given
         rewrite ! 13 (λ (z : Val). ‵ (fat fullShare headed l₁₅ 0 z)) (ap only (LL.tells E.the-type E′.the-laws r₃ _ is₃) ∙ ap ev e-r₃) refl $
         opened ! fullShare C.the-row (Is C.the-row) (shows 𝓤 H A C.the-row) (LL.vals C.the-type C′.the-laws) (LL.tells C.the-type C′.the-laws) h₂ b o (λ g₂.
         use1 W (‵ (fat fullShare C′.mir b o (cv h₂))) (W .laws .raw-at fullShare C′.mir b o (cv h₂)) $
-        assigns ! (of-opd ! (load ! (from ! (stop !)) (look ! 14 refl))) (from ! (hop ! (look ! 42 refl) (fld ! {τ = headed} {d = 3336} refl (stop !)))) (store-in ! 0 (sub ! 2 {τ = headed} {d = 3336} refl (whole !)) (LL.lawful E.the-type E′.the-laws 𝓤 H A W .typed t₃ _ ist₃ .0)) $
+        assigns ! (of-opd ! (load ! (from ! (stop !)) (look ! 14 refl))) (from ! (hop ! (look ! 42 refl) (fld ! {τ = headed} {d = head-at} refl (stop !)))) (store-in ! 0 (sub ! 2 {τ = headed} {d = head-at} refl (whole !)) (LL.lawful E.the-type E′.the-laws 𝓤 H A W .typed t₃ _ ist₃ .0)) $
         move ! (1 ∷ []) $ drop ! $ owned ! C.the-row (Is C.the-row) (LL.makes C.the-type C′.the-plain 𝓤 H A) (withHead t₃ h₂) _ (with-head h₂ t₃ g₂ ist₃) $ move ! (1 ∷ 0 ∷ []) $
         use2 W (‵ (partAt C.the-row fullShare (withHead t₃ h₂) b o)) (part-in 𝓤 H A W C.the-row refl fullShare (withHead t₃ h₂) b o (cv (withHead t₃ h₂))) $
         -- what is heard is mixed

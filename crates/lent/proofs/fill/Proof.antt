@@ -60,7 +60,7 @@ use Rattle.questions.proofs.Counted as Q
 use Rattle.questions.proofs.Counted.Laws as Q′
 use Rattle.walks.proofs.Rounds.{rounds}
 use Rattle.lent.specs.Lists.{countedOf, listedOf}
-use Rattle.lent.proofs.Stored.{stored, stored-next, stored-length, stored-front}
+use Rattle.walks.proofs.Fronts.{fronted, fronted-next, fronted-length, fronted-front}
 use Rattle.lent.proofs.info_at as info-at
 use Rattle.lent.proofs.info_at.Symbol as info-at-def
 use Rattle.lent.proofs.info_at.Symbol.{name as #info-at}
@@ -147,17 +147,17 @@ module _ {M : Type 1} (𝓤 : URA M) (H : Heap 𝓤) (A : Atoms 𝓤) (W : Given
   n = v .count
 
   abbrev part : ℕ → List VoiceInfo
-  part i = stored (v .infos) l i
+  part i = fronted (v .infos) l i
 
   all : length (v .infos) ≡ 32
   all = sym (length-map (v .infos) _) ∙ LL.owed S.the-type S′.the-laws v _ isv .0 .1 .0 .1
 
   part-length : (i : ℕ) → i ≤ n → length (part i) ≡ length l
-  part-length i h = stored-length (v .infos) l i (omega (arith, h, fit .1, all)) (omega (arith, h, fit .0))
+  part-length i h = fronted-length (v .infos) l i (omega (arith, h, fit .1, all)) (omega (arith, h, fit .0))
 
   part-last : part n ≡ listedOf v l
   unfolding listedOf
-  part-last = stored-front (v .infos) l n (omega (arith, fit .1, all))
+  part-last = fronted-front (v .infos) l n (omega (arith, fit .1, all))
 
   exits : (r : Counted) (w : Val) → r ≡ countedOf v → ent 𝓤 (⋆ 𝓤 H A (‵ (fobs γ (codedHoleys R.the-row .code (heres R.the-row (part n)))) ∷ ‵ (fbor κ (Held R.the-row (length (part n)) b o γ)) ∷ ‵ (flft κ q) ∷ ‵ (Q.the-row .own r (w ∷ [])) ∷ [])) (Post w)
   exits r w e =
@@ -240,7 +240,7 @@ module _ {M : Type 1} (𝓤 : URA M) (H : Heap 𝓤) (A : Atoms 𝓤) (W : Given
         use1 W (‵ (cellAt fullShare (R.the-row .mir) (w ∷ []) b (place 12 o i))) (W .laws .at-raw fullShare R′.mir b (place 12 o i) w) $
         move ! (1 ∷ []) $ drop ! $ move ! (0 ∷ 2 ∷ 1 ∷ []) $ elem-put ! R.the-row fullShare (part i) i r (w ∷ []) b o within $
         rewrite ! 0 (λ (y : VoiceInfo). ‵ (row R.the-row fullShare (set (part i) i y) b o)) e refl $
-        rewrite ! 0 (λ (ys : List VoiceInfo). ‵ (row R.the-row fullShare ys b o)) (stored-next (v .infos) l i noInfo (omega (arith, small, fit .1, all)) (omega (arith, small, fit .0))) refl $
+        rewrite ! 0 (λ (ys : List VoiceInfo). ‵ (row R.the-row fullShare ys b o)) (fronted-next (v .infos) l i noInfo (omega (arith, small, fit .1, all)) (omega (arith, small, fit .0))) refl $
         assigns-last ! (bin ! (load ! (from ! (stop !)) (look ! 1 refl)) (lit ! tt) (record { fits = next-fits })) (from ! (stop !)) (store ! 1 refl (tt, record { fits = next-fits })) $
         forget ! 2 refl $ forget ! 3 refl $ forget ! 4 refl $ forget ! 5 refl $ rewrite ! 1 (λ (j : ℕ). ‵ (fat fullShare word l₄ 0 (vint w64 j))) (add-one i) refl $ by ! k)))))
       where

@@ -1,16 +1,23 @@
--- `lent::start_playing` meets its contract: `Thin4.antt`'s walk, over `sampler::Sampler::start_playing`.
+-- `lent::start_playing` meets its contract: `Named.antt`'s walk, over `change` and `start_of`.
 use contract.Running.{givenOf, tables, tablesOf}
 use denote.Triple.Spec.{tripleOf}
 use denote.Triple.Table.{entered, cited}
 use lib.Ieee.{binary32}
-use Rattle.sampler.specs.Samplers.{startPlayingOf}
-use Rattle.sampler.proofs.Sampler.start_playing as g
-use Rattle.sampler.proofs.Sampler.start_playing.Symbol as g-def
-use Rattle.sampler.proofs.Sampler.start_playing.Symbol.{name as #g}
-use Rattle.sampler.proofs.Sampler.start_playing.Met as g-thm
-use Rattle.lent.proofs.Rows.{float}
-use Rattle.lent.proofs.Lent.{sampler, answer, note, params}
-use Rattle.lent.proofs.Thin4.{thin}
+use mathlib.Core.List.{[], _∷_}
+use mir.Syntax.{w8}
+use Rattle.channel.specs.declared.Change.the-variants as change
+use Rattle.lent.proofs.Rows.{float, word}
+use Rattle.lent.proofs.Lent.{sampler, change as changing, note, params, changes}
+use Rattle.lent.proofs.Arguments.{value}
+use Rattle.lent.proofs.Named.{named}
+use Rattle.lent.proofs.change as j
+use Rattle.lent.proofs.change.Symbol as j-def
+use Rattle.lent.proofs.change.Symbol.{name as #j}
+use Rattle.lent.proofs.change.Met as j-thm
+use Rattle.lent.proofs.start_of as k
+use Rattle.lent.proofs.start_of.Symbol as k-def
+use Rattle.lent.proofs.start_of.Symbol.{name as #k}
+use Rattle.lent.proofs.start_of.Met as k-thm
 use Rattle.lent.proofs.start_playing.Key.{name as #f}
 use Rattle.lent.proofs.start_playing as f
 use Rattle.lent.proofs.start_playing.Statement as stated
@@ -21,5 +28,6 @@ unfolding code.routine tablesOf
 start-playing-spec 𝓤 H 𝓜 𝓖 𝓡 =
     entered 𝓤 H (tripleOf 𝓤 H (𝓖 .A) f.signature (f.spec 𝓤 H (𝓖 .A) (𝓜 .mem) (𝓡 .run)))
     (tables 𝓤 H 𝓜 𝓡 code.env .C) (tables 𝓤 H 𝓜 𝓡 code.env .Λ) #f code.function (code.unfolded 𝓤 H 𝓜 𝓡)
-    (thin sampler answer (float binary32) note (float binary32) params #g startPlayingOf 𝓤 H (𝓖 .A) (givenOf 𝓤 H 𝓜 𝓖) (tablesOf 𝓤 H 𝓜 (tables 𝓤 H 𝓜 𝓡 code.env))
-    (cited 𝓤 H (tripleOf 𝓤 H (𝓖 .A) g.signature (g.spec 𝓤 H (𝓖 .A) (𝓜 .mem) (𝓡 .run))) 𝓜 𝓡 code.env #g g-def.routine code.calls-sampler·Sampler·start-playing (g-thm.met 𝓤 H 𝓜 𝓖 𝓡)))
+    (named sampler (word w8) changing (value (float binary32) ∷ value note ∷ value (float binary32) ∷ value params ∷ []) #k #j (λ v. change.Start (v .1 .1 .1 .0) (v .0) (v .1 .0) (v .1 .1 .0)) changes 𝓤 H (𝓖 .A) (givenOf 𝓤 H 𝓜 𝓖) (tablesOf 𝓤 H 𝓜 (tables 𝓤 H 𝓜 𝓡 code.env))
+    (cited 𝓤 H (tripleOf 𝓤 H (𝓖 .A) k.signature (k.spec 𝓤 H (𝓖 .A) (𝓜 .mem) (𝓡 .run))) 𝓜 𝓡 code.env #k k-def.routine code.calls-lent·start-of (k-thm.met 𝓤 H 𝓜 𝓖 𝓡))
+    (cited 𝓤 H (tripleOf 𝓤 H (𝓖 .A) j.signature (j.spec 𝓤 H (𝓖 .A) (𝓜 .mem) (𝓡 .run))) 𝓜 𝓡 code.env #j j-def.routine code.calls-lent·change (j-thm.met 𝓤 H 𝓜 𝓖 𝓡)))

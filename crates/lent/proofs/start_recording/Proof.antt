@@ -1,14 +1,22 @@
--- `lent::start_recording` meets its contract: `Thin.antt`'s walk, over `sampler::Sampler::start_recording`.
+-- `lent::start_recording` meets its contract: `Named.antt`'s walk, over `change` and `recording_started`.
 use contract.Running.{givenOf, tables, tablesOf}
 use denote.Triple.Spec.{tripleOf}
 use denote.Triple.Table.{entered, cited}
-use Rattle.sampler.specs.Samplers.{startRecordingOf}
-use Rattle.sampler.proofs.Sampler.start_recording as g
-use Rattle.sampler.proofs.Sampler.start_recording.Symbol as g-def
-use Rattle.sampler.proofs.Sampler.start_recording.Symbol.{name as #g}
-use Rattle.sampler.proofs.Sampler.start_recording.Met as g-thm
-use Rattle.lent.proofs.Lent.{sampler, answer}
-use Rattle.lent.proofs.Thin.{thin}
+use mathlib.Core.List.{[]}
+use mir.Syntax.{w8}
+use Rattle.channel.specs.declared.Change.the-variants as change
+use Rattle.channel.specs.declared.HeadChange.the-variants.{StartRecording}
+use Rattle.lent.proofs.Rows.{word}
+use Rattle.lent.proofs.Lent.{sampler, change as changing, changes}
+use Rattle.lent.proofs.Named.{named}
+use Rattle.lent.proofs.change as j
+use Rattle.lent.proofs.change.Symbol as j-def
+use Rattle.lent.proofs.change.Symbol.{name as #j}
+use Rattle.lent.proofs.change.Met as j-thm
+use Rattle.lent.proofs.recording_started as k
+use Rattle.lent.proofs.recording_started.Symbol as k-def
+use Rattle.lent.proofs.recording_started.Symbol.{name as #k}
+use Rattle.lent.proofs.recording_started.Met as k-thm
 use Rattle.lent.proofs.start_recording.Key.{name as #f}
 use Rattle.lent.proofs.start_recording as f
 use Rattle.lent.proofs.start_recording.Statement as stated
@@ -19,5 +27,6 @@ unfolding code.routine tablesOf
 start-recording-spec 𝓤 H 𝓜 𝓖 𝓡 =
     entered 𝓤 H (tripleOf 𝓤 H (𝓖 .A) f.signature (f.spec 𝓤 H (𝓖 .A) (𝓜 .mem) (𝓡 .run)))
     (tables 𝓤 H 𝓜 𝓡 code.env .C) (tables 𝓤 H 𝓜 𝓡 code.env .Λ) #f code.function (code.unfolded 𝓤 H 𝓜 𝓡)
-    (thin sampler answer #g startRecordingOf 𝓤 H (𝓖 .A) (givenOf 𝓤 H 𝓜 𝓖) (tablesOf 𝓤 H 𝓜 (tables 𝓤 H 𝓜 𝓡 code.env))
-    (cited 𝓤 H (tripleOf 𝓤 H (𝓖 .A) g.signature (g.spec 𝓤 H (𝓖 .A) (𝓜 .mem) (𝓡 .run))) 𝓜 𝓡 code.env #g g-def.routine code.calls-sampler·Sampler·start-recording (g-thm.met 𝓤 H 𝓜 𝓖 𝓡)))
+    (named sampler (word w8) changing [] #k #j (λ v. change.Head StartRecording) changes 𝓤 H (𝓖 .A) (givenOf 𝓤 H 𝓜 𝓖) (tablesOf 𝓤 H 𝓜 (tables 𝓤 H 𝓜 𝓡 code.env))
+    (cited 𝓤 H (tripleOf 𝓤 H (𝓖 .A) k.signature (k.spec 𝓤 H (𝓖 .A) (𝓜 .mem) (𝓡 .run))) 𝓜 𝓡 code.env #k k-def.routine code.calls-lent·recording-started (k-thm.met 𝓤 H 𝓜 𝓖 𝓡))
+    (cited 𝓤 H (tripleOf 𝓤 H (𝓖 .A) j.signature (j.spec 𝓤 H (𝓖 .A) (𝓜 .mem) (𝓡 .run))) 𝓜 𝓡 code.env #j j-def.routine code.calls-lent·change (j-thm.met 𝓤 H 𝓜 𝓖 𝓡)))

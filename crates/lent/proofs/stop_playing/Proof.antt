@@ -1,14 +1,22 @@
--- `lent::stop_playing` meets its contract: `Thin2.antt`'s walk, over `sampler::Sampler::stop_playing`.
+-- `lent::stop_playing` meets its contract: `Named.antt`'s walk, over `change` and `stop_of`.
 use contract.Running.{givenOf, tables, tablesOf}
 use denote.Triple.Spec.{tripleOf}
 use denote.Triple.Table.{entered, cited}
-use Rattle.sampler.specs.Samplers.{stopPlayingOf}
-use Rattle.sampler.proofs.Sampler.stop_playing as g
-use Rattle.sampler.proofs.Sampler.stop_playing.Symbol as g-def
-use Rattle.sampler.proofs.Sampler.stop_playing.Symbol.{name as #g}
-use Rattle.sampler.proofs.Sampler.stop_playing.Met as g-thm
-use Rattle.lent.proofs.Lent.{sampler, answer, note, params}
-use Rattle.lent.proofs.Thin2.{thin}
+use mathlib.Core.List.{[], _∷_}
+use mir.Syntax.{w8}
+use Rattle.channel.specs.declared.Change.the-variants as change
+use Rattle.lent.proofs.Rows.{word}
+use Rattle.lent.proofs.Lent.{sampler, change as changing, note, params, changes}
+use Rattle.lent.proofs.Arguments.{value}
+use Rattle.lent.proofs.Named.{named}
+use Rattle.lent.proofs.change as j
+use Rattle.lent.proofs.change.Symbol as j-def
+use Rattle.lent.proofs.change.Symbol.{name as #j}
+use Rattle.lent.proofs.change.Met as j-thm
+use Rattle.lent.proofs.stop_of as k
+use Rattle.lent.proofs.stop_of.Symbol as k-def
+use Rattle.lent.proofs.stop_of.Symbol.{name as #k}
+use Rattle.lent.proofs.stop_of.Met as k-thm
 use Rattle.lent.proofs.stop_playing.Key.{name as #f}
 use Rattle.lent.proofs.stop_playing as f
 use Rattle.lent.proofs.stop_playing.Statement as stated
@@ -19,5 +27,6 @@ unfolding code.routine tablesOf
 stop-playing-spec 𝓤 H 𝓜 𝓖 𝓡 =
     entered 𝓤 H (tripleOf 𝓤 H (𝓖 .A) f.signature (f.spec 𝓤 H (𝓖 .A) (𝓜 .mem) (𝓡 .run)))
     (tables 𝓤 H 𝓜 𝓡 code.env .C) (tables 𝓤 H 𝓜 𝓡 code.env .Λ) #f code.function (code.unfolded 𝓤 H 𝓜 𝓡)
-    (thin sampler answer note params #g stopPlayingOf 𝓤 H (𝓖 .A) (givenOf 𝓤 H 𝓜 𝓖) (tablesOf 𝓤 H 𝓜 (tables 𝓤 H 𝓜 𝓡 code.env))
-    (cited 𝓤 H (tripleOf 𝓤 H (𝓖 .A) g.signature (g.spec 𝓤 H (𝓖 .A) (𝓜 .mem) (𝓡 .run))) 𝓜 𝓡 code.env #g g-def.routine code.calls-sampler·Sampler·stop-playing (g-thm.met 𝓤 H 𝓜 𝓖 𝓡)))
+    (named sampler (word w8) changing (value note ∷ value params ∷ []) #k #j (λ v. change.Stop (v .1 .0) (v .0)) changes 𝓤 H (𝓖 .A) (givenOf 𝓤 H 𝓜 𝓖) (tablesOf 𝓤 H 𝓜 (tables 𝓤 H 𝓜 𝓡 code.env))
+    (cited 𝓤 H (tripleOf 𝓤 H (𝓖 .A) k.signature (k.spec 𝓤 H (𝓖 .A) (𝓜 .mem) (𝓡 .run))) 𝓜 𝓡 code.env #k k-def.routine code.calls-lent·stop-of (k-thm.met 𝓤 H 𝓜 𝓖 𝓡))
+    (cited 𝓤 H (tripleOf 𝓤 H (𝓖 .A) j.signature (j.spec 𝓤 H (𝓖 .A) (𝓜 .mem) (𝓡 .run))) 𝓜 𝓡 code.env #j j-def.routine code.calls-lent·change (j-thm.met 𝓤 H 𝓜 𝓖 𝓡)))

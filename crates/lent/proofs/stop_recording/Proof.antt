@@ -1,14 +1,22 @@
--- `lent::stop_recording` meets its contract: `Thin.antt`'s walk, over `sampler::Sampler::stop_recording`.
+-- `lent::stop_recording` meets its contract: `Named.antt`'s walk, over `change` and `recording_stopped`.
 use contract.Running.{givenOf, tables, tablesOf}
 use denote.Triple.Spec.{tripleOf}
 use denote.Triple.Table.{entered, cited}
-use Rattle.sampler.specs.Samplers.{stopRecordingOf}
-use Rattle.sampler.proofs.Sampler.stop_recording as g
-use Rattle.sampler.proofs.Sampler.stop_recording.Symbol as g-def
-use Rattle.sampler.proofs.Sampler.stop_recording.Symbol.{name as #g}
-use Rattle.sampler.proofs.Sampler.stop_recording.Met as g-thm
-use Rattle.lent.proofs.Lent.{sampler, answer}
-use Rattle.lent.proofs.Thin.{thin}
+use mathlib.Core.List.{[]}
+use mir.Syntax.{w8}
+use Rattle.channel.specs.declared.Change.the-variants as change
+use Rattle.channel.specs.declared.HeadChange.the-variants.{StopRecording}
+use Rattle.lent.proofs.Rows.{word}
+use Rattle.lent.proofs.Lent.{sampler, change as changing, changes}
+use Rattle.lent.proofs.Named.{named}
+use Rattle.lent.proofs.change as j
+use Rattle.lent.proofs.change.Symbol as j-def
+use Rattle.lent.proofs.change.Symbol.{name as #j}
+use Rattle.lent.proofs.change.Met as j-thm
+use Rattle.lent.proofs.recording_stopped as k
+use Rattle.lent.proofs.recording_stopped.Symbol as k-def
+use Rattle.lent.proofs.recording_stopped.Symbol.{name as #k}
+use Rattle.lent.proofs.recording_stopped.Met as k-thm
 use Rattle.lent.proofs.stop_recording.Key.{name as #f}
 use Rattle.lent.proofs.stop_recording as f
 use Rattle.lent.proofs.stop_recording.Statement as stated
@@ -19,5 +27,6 @@ unfolding code.routine tablesOf
 stop-recording-spec 𝓤 H 𝓜 𝓖 𝓡 =
     entered 𝓤 H (tripleOf 𝓤 H (𝓖 .A) f.signature (f.spec 𝓤 H (𝓖 .A) (𝓜 .mem) (𝓡 .run)))
     (tables 𝓤 H 𝓜 𝓡 code.env .C) (tables 𝓤 H 𝓜 𝓡 code.env .Λ) #f code.function (code.unfolded 𝓤 H 𝓜 𝓡)
-    (thin sampler answer #g stopRecordingOf 𝓤 H (𝓖 .A) (givenOf 𝓤 H 𝓜 𝓖) (tablesOf 𝓤 H 𝓜 (tables 𝓤 H 𝓜 𝓡 code.env))
-    (cited 𝓤 H (tripleOf 𝓤 H (𝓖 .A) g.signature (g.spec 𝓤 H (𝓖 .A) (𝓜 .mem) (𝓡 .run))) 𝓜 𝓡 code.env #g g-def.routine code.calls-sampler·Sampler·stop-recording (g-thm.met 𝓤 H 𝓜 𝓖 𝓡)))
+    (named sampler (word w8) changing [] #k #j (λ v. change.Head StopRecording) changes 𝓤 H (𝓖 .A) (givenOf 𝓤 H 𝓜 𝓖) (tablesOf 𝓤 H 𝓜 (tables 𝓤 H 𝓜 𝓡 code.env))
+    (cited 𝓤 H (tripleOf 𝓤 H (𝓖 .A) k.signature (k.spec 𝓤 H (𝓖 .A) (𝓜 .mem) (𝓡 .run))) 𝓜 𝓡 code.env #k k-def.routine code.calls-lent·recording-stopped (k-thm.met 𝓤 H 𝓜 𝓖 𝓡))
+    (cited 𝓤 H (tripleOf 𝓤 H (𝓖 .A) j.signature (j.spec 𝓤 H (𝓖 .A) (𝓜 .mem) (𝓡 .run))) 𝓜 𝓡 code.env #j j-def.routine code.calls-lent·change (j-thm.met 𝓤 H 𝓜 𝓖 𝓡)))
