@@ -44,7 +44,7 @@ use Rattle.promises.specs.Runs.{World, Call, start, stop, speed, startRe
 use lib.Ieee.{Float, nan, fin, binary32, fits, add, sub, mul, div, rem, neg, lt, le, eq, ofInt, toUnsigned, isNan, ofBits, toBits, nanBits, ofFields}
 use Rattle.fates.specs.Sounding.{Sounds, First}
 use Rattle.promises.specs.Outcomes.{on, leftBy}
-use Rattle.promises.specs.Demands.{Plays, Asked, Leaves, Demand3}
+use Rattle.promises.specs.Demands.{Plays, Asked, AllPlaced, Leaves, Demand3}
 use Rattle.promises.proofs.Outcomes.{settled}
 use Rattle.promises.proofs.Whole.{no-panic, whole}
 use Rattle.promises.proofs.Demands.{demands}
@@ -336,6 +336,29 @@ fitting-older = fitting-joined recorded (press 60 ∷ []) fitting-recorded (fitt
 pub asked-met : Asked (tickAt plain part (chan older 1)) (freshOf plain zero32 (key 60) one32 2 2)
 unfolding computing
 asked-met = no-panic 2 init cells refl (recorded ++ (press 60 ∷ [])) fitting-older .asked 1 0 _ (quiet plain) plain zero32 part plays
+
+-- one whose note has the speed NaN: each update finds it inside, and with the loop's length 2 it stands at 1
+abbrev astray : World
+astray = since (press 60 ∷ speed (key 60) nan ∷ [])
+
+abbrev strayed : Voice
+strayed = atSpeedOf nan (freshOf plain zero32 (key 60) one32 2 2)
+
+strays : Plays astray 1 0 strayed (quiet plain) plain zero32 part
+unfolding computing FittingCall fits
+strays = record { present = lit< tt; stands = refl; floats = tt; sample = refl; finds = refl }
+
+fitting-astray : Each FittingCall (recorded ++ (press 60 ∷ speed (key 60) nan ∷ []))
+unfolding Each FittingCall FittingChange fits
+fitting-astray = fitting-joined recorded (press 60 ∷ speed (key 60) nan ∷ []) fitting-recorded ((tt, tt, tt), (tt, tt))
+
+pub placed-met : AllPlaced (tickAt plain part (chan astray 1)) strayed
+unfolding computing
+placed-met = no-panic 2 init cells refl (recorded ++ (press 60 ∷ speed (key 60) nan ∷ [])) fitting-astray .placed 1 0 strayed (quiet plain) plain zero32 part strays
+
+pub placed-at : clipOffsetAt (movedOf (tickAt plain part (chan astray 1)) strayed) (chan astray 1 .head .now) ≡ one32
+unfolding computing
+placed-at = refl
 
 -- ---- each number of the table, given
 abbrev far : Head → Head

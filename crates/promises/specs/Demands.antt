@@ -130,18 +130,33 @@ pub record Demand1 : Type 0 where
 
 -- "No accepted call reaches a panic of the Rust." docs/READING.md has each place of it that can panic. Those that arguments reach are refused by the rows above; the others are shut out in every record that set-up and calls leave.
 
--- a voice's clip in a sample, after its length's update, and before its mode's
+-- a voice's clip in a sample, after the updates of its length, speed and data length; after that of its mode it is `movedOf`
 abbrev pub lengthened : Tick → Voice → Clip
 lengthened t v = withLength (v .clip2) (t .now) (t .length)
 
+abbrev pub sped : Tick → Voice → Clip
+sped t v = withSpeed (lengthened t v) (t .now) (mul binary32 (v .speed) (t .speed))
+
 abbrev pub toldLength : Tick → Voice → Clip
-toldLength t v = withDataLength (withSpeed (lengthened t v) (t .now) (mul binary32 (v .speed) (t .speed))) (t .now) (t .«data_length»)
+toldLength t v = withDataLength (sped t v) (t .now) (t .«data_length»)
 
 -- the updates ask where the old offset lies in the clip as it is to be: it is in the data, and after another speed or mode it is found
 pub record Asked (t : Tick) (v : Voice) : Type 0 where
   pub length : dataToClipOf (atLength (v .clip2) (t .length)) (offsetAt (v .clip2) (t .now)) ≡ Done (foundAt (atLength (v .clip2) (t .length)) (offsetAt (v .clip2) (t .now)))
   pub speed : dataToClipOf (atSpeed (lengthened t v) (mul binary32 (v .speed) (t .speed))) (offsetAt (lengthened t v) (t .now)) ≡ Done (At (backOf (lengthened t v) (offsetAt (lengthened t v) (t .now))))
   pub mode : dataToClipOf (atMode (toldLength t v) (t .mode)) (offsetAt (toldLength t v) (t .now)) ≡ Done (At (backOf (toldLength t v) (offsetAt (toldLength t v) (t .now))))
+
+-- the place of a clip at a time lies from 0 to below its length, as the Rust's `clip_offset` asserts
+abbrev pub Placed : Clip → ℕ → Type 0
+Placed c now = Inside (clipOffsetAt c now) (c .length)
+
+-- a turn asks for the place of five clips: each update for that of the clip as it finds it, and the sound for that after the last
+pub record AllPlaced (t : Tick) (v : Voice) : Type 0 where
+  pub before-length : Placed (v .clip2) (t .now)
+  pub before-speed : Placed (lengthened t v) (t .now)
+  pub before-data-length : Placed (sped t v) (t .now)
+  pub before-mode : Placed (toldLength t v) (t .now)
+  pub sounding : Placed (movedOf t v) (t .now)
 
 -- a voice of channel j that has its turn in the sample s: at place n it is v, and the recording isn't empty
 pub record Plays (w : World) (j n : ℕ) (v : Voice) (s : Call) (p : Params) (x : Float) (m : List ℕ) : Type 0 where
@@ -155,6 +170,8 @@ pub record NoPanic (w : World) : Type 0 where
   -- The record is good by row 9's own tests: no time lies after the clock, no write place past the data, no ramp is empty, and no clip is bad.
   pub good : goodSampler (w .sampler) ≡ true
   pub asked : (j n : ℕ) (v : Voice) (s : Call) (p : Params) (x : Float) (m : List ℕ) → Plays w j n v s p x m → Asked (tickAt p m (chan w j)) v
+  -- "Bit-exact f32 loop position, with bound 0 to below length proved for every shift and speed". A place that is NaN is not inside.
+  pub placed : (j n : ℕ) (v : Voice) (s : Call) (p : Params) (x : Float) (m : List ℕ) → Plays w j n v s p x m → AllPlaced (tickAt p m (chan w j)) v
   -- The index that a voice sounds by lies inside the recording, and the recording inside the channel's memory: so "its recorded value", in demand 3, is no default.
   pub inside : (j n : ℕ) (v : Voice) (s : Call) (p : Params) (x : Float) (m : List ℕ) → Plays w j n v s p x m
       → (indexAt (movedOf (tickAt p m (chan w j)) v) (chan w j .head .now) < lengthAt m (chan w j)) × (lengthAt m (chan w j) ≤ length (memoryOf x (chan w j) m))
