@@ -59,8 +59,9 @@ use Rattle.promises.specs.Runs.{
 use Rattle.promises.specs.Outcomes.{on, Outcome, Allows, Untouched}
 use Rattle.promises.specs.Demands.{Demand1, Demand2, Demands}
 use Rattle.promises.proofs.Apart.{part-apart}
-use Rattle.promises.proofs.Outcomes.{settled, one-outcome, number-code, left-after, chain-run, run-chain}
+use Rattle.promises.proofs.Outcomes.{settled, one-outcome, number-code, left-after, output-answered, chain-run, run-chain}
 use Rattle.promises.proofs.Table.{table-holds}
+use Rattle.promises.proofs.Calls.{count-kept, capacity-kept}
 use Rattle.promises.proofs.Demand3.{demand3}
 use Rattle.promises.proofs.Whole.{memory-after, no-panic, whole}
 
@@ -222,4 +223,16 @@ demand2 = record {
 }
 
 pub demands : Demands
-demands = record { first = demand1; no-panic = no-panic; second = demand2; third = demand3; whole = whole; runs = run-chain; no-other = λ w u cs h. chain-run h }
+unfolding capacityOf
+demands = record {
+  first = demand1;
+  no-panic = no-panic;
+  second = demand2;
+  third = demand3;
+  count-stays = count-kept;
+  capacity-stays = capacity-kept;
+  whole = whole;
+  answers = output-answered;
+  runs = run-chain;
+  no-other = λ w u cs h. chain-run h;
+}

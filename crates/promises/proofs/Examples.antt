@@ -39,12 +39,12 @@ use Rattle.questions.specs.Questions.{notesOf, listNumber}
 use Rattle.sampler.specs.Samplers.{withChannels, setUpOf, eachOf, answerOf, partOf, playedAt, steppedOf as sampledOf, outputOf, memoryAt, processSampleOf as sampleOf, sampleMemory, entryOf, entriesOf, framedOf}
 use Rattle.fates.specs.Engine.{begunOf, passesOver, heardBy, turnedOf, letsGo, leavesOf, leftOf, turnsOf, stepOf}
 use Rattle.fates.specs.Events.{tickAt, act, isReset, isSample, decayOf}
+use Rattle.fates.specs.Sounding.{termsOf, totalOf}
 use Rattle.fates.specs.Places.{voiceAt, at, gone, fateOf, follow, stops, becomes, newOf, outOf, playsOut, followAll, stoppedIn, finishedIn}
 use Rattle.promises.specs.Runs.{World, Call, start, stop, speed, startRecording, stopRecording, sample, frame, getDataLen, iterActiveNotes, asks, FittingCall, chan, setUp, questionNumber, code, after, run, doneTo, event, events, isResetCall, output, before}
 use lib.Ieee.{Float, nan, fin, binary32, fits, add, sub, mul, div, rem, neg, lt, le, eq, ofInt, toUnsigned, isNan, ofBits, toBits, nanBits, ofFields}
-use Rattle.fates.specs.Sounding.{Sounds, First}
 use Rattle.promises.specs.Outcomes.{on, leftBy}
-use Rattle.promises.specs.Demands.{Plays, Asked, AllPlaced, Leaves, Demand3}
+use Rattle.promises.specs.Demands.{Plays, Asked, AllPlaced, Leaves, SoundsIn, FirstIn, termsWith, Demand3}
 use Rattle.promises.proofs.Outcomes.{settled}
 use Rattle.promises.proofs.Whole.{no-panic, whole}
 use Rattle.promises.proofs.Demands.{demands}
@@ -52,7 +52,7 @@ use Rattle.promises.proofs.Demand3.{demand3}
 
 -- whatever a run computes by
 computing : Unit {0}
-unfolding floorOf minOf maxOf crossingOf any every without fold seek speedOf timeLengthOf lengthOf loopLengthOf lengthBeyond beyondLimits progressOf levelOf towardOf steppedOf goodRamp goodVolume raised inState misusedOf skippedOf startOf stopOf recordedOf dataAfter goodRecorder leadOf travelAt loopedOf roundTripOf mirroredOf bouncedOf wrappedOf placedOf clipOffsetAt clipToDataOf offsetAt indexAt madeOf backOf foundAt reversingAt shiftFor settledOf withSpeed withMode withLength withDataLength goodLength goodClip tickOf lateOf overOf shouldRemoveOf movedOf productOf soundedOf finishOf playedOutOf endedOf volumeStepped turnOf freshOf blankVoice atSpeedOf goodVoice nextTime headOf rampOf passthruOf closedOf goodHead channelOf resetOf anyUnfinishedOf handledOf pushedOf startPlayingOf wantedOf findOf finishedAtOf stopPlayingOf spedOf setNoteSpeedOf headChangedOf keptOf addedOf heardOf playedOf playedIfOf takenOf begunOf passesOver heardBy turnedOf letsGo leavesOf leftOf turnsOf stepOf memoryOf processSampleOf changedOf fullOf goodVoicesOf goodChannel goodSizes goodSampler capacityOf goodWith setUpNumber startNumber stopNumber speedNumber plainNumber sampleNumber frameNumber channelNumber notesOf listNumber setUpOf eachOf answerOf partOf playedAt sampledOf outputOf memoryAt sampleOf sampleMemory entryOf entriesOf framedOf act isReset isSample decayOf fateOf follow stops becomes newOf outOf playsOut followAll stoppedIn finishedIn setUp questionNumber code after run doneTo event events isResetCall output before add sub mul div rem neg lt le eq ofInt toUnsigned isNan ofBits toBits nanBits ofFields
+unfolding floorOf minOf maxOf crossingOf any every without fold seek speedOf timeLengthOf lengthOf loopLengthOf lengthBeyond beyondLimits progressOf levelOf towardOf steppedOf goodRamp goodVolume raised inState misusedOf skippedOf startOf stopOf recordedOf dataAfter goodRecorder leadOf travelAt loopedOf roundTripOf mirroredOf bouncedOf wrappedOf placedOf clipOffsetAt clipToDataOf offsetAt indexAt madeOf backOf foundAt reversingAt shiftFor settledOf withSpeed withMode withLength withDataLength goodLength goodClip tickOf lateOf overOf shouldRemoveOf movedOf productOf soundedOf finishOf playedOutOf endedOf volumeStepped turnOf freshOf blankVoice atSpeedOf goodVoice nextTime headOf rampOf passthruOf closedOf goodHead channelOf resetOf anyUnfinishedOf handledOf pushedOf startPlayingOf wantedOf findOf finishedAtOf stopPlayingOf spedOf setNoteSpeedOf headChangedOf keptOf addedOf heardOf playedOf playedIfOf takenOf begunOf passesOver heardBy turnedOf letsGo leavesOf leftOf turnsOf stepOf memoryOf processSampleOf changedOf fullOf goodVoicesOf goodChannel goodSizes goodSampler capacityOf goodWith setUpNumber startNumber stopNumber speedNumber plainNumber sampleNumber frameNumber channelNumber notesOf listNumber setUpOf eachOf answerOf partOf playedAt sampledOf outputOf memoryAt sampleOf sampleMemory entryOf entriesOf framedOf act isReset isSample decayOf fateOf follow stops becomes newOf outOf playsOut followAll stoppedIn finishedIn termsOf totalOf setUp questionNumber code after run doneTo event events isResetCall output before add sub mul div rem neg lt le eq ofInt toUnsigned isNan ofBits toBits nanBits ofFields
 computing = tt
 
 -- ---- parameters, keys, calls
@@ -78,6 +78,21 @@ with decay mode behaviour = record {
 
 abbrev plain : Params
 plain = with 0 loop.Loop off.Decay
+
+-- at half the volume
+abbrev soft : Params
+soft = record {
+  «attack_samples» = 0;
+  «decay_samples» = 0;
+  transport = defaultTransport;
+  «loop_length» = Ratio one32;
+  speed = one32;
+  «reverse_speed» = one32;
+  volume = half;
+  «auto_passthru» = false;
+  «loop_mode» = loop.Loop;
+  «note_off_behavior» = off.Decay;
+}
 
 abbrev once : Params
 once = with 0 loop.PlayOnce off.Decay
@@ -125,14 +140,19 @@ younger = run older (press 60 ∷ between)
 
 promised : Demand3 older 1
 unfolding computing
-promised = demand3 2 init cells (recorded ++ (press 60 ∷ [])) 1 (lit< tt)
+promised = demand3 2 init cells refl (recorded ++ (press 60 ∷ [])) 1 (lit< tt)
 
-pub on-time-met : First plain zero32 part (chan younger 1) 1 (freshOf plain zero32 (key 60) one32 2 2)
+pub on-time-met : FirstIn younger (quiet soft) 1 soft zero32 part 1 (freshOf plain zero32 (key 60) one32 2 2)
 unfolding computing
-on-time-met = promised .on-time zero32 (key 60) one32 plain refl refl between refl (quiet plain) plain zero32 part refl refl refl refl
+on-time-met = promised .on-time zero32 (key 60) one32 plain refl refl between refl (quiet soft) soft zero32 part refl refl refl refl
 
--- the older voice, stopped with no decay, is silent; what channel 1 sounds is the younger one's first recorded value, 1
-pub on-time-heard : output younger (quiet plain) 1 ≡ one32
+-- the older voice, stopped with no decay, has no term; that of the younger one, at its note's speed 0.5, is its first recorded value, 1
+pub on-time-terms : termsWith soft zero32 part (chan younger 1) 1 (atSpeedOf half (freshOf plain zero32 (key 60) one32 2 2)) ≡ one32 ∷ []
+unfolding computing
+on-time-terms = refl
+
+-- and channel 1 sounds it at the volume 0.5
+pub on-time-heard : output younger (quiet soft) 1 ≡ half
 unfolding computing
 on-time-heard = refl
 
@@ -159,9 +179,14 @@ hears-met = promised .hears (sample 1 half plain) plain half part refl
 abbrev again : List Call
 again = quiet plain ∷ press 60 ∷ []
 
-pub sounds-on-met : (k : ℕ) × (u : Voice) × (followAll (events older again 1) (chan older 1) 0 ≡ at k) × Sounds plain zero32 part (chan (run older again) 1) k u
+pub sounds-on-met : (k : ℕ) × (u : Voice) × (followAll (events older again 1) (chan older 1) 0 ≡ at k) × SoundsIn (run older again) (sample 1 zero32 plain) 1 plain zero32 part k u
 unfolding computing
 sounds-on-met = promised .sounds-on 0 (freshOf plain zero32 (key 60) one32 2 2) refl refl again refl refl (sample 1 zero32 plain) plain zero32 part refl refl
+
+-- it has come to 0.5, and the second one begins at 1
+pub sounds-on-terms : termsWith plain zero32 part (chan (run older again) 1) 0 (getD (live (chan (run older again) 1)) 0 blankVoice) ≡ half ∷ one32 ∷ []
+unfolding computing
+sounds-on-terms = refl
 
 -- ---- stays: play-once finishes the voice in its second sample, and with no decay it leaves in that sample
 pub stays-met : finishedIn (events older (quiet once ∷ quiet once ∷ []) 1) (chan older 1) 0 ≡ true
@@ -182,7 +207,7 @@ voice w n = getD (live (chan w 1)) n blankVoice
 
 trio-promised : Demand3 trio 1
 unfolding computing
-trio-promised = demand3 2 init cells (recorded ++ (press 60 ∷ press 61 ∷ press 62 ∷ stop (key 60) plain ∷ [])) 1 (lit< tt)
+trio-promised = demand3 2 init cells refl (recorded ++ (press 60 ∷ press 61 ∷ press 62 ∷ stop (key 60) plain ∷ [])) 1 (lit< tt)
 
 pub first-leaves : follow (event trio (quiet plain) 1) (chan trio 1) 0 ≡ gone
 unfolding computing
@@ -244,7 +269,7 @@ larger-needed = refl
 pub goes-at-once : followAll (events (run older (quiet once ∷ [])) (quiet once ∷ []) 1) (chan (run older (quiet once ∷ [])) 1) 0 ≡ gone
 unfolding computing
 goes-at-once =
-    demand3 2 init cells (recorded ++ (press 60 ∷ quiet once ∷ [])) 1 (lit< tt) .goes (quiet once) 0 (getD (live (chan (run older (quiet once ∷ [])) 1)) 0 blankVoice) refl refl [] once zero32 part refl refl (lit≤ tt)
+    demand3 2 init cells refl (recorded ++ (press 60 ∷ quiet once ∷ [])) 1 (lit< tt) .goes (quiet once) 0 (getD (live (chan (run older (quiet once ∷ [])) 1)) 0 blankVoice) refl refl [] once zero32 part refl refl (lit≤ tt)
 
 -- a recording that is empty keeps a finished voice, however late
 pub empty-keeps : followAll (events older (stop (key 60) plain ∷ startRecording ∷ stopRecording ∷ quiet plain ∷ quiet plain ∷ []) 1) (chan older 1) 0 ≡ at 0
@@ -271,7 +296,7 @@ no-place = refl
 
 pub free-met : (chan (after stopped (quiet plain)) 1 .count < chan stopped 1 .count) × (fullOf (chan (after stopped (quiet plain)) 1) ≡ false)
 unfolding computing
-free-met = demand3 2 init cells (recorded ++ (replicate 32 (press 60) ++ (stop (key 60) plain ∷ []))) 1 (lit< tt) .free (quiet plain) 0 (finishOf 2 0 (freshOf plain zero32 (key 60) one32 2 2)) refl refl refl
+free-met = demand3 2 init cells refl (recorded ++ (replicate 32 (press 60) ++ (stop (key 60) plain ∷ []))) 1 (lit< tt) .free (quiet plain) 0 (finishOf 2 0 (freshOf plain zero32 (key 60) one32 2 2)) refl refl refl
 
 pub place-again : code (after stopped (quiet plain)) (press 60) ≡ 0
 unfolding computing
@@ -295,6 +320,11 @@ leaving = recorded ++ (replicate 32 (press 60) ++ gone-by)
 
 abbrev left : World
 left = run (setUp 2 init cells) leaving
+
+-- two channels on 5 cells have 2 each, after those calls as before them
+pub sizes-met : (run (setUp 2 init (0 ∷ cells)) leaving .sampler .count ≡ 2) × (run (setUp 2 init (0 ∷ cells)) leaving .sampler .capacity ≡ 2)
+unfolding computing
+sizes-met = (demands .count-stays 2 init (0 ∷ cells) refl leaving, demands .capacity-stays 2 init (0 ∷ cells) refl leaving)
 
 fitting-joined : (cs ds : List Call) → Each FittingCall cs → Each FittingCall ds → Each FittingCall (cs ++ ds)
 unfolding Each

@@ -5,11 +5,11 @@ use mathlib.Core.Bool.{Bool, true, false, not}
 use mathlib.Core.Logic.{_⊎_, _≢_}
 use mathlib.Core.List.{List, [], _∷_, _++_}
 use mathlib.Core.Option.{some}
-use Prim.Native.Nat.{ℕ, _+_, _-_, _*_, _/_, _%_, _^_, _≤_, _<_, min, max}
+use Prim.Native.Nat.{ℕ, suc, _+_, _-_, _*_, _/_, _%_, _^_, _≤_, _<_, min, max}
 use lib.Dec.{T, eqb, ltb}
-use lib.ListN.{length, take}
+use lib.ListN.{length, take, drop}
 use lib.IntN.{ℤ}
-use lib.Ieee.{Float, nan, fin, binary32, up, down, mul, isNan, fits}
+use lib.Ieee.{Float, nan, fin, binary32, up, down, add, mul, isNan, fits}
 use lib.Ieee.Exact.{HasValue}
 use Rattle.walks.specs.Walks.{any}
 use Rattle.walks.specs.Each.{Each}
@@ -20,16 +20,17 @@ use Rattle.common_types.specs.declared.Note.{Note}
 use Rattle.common_types.specs.Notes.{intoU64Of, fromU64Of}
 use Rattle.common_types.specs.Settings.{beyondLimits}
 use Rattle.recorder.specs.ErrorText.{errorText}
+use Rattle.volume.specs.Levels.{levelOf}
 use Rattle.clip.specs.declared.Clip.{Clip}
 use Rattle.clip.specs.declared.Found.the-variants.{At}
 use Rattle.clip.specs.declared.FoundAnswer.the-variants.{Done}
-use Rattle.clip.specs.Positions.{clipOffsetAt, offsetAt, indexAt}
+use Rattle.clip.specs.Positions.{zero32, clipOffsetAt, offsetAt, indexAt}
 use Rattle.clip.specs.Updates.{atSpeed, atMode, atLength, backOf, foundAt, withSpeed, withLength, withDataLength}
 use Rattle.clip.specs.Refusals.{dataToClipOf}
 use Rattle.clip.specs.Bounds.{Sound, Inside, Within}
 use Rattle.voice.specs.declared.Voice.{Voice}
 use Rattle.voice.specs.declared.Tick.{Tick}
-use Rattle.voice.specs.Voices.{movedOf, freshOf}
+use Rattle.voice.specs.Voices.{movedOf, productOf, freshOf, atSpeedOf}
 use Rattle.channel.specs.declared.Channel.{Channel}
 use Rattle.channel.specs.Channels.{live, fullOf, memoryOf}
 use Rattle.sampler.specs.declared.Answer.{Answer}
@@ -40,7 +41,7 @@ use Rattle.questions.specs.Questions.{recorderAt, notesOf}
 use Rattle.fates.specs.Engine.{stepOf}
 use Rattle.fates.specs.Events.{act, sounds, lengthAt, isSample, emptyAt, tickAt, decayOf}
 use Rattle.fates.specs.Places.{voiceAt, at, gone, follow, becomes, followAll, newOf, finishes, stoppedIn, finishedIn}
-use Rattle.fates.specs.Sounding.{Sounds, First}
+use Rattle.fates.specs.Sounding.{termsOf, totalOf}
 use Rattle.promises.specs.Runs.{
   World,
   setUp,
@@ -75,7 +76,7 @@ use Rattle.promises.specs.Runs.{
   before,
   FittingCall,
 }
-use Rattle.promises.specs.Outcomes.{Given, new, on, Outcome, Allows, Settled, numberIn, leftBy, Untouched, Chain}
+use Rattle.promises.specs.Outcomes.{Given, new, on, Outcome, Allows, Settled, numberIn, leftBy, outputIn, Untouched, Chain}
 use Rattle.promises.specs.Table.{TableHolds}
 
 -- Names. A World is the record and the memory lent with it. `code w c` is the number of the call c on it, `after w c` what the call leaves, `run w cs` what several leave, `chan w j` channel j, and `event w c j` what the call
@@ -222,6 +223,29 @@ pub record Leaves (w : World) (j n : ℕ) (cs : List Call) : Type 0 where
   pub stands : voiceAt (chan (run w earlier) j) place ≡ some voice
   pub leaves : follow (event (run w earlier) call j) (chan (run w earlier) j) place ≡ gone
 
+-- the terms of channel c's sum in a sample x, with the parameters p and the memory m: the products of its voices in their order, that of v at place n among them. A product is the recorded value times the level; a voice that is to be removed has none
+abbrev pub termsWith : Params → Float → List ℕ → Channel → ℕ → Voice → List Float
+termsWith p x m c n v =
+    let t = tickAt p m c in
+    let r = memoryOf x c m in
+    termsOf t r (take n (live c)) ++ (productOf t r v ∷ termsOf t r (drop (suc n) (live c)))
+
+-- The voice v, at place n of channel j and unfinished, sounds in the sample s: the call's output for the channel is `volume` times the sum of those terms, from the left, and of the input at the pass-through's level. That the
+-- term can be heard is not said: a float sum may absorb it.
+pub record SoundsIn (w : World) (s : Call) (j : ℕ) (p : Params) (x : Float) (m : List ℕ) (n : ℕ) (v : Voice) : Type 0 where
+  pub stands : voiceAt (chan w j) n ≡ some v
+  pub unfinished : v .finished ≡ false
+  pub output : output w s j
+      ≡ mul binary32 (p .volume)
+      (add binary32 (add binary32 zero32 (totalOf (termsWith p x m (chan w j) n v))) (mul binary32 x (levelOf (chan w j .head .«passthru_volume») (chan w j .head .now))))
+
+-- So does one that a start made as `fresh`, and this is its first: it is as the start made it, but for a speed that was set for its note meanwhile, and its clip began at the count of this sample.
+pub record FirstIn (w : World) (s : Call) (j : ℕ) (p : Params) (x : Float) (m : List ℕ) (n : ℕ) (fresh : Voice) : Type 0 where
+  pub voice : Voice
+  pub as-started : voice ≡ atSpeedOf (voice .speed) fresh
+  pub since : voice .clip2 .since ≡ chan w j .head .now
+  pub sounds : SoundsIn w s j p x m n voice
+
 pub record Demand3 (w : World) (j : ℕ) : Type 0 where
   -- What is done: each call does its event to the channel, and nothing else.
   pub does : (c : Call) → chan (after w c) j ≡ act (event w c j) (chan w j)
@@ -239,13 +263,13 @@ pub record Demand3 (w : World) (j : ℕ) : Type 0 where
       → chan (run w (start position note velocity p₀ ∷ cs)) j .head .now ≡ chan w j .head .now
       → stoppedIn (events (after w (start position note velocity p₀)) cs j) (chan (after w (start position note velocity p₀)) j) (length (live (chan w j))) ≡ false
       → emptyAt m (chan (run w (start position note velocity p₀ ∷ cs)) j) ≡ false
-      → First p x m (chan (run w (start position note velocity p₀ ∷ cs)) j) (length (live (chan w j)))
+      → FirstIn (run w (start position note velocity p₀ ∷ cs)) s j p x m (length (live (chan w j)))
       (freshOf p₀ position note velocity (chan w j .head .now) (chan w j .head .«data_len»))
   -- And until it is finished a voice sounds, where it then stands, in every accepted sample that finds the recording not empty.
   pub sounds-on : (n : ℕ) (v : Voice) → voiceAt (chan w j) n ≡ some v → v .finished ≡ false
       → (cs : List Call) → any isResetCall cs ≡ false → finishedIn (events w cs j) (chan w j) n ≡ false
       → (s : Call) (p : Params) (x : Float) (m : List ℕ) → event (run w cs) s j ≡ sounds p x m → emptyAt m (chan (run w cs) j) ≡ false
-      → (k : ℕ) × (u : Voice) × (followAll (events w cs j) (chan w j) n ≡ at k) × Sounds p x m (chan (run w cs) j) k u
+      → (k : ℕ) × (u : Voice) × (followAll (events w cs j) (chan w j) n ≡ at k) × SoundsIn (run w cs) s j p x m k u
   -- STAYS. "No voice leaves before a stop or play-once has finished it." The call that it leaves in may be the one that finishes it.
   pub stays : (n : ℕ) (v : Voice) → voiceAt (chan w j) n ≡ some v → v .finished ≡ false
       → (cs : List Call) → any isResetCall cs ≡ false → followAll (events w cs j) (chan w j) n ≡ gone → finishedIn (events w cs j) (chan w j) n ≡ true
@@ -288,10 +312,15 @@ pub record Demands : Type 0 where
   pub first : Demand1
   pub no-panic : (count : ℕ) (p : InitParams) (m : List ℕ) → setUpNumber count (length m) ≡ 0 → (cs : List Call) → Each FittingCall cs → NoPanic (run (setUp count p m) cs)
   pub second : Demand2
-  -- of every record and memory that set-up and any calls leave, for each channel
-  pub third : (count : ℕ) (p : InitParams) (m : List ℕ) (cs : List Call) (j : ℕ) → j < run (setUp count p m) cs .sampler .count → Demand3 (run (setUp count p m) cs) j
+  -- of every record and memory that set-up and any calls leave, for each channel of those that set-up was asked for
+  pub third : (count : ℕ) (p : InitParams) (m : List ℕ) → setUpNumber count (length m) ≡ 0 → (cs : List Call) (j : ℕ) → j < count → Demand3 (run (setUp count p m) cs) j
+  -- Their count stays, and so does the capacity: "the lent memory's length divided by the channel count, rounded down, at most 2^22."
+  pub count-stays : (count : ℕ) (p : InitParams) (m : List ℕ) → setUpNumber count (length m) ≡ 0 → (cs : List Call) → run (setUp count p m) cs .sampler .count ≡ count
+  pub capacity-stays : (count : ℕ) (p : InitParams) (m : List ℕ) → setUpNumber count (length m) ≡ 0 → (cs : List Call) → run (setUp count p m) cs .sampler .capacity ≡ min (length m / count) (2 ^ 22)
   -- and that this isn't met by an engine whose records break
   pub whole : (count : ℕ) (p : InitParams) (m : List ℕ) → setUpNumber count (length m) ≡ 0 → (cs : List Call) → Each FittingCall cs → Whole (run (setUp count p m) cs)
+  -- The output that demand 3 speaks of is the one that the call answers.
+  pub answers : (w : World) (c : Call) (r : Outcome (on w c)) → Allows (on w c) r → (j : ℕ) → outputIn w c r j ≡ output w c j
   -- What calls leave, one after the other, is what their contracts allow them to leave, and nothing else is.
   pub runs : (w : World) (cs : List Call) → Chain w cs (run w cs)
   pub no-other : (w u : World) (cs : List Call) → Chain w cs u → u ≡ run w cs

@@ -4,9 +4,10 @@
 use mathlib.Core.Path.{_≡_}
 use Prim.Native.Nat.{ℕ}
 use mathlib.Core.List.{List, [], _∷_}
-use lib.ListN.{length}
+use lib.ListN.{length, getD}
 use lib.Ieee.{Float}
 use Rattle.common_types.specs.declared.InitParams.{InitParams}
+use Rattle.clip.specs.Positions.{zero32}
 use Rattle.sampler.specs.declared.Answer.{Answer}
 use Rattle.sampler.specs.declared.SampleAnswer.{SampleAnswer}
 use Rattle.sampler.specs.Refusals.{frameNumber}
@@ -140,6 +141,13 @@ leftBy w (change d) r = withSampler (r .sampler) w
 leftBy w (sample j x p) r = record { sampler = r .answer .sampler; memory = r .memory }
 leftBy w (frame xs p) r = record { sampler = r .answer .sampler; memory = r .memory }
 leftBy w (asks q) r = w
+
+-- the output for channel j, where the call is a sample of it
+abbrev pub outputIn : (w : World) (c : Call) → Outcome (on w c) → ℕ → Float
+outputIn w (change d) r j = zero32
+outputIn w (sample i x p) r j = r .answer .output
+outputIn w (frame xs p) r j = getD (r .frame) j zero32
+outputIn w (asks q) r j = zero32
 
 -- a frame or list that was lent holds what it held
 unfoldable pub Untouched : (w : World) (c : Call) → Outcome (on w c) → Type 0
