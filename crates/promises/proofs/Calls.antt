@@ -99,7 +99,7 @@ module _ (w : World) (two : length (w .sampler .channels) ≡ 2) (few : w .sampl
       go : (b : Bool) → eqb (frameNumber s (length xs) p (length m)) 0 ≡ b
           → channelAt (cond b (entriesOf p (length xs) 0 (framed s xs m)) (framed s xs m) .sampler) j
           ≡ act (cond b (cond (ltb j (length xs)) (sounds p (getD xs j zero32) (partOf s j m)) idle) idle) (channelAt s j)
-      go true e = which (ltb j (length xs)) (frame-channel s xs p m (frame-steps s (length xs) p (length m) (eqb-true _ 0 e)) two j (omega arith))
+      go true e = which (ltb j (length xs)) (frame-channel s xs p m (frame-steps s (length xs) p (length m) (eqb-true _ 0 e)) j (omega arith))
       go false e = refl
 
   nothing : (b : Bool) → chan w j ≡ act (cond b idle idle) (chan w j)

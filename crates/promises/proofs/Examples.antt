@@ -41,7 +41,7 @@ use Rattle.fates.specs.Engine.{begunOf, passesOver, heardBy, turnedOf, letsGo, 
 use Rattle.fates.specs.Events.{tickAt, act, isReset, isSample, decayOf}
 use Rattle.fates.specs.Sounding.{termsOf, totalOf}
 use Rattle.fates.specs.Places.{voiceAt, at, gone, fateOf, follow, stops, becomes, newOf, outOf, playsOut, followAll, stoppedIn, finishedIn}
-use Rattle.promises.specs.Runs.{World, Call, start, stop, speed, startRecording, stopRecording, sample, frame, getDataLen, iterActiveNotes, asks, FittingCall, chan, setUp, questionNumber, code, after, run, doneTo, event, events, isResetCall, output, before}
+use Rattle.promises.specs.Runs.{World, Call, start, stop, speed, startRecording, stopRecording, sample, frame, getDataLen, iterActiveNotes, asks, FittingCall, chan, ownPart, setUp, questionNumber, code, after, run, doneTo, event, events, isResetCall, output, before}
 use lib.Ieee.{Float, nan, fin, binary32, fits, add, sub, mul, div, rem, neg, lt, le, eq, ofInt, toUnsigned, isNan, ofBits, toBits, nanBits, ofFields}
 use Rattle.promises.specs.Outcomes.{on, leftBy}
 use Rattle.promises.specs.Demands.{Plays, Asked, AllPlaced, Leaves, SoundsIn, FirstIn, termsWith, Demand3}
@@ -389,6 +389,26 @@ placed-met = no-panic 2 init cells refl (recorded ++ (press 60 ∷ speed (key 60
 pub placed-at : clipOffsetAt (movedOf (tickAt plain part (chan astray 1)) strayed) (chan astray 1 .head .now) ≡ one32
 unfolding computing
 placed-at = refl
+
+-- ---- the memory: while recording, a frame of one entry writes 0.5 to channel 0's part, and leaves channel 1's part and the cell that no channel has
+abbrev taking : World
+taking = run (setUp 2 init (0 ∷ 0 ∷ 0 ∷ 0 ∷ 7 ∷ [])) (startRecording ∷ [])
+
+abbrev one-entry : Call
+one-entry = frame (half ∷ []) plain
+
+abbrev taken-up : World
+taken-up = leftBy taking one-entry (settled (on taking one-entry) .outcome)
+
+pub written-met : ownPart taken-up 0 ≡ 0x3f00_0000 ∷ 0 ∷ []
+unfolding computing
+written-met = let r = settled (on taking one-entry) in demands .first .written taking one-entry (r .outcome) (r .allowed) 0 plain half (0 ∷ 0 ∷ []) refl
+
+pub unwritten-met : (ownPart taken-up 1 ≡ 0 ∷ 0 ∷ []) × (ownPart taken-up 2 ≡ 7 ∷ [])
+unfolding computing
+unwritten-met =
+    let r = settled (on taking one-entry) in
+    (demands .first .unwritten taking one-entry (r .outcome) (r .allowed) 1 refl, demands .first .unwritten taking one-entry (r .outcome) (r .allowed) 2 refl)
 
 -- ---- each number of the table, given
 abbrev far : Head → Head

@@ -1,6 +1,7 @@
 pub mod Engine
 pub mod Apart
 pub mod Calls
+pub mod Memory
 pub mod Accepted
 pub mod Demand3
 pub mod Whole

@@ -47,7 +47,7 @@ pub settled : (g : Given) → Settled g
 settled (new count p m) = record { outcome = _; allowed = refl; only = λ r h. h }
 settled (on w (change d)) = record { outcome = _; allowed = refl; only = λ r h. h }
 settled (on w (sample j x p)) = record {
-  outcome = record { answer = processSampleOf (w .sampler) j x p (w .memory); memory = sampleMemory (w .sampler) j x p (w .memory) };
+  outcome = record { answer = _; memory = _ };
   allowed = (refl, refl);
   only = λ r h t. record { answer = (h .0) t; memory = (h .1) t };
 }

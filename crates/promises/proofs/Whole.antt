@@ -61,7 +61,7 @@ reached-after size w (asks q) f r = r
 pub memory-after : (w : World) (c : Call) → length (after w c .memory) ≡ length (w .memory)
 unfolding after
 memory-after w (change d) = refl
-memory-after w (sample j x p) = sample-memory-length (w .sampler) j x p (w .memory)
+memory-after w (sample j x p) = sample-memory-length (w .sampler) j _ p (w .memory)
 memory-after w (frame xs p) = frame-memory-length (w .sampler) xs p (w .memory)
 memory-after w (asks q) = refl
 

@@ -35,7 +35,6 @@ use Rattle.channel.specs.declared.Channel.{Channel}
 use Rattle.channel.specs.Channels.{live, fullOf, memoryOf}
 use Rattle.sampler.specs.declared.Answer.{Answer}
 use Rattle.sampler.specs.Refusals.{channelAt, goodSizes, goodSampler, capacityOf, goodWith, noChannel, badNote, badPosition, anyFull, atEnd, row, setUpNumber}
-use Rattle.sampler.specs.Samplers.{partOf}
 use Rattle.questions.specs.declared.VoiceInfo.{VoiceInfo}
 use Rattle.questions.specs.Questions.{recorderAt, notesOf}
 use Rattle.fates.specs.Engine.{stepOf}
@@ -68,6 +67,7 @@ use Rattle.promises.specs.Runs.{
   after,
   run,
   chan,
+  ownPart,
   event,
   events,
   isResetCall,
@@ -90,10 +90,12 @@ pub record Demand1 : Type 0 where
   -- of them safe and ending. Whatever is given, the contract allows one outcome and no other,
   pub takes : (g : Given) → Settled g
   pub one : (g : Given) (r s : Outcome g) → Allows g r → Allows g s → r ≡ s
-  -- and lent memory keeps its size; a sample changes no other channel's part of it.
+  -- and lent memory keeps its size. "Channel j owns the j-th part of that size. Only a sample that records writes sample memory, at its write place in its channel's part." So a call that is no sample of channel j leaves its part
+  -- as it was, for every j, past the last channel too; a sample x of it, alone or in a frame, leaves `memoryOf x` of it.
   pub sized : (w : World) (c : Call) (r : Outcome (on w c)) → Allows (on w c) r → length (leftBy w c r .memory) ≡ length (w .memory)
-  pub apart : (w : World) (i : ℕ) (x : Float) (p : Params) (r : Outcome (on w (sample i x p))) → Allows (on w (sample i x p)) r
-      → (j : ℕ) → j ≢ i → partOf (w .sampler) j (r .memory) ≡ partOf (w .sampler) j (w .memory)
+  pub unwritten : (w : World) (c : Call) (r : Outcome (on w c)) → Allows (on w c) r → (j : ℕ) → isSample (event w c j) ≡ false → ownPart (leftBy w c r) j ≡ ownPart w j
+  pub written : (w : World) (c : Call) (r : Outcome (on w c)) → Allows (on w c) r → (j : ℕ) (p : Params) (x : Float) (m : List ℕ) → event w c j ≡ sounds p x m
+      → ownPart (leftBy w c r) j ≡ memoryOf x (chan w j) m
   -- "A bad call is answered with a number from document 01," An outcome has the call's number,
   pub numbered : (w : World) (c : Call) (r : Outcome (on w c)) → Allows (on w c) r → numberIn (on w c) r ≡ code w c
   -- which is that of the first of the table's rows that holds, in the table's order, and 0 where none does. "Order: 9 first. Start: 2, 3, 4, 5.
