@@ -60,6 +60,7 @@ use Rattle.promises.specs.Outcomes.{on, Outcome, Allows, Untouched}
 use Rattle.promises.specs.Demands.{Demand1, Demand2, Demands}
 use Rattle.promises.proofs.Memory.{part-unwritten, part-written}
 use Rattle.promises.proofs.Outcomes.{settled, one-outcome, number-code, left-after, output-answered, chain-run, run-chain}
+use Rattle.promises.proofs.Infos.{infos-given, infos-counted, infos-listed}
 use Rattle.promises.proofs.Table.{table-holds}
 use Rattle.promises.proofs.Calls.{count-kept, capacity-kept}
 use Rattle.promises.proofs.Demand3.{demand3}
@@ -167,6 +168,8 @@ demand1 = record {
   one = one-outcome;
   unwritten = λ w c r h j n. ap (λ (v : World). ownPart v j) (left-after w c r h) ∙ part-unwritten w j c n;
   written = λ w c r h j p x m e. ap (λ (v : World). ownPart v j) (left-after w c r h) ∙ part-written w j c p x m e;
+  filled = λ w j p list r h n q. (h .0 ∙ infos-counted w j p (length list) n q, h .1 ∙ infos-listed w j p (length list) n q list);
+  informed = λ w j p room r h n q. infos-given w j p room n q r h;
   unmade = unmade;
   sized = λ w c r h. ap (λ (v : World). length (v .memory)) (left-after w c r h) ∙ memory-after w c;
   numbered = number-code;

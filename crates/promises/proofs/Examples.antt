@@ -35,13 +35,15 @@ use Rattle.channel.specs.Soundness.{FittingChange}
 use Rattle.channel.specs.Heads.{headChangedOf, nextTime, headOf, rampOf, passthruOf, closedOf, goodHead}
 use Rattle.channel.specs.Channels.{live, withHead, channelOf, resetOf, anyUnfinishedOf, handledOf, pushedOf, startPlayingOf, wantedOf, findOf, finishedAtOf, stopPlayingOf, spedOf, setNoteSpeedOf, keptOf, addedOf, heardOf, playedOf, playedIfOf, takenOf, memoryOf, processSampleOf, changedOf, fullOf, goodVoicesOf, goodChannel}
 use Rattle.sampler.specs.Refusals.{goodSizes, goodSampler, capacityOf, goodWith, setUpNumber, startNumber, stopNumber, speedNumber, plainNumber, sampleNumber, frameNumber, channelNumber}
-use Rattle.questions.specs.Questions.{notesOf, listNumber}
+use Rattle.questions.specs.declared.VoiceInfo.{VoiceInfo}
+use Rattle.questions.specs.declared.Counted.the-variants as counted
+use Rattle.questions.specs.Questions.{notesOf, listNumber, voiceInfoOf, infoNumber}
 use Rattle.sampler.specs.Samplers.{withChannels, setUpOf, eachOf, answerOf, partOf, playedAt, steppedOf as sampledOf, outputOf, memoryAt, processSampleOf as sampleOf, sampleMemory, entryOf, entriesOf, framedOf}
 use Rattle.fates.specs.Engine.{begunOf, passesOver, heardBy, turnedOf, letsGo, leavesOf, leftOf, turnsOf, stepOf}
 use Rattle.fates.specs.Events.{tickAt, act, isReset, isSample, decayOf}
 use Rattle.fates.specs.Sounding.{termsOf, totalOf}
 use Rattle.fates.specs.Places.{voiceAt, at, gone, fateOf, follow, stops, becomes, newOf, outOf, playsOut, followAll, stoppedIn, finishedIn}
-use Rattle.promises.specs.Runs.{World, Call, start, stop, speed, startRecording, stopRecording, sample, frame, getDataLen, iterActiveNotes, asks, FittingCall, chan, ownPart, setUp, questionNumber, code, after, run, doneTo, event, events, isResetCall, output, before}
+use Rattle.promises.specs.Runs.{World, Call, start, stop, speed, startRecording, stopRecording, sample, frame, getDataLen, iterActiveNotes, fillVoiceInfo, asks, FittingCall, chan, ownPart, setUp, questionNumber, code, after, run, doneTo, event, events, isResetCall, output, before}
 use lib.Ieee.{Float, nan, fin, binary32, fits, add, sub, mul, div, rem, neg, lt, le, eq, ofInt, toUnsigned, isNan, ofBits, toBits, nanBits, ofFields}
 use Rattle.promises.specs.Outcomes.{on, leftBy}
 use Rattle.promises.specs.Demands.{Plays, Asked, AllPlaced, Leaves, SoundsIn, FirstIn, termsWith, Demand3}
@@ -52,7 +54,7 @@ use Rattle.promises.proofs.Demand3.{demand3}
 
 -- whatever a run computes by
 computing : Unit {0}
-unfolding floorOf minOf maxOf crossingOf any every without fold seek speedOf timeLengthOf lengthOf loopLengthOf lengthBeyond beyondLimits progressOf levelOf towardOf steppedOf goodRamp goodVolume raised inState misusedOf skippedOf startOf stopOf recordedOf dataAfter goodRecorder leadOf travelAt loopedOf roundTripOf mirroredOf bouncedOf wrappedOf placedOf clipOffsetAt clipToDataOf offsetAt indexAt madeOf backOf foundAt reversingAt shiftFor settledOf withSpeed withMode withLength withDataLength goodLength goodClip tickOf lateOf overOf shouldRemoveOf movedOf productOf soundedOf finishOf playedOutOf endedOf volumeStepped turnOf freshOf blankVoice atSpeedOf goodVoice nextTime headOf rampOf passthruOf closedOf goodHead channelOf resetOf anyUnfinishedOf handledOf pushedOf startPlayingOf wantedOf findOf finishedAtOf stopPlayingOf spedOf setNoteSpeedOf headChangedOf keptOf addedOf heardOf playedOf playedIfOf takenOf begunOf passesOver heardBy turnedOf letsGo leavesOf leftOf turnsOf stepOf memoryOf processSampleOf changedOf fullOf goodVoicesOf goodChannel goodSizes goodSampler capacityOf goodWith setUpNumber startNumber stopNumber speedNumber plainNumber sampleNumber frameNumber channelNumber notesOf listNumber setUpOf eachOf answerOf partOf playedAt sampledOf outputOf memoryAt sampleOf sampleMemory entryOf entriesOf framedOf act isReset isSample decayOf fateOf follow stops becomes newOf outOf playsOut followAll stoppedIn finishedIn termsOf totalOf setUp questionNumber code after run doneTo event events isResetCall output before add sub mul div rem neg lt le eq ofInt toUnsigned isNan ofBits toBits nanBits ofFields
+unfolding floorOf minOf maxOf crossingOf any every without fold seek speedOf timeLengthOf lengthOf loopLengthOf lengthBeyond beyondLimits progressOf levelOf towardOf steppedOf goodRamp goodVolume raised inState misusedOf skippedOf startOf stopOf recordedOf dataAfter goodRecorder leadOf travelAt loopedOf roundTripOf mirroredOf bouncedOf wrappedOf placedOf clipOffsetAt clipToDataOf offsetAt indexAt madeOf backOf foundAt reversingAt shiftFor settledOf withSpeed withMode withLength withDataLength goodLength goodClip tickOf lateOf overOf shouldRemoveOf movedOf productOf soundedOf finishOf playedOutOf endedOf volumeStepped turnOf freshOf blankVoice atSpeedOf goodVoice nextTime headOf rampOf passthruOf closedOf goodHead channelOf resetOf anyUnfinishedOf handledOf pushedOf startPlayingOf wantedOf findOf finishedAtOf stopPlayingOf spedOf setNoteSpeedOf headChangedOf keptOf addedOf heardOf playedOf playedIfOf takenOf begunOf passesOver heardBy turnedOf letsGo leavesOf leftOf turnsOf stepOf memoryOf processSampleOf changedOf fullOf goodVoicesOf goodChannel goodSizes goodSampler capacityOf goodWith setUpNumber startNumber stopNumber speedNumber plainNumber sampleNumber frameNumber channelNumber notesOf listNumber voiceInfoOf infoNumber setUpOf eachOf answerOf partOf playedAt sampledOf outputOf memoryAt sampleOf sampleMemory entryOf entriesOf framedOf act isReset isSample decayOf fateOf follow stops becomes newOf outOf playsOut followAll stoppedIn finishedIn termsOf totalOf setUp questionNumber code after run doneTo event events isResetCall output before add sub mul div rem neg lt le eq ofInt toUnsigned isNan ofBits toBits nanBits ofFields
 computing = tt
 
 -- ---- parameters, keys, calls
@@ -409,6 +411,37 @@ unfolding computing
 unwritten-met =
     let r = settled (on taking one-entry) in
     (demands .first .unwritten taking one-entry (r .outcome) (r .allowed) 1 refl, demands .first .unwritten taking one-entry (r .outcome) (r .allowed) 2 refl)
+
+-- ---- voice info in a lent list of two: channel 1's voice began at 1/4, its loop of half the recording ends at 3/4, and it has come to sample 1 of 2; the rest of the list is kept
+abbrev quarter : Float
+quarter = fin false 1 (negsuc 1)
+
+abbrev halved : Params
+halved = record {
+  «attack_samples» = 0;
+  «decay_samples» = 0;
+  transport = defaultTransport;
+  «loop_length» = Ratio half;
+  speed = one32;
+  «reverse_speed» = one32;
+  volume = one32;
+  «auto_passthru» = false;
+  «loop_mode» = loop.Loop;
+  «note_off_behavior» = off.Decay;
+}
+
+abbrev shown : World
+shown = since (start quarter (key 60) one32 plain ∷ quiet plain ∷ quiet plain ∷ [])
+
+abbrev rest : VoiceInfo
+rest = record { start = two; end = two; pos = two }
+
+pub filled-met : (settled (on shown (asks (fillVoiceInfo 1 halved (rest ∷ rest ∷ [])))) .outcome .answer ≡ counted.Done 1)
+    × (settled (on shown (asks (fillVoiceInfo 1 halved (rest ∷ rest ∷ [])))) .outcome .lent ≡ record { start = quarter; end = fin false 3 (negsuc 1); pos = half } ∷ rest ∷ [])
+unfolding computing
+filled-met =
+    let r = settled (on shown (asks (fillVoiceInfo 1 halved (rest ∷ rest ∷ [])))) in
+    demands .first .filled shown 1 halved (rest ∷ rest ∷ []) (r .outcome) (r .allowed) refl refl
 
 -- ---- each number of the table, given
 abbrev far : Head → Head

@@ -6,6 +6,7 @@ pub mod Accepted
 pub mod Demand3
 pub mod Whole
 pub mod Outcomes
+pub mod Infos
 pub mod Table
 pub mod Demands
 pub mod Examples

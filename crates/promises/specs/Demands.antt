@@ -3,7 +3,7 @@
 use mathlib.Core.Path.{_≡_}
 use mathlib.Core.Bool.{Bool, true, false, not}
 use mathlib.Core.Logic.{_⊎_, _≢_}
-use mathlib.Core.List.{List, [], _∷_, _++_}
+use mathlib.Core.List.{List, [], _∷_, _++_, map}
 use mathlib.Core.Option.{some}
 use Prim.Native.Nat.{ℕ, suc, _+_, _-_, _*_, _/_, _%_, _^_, _≤_, _<_, min, max}
 use lib.Dec.{T, eqb, ltb}
@@ -18,7 +18,7 @@ use Rattle.common_types.specs.declared.InitParams.{InitParams}
 use Rattle.common_types.specs.declared.Params.{Params}
 use Rattle.common_types.specs.declared.Note.{Note}
 use Rattle.common_types.specs.Notes.{intoU64Of, fromU64Of}
-use Rattle.common_types.specs.Settings.{beyondLimits}
+use Rattle.common_types.specs.Settings.{beyondLimits, loopLengthOf}
 use Rattle.recorder.specs.ErrorText.{errorText}
 use Rattle.volume.specs.Levels.{levelOf}
 use Rattle.clip.specs.declared.Clip.{Clip}
@@ -36,7 +36,9 @@ use Rattle.channel.specs.Channels.{live, fullOf, memoryOf}
 use Rattle.sampler.specs.declared.Answer.{Answer}
 use Rattle.sampler.specs.Refusals.{channelAt, goodSizes, goodSampler, capacityOf, goodWith, noChannel, badNote, badPosition, anyFull, atEnd, row, setUpNumber}
 use Rattle.questions.specs.declared.VoiceInfo.{VoiceInfo}
-use Rattle.questions.specs.Questions.{recorderAt, notesOf}
+use Rattle.questions.specs.declared.VoiceInfos.{VoiceInfos}
+use Rattle.questions.specs.declared.Counted.the-variants as Counted
+use Rattle.questions.specs.Questions.{recorderAt, notesOf, voiceInfoOf}
 use Rattle.fates.specs.Engine.{stepOf}
 use Rattle.fates.specs.Events.{act, sounds, lengthAt, isSample, emptyAt, tickAt, decayOf}
 use Rattle.fates.specs.Places.{voiceAt, at, gone, follow, becomes, followAll, newOf, finishes, stoppedIn, finishedIn}
@@ -76,7 +78,7 @@ use Rattle.promises.specs.Runs.{
   before,
   FittingCall,
 }
-use Rattle.promises.specs.Outcomes.{Given, new, on, Outcome, Allows, Settled, numberIn, leftBy, outputIn, Untouched, Chain}
+use Rattle.promises.specs.Outcomes.{Given, new, on, InfoOutcome, Outcome, Allows, Settled, numberIn, leftBy, outputIn, Untouched, Chain}
 use Rattle.promises.specs.Table.{TableHolds}
 
 -- Names. A World is the record and the memory lent with it. `code w c` is the number of the call c on it, `after w c` what the call leaves, `run w cs` what several leave, `chan w j` channel j, and `event w c j` what the call
@@ -84,6 +86,10 @@ use Rattle.promises.specs.Table.{TableHolds}
 -- place n, and `follow` says where it is after an event: `at` a place, or `gone`.
 
 -- ==== Demand 1
+
+-- the figures of channel j's voices, in their order: the loop length is worked out "from channel 0's data length, its other figures from the asked channel"
+abbrev pub figures : World → ℕ → Params → List VoiceInfo
+figures w j p = map (voiceInfoOf (loopLengthOf p (chan w 0 .head .«data_len»)) (asFloat (chan w j .head .«data_len»))) (live (chan w j))
 
 pub record Demand1 : Type 0 where
   -- "Every public call takes every value of its arguments, NaN, infinities and an empty recording included, stays inside its memory and ends." No public function of the engine has a `requires`, and the check proves each
@@ -96,6 +102,12 @@ pub record Demand1 : Type 0 where
   pub unwritten : (w : World) (c : Call) (r : Outcome (on w c)) → Allows (on w c) r → (j : ℕ) → isSample (event w c j) ≡ false → ownPart (leftBy w c r) j ≡ ownPart w j
   pub written : (w : World) (c : Call) (r : Outcome (on w c)) → Allows (on w c) r → (j : ℕ) (p : Params) (x : Float) (m : List ℕ) → event w c j ≡ sounds p x m
       → ownPart (leftBy w c r) j ≡ memoryOf x (chan w j) m
+  -- "voice info fills a lent list of `VoiceInfo` records", and "a lent list longer than the answer keeps its rest." The answer is how many voices there are, of the 32 places that a channel has by its type; by value the figures stand
+  -- in front of 32.
+  pub filled : (w : World) (j : ℕ) (p : Params) (list : List VoiceInfo) (r : InfoOutcome) → Allows (on w (asks (fillVoiceInfo j p list))) r → code w (asks (fillVoiceInfo j p list)) ≡ 0
+      → length (chan w j .voices) ≡ 32 → (r .answer ≡ Counted.Done (chan w j .count)) × (r .lent ≡ figures w j p ++ drop (chan w j .count) list)
+  pub informed : (w : World) (j : ℕ) (p : Params) (room : ℕ) (r : VoiceInfos) → Allows (on w (asks (getVoiceInfo j p room))) r → code w (asks (getVoiceInfo j p room)) ≡ 0
+      → length (chan w j .voices) ≡ 32 → (r .count ≡ chan w j .count) × (take (r .count) (r .infos) ≡ figures w j p)
   -- "A bad call is answered with a number from document 01," An outcome has the call's number,
   pub numbered : (w : World) (c : Call) (r : Outcome (on w c)) → Allows (on w c) r → numberIn (on w c) r ≡ code w c
   -- which is that of the first of the table's rows that holds, in the table's order, and 0 where none does. "Order: 9 first. Start: 2, 3, 4, 5.
