@@ -113,7 +113,7 @@ number-code w (asks (fillVoiceInfo j p list)) r h =
 -- ---- the record and the memory afterwards
 pub left-after : (w : World) (c : Call) (r : Outcome (on w c)) → Allows (on w c) r → leftBy w c r ≡ after w c
 unfolding after
-left-after w (change d) r h = λ t. record { sampler = h t .sampler; memory = w .memory }
+left-after w (change d) r h = ap (leftBy w (change d)) h
 left-after w (sample j x p) r h = λ t. record { sampler = (h .0) t .sampler; memory = (h .1) t }
 left-after w (frame xs p) r h = λ t. record { sampler = (h .1 .sampler) t; memory = (h .1 .memory) t }
 left-after w (asks q) r h = refl
@@ -123,7 +123,7 @@ pub output-answered : (w : World) (c : Call) (r : Outcome (on w c)) → Allows (
 unfolding output
 output-answered w (change d) r h j = refl
 output-answered w (sample i x p) r h j = ap (λ (a : SampleAnswer). a .output) (h .0)
-output-answered w (frame xs p) r h j = ap (λ (ys : List Float). getD ys j zero32) (h .1 .frame)
+output-answered w (frame xs p) r h j = λ t. outputIn w (frame xs p) (record { answer = r .answer; frame = (h .1 .frame) t; memory = r .memory }) j
 output-answered w (asks q) r h j = refl
 
 -- the contracts leave no other record and memory than `run` gives
