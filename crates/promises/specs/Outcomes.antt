@@ -1,6 +1,8 @@
--- Every public call with all that it is given, and which outcomes its contract allows: the result, and what was lent to it as it is at the end. `Allows` says of each call what the `ensures` lines of its function say,
--- in the same definitions: sampler/src/lib.rt, questions/src/lib.rt and, for voice info in a lent list, lent/src/lib.rt. The crate `contracts` shows it of each function there. The
--- calls on a record that the host lends have the same definitions in their contracts, with the record in its place: lent/src/lib.rt. Definitions only. Assumes nothing.
+-- Every public call with all that it is given, and which outcomes its contract allows: the result, and what was lent to
+-- it as it is at the end. `Allows` says of each call what the `ensures` lines of its function say, in the same
+-- definitions. That it does is checked of each function in the crate `contracts`: of those by value (sampler/src/lib.rt,
+-- questions/src/lib.rt) by a twin whose `ensures` is `Allows`, and of those on a record that the host lends
+-- (lent/src/lib.rt) by the theorem `Lent` on the function itself. Definitions only. Assumes nothing.
 use mathlib.Core.Path.{_≡_}
 use Prim.Native.Nat.{ℕ}
 use mathlib.Core.List.{List, [], _∷_}
