@@ -58,11 +58,11 @@ use Rattle.promises.specs.Runs.{
 }
 use Rattle.promises.specs.Outcomes.{on, Outcome, Allows, Untouched}
 use Rattle.promises.specs.Demands.{Demand1, Demand2, Demands}
+use Rattle.promises.proofs.Calls.{count-kept, capacity-kept}
 use Rattle.promises.proofs.Memory.{part-unwritten, part-written}
 use Rattle.promises.proofs.Outcomes.{settled, one-outcome, number-code, left-after, output-answered, chain-run, run-chain}
 use Rattle.promises.proofs.Infos.{infos-given, infos-counted, infos-listed}
 use Rattle.promises.proofs.Table.{table-holds}
-use Rattle.promises.proofs.Calls.{count-kept, capacity-kept}
 use Rattle.promises.proofs.Demand3.{demand3}
 use Rattle.promises.proofs.Whole.{memory-after, no-panic, whole}
 

@@ -41,7 +41,7 @@ use Rattle.questions.specs.Questions.{notesOf, listNumber, voiceInfoOf, infoNum
 use Rattle.sampler.specs.Samplers.{withChannels, setUpOf, eachOf, answerOf, partOf, playedAt, steppedOf as sampledOf, outputOf, memoryAt, processSampleOf as sampleOf, sampleMemory, entryOf, entriesOf, framedOf}
 use Rattle.fates.specs.Engine.{begunOf, passesOver, heardBy, turnedOf, letsGo, leavesOf, leftOf, turnsOf, stepOf}
 use Rattle.fates.specs.Events.{tickAt, act, isReset, isSample, decayOf}
-use Rattle.fates.specs.Sounding.{termsOf, totalOf}
+use Rattle.fates.specs.Sounding.{termsOf}
 use Rattle.fates.specs.Places.{voiceAt, at, gone, fateOf, follow, stops, becomes, newOf, outOf, playsOut, followAll, stoppedIn, finishedIn}
 use Rattle.promises.specs.Runs.{World, Call, start, stop, speed, startRecording, stopRecording, sample, frame, getDataLen, iterActiveNotes, fillVoiceInfo, asks, FittingCall, chan, ownPart, setUp, questionNumber, code, after, run, doneTo, event, events, isResetCall, output, before}
 use lib.Ieee.{Float, nan, fin, binary32, fits, add, sub, mul, div, rem, neg, lt, le, eq, ofInt, toUnsigned, isNan, ofBits, toBits, nanBits, ofFields}
@@ -54,7 +54,7 @@ use Rattle.promises.proofs.Demand3.{demand3}
 
 -- whatever a run computes by
 computing : Unit {0}
-unfolding floorOf minOf maxOf crossingOf any every without fold seek speedOf timeLengthOf lengthOf loopLengthOf lengthBeyond beyondLimits progressOf levelOf towardOf steppedOf goodRamp goodVolume raised inState misusedOf skippedOf startOf stopOf recordedOf dataAfter goodRecorder leadOf travelAt loopedOf roundTripOf mirroredOf bouncedOf wrappedOf placedOf clipOffsetAt clipToDataOf offsetAt indexAt madeOf backOf foundAt reversingAt shiftFor settledOf withSpeed withMode withLength withDataLength goodLength goodClip tickOf lateOf overOf shouldRemoveOf movedOf productOf soundedOf finishOf playedOutOf endedOf volumeStepped turnOf freshOf blankVoice atSpeedOf goodVoice nextTime headOf rampOf passthruOf closedOf goodHead channelOf resetOf anyUnfinishedOf handledOf pushedOf startPlayingOf wantedOf findOf finishedAtOf stopPlayingOf spedOf setNoteSpeedOf headChangedOf keptOf addedOf heardOf playedOf playedIfOf takenOf begunOf passesOver heardBy turnedOf letsGo leavesOf leftOf turnsOf stepOf memoryOf processSampleOf changedOf fullOf goodVoicesOf goodChannel goodSizes goodSampler capacityOf goodWith setUpNumber startNumber stopNumber speedNumber plainNumber sampleNumber frameNumber channelNumber notesOf listNumber voiceInfoOf infoNumber setUpOf eachOf answerOf partOf playedAt sampledOf outputOf memoryAt sampleOf sampleMemory entryOf entriesOf framedOf act isReset isSample decayOf fateOf follow stops becomes newOf outOf playsOut followAll stoppedIn finishedIn termsOf totalOf setUp questionNumber code after run doneTo event events isResetCall output before add sub mul div rem neg lt le eq ofInt toUnsigned isNan ofBits toBits nanBits ofFields
+unfolding floorOf minOf maxOf crossingOf any every without fold seek speedOf timeLengthOf lengthOf loopLengthOf lengthBeyond beyondLimits progressOf levelOf towardOf steppedOf goodRamp goodVolume raised inState misusedOf skippedOf startOf stopOf recordedOf dataAfter goodRecorder leadOf travelAt loopedOf roundTripOf mirroredOf bouncedOf wrappedOf placedOf clipOffsetAt clipToDataOf offsetAt indexAt madeOf backOf foundAt reversingAt shiftFor settledOf withSpeed withMode withLength withDataLength goodLength goodClip tickOf lateOf overOf shouldRemoveOf movedOf productOf soundedOf finishOf playedOutOf endedOf volumeStepped turnOf freshOf blankVoice atSpeedOf goodVoice nextTime headOf rampOf passthruOf closedOf goodHead channelOf resetOf anyUnfinishedOf handledOf pushedOf startPlayingOf wantedOf findOf finishedAtOf stopPlayingOf spedOf setNoteSpeedOf headChangedOf keptOf addedOf heardOf playedOf playedIfOf takenOf begunOf passesOver heardBy turnedOf letsGo leavesOf leftOf turnsOf stepOf memoryOf processSampleOf changedOf fullOf goodVoicesOf goodChannel goodSizes goodSampler capacityOf goodWith setUpNumber startNumber stopNumber speedNumber plainNumber sampleNumber frameNumber channelNumber notesOf listNumber setUpOf eachOf answerOf partOf playedAt sampledOf outputOf memoryAt sampleOf sampleMemory entryOf entriesOf framedOf act isReset isSample decayOf fateOf follow stops becomes newOf outOf playsOut followAll stoppedIn finishedIn setUp questionNumber code after run doneTo event events isResetCall output before add sub mul div rem neg lt le eq ofInt toUnsigned isNan ofBits toBits nanBits ofFields
 computing = tt
 
 -- ---- parameters, keys, calls
@@ -80,21 +80,6 @@ with decay mode behaviour = record {
 
 abbrev plain : Params
 plain = with 0 loop.Loop off.Decay
-
--- at half the volume
-abbrev soft : Params
-soft = record {
-  «attack_samples» = 0;
-  «decay_samples» = 0;
-  transport = defaultTransport;
-  «loop_length» = Ratio one32;
-  speed = one32;
-  «reverse_speed» = one32;
-  volume = half;
-  «auto_passthru» = false;
-  «loop_mode» = loop.Loop;
-  «note_off_behavior» = off.Decay;
-}
 
 abbrev once : Params
 once = with 0 loop.PlayOnce off.Decay
@@ -140,6 +125,21 @@ between = speed (key 60) half ∷ asks (getDataLen 1) ∷ sample 0 zero32 plain 
 abbrev younger : World
 younger = run older (press 60 ∷ between)
 
+-- at half the volume
+abbrev soft : Params
+soft = record {
+  «attack_samples» = 0;
+  «decay_samples» = 0;
+  transport = defaultTransport;
+  «loop_length» = Ratio one32;
+  speed = one32;
+  «reverse_speed» = one32;
+  volume = half;
+  «auto_passthru» = false;
+  «loop_mode» = loop.Loop;
+  «note_off_behavior» = off.Decay;
+}
+
 promised : Demand3 older 1
 unfolding computing
 promised = demand3 2 init cells refl (recorded ++ (press 60 ∷ [])) 1 (lit< tt)
@@ -150,7 +150,7 @@ on-time-met = promised .on-time zero32 (key 60) one32 plain refl refl between re
 
 -- the older voice, stopped with no decay, has no term; that of the younger one, at its note's speed 0.5, is its first recorded value, 1
 pub on-time-terms : termsWith soft zero32 part (chan younger 1) 1 (atSpeedOf half (freshOf plain zero32 (key 60) one32 2 2)) ≡ one32 ∷ []
-unfolding computing
+unfolding computing termsOf
 on-time-terms = refl
 
 -- and channel 1 sounds it at the volume 0.5
@@ -187,7 +187,7 @@ sounds-on-met = promised .sounds-on 0 (freshOf plain zero32 (key 60) one32 2 2) 
 
 -- it has come to 0.5, and the second one begins at 1
 pub sounds-on-terms : termsWith plain zero32 part (chan (run older again) 1) 0 (getD (live (chan (run older again) 1)) 0 blankVoice) ≡ half ∷ one32 ∷ []
-unfolding computing
+unfolding computing termsOf
 sounds-on-terms = refl
 
 -- ---- stays: play-once finishes the voice in its second sample, and with no decay it leaves in that sample
@@ -438,7 +438,7 @@ rest = record { start = two; end = two; pos = two }
 
 pub filled-met : (settled (on shown (asks (fillVoiceInfo 1 halved (rest ∷ rest ∷ [])))) .outcome .answer ≡ counted.Done 1)
     × (settled (on shown (asks (fillVoiceInfo 1 halved (rest ∷ rest ∷ [])))) .outcome .lent ≡ record { start = quarter; end = fin false 3 (negsuc 1); pos = half } ∷ rest ∷ [])
-unfolding computing
+unfolding computing voiceInfoOf infoNumber
 filled-met =
     let r = settled (on shown (asks (fillVoiceInfo 1 halved (rest ∷ rest ∷ [])))) in
     demands .first .filled shown 1 halved (rest ∷ rest ∷ []) (r .outcome) (r .allowed) refl refl
