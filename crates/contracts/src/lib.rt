@@ -1,4 +1,6 @@
-// Each public call of the engine once more, with its contract in the words of promises/specs/Outcomes.antt: what the theorems take a contract to allow is what the contract says. Nothing calls these functions.
+// Each public call of the engine by value once more, with its contract in the words of promises/specs/Outcomes.antt: what
+// the theorems take a contract to allow is what the contract says. Nothing calls these functions. The calls on a record
+// that is lent are in specs/Lent.antt.
 ghost use mathlib.Core.List.{List};
 ghost use Prim.Native.Nat.{ℕ};
 ghost use Rattle.promises.specs.Runs.{
@@ -9,6 +11,7 @@ ghost use Rattle.promises.specs.Runs.{
   printErrorInfo,
   iterActiveNotes,
   getVoiceInfo,
+  change as changeCall,
   start,
   stop,
   speed as speedCall,
@@ -20,6 +23,7 @@ ghost use Rattle.promises.specs.Runs.{
   asks,
 };
 ghost use Rattle.promises.specs.Outcomes.{new as setUpCall, on, Allows};
+use channel::Change;
 use common_types::InitParams;
 use common_types::Note;
 use common_types::Params;
@@ -35,6 +39,12 @@ pub fn new(count: usize, params: InitParams, memory: &[u32]) -> Answer
     ensures { λ r. ⌜ Allows (setUpCall count params (now (memory .entry))) r ⌝ }
 {
     Sampler::new(count, params, memory)
+}
+
+pub fn changed(s: Sampler, change: Change) -> Answer
+    ensures { λ r. ⌜ ((m : List ℕ) → Allows (on (record { sampler = s; memory = m }) (changeCall change)) r) ⌝ }
+{
+    s.changed(change)
 }
 
 pub fn start_playing(s: Sampler, position: f32, note: Note, velocity: f32, params: Params) -> Answer

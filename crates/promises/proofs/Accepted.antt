@@ -170,7 +170,7 @@ module _ (w : World) (st : Standing w) (j : ℕ) (k : j < w .sampler .count) (p 
             floats = subst FittingParams (z .params);
             part = sym (z .memory);
             output = ap (λ (b : Bool). getD (cond b (entriesOf q (length xs) 0 (framed s xs mem)) (framed s xs mem) .frame) j zero32) e
-                ∙ frame-output s xs q mem g (st .two) j (omega (arith, st .few))
+                ∙ frame-output s xs q mem g j
                 ∙ ap (λ (b : Bool). cond b (mul binary32 (q .volume) (channelSampleOf q (getD xs j zero32) (channelAt s j) (partOf s j mem) .output)) (getD xs j zero32)) f
                 ∙ same-output q p (getD xs j zero32) x (partOf s j mem) m (channelAt s j) (channelAt s j) z refl;
           }

@@ -4,7 +4,7 @@ use mathlib.Core.Bool.{Bool, true, false, not, cond}
 use mathlib.Core.List.{List, [], _∷_, map}
 use Prim.Native.Nat.{ℕ, zero, suc, _+_, _≤_, _<_}
 use native.Mathlib.Omega.{arith}
-use borrow.Author.Tests.{eqb-true, eqb-false}
+use borrow.Author.Tests.{eqb-true, eqb-false, eq-eqb}
 use lib.Dec.{eqb, ltb}
 use lib.ListN.{length, drop, getD, length-set, length-map, List·getD-append, List·getD-map}
 use lib.Seq.{length-sets, length-take-le, getD-take}
@@ -99,7 +99,7 @@ module _ (w : World) (two : length (w .sampler .channels) ≡ 2) (few : w .sampl
       go : (b : Bool) → eqb (frameNumber s (length xs) p (length m)) 0 ≡ b
           → channelAt (cond b (entriesOf p (length xs) 0 (framed s xs m)) (framed s xs m) .sampler) j
           ≡ act (cond b (cond (ltb j (length xs)) (sounds p (getD xs j zero32) (partOf s j m)) idle) idle) (channelAt s j)
-      go true e = which (ltb j (length xs)) (frame-channel s xs p m (frame-steps s (length xs) p (length m) (eqb-true _ 0 e)) two j (omega arith))
+      go true e = which (ltb j (length xs)) (frame-channel s xs p m (frame-steps s (length xs) p (length m) (eqb-true _ 0 e)) j (omega arith))
       go false e = refl
 
   nothing : (b : Bool) → chan w j ≡ act (cond b idle idle) (chan w j)
@@ -200,7 +200,19 @@ chan-run w s j h (c ∷ cs) =
     chan-run (after w c) (standing-after w c s) j (omega (arith, kept w c .count)) cs
     ∙ ap (acts (events (after w c) cs j)) (chan-after w (s .two) (s .few) j h c)
 
-pub count-run : (w : World) (cs : List Call) → run w cs .sampler .count ≡ w .sampler .count
+pub kept-run : (w : World) (cs : List Call) → Kept (w .sampler) (run w cs .sampler)
 unfolding run
-count-run w [] = refl
-count-run w (c ∷ cs) = count-run (after w c) cs ∙ kept w c .count
+kept-run w [] = kept-refl (w .sampler)
+kept-run w (c ∷ cs) = kept-trans (w .sampler) (after w c .sampler) (run (after w c) cs .sampler) (kept w c) (kept-run (after w c) cs)
+
+-- an accepted set-up makes what it was asked for
+module _ (count : ℕ) (p : InitParams) (m : List ℕ) (ok : setUpNumber count (length m) ≡ 0) where
+  made : setUp count p m .sampler ≡ samplerOf count p (capacityOf count (length m))
+  unfolding setUp setUpOf
+  made = rw (eq-eqb _ 0 ok)
+
+  pub count-kept : (cs : List Call) → run (setUp count p m) cs .sampler .count ≡ count
+  count-kept cs = kept-run (setUp count p m) cs .count ∙ ap (λ (s : Sampler). s .count) made
+
+  pub capacity-kept : (cs : List Call) → run (setUp count p m) cs .sampler .capacity ≡ capacityOf count (length m)
+  capacity-kept cs = kept-run (setUp count p m) cs .capacity ∙ ap (λ (s : Sampler). s .capacity) made

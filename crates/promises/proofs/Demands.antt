@@ -23,8 +23,7 @@ use Rattle.channel.specs.Channels.{live}
 use Rattle.sampler.specs.declared.Sampler.{Sampler}
 use Rattle.sampler.specs.declared.Answer.{Answer}
 use Rattle.sampler.specs.Refusals.{channelAt, goodSizes, goodSampler, capacityOf, goodWith, noChannel, row, setUpNumber, startNumber, stopNumber, speedNumber, plainNumber, sampleNumber, frameNumber, channelNumber}
-use Rattle.sampler.specs.Samplers.{samplerOf, setUpOf, partOf, eachOf, answerOf, processSampleOf, sampleMemory, steppedOf, memoryAt, Framed, framed, entriesOf, framedOf}
-use Rattle.sampler.proofs.Rows.{sample-ready}
+use Rattle.sampler.specs.Samplers.{samplerOf, setUpOf, eachOf, answerOf, processSampleOf, sampleMemory, steppedOf, memoryAt, Framed, framed, entriesOf, framedOf}
 use Rattle.questions.specs.Questions.{recorderAt, notesOf, inFront, listNumber, listAfter, infoNumber, answered, noInfos, infosWith, getVoiceInfoOf}
 use Rattle.questions.specs.declared.VoiceInfos.{VoiceInfos}
 use Rattle.lent.specs.Lists.{listedOf}
@@ -55,11 +54,14 @@ use Rattle.promises.specs.Runs.{
   asks,
   code,
   after,
+  ownPart,
 }
 use Rattle.promises.specs.Outcomes.{on, Outcome, Allows, Untouched}
 use Rattle.promises.specs.Demands.{Demand1, Demand2, Demands}
-use Rattle.promises.proofs.Apart.{part-apart}
-use Rattle.promises.proofs.Outcomes.{settled, one-outcome, number-code, left-after, chain-run, run-chain}
+use Rattle.promises.proofs.Calls.{count-kept, capacity-kept}
+use Rattle.promises.proofs.Memory.{part-unwritten, part-written}
+use Rattle.promises.proofs.Outcomes.{settled, one-outcome, number-code, left-after, output-answered, chain-run, run-chain}
+use Rattle.promises.proofs.Infos.{infos-given, infos-counted, infos-listed}
 use Rattle.promises.proofs.Table.{table-holds}
 use Rattle.promises.proofs.Demand3.{demand3}
 use Rattle.promises.proofs.Whole.{memory-after, no-panic, whole}
@@ -81,12 +83,17 @@ answer-held : (w : World) (n : ℕ) (d : Change) → n ≢ 0 → record { sample
 unfolding answerOf
 answer-held w n d h = λ t. record { sampler = other n (eachOf d (w .sampler)) (w .sampler) h t; memory = w .memory }
 
-after-held : (w : World) (c : Call) → code w c ≢ 0 → after w c ≡ w
-unfolding after code processSampleOf sampleMemory framedOf
-after-held w (change d) h = answer-held w _ _ h
-after-held w (sample j x p) h =
+sample-held : (w : World) (j : ℕ) (x y : Float) (p : Params) → sampleNumber (w .sampler) j p (length (w .memory)) ≢ 0
+    → record { sampler = processSampleOf (w .sampler) j x p (w .memory) .sampler; memory = sampleMemory (w .sampler) j y p (w .memory) } ≡ w
+unfolding processSampleOf sampleMemory
+sample-held w j x y p h =
     let n = sampleNumber (w .sampler) j p (length (w .memory)) in
-    λ t. record { sampler = other n (steppedOf (w .sampler) j p x (w .memory)) (w .sampler) h t; memory = other n (memoryAt (w .sampler) j x (w .memory)) (w .memory) h t }
+    λ t. record { sampler = other n (steppedOf (w .sampler) j p x (w .memory)) (w .sampler) h t; memory = other n (memoryAt (w .sampler) j y (w .memory)) (w .memory) h t }
+
+after-held : (w : World) (c : Call) → code w c ≢ 0 → after w c ≡ w
+unfolding after code framedOf
+after-held w (change d) h = answer-held w _ _ h
+after-held w (sample j x p) h = sample-held w j x _ p h
 after-held w (frame xs p) h =
     let f = framed (w .sampler) xs (w .memory) in
     let e = other (frameNumber (w .sampler) (length xs) p (length (w .memory))) (entriesOf p (length xs) 0 f) f h in
@@ -139,21 +146,6 @@ unmade count p m h c =
     ap (λ (s : Sampler). code (record { sampler = s; memory = m }) c) (other (setUpNumber count (length m)) (samplerOf count p (capacityOf count (length m))) (samplerOf 0 p 0) h)
     ∙ empty-record p m c
 
--- ---- the parts of the memory
-part-held : (w : World) (i : ℕ) (x : Float) (p : Params) (j : ℕ) → j ≢ i → partOf (w .sampler) j (sampleMemory (w .sampler) i x p (w .memory)) ≡ partOf (w .sampler) j (w .memory)
-unfolding sampleMemory
-part-held w i x p j e = go (eqb (sampleNumber s i p (length m)) 0) refl
-  where
-    s : Sampler
-    s = w .sampler
-
-    m : List ℕ
-    m = w .memory
-
-    go : (b : Bool) → eqb (sampleNumber s i p (length m)) 0 ≡ b → partOf s j (cond b (memoryAt s i x m) m) ≡ partOf s j m
-    go true q = part-apart s i m (sample-ready s i p (length m) (eqb-true _ 0 q) .part) x j e
-    go false q = refl
-
 -- ---- rows
 query-rows : (w : World) (j : ℕ) (q : Question) → (q ≡ getFramesProcessed j) ⊎ ((q ≡ getDataLen j) ⊎ ((q ≡ isRecording j) ⊎ (q ≡ getLastRecordedOffset j)))
     → code w (asks q) ≡ row (not (goodSampler (w .sampler))) 9 (row (noChannel (w .sampler) j) 1 0)
@@ -174,7 +166,10 @@ unfolding setUpOf setUpNumber code questionNumber startNumber stopNumber speedNu
 demand1 = record {
   takes = settled;
   one = one-outcome;
-  apart = λ w i x p r h j e. ap (partOf (w .sampler) j) (h .1) ∙ part-held w i x p j e;
+  unwritten = λ w c r h j n. ap (λ (v : World). ownPart v j) (left-after w c r h) ∙ part-unwritten w j c n;
+  written = λ w c r h j p x m e. ap (λ (v : World). ownPart v j) (left-after w c r h) ∙ part-written w j c p x m e;
+  filled = λ w j p list r h n q. (h .0 ∙ infos-counted w j p (length list) n q, h .1 ∙ infos-listed w j p (length list) n q list);
+  informed = λ w j p room r h n q. infos-given w j p room n q r h;
   unmade = unmade;
   sized = λ w c r h. ap (λ (v : World). length (v .memory)) (left-after w c r h) ∙ memory-after w c;
   numbered = number-code;
@@ -222,4 +217,16 @@ demand2 = record {
 }
 
 pub demands : Demands
-demands = record { first = demand1; no-panic = no-panic; second = demand2; third = demand3; whole = whole; runs = run-chain; no-other = λ w u cs h. chain-run h }
+unfolding capacityOf
+demands = record {
+  first = demand1;
+  no-panic = no-panic;
+  second = demand2;
+  third = demand3;
+  count-stays = count-kept;
+  capacity-stays = capacity-kept;
+  whole = whole;
+  answers = output-answered;
+  runs = run-chain;
+  no-other = λ w u cs h. chain-run h;
+}

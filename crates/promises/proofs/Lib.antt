@@ -1,10 +1,12 @@
 pub mod Engine
 pub mod Apart
 pub mod Calls
+pub mod Memory
 pub mod Accepted
 pub mod Demand3
 pub mod Whole
 pub mod Outcomes
+pub mod Infos
 pub mod Table
 pub mod Demands
 pub mod Examples

@@ -2,9 +2,12 @@
 use mathlib.Core.Path.{_≡_, refl, sym, ap, _∙_, subst}
 use mathlib.Core.Bool.{Bool, true, false, cond}
 use mathlib.Core.List.{List, [], _∷_}
+use Prim.Native.Nat.{ℕ}
 use borrow.Author.Tests.{eqb-true}
 use lib.Dec.{eqb}
-use lib.ListN.{length}
+use lib.ListN.{length, getD}
+use lib.Ieee.{Float}
+use Rattle.clip.specs.Positions.{zero32}
 use Rattle.recorder.specs.ErrorText.{errorText}
 use Rattle.channel.specs.Channels.{live}
 use Rattle.sampler.specs.declared.Answer.{Answer}
@@ -35,15 +38,16 @@ use Rattle.promises.specs.Runs.{
   code,
   after,
   run,
+  output,
 }
-use Rattle.promises.specs.Outcomes.{Given, new, on, Outcome, Allows, Settled, numberIn, leftBy, Chain, ended, called}
+use Rattle.promises.specs.Outcomes.{Given, new, on, Outcome, Allows, Settled, numberIn, leftBy, outputIn, Chain, ended, called}
 
 -- ---- one outcome
 pub settled : (g : Given) → Settled g
 settled (new count p m) = record { outcome = _; allowed = refl; only = λ r h. h }
 settled (on w (change d)) = record { outcome = _; allowed = refl; only = λ r h. h }
 settled (on w (sample j x p)) = record {
-  outcome = record { answer = processSampleOf (w .sampler) j x p (w .memory); memory = sampleMemory (w .sampler) j x p (w .memory) };
+  outcome = record { answer = _; memory = _ };
   allowed = (refl, refl);
   only = λ r h t. record { answer = (h .0) t; memory = (h .1) t };
 }
@@ -109,10 +113,18 @@ number-code w (asks (fillVoiceInfo j p list)) r h =
 -- ---- the record and the memory afterwards
 pub left-after : (w : World) (c : Call) (r : Outcome (on w c)) → Allows (on w c) r → leftBy w c r ≡ after w c
 unfolding after
-left-after w (change d) r h = λ t. record { sampler = h t .sampler; memory = w .memory }
+left-after w (change d) r h = ap (leftBy w (change d)) h
 left-after w (sample j x p) r h = λ t. record { sampler = (h .0) t .sampler; memory = (h .1) t }
 left-after w (frame xs p) r h = λ t. record { sampler = (h .1 .sampler) t; memory = (h .1 .memory) t }
 left-after w (asks q) r h = refl
+
+-- ---- the output
+pub output-answered : (w : World) (c : Call) (r : Outcome (on w c)) → Allows (on w c) r → (j : ℕ) → outputIn w c r j ≡ output w c j
+unfolding output
+output-answered w (change d) r h j = refl
+output-answered w (sample i x p) r h j = ap (λ (a : SampleAnswer). a .output) (h .0)
+output-answered w (frame xs p) r h j = λ t. outputIn w (frame xs p) (record { answer = r .answer; frame = (h .1 .frame) t; memory = r .memory }) j
+output-answered w (asks q) r h j = refl
 
 -- the contracts leave no other record and memory than `run` gives
 pub chain-run : {w u : World} {cs : List Call} → Chain w cs u → u ≡ run w cs

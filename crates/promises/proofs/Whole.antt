@@ -22,14 +22,14 @@ use Rattle.common_types.proofs.LoopLengths.{loop-length-fits}
 use Rattle.recorder.specs.ErrorText.{errorText}
 use Rattle.clip.specs.Positions.{indexAt}
 use Rattle.voice.specs.declared.Voice.{Voice}
-use Rattle.clip.specs.Updates.{withSpeed}
 use Rattle.clip.specs.Bounds.{Sound}
 use Rattle.clip.proofs.Lengths.{float-length}
+use Rattle.clip.proofs.Offsets.{clip-offset-inside}
 use Rattle.clip.proofs.Kept.{with-speed-sound, with-length-sound, with-data-length-sound}
 use Rattle.clip.proofs.Answers.{speed-found, mode-found, length-asked}
 use Rattle.voice.specs.Voices.{clipModeOf, tickOf, movedOf, blankVoice}
 use Rattle.voice.specs.Soundness.{SoundParams, SoundVoice}
-use Rattle.voice.proofs.Moves.{loop-length-good}
+use Rattle.voice.proofs.Moves.{loop-length-good, moved-sound}
 use Rattle.voice.proofs.Kept.{clip-sound}
 use Rattle.channel.specs.Channels.{live, takenOf, memoryOf}
 use Rattle.channel.specs.Soundness.{FittingChange, SoundChannel}
@@ -44,7 +44,7 @@ use Rattle.sampler.proofs.Reach.{passes, another, none, reached-sound, reached-
 use Rattle.fates.specs.Events.{lengthAt, tickAt}
 use Rattle.questions.specs.Questions.{recorderAt, notesOf, listNumber, infoNumber}
 use Rattle.promises.specs.Runs.{World, setUp, Question, getFramesProcessed, getDataLen, isRecording, getLastRecordedOffset, printErrorInfo, iterActiveNotes, getVoiceInfo, fillVoiceInfo, questionNumber, Call, change, sample, frame, asks, code, after, run, chan, FittingCall}
-use Rattle.promises.specs.Demands.{lengthened, toldLength, Asked, Plays, NoPanic, Whole}
+use Rattle.promises.specs.Demands.{lengthened, sped, toldLength, Asked, AllPlaced, Plays, NoPanic, Whole}
 use Rattle.fates.proofs.Looks.{look-below, look-value}
 use Rattle.fates.proofs.Lives.{live-length}
 use Rattle.promises.proofs.Calls.{Standing, standing-run, standing-new}
@@ -61,7 +61,7 @@ reached-after size w (asks q) f r = r
 pub memory-after : (w : World) (c : Call) → length (after w c .memory) ≡ length (w .memory)
 unfolding after
 memory-after w (change d) = refl
-memory-after w (sample j x p) = sample-memory-length (w .sampler) j x p (w .memory)
+memory-after w (sample j x p) = sample-memory-length (w .sampler) j _ p (w .memory)
 memory-after w (frame xs p) = frame-memory-length (w .sampler) xs p (w .memory)
 memory-after w (asks q) = refl
 
@@ -144,15 +144,29 @@ module _ (w : World) (st : Standing w) (h : SoundSampler (w .sampler)) (j n : �
       let l = lengthAt m (chan w j) in
       with-length-sound (v .clip2) (chan w j .head .now) (loopLengthOf p l) (loop-length-fits p l (sound-params .fitting)) (loop-length-good p l sound-params short) voice-sound
 
+  sped-sound : Sound (sped (tickAt p m (chan w j)) v)
+  unfolding tickOf
+  sped-sound =
+      with-speed-sound (lengthened (tickAt p m (chan w j)) v) (chan w j .head .now) (mul binary32 (v .speed) (speedOf p)) (mul-fits binary32 (v .speed) (speedOf p)) lengthened-sound
+
   told-sound : Sound (toldLength (tickAt p m (chan w j)) v)
   unfolding tickOf
   told-sound =
       let l = lengthAt m (chan w j) in
+      with-data-length-sound (sped (tickAt p m (chan w j)) v) (chan w j .head .now) (asFloat l) (ofInt-fits binary32 (pos l)) (float-length l some-data short) sped-sound
+
+  all-placed : AllPlaced (tickAt p m (chan w j)) v
+  unfolding tickOf
+  all-placed =
+      let t = tickAt p m (chan w j) in
       let now = chan w j .head .now in
-      let s = mul binary32 (v .speed) (speedOf p) in
-      let c = lengthened (tickAt p m (chan w j)) v in
-      with-data-length-sound (withSpeed c now s) now (asFloat l) (ofInt-fits binary32 (pos l)) (float-length l some-data short)
-      (with-speed-sound c now s (mul-fits binary32 (v .speed) (speedOf p)) lengthened-sound)
+      record {
+        before-length = clip-offset-inside (v .clip2) now voice-sound;
+        before-speed = clip-offset-inside (lengthened t v) now lengthened-sound;
+        before-data-length = clip-offset-inside (sped t v) now sped-sound;
+        before-mode = clip-offset-inside (toldLength t v) now told-sound;
+        sounding = clip-offset-inside (movedOf t v) now (moved-sound p now (lengthAt m (chan w j)) sound-params some-data short v voice-sound);
+      }
 
   updates-asked : Asked (tickAt p m (chan w j)) v
   unfolding tickOf
@@ -174,6 +188,7 @@ no-panic count q m z cs f =
     record {
       good = h .good;
       asked = λ j n v c p x l y. updates-asked w st h j n v c p x l y;
+      placed = λ j n v c p x l y. all-placed w st h j n v c p x l y;
       inside = λ j n v c p x l y. (index-inside w st h j n v c p x l y, data-inside w st h j n v c p x l y);
     }
 

@@ -1,12 +1,15 @@
--- Every public call with all that it is given, and which outcomes its contract allows: the result, and what was lent to it as it is at the end. `Allows` says of each call what the `ensures` lines of its function say,
--- in the same definitions: sampler/src/lib.rt, questions/src/lib.rt and, for voice info in a lent list, lent/src/lib.rt. The crate `contracts` shows it of each function there. The
--- calls on a record that the host lends have the same definitions in their contracts, with the record in its place: lent/src/lib.rt. Definitions only. Assumes nothing.
+-- Every public call with all that it is given, and which outcomes its contract allows: the result, and what was lent to
+-- it as it is at the end. `Allows` says of each call what the `ensures` lines of its function say, in the same
+-- definitions. That it does is checked of each function in the crate `contracts`: of those by value (sampler/src/lib.rt,
+-- questions/src/lib.rt) by a twin whose `ensures` is `Allows`, and of those on a record that the host lends
+-- (lent/src/lib.rt) by the theorem `Lent` on the function itself. Definitions only. Assumes nothing.
 use mathlib.Core.Path.{_≡_}
 use Prim.Native.Nat.{ℕ}
 use mathlib.Core.List.{List, [], _∷_}
-use lib.ListN.{length}
+use lib.ListN.{length, getD}
 use lib.Ieee.{Float}
 use Rattle.common_types.specs.declared.InitParams.{InitParams}
+use Rattle.clip.specs.Positions.{zero32}
 use Rattle.sampler.specs.declared.Answer.{Answer}
 use Rattle.sampler.specs.declared.SampleAnswer.{SampleAnswer}
 use Rattle.sampler.specs.Refusals.{frameNumber}
@@ -140,6 +143,13 @@ leftBy w (change d) r = withSampler (r .sampler) w
 leftBy w (sample j x p) r = record { sampler = r .answer .sampler; memory = r .memory }
 leftBy w (frame xs p) r = record { sampler = r .answer .sampler; memory = r .memory }
 leftBy w (asks q) r = w
+
+-- the output for channel j, where the call is a sample of it
+abbrev pub outputIn : (w : World) (c : Call) → Outcome (on w c) → ℕ → Float
+outputIn w (change d) r j = zero32
+outputIn w (sample i x p) r j = r .answer .output
+outputIn w (frame xs p) r j = getD (r .frame) j zero32
+outputIn w (asks q) r j = zero32
 
 -- a frame or list that was lent holds what it held
 unfoldable pub Untouched : (w : World) (c : Call) → Outcome (on w c) → Type 0

@@ -111,11 +111,15 @@ run w (c ∷ cs) = run (after w c) cs
 abbrev pub chan : World → ℕ → Channel
 chan w j = channelAt (w .sampler) j
 
+-- its part of the memory
+abbrev pub ownPart : World → ℕ → List ℕ
+ownPart w j = partOf (w .sampler) j (w .memory)
+
 -- what an accepted call does to channel j
 unfoldable pub doneTo : World → Call → ℕ → Event
 doneTo w (change d) j = changes d
-doneTo w (sample i x p) j = cond (eqb i j) (sounds p x (partOf (w .sampler) j (w .memory))) idle
-doneTo w (frame xs p) j = cond (ltb j (length xs)) (sounds p (getD xs j zero32) (partOf (w .sampler) j (w .memory))) idle
+doneTo w (sample i x p) j = cond (eqb i j) (sounds p x (ownPart w j)) idle
+doneTo w (frame xs p) j = cond (ltb j (length xs)) (sounds p (getD xs j zero32) (ownPart w j)) idle
 doneTo w (asks q) j = idle
 
 -- a refused call does nothing
