@@ -61,6 +61,9 @@ use Rattle.promises.specs.Demands.{Demand1, Demand2, Demands}
 use Rattle.promises.proofs.Apart.{part-apart}
 use Rattle.promises.proofs.Outcomes.{settled, one-outcome, number-code, left-after, chain-run, run-chain}
 use Rattle.promises.proofs.Table.{table-holds}
+use Rattle.promises.proofs.Broken.{row-nine}
+use Rattle.promises.proofs.Rows.{row-tests}
+use Rattle.promises.proofs.SmallParts.{row-seven}
 use Rattle.promises.proofs.Demand3.{demand3}
 use Rattle.promises.proofs.Whole.{memory-after, no-panic, whole}
 
@@ -191,6 +194,9 @@ demand1 = record {
   plain-rows = plain-rows;
   set-up-rows = λ count p m r h. ap (λ (a : Answer). a .number) h;
   held = λ w c r h n. (left-after w c r h ∙ after-held w c n, untouched w c r h n);
+  tests = row-tests;
+  small-parts = row-seven;
+  broken = row-nine;
 }
 
 -- ---- demand 2

@@ -6,5 +6,8 @@ pub mod Demand3
 pub mod Whole
 pub mod Outcomes
 pub mod Table
+pub mod Broken
+pub mod Rows
+pub mod SmallParts
 pub mod Demands
 pub mod Examples
