@@ -11,3 +11,4 @@ pub mod Rows
 pub mod SmallParts
 pub mod Demands
 pub mod Examples
+pub mod Edges
