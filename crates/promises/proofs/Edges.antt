@@ -29,10 +29,10 @@ use Rattle.promises.proofs.Examples.{computing, half, plain, key, press
 abbrev clipWith : ℕ → Float → Float → Float → Clip
 clipWith since start length data-length = record { since = since; start = start; speed = nan; length = length; «data_length» = data-length; shift = inf true; mode = Loop }
 
-abbrev clip : Clip
+abbrev pub clip : Clip
 clip = clipWith 0 zero32 one32 one32
 
-abbrev voiceWith : ℕ → Volume → Clip → Voice
+abbrev pub voiceWith : ℕ → Volume → Clip → Voice
 voiceWith finished-at volume c = record {
   «finished_at» = finished-at;
   «last_sample_index» = 0;

@@ -12,3 +12,4 @@ pub mod SmallParts
 pub mod Demands
 pub mod Examples
 pub mod Edges
+pub mod Rules
