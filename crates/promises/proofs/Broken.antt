@@ -1,13 +1,13 @@
 -- Row 9's tests are document 01's list, condition by condition. Assumes nothing.
 use mathlib.Core.Path.{_≡_, refl, sym, ap, _∙_, subst}
-use mathlib.Core.Bool.{Bool, true, false, not, _&&_, _||_, true≢false}
+use mathlib.Core.Bool.{Bool, true, false, not, _&&_, _||_}
 use mathlib.Core.Logic.{_⊎_, inl, inr, _≢_, _↔_}
 use mathlib.Core.List.{List, [], _∷_}
-use mathlib.Core.Option.{Option, none, some}
+use mathlib.Core.Option.{some}
 use Prim.Native.Nat.{ℕ, zero, suc, _+_, _-_, _*_, _/_, _^_, _≤_, _<_, min}
 use native.Mathlib.Nat.{le-div-iff-mul-le, le-of-mul-le-mul-right}
 use native.Mathlib.Omega.{arith}
-use borrow.Author.Tests.{leb-true, le-leb, ltb-true, lt-ltb, eqb-true, eq-eqb}
+use borrow.Author.Tests.{leb-true, le-leb, ltb-true, lt-ltb, eqb-true}
 use lib.Dec.{leb, ltb, eqb}
 use lib.ListN.{take, getD, getElem?}
 use lib.Ieee.{Float, le, ofInt}
@@ -18,7 +18,6 @@ use Rattle.volume.specs.declared.Volume.the-variants.{Static, Linear}
 use Rattle.volume.specs.Levels.{goodRamp, goodVolume}
 use Rattle.recorder.specs.declared.State.{State}
 use Rattle.recorder.specs.declared.State.the-variants.{Triggered, Idle}
-use Rattle.recorder.specs.declared.Recorder.{Recorder}
 use Rattle.recorder.specs.Recording.{goodRecorder}
 use Rattle.clip.specs.Positions.{zero32, one32}
 use Rattle.clip.specs.declared.Clip.{Clip}
@@ -31,7 +30,6 @@ use Rattle.channel.specs.Channels.{live, channelOf, goodVoicesOf, goodChannel}
 use Rattle.sampler.specs.declared.Sampler.{Sampler}
 use Rattle.sampler.specs.Refusals.{row, present, channelAt, goodSizes, goodSampler, goodWith, capacityOf, setUpNumber}
 use Rattle.sampler.proofs.Rows.{passed, is-true}
-use Rattle.fates.specs.Places.{voiceAt}
 use Rattle.promises.specs.Broken.{In, GoodClip, IsVoice, IsRamp, GoodChannel, GoodSizes, GoodRecord, RowNine}
 
 -- ---- tests as facts

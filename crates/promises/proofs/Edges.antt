@@ -2,11 +2,10 @@
 use mathlib.Core.Path.{_≡_, refl}
 use mathlib.Core.Bool.{true, false}
 use mathlib.Core.List.{List, [], _∷_, _++_, map}
-use Prim.Native.Nat.{ℕ, _+_, _-_, _*_, _^_}
+use Prim.Native.Nat.{ℕ, _+_, _-_, _^_}
 use lib.IntN.{pos, negsuc}
 use lib.ListN.{replicate}
 use lib.Ieee.{Float, nan, inf, fin}
-use Rattle.binary32.specs.Leaves.{asFloat}
 use Rattle.volume.specs.declared.Volume.{Volume}
 use Rattle.volume.specs.declared.Volume.the-variants.{Static, Linear}
 use Rattle.clip.specs.declared.Clip.{Clip}
@@ -20,8 +19,8 @@ use Rattle.channel.specs.declared.Channel.{Channel}
 use Rattle.sampler.specs.declared.Sampler.{Sampler}
 use Rattle.sampler.specs.Refusals.{capacityOf, setUpNumber}
 use Rattle.sampler.specs.Samplers.{setUpOf}
-use Rattle.promises.specs.Runs.{World, Call, startRecording, stopRecording, sample, code, setUp}
-use Rattle.promises.proofs.Examples.{computing, half, plain, key, press, quiet, init, cells, recorded, since}
+use Rattle.promises.specs.Runs.{Call, startRecording, sample, code}
+use Rattle.promises.proofs.Examples.{computing, plain, key, quiet, init, recorded, since}
 
 -- ==== row 9, condition by condition: the numbers of records at its edge and past it
 
@@ -29,7 +28,7 @@ use Rattle.promises.proofs.Examples.{computing, half, plain, key, press
 abbrev clipWith : ℕ → Float → Float → Float → Clip
 clipWith since start length data-length = record { since = since; start = start; speed = nan; length = length; «data_length» = data-length; shift = inf true; mode = Loop }
 
-abbrev pub clip : Clip
+abbrev clip : Clip
 clip = clipWith 0 zero32 one32 one32
 
 abbrev pub voiceWith : ℕ → Volume → Clip → Voice

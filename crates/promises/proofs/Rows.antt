@@ -1,11 +1,11 @@
 -- The tests of rows 1 to 6 are document 01's. Assumes nothing.
-use mathlib.Core.Path.{_≡_, refl, sym, ap, _∙_, subst}
+use mathlib.Core.Path.{_≡_, refl, sym, ap, _∙_}
 use mathlib.Core.Bool.{Bool, true, false, not, _&&_, _||_, true≢false}
 use mathlib.Core.Logic.{_⊎_, inl, inr, _≢_, _↔_}
 use mathlib.Core.List.{List, [], _∷_}
 use Prim.Native.Nat.{ℕ, zero, suc, _^_, _≤_, _<_}
 use native.Mathlib.Omega.{arith}
-use borrow.Author.Tests.{leb-true, le-leb, ltb-true, lt-ltb, ltb-false, le-ltb, eqb-true, eqb-false, ne-eqb, not-true, not-false}
+use borrow.Author.Tests.{leb-true, le-leb, ltb-true, lt-ltb, ltb-false, le-ltb, eqb-false, ne-eqb, not-true, not-false}
 use lib.Dec.{leb, ltb, eqb}
 use lib.ListN.{take, getD}
 use lib.Ieee.{Float, le, lt, ofInt}
@@ -14,7 +14,6 @@ use Rattle.walks.specs.Walks.{any}
 use Rattle.walks.proofs.Every.{both}
 use Rattle.common_types.specs.declared.Params.{Params}
 use Rattle.common_types.specs.declared.Transport.{Transport}
-use Rattle.common_types.specs.declared.Note.{Note}
 use Rattle.common_types.specs.declared.time_value.TimeValue.{TimeValue}
 use Rattle.common_types.specs.declared.time_value.TimeOrRatio.{TimeOrRatio}
 use Rattle.common_types.specs.declared.time_value.TimeOrRatio.the-variants.{Time, Ratio}
@@ -24,7 +23,7 @@ use Rattle.channel.specs.declared.Channel.{Channel}
 use Rattle.channel.specs.Heads.{headOf}
 use Rattle.channel.specs.Channels.{channelOf, fullOf}
 use Rattle.sampler.specs.declared.Sampler.{Sampler}
-use Rattle.sampler.specs.Refusals.{channelAt, noChannel, badNote, badPosition, anyFull, atEnd}
+use Rattle.sampler.specs.Refusals.{channelAt, noChannel, badPosition, anyFull}
 use Rattle.promises.specs.Broken.{In}
 use Rattle.promises.specs.Rows.{Beyond, Full, RowTests}
 use Rattle.promises.proofs.Broken.{join}

@@ -7,7 +7,6 @@ use lib.IntN.{pos, negsuc}
 use lib.ListN.{replicate, take}
 use lib.Ieee.{Float, nan, inf, fin, neg}
 use Rattle.binary32.specs.Leaves.{asFloat, floorOf, minOf, maxOf, absOf, crossingOf}
-use Rattle.common_types.specs.declared.InitParams.{InitParams}
 use Rattle.common_types.specs.declared.Params.{Params}
 use Rattle.common_types.specs.declared.Note.{Note}
 use Rattle.common_types.specs.declared.Transport.{Transport}
@@ -23,7 +22,7 @@ use Rattle.common_types.specs.declared.time_value.TimeOrRatio.the-variants.{Tim
 use Rattle.common_types.specs.Notes.{intoU64Of, fromU64Of}
 use Rattle.common_types.specs.Modes.{indexToF32Of, loopModeToIndexOf, loopModeToF32Of, noteOffToIndexOf, noteOffToF32Of}
 use Rattle.common_types.specs.Times.{fromUnitValueOf, quarterNotesPerBarOf, samplesPerQuarterNoteOf, samplesPerBarOf, asSamplesOf}
-use Rattle.common_types.specs.Settings.{defaultTransport, timeLengthOf, lengthOf, loopLengthOf, speedOf}
+use Rattle.common_types.specs.Settings.{defaultTransport, timeLengthOf, lengthOf}
 use Rattle.volume.specs.declared.Volume.{Volume}
 use Rattle.volume.specs.declared.Volume.the-variants.{Static, Linear}
 use Rattle.volume.specs.Levels.{isStaticAndMuteOf, levelOf, towardOf, steppedOf}
@@ -31,7 +30,7 @@ use Rattle.clip.specs.declared.Clip.{Clip}
 use Rattle.clip.specs.declared.Mode.{Mode}
 use Rattle.clip.specs.declared.Mode.the-variants.{Loop, PingPong}
 use Rattle.clip.specs.Positions.{zero32, one32, mirroredOf, clipOffsetAt, offsetAt, indexAt}
-use Rattle.clip.specs.Updates.{madeOf, withSpeed, withMode, withLength, withDataLength}
+use Rattle.clip.specs.Updates.{withSpeed, withMode, withLength, withDataLength}
 use Rattle.voice.specs.declared.Voice.{Voice}
 use Rattle.voice.specs.declared.Tick.{Tick}
 use Rattle.voice.specs.Voices.{movedOf}
@@ -40,7 +39,7 @@ use Rattle.questions.specs.declared.VoiceInfo.{VoiceInfo}
 use Rattle.questions.specs.Questions.{answered, notesOf, voiceInfoOf, voiceInfosOf, infoNumber, getVoiceInfoOf}
 use Rattle.promises.specs.Runs.{World, Call, start, stop, speed, startRecording, stopRecording, reset, sample, frame, code, after, run, chan, setUp, output}
 use Rattle.promises.proofs.Examples.{computing, half, two, plain, key, press, since}
-use Rattle.promises.proofs.Edges.{clip, voiceWith}
+use Rattle.promises.proofs.Edges.{voiceWith}
 
 -- ==== leaves
 
@@ -283,3 +282,204 @@ pub stops-one-at-a-time :
     × (speeds (since (press 60 ∷ stop (key 60) plain ∷ speed (key 60) half ∷ [])) ≡ half ∷ [])
 unfolding computing
 stops-one-at-a-time = (refl, refl, refl)
+
+-- ==== runs of one channel
+
+-- attack, decay, whether the input is passed on, loop mode, note-off mode, loop length, speed, volume
+abbrev set : ℕ → ℕ → Bool → LoopMode → NoteOffBehaviour → TimeOrRatio → Float → Float → Params
+set attack decay auto mode behaviour length speed volume = record {
+  «attack_samples» = attack;
+  «decay_samples» = decay;
+  transport = defaultTransport;
+  «loop_length» = length;
+  speed = speed;
+  «reverse_speed» = one32;
+  volume = volume;
+  «auto_passthru» = auto;
+  «loop_mode» = mode;
+  «note_off_behavior» = behaviour;
+}
+
+abbrev fade : ℕ → NoteOffBehaviour → Params
+fade decay behaviour = set 0 decay false loop.Loop behaviour (Ratio one32) one32 one32
+
+abbrev passes : ℕ → ℕ → Bool → Params
+passes attack decay auto = set attack decay auto loop.Loop off.Decay (Ratio one32) one32 one32
+
+-- a sample of that input; of no input
+abbrev takes : Float → Params → Call
+takes x p = frame (x ∷ []) p
+
+abbrev plays : Params → Call
+plays p = takes zero32 p
+
+-- 4 cells, set up with or without auto pass-through, and these values recorded
+abbrev begun : Bool → World
+begun auto = setUp 1 (record { «auto_passthru» = auto }) (0 ∷ 0 ∷ 0 ∷ 0 ∷ [])
+
+abbrev holding : List Float → World
+holding xs = run (begun false) (startRecording ∷ (map (λ (x : Float). takes x plain) xs ++ (stopRecording ∷ [])))
+
+-- what each call of a run sounds, and how many voices it leaves
+abbrev heard : World → List Call → List Float
+heard w [] = []
+heard w (c ∷ cs) = output w c 0 ∷ heard (after w c) cs
+
+abbrev left : World → List Call → List ℕ
+left w [] = []
+left w (c ∷ cs) = chan (after w c) 0 .count ∷ left (after w c) cs
+
+-- ---- pass-through
+
+-- set up with it, and not asked for: it goes on, since it was never on. Set up without it, and asked for: from the second sample on, attack being 0
+pub passed-from-set-up :
+    (heard (begun true) (replicate 3 (takes one32 (passes 0 0 false))) ≡ one32 ∷ one32 ∷ one32 ∷ []) × (heard (begun false) (replicate 3 (takes one32 (passes 0 0 true))) ≡ zero32 ∷ one32 ∷ one32 ∷ [])
+unfolding computing
+passed-from-set-up = (refl, refl)
+
+-- "`reset` sets pass-through to 0 whatever set-up had", and it is off
+pub passed-from-reset :
+    (heard (run (begun true) (reset ∷ [])) (replicate 2 (takes one32 (passes 0 0 false))) ≡ zero32 ∷ zero32 ∷ [])
+    × (heard (run (begun true) (takes one32 (passes 0 0 true) ∷ reset ∷ [])) (replicate 2 (takes one32 (passes 0 0 true))) ≡ zero32 ∷ one32 ∷ [])
+unfolding computing
+passed-from-reset = (refl, refl)
+
+-- it rises over the attack, 2; falls over the decay, 4, from a start on; and rises from where it is once no voice is unfinished
+abbrev riding : Params
+riding = passes 2 4 true
+
+abbrev ridden : List Call
+ridden = replicate 3 (takes one32 riding)
+
+abbrev quarters : ℕ → Float
+quarters n = fin false n (negsuc 1)
+
+pub rides :
+    heard (holding (zero32 ∷ [])) (ridden ++ (start zero32 (key 60) one32 riding ∷ (ridden ++ (stop (key 60) riding ∷ ridden))))
+    ≡ zero32 ∷ half ∷ one32 ∷ zero32 ∷ one32 ∷ quarters 3 ∷ half ∷ zero32 ∷ fin false 1 (negsuc 1) ∷ fin false 5 (negsuc 2) ∷ one32 ∷ []
+unfolding computing
+rides = refl
+
+-- with another voice unfinished it falls on
+pub rides-on :
+    heard (run (holding (zero32 ∷ [])) (ridden ++ (start zero32 (key 60) one32 riding ∷ start zero32 (key 61) one32 riding ∷ []))) (ridden ++ (stop (key 60) riding ∷ ridden))
+    ≡ one32 ∷ quarters 3 ∷ half ∷ zero32 ∷ fin false 1 (negsuc 1) ∷ zero32 ∷ zero32 ∷ []
+unfolding computing
+rides-on = refl
+
+-- ---- a start: from its position, by its velocity, over its attack; and the volume of all
+abbrev four : World
+four = holding (one32 ∷ half ∷ fin false 1 (negsuc 1) ∷ two ∷ [])
+
+pub begins :
+    heard four (start half (key 60) half (set 2 0 false loop.Loop off.Decay (Ratio one32) one32 one32) ∷ replicate 4 (plays plain))
+    ≡ zero32 ∷ zero32 ∷ half ∷ half ∷ fin false 1 (negsuc 1) ∷ []
+unfolding computing
+begins = refl
+
+-- at twice the speed; at that and half its note's own; and at half the volume
+pub paced : heard (run four (press 60 ∷ [])) (replicate 3 (plays (set 0 0 false loop.Loop off.Decay (Ratio one32) two one32))) ≡ one32 ∷ fin false 1 (negsuc 1) ∷ one32 ∷ []
+unfolding computing
+paced = refl
+
+pub paced-by-note : heard (run four (press 60 ∷ speed (key 60) half ∷ [])) (replicate 4 (plays (set 0 0 false loop.Loop off.Decay (Ratio one32) two one32))) ≡ one32 ∷ half ∷ fin false 1 (negsuc 1) ∷ two ∷ []
+unfolding computing
+paced-by-note = refl
+
+pub turned-down : heard (run four (press 60 ∷ [])) (plays (set 0 0 false loop.Loop off.Decay (Ratio one32) one32 half) ∷ []) ≡ half ∷ []
+unfolding computing
+turned-down = refl
+
+-- ---- "A sample records first, then plays": what is recorded over a value is heard
+pub records-first : heard (run four (press 60 ∷ startRecording ∷ [])) (takes (quarters 3) plain ∷ plays plain ∷ []) ≡ quarters 3 ∷ zero32 ∷ []
+unfolding computing
+records-first = refl
+
+-- on empty data the clock runs on and a ramp catches up: attack 4, two samples with nothing recorded, then a 1
+pub catches-up :
+    heard (run (holding (one32 ∷ half ∷ [])) (start zero32 (key 60) one32 (passes 4 0 false) ∷ startRecording ∷ stopRecording ∷ []))
+    (plays plain ∷ plays plain ∷ startRecording ∷ takes one32 plain ∷ [])
+    ≡ zero32 ∷ zero32 ∷ zero32 ∷ half ∷ []
+unfolding computing
+catches-up = refl
+
+-- ---- how a voice goes: how many are left after each sample from a stop on
+
+-- of a 1, which never crosses; `decay` at the stop, and later
+abbrev ends : ℕ → ℕ → NoteOffBehaviour → List ℕ
+ends first later behaviour = left (run (holding (one32 ∷ [])) (press 60 ∷ plays plain ∷ stop (key 60) (fade first behaviour) ∷ [])) (replicate 4 (plays (fade later behaviour)))
+
+pub ends-by-decay : (ends 2 2 off.Decay ≡ 1 ∷ 1 ∷ 0 ∷ 0 ∷ []) × (ends 3 1 off.Decay ≡ 1 ∷ 1 ∷ 1 ∷ 0 ∷ [])
+unfolding computing
+ends-by-decay = (refl, refl)
+
+pub ends-by-time : (ends 2 2 off.ZeroCrossing ≡ 1 ∷ 1 ∷ 0 ∷ 0 ∷ []) × (ends 3 1 off.ZeroCrossing ≡ 1 ∷ 0 ∷ 0 ∷ 0 ∷ []) × (ends 1 3 off.ZeroCrossing ≡ 1 ∷ 0 ∷ 0 ∷ 0 ∷ [])
+unfolding computing
+ends-by-time = (refl, refl, refl)
+
+pub ends-by-either :
+    (ends 2 2 off.DecayAndZeroCrossing ≡ 1 ∷ 1 ∷ 0 ∷ 0 ∷ []) × (ends 3 1 off.DecayAndZeroCrossing ≡ 1 ∷ 0 ∷ 0 ∷ 0 ∷ []) × (ends 1 3 off.DecayAndZeroCrossing ≡ 1 ∷ 0 ∷ 0 ∷ 0 ∷ [])
+unfolding computing
+ends-by-either = (refl, refl, refl)
+
+-- of 1 and -1: the second sample crosses
+abbrev crosses : NoteOffBehaviour → List ℕ
+crosses behaviour = left (run (holding (one32 ∷ neg one32 ∷ [])) (press 60 ∷ plays plain ∷ stop (key 60) (fade 4 behaviour) ∷ [])) (replicate 2 (plays (fade 4 behaviour)))
+
+pub ends-at-crossing : (crosses off.Decay ≡ 1 ∷ 1 ∷ []) × (crosses off.ZeroCrossing ≡ 0 ∷ 0 ∷ []) × (crosses off.DecayAndZeroCrossing ≡ 0 ∷ 0 ∷ [])
+unfolding computing
+ends-at-crossing = (refl, refl, refl)
+
+-- one that is to be removed is skipped: stopped at a crossing, it is silent, whatever its level; so is one that is mute, and infinity times 0 is not added
+pub skipped :
+    (heard (run (holding (neg one32 ∷ [])) (press 60 ∷ plays plain ∷ stop (key 60) (fade 4 off.ZeroCrossing) ∷ [])) (plays (fade 4 off.ZeroCrossing) ∷ []) ≡ zero32 ∷ [])
+    × (heard (run (holding (inf false ∷ [])) (press 60 ∷ plays plain ∷ stop (key 60) plain ∷ [])) (plays (fade 4 off.DecayAndZeroCrossing) ∷ []) ≡ zero32 ∷ [])
+unfolding computing
+skipped = (refl, refl)
+
+-- the level that is heard is that of the sample's own time, and is stepped after it
+pub fades : heard (run (holding (one32 ∷ [])) (press 60 ∷ stop (key 60) (fade 4 off.Decay) ∷ [])) (replicate 6 (plays (fade 4 off.Decay))) ≡ one32 ∷ quarters 3 ∷ half ∷ fin false 1 (negsuc 1) ∷ zero32 ∷ zero32 ∷ []
+unfolding computing
+fades = refl
+
+-- play-once over 2.5 samples ends with the second, forwards and backwards; at half its speed with the fourth; a finished voice isn't finished again
+abbrev once-at : Float → Params
+once-at speed = set 0 0 false loop.PlayOnce off.Decay (Time (Samples (fin false 5 (negsuc 0)))) speed one32
+
+pub plays-once :
+    map (λ (x : Float). left (run four (press 60 ∷ [])) (replicate 5 (plays (once-at x)))) (one32 ∷ neg one32 ∷ half ∷ two ∷ [])
+    ≡ (1 ∷ 0 ∷ 0 ∷ 0 ∷ 0 ∷ []) ∷ (1 ∷ 0 ∷ 0 ∷ 0 ∷ 0 ∷ []) ∷ (1 ∷ 1 ∷ 1 ∷ 0 ∷ 0 ∷ []) ∷ (0 ∷ 0 ∷ 0 ∷ 0 ∷ 0 ∷ []) ∷ []
+unfolding computing
+plays-once = refl
+
+-- ==== questions
+
+-- 3 samples on channel 0 and 2 on channel 1, a voice from 0.1 on, one from 0 on that is stopped, and two samples of each
+abbrev apart : World
+apart =
+    run (setUp 2 (record { «auto_passthru» = false }) (replicate 8 0))
+    (startRecording
+    ∷ replicate 3 (sample 0 half plain)
+    ++ (replicate 2 (sample 1 half plain) ++ (stopRecording ∷ start tenth (record { note = 60; channel = 1 }) one32 plain ∷ press 61 ∷ stop (key 61) (fade 9 off.Decay) ∷ frame (zero32 ∷ zero32 ∷ []) plain ∷ frame (zero32 ∷ zero32 ∷ []) plain ∷ [])))
+
+-- two thirds of a recording
+abbrev third : Params
+third = set 0 0 false loop.Loop off.Decay (Ratio (fin false 11184811 (negsuc 23))) one32 one32
+
+abbrev infosAt : ℕ → List VoiceInfo
+infosAt j = take 2 (getVoiceInfoOf (apart .sampler) j third 2 .infos)
+
+abbrev info : Float → Float → Float → VoiceInfo
+info start end at = record { start = start; end = end; pos = at }
+
+-- start, (start + loop length / data length) % 1, index / data length, of both voices: the loop length is channel 0's for channel 1 too
+pub infos-told :
+    (infosAt 0 ≡ info tenth (fin false 12862533 (negsuc 23)) (fin false 11184811 (negsuc 24)) ∷ info zero32 (fin false 11184811 (negsuc 23)) (fin false 11184811 (negsuc 24)) ∷ [])
+    × (infosAt 1 ≡ info tenth (fin false 838861 (negsuc 22)) half ∷ info zero32 zero32 half ∷ [])
+unfolding computing answered voiceInfoOf voiceInfosOf infoNumber getVoiceInfoOf
+infos-told = (refl, refl)
+
+-- of the two voices the one that isn't finished
+pub notes-told : notesOf (live (chan apart 1)) ≡ 15361 ∷ []
+unfolding computing
+notes-told = refl

@@ -1,19 +1,19 @@
 -- The small parts answer 7 exactly where document 01 has it. Assumes nothing.
 use mathlib.Core.Path.{_≡_, refl, sym, ap, ap₂, _∙_}
 use mathlib.Core.Bool.{Bool, true, false, not, _&&_, _||_, cond, or-assoc, or-comm, Bool·not-not}
-use Prim.Native.Nat.{ℕ, zero, suc, _+_, _-_, _*_, _/_, _^_, _≤_, _<_, min}
+use Prim.Native.Nat.{ℕ, _+_, _-_, _*_, _/_, _^_, _≤_, _<_, min}
 use native.Mathlib.Nat.{le-div-iff-mul-le, not-le-of-lt, mul-one}
 use native.Mathlib.Omega.{arith}
 use borrow.Author.Tests.{le-ltb, ne-eqb}
-use lib.Dec.{T, leb, ltb, eqb, leb→le, le→leb, ltb→lt, lt→ltb, nleb→lt, not-T}
-use lib.IntN.{ℤ, pos}
+use lib.Dec.{leb, ltb, leb→le, le→leb, ltb→lt, lt→ltb, nleb→lt, not-T}
+use lib.IntN.{pos}
 use lib.Ieee.{Float, nan, inf, fin, binary32, up, down, mul, le, lt, eq, ofInt, toUnsigned}
 use lib.Ieee.Exact.{HasValue}
 use lib.Ieee.Fits.{down-pos}
 use Rattle.binary32.specs.Leaves.{asFloat, asWhole, floorOf}
 use Rattle.binary32.proofs.Truth.{same-test}
 use Rattle.binary32.proofs.Values.{le-value}
-use Rattle.common_types.specs.Modes.{indexFromF32Of, loopModeNumber, loopModeFromIndexOf, loopModeFromF32Of, noteOffNumber, noteOffFromIndexOf, noteOffFromF32Of}
+use Rattle.common_types.specs.Modes.{indexFromF32Of}
 use Rattle.common_types.proofs.Indices.{loop-mode-number, note-off-number}
 use Rattle.volume.specs.declared.Volume.{Volume}
 use Rattle.volume.specs.declared.Volume.the-variants.{Static, Linear}
@@ -27,7 +27,7 @@ use Rattle.clip.specs.declared.FoundAnswer.the-variants as found
 use Rattle.clip.specs.declared.PositionAnswer.the-variants as position
 use Rattle.clip.specs.declared.ElapsedAnswer.the-variants as elapsed
 use Rattle.clip.specs.declared.ReversingAnswer.the-variants as reversing
-use Rattle.clip.specs.Positions.{zero32, one32}
+use Rattle.clip.specs.Positions.{zero32}
 use Rattle.clip.specs.Refusals.{most32, goodLength, goodClip, refusedAt, clipNumber, foundNumber, positionNumber, elapsedNumber, reversingNumber, newOf, dataToClipOf, isPingpongReversingOf, elapsedOf, clipOffsetOf, offsetOf, updateSpeedOf, updateModeOf, updateLengthOf, updateDataLengthOf}
 use Rattle.clip.specs.Updates.{madeOf}
 use Rattle.sampler.specs.Refusals.{row}

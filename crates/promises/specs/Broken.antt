@@ -7,7 +7,6 @@ use mathlib.Core.Option.{some}
 use Prim.Native.Nat.{ℕ, _+_, _*_, _^_, _≤_, _<_}
 use lib.Ieee.{Float, le}
 use Rattle.binary32.specs.Leaves.{asFloat}
-use Rattle.volume.specs.declared.Volume.{Volume}
 use Rattle.volume.specs.declared.Volume.the-variants.{Linear}
 use Rattle.recorder.specs.declared.State.the-variants.{Triggered}
 use Rattle.clip.specs.declared.Clip.{Clip}
