@@ -97,6 +97,10 @@ auto-two : printed (fromHex "010102") ≡ text ("X 0" ∷ [])
 unfolding computing
 auto-two = refl
 
+cut-header : printed (fromHex "0101") ≡ text ("X 0" ∷ [])
+unfolding computing
+cut-header = refl
+
 -- a header alone is a listing
 header-alone : printed (fromHex "010100") ≡ []
 unfolding computing
@@ -136,6 +140,17 @@ mode-three :
     ≡ text ("X 3" ∷ [])
 unfolding computing
 mode-three = refl
+
+-- pass-through, loop mode, length kind and note-off mode: the last of each that is named, and the next
+abbrev settings : ℕ → ℕ → ℕ → ℕ → List ℕ
+settings pass mode kind off =
+    fromHex "002D 00 00000000 00000000" ++ (pass ∷ mode ∷ kind ∷ (fromHex "3F800000 3F800000 3F800000" ++ (off ∷ fromHex "3F800000 472C4400 42F00000 00000004 00000004")))
+
+modes-named :
+    map (goodRecord (record { stereo = false; «auto_passthru» = false })) (settings 1 2 4 2 ∷ settings 2 2 4 2 ∷ settings 1 3 4 2 ∷ settings 1 2 5 2 ∷ settings 1 2 4 3 ∷ [])
+    ≡ true ∷ false ∷ false ∷ false ∷ false ∷ []
+unfolding computing
+modes-named = refl
 
 -- ---- two channels, with the input passed on: a NaN pattern is printed as such, whichever it is, and a float by its bits
 passed-on : printed (fromHex "010201 0009 06 FF800001 BE800000") ≡ text ("F 0 NAN BE800000 0" ∷ [])

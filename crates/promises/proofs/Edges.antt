@@ -19,7 +19,7 @@ use Rattle.channel.specs.declared.Channel.{Channel}
 use Rattle.sampler.specs.declared.Sampler.{Sampler}
 use Rattle.sampler.specs.Refusals.{capacityOf, setUpNumber}
 use Rattle.sampler.specs.Samplers.{setUpOf}
-use Rattle.promises.specs.Runs.{Call, startRecording, sample, code}
+use Rattle.promises.specs.Runs.{Call, startRecording, sample, frame, code}
 use Rattle.promises.proofs.Examples.{computing, plain, key, quiet, init, recorded, since}
 
 -- ==== row 9, condition by condition: the numbers of records at its edge and past it
@@ -219,3 +219,16 @@ pub set-ups-judged :
     × (map (setUpNumber 2) (1 ∷ 2 ∷ (2 ^ 24) ∷ []) ≡ 9 ∷ 0 ∷ 0 ∷ [])
 unfolding computing
 set-ups-judged = (refl, refl, refl)
+
+-- ==== row 6: "a channel the call would step has its clock at 2^48", here the second one's, at its end and one before it
+abbrev clocks : ℕ → Call → ℕ
+clocks now c = code (record { sampler = heads (headWith now 1 (Static one32) Idle); memory = replicate 8 0 }) c
+
+pub ends-judged :
+    map (clocks (2 ^ 48)) (sample 0 zero32 plain ∷ sample 1 zero32 plain ∷ frame [] plain ∷ frame (zero32 ∷ []) plain ∷ quiet plain ∷ []) ≡ 0 ∷ 6 ∷ 0 ∷ 0 ∷ 6 ∷ []
+unfolding computing
+ends-judged = refl
+
+pub before-the-end : map (clocks (2 ^ 48 - 1)) (sample 1 zero32 plain ∷ quiet plain ∷ []) ≡ 0 ∷ 0 ∷ []
+unfolding computing
+before-the-end = refl

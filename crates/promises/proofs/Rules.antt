@@ -36,7 +36,11 @@ use Rattle.voice.specs.declared.Tick.{Tick}
 use Rattle.voice.specs.Voices.{movedOf}
 use Rattle.channel.specs.Channels.{live}
 use Rattle.questions.specs.declared.VoiceInfo.{VoiceInfo}
-use Rattle.questions.specs.Questions.{answered, notesOf, voiceInfoOf, voiceInfosOf, infoNumber, getVoiceInfoOf}
+use Rattle.questions.specs.declared.OffsetAnswer.the-variants as offset
+use Rattle.questions.specs.declared.Told.the-variants as told
+use Rattle.questions.specs.Questions.{answered, listAfter, notesOf, activeNotesAfter, getLastRecordedOffsetOf, isRecordingOf, voiceInfoOf, voiceInfosOf, infoNumber, getVoiceInfoOf}
+use Rattle.recorder.specs.declared.LastOffset.the-variants.{At, Nothing}
+use Rattle.recorder.specs.Recording.{lastRecordedOffsetOf, isRecordingOf as recordsOf}
 use Rattle.promises.specs.Runs.{World, Call, start, stop, speed, startRecording, stopRecording, reset, sample, frame, code, after, run, chan, setUp, output}
 use Rattle.promises.proofs.Examples.{computing, half, two, plain, key, press, since}
 use Rattle.promises.proofs.Edges.{voiceWith}
@@ -483,3 +487,22 @@ infos-told = (refl, refl)
 pub notes-told : notesOf (live (chan apart 1)) ≡ 15361 ∷ []
 unfolding computing
 notes-told = refl
+
+-- a lent list that is longer keeps its rest, one that just fits is filled, and one that is too short holds what it held
+pub notes-listed : map (activeNotesAfter (apart .sampler) 1) ((5 ∷ 6 ∷ []) ∷ (5 ∷ []) ∷ [] ∷ []) ≡ (15361 ∷ 6 ∷ []) ∷ (15361 ∷ []) ∷ [] ∷ []
+unfolding computing listAfter
+notes-listed = refl
+
+-- the write place is that of the next sample, and there is none while the recorder is idle
+pub recorder-told :
+    (getLastRecordedOffsetOf (run (begun false) (startRecording ∷ takes half plain ∷ []) .sampler) 0 ≡ offset.Done (At 1))
+    × (getLastRecordedOffsetOf (holding (half ∷ []) .sampler) 0 ≡ offset.Done Nothing)
+    × (isRecordingOf (run (begun false) (startRecording ∷ []) .sampler) 0 ≡ told.Done true)
+    × (isRecordingOf (holding (half ∷ []) .sampler) 0 ≡ told.Done false)
+unfolding computing answered lastRecordedOffsetOf recordsOf
+recorder-told = (refl, refl, refl, refl)
+
+-- ==== memory: "Channel j owns the j-th part". Channel 0 recorded 0.5 and 1, and channel 1 1 and 0.5; a sample that doesn't record writes nothing
+pub parts-owned : map (λ (cs : List Call). since cs .memory) ([] ∷ (frame (two ∷ two ∷ []) plain ∷ []) ∷ []) ≡ replicate 2 (0x3f00_0000 ∷ 0x3f80_0000 ∷ 0x3f80_0000 ∷ 0x3f00_0000 ∷ [])
+unfolding computing
+parts-owned = refl
