@@ -1,5 +1,7 @@
 // One channel: up to 32 voices over a recording in lent memory. Each function takes every value of its arguments, and equals a definition
-// in specs/. A sample is its 32-bit pattern, and `data` is the channel's part of the lent memory.
+// in specs/. Those that begin with `with_` are the calls that the Rust's channel has too (a start, a stop, a note's speed, a sample): they
+// refuse nothing, and are for records that are known to be good. The sampler's calls, under the Rust's names, refuse first. A sample is its
+// 32-bit pattern, and `data` is the channel's part of the lent memory.
 ghost use mathlib.Core.Path.{_≡_};
 ghost use Prim.Native.Nat.{min};
 ghost use mathlib.Core.Bool.{cond};
@@ -162,7 +164,7 @@ impl Head {
     {
         let recorder = self.recorder;
         let sample = binary32::to_bits(input);
-        self.with_recorded(recorder.process_sample(sample, data, self.data_len))
+        self.with_recorded(recorder.with_sample(sample, data, self.data_len))
     }
 
     // What is heard: the voices' sum, and the input at its level.
@@ -353,7 +355,7 @@ impl Channel {
     }
 
     // A channel with no recording takes no voice.
-    pub fn start_playing(self, params: Params, position: f32, note: Note, velocity: f32) -> Self
+    pub fn with_start(self, params: Params, position: f32, note: Note, velocity: f32) -> Self
         ensures { λ r. ⌜ r ≡ startPlayingOf params position note velocity self ⌝ }
     {
         let head = self.head;
@@ -398,7 +400,7 @@ impl Channel {
         self.handle_passthru(params)
     }
 
-    pub fn stop_playing(self, params: Params, note: Note) -> Self
+    pub fn with_stop(self, params: Params, note: Note) -> Self
         ensures { λ r. ⌜ r ≡ stopPlayingOf params note self ⌝ }
     {
         let found = self.find(note);
@@ -406,7 +408,7 @@ impl Channel {
     }
 
     // Every voice with that note, finished or not.
-    pub fn set_note_speed(mut self, note: Note, speed: f32) -> Self
+    pub fn with_note_speed(mut self, note: Note, speed: f32) -> Self
         ensures { λ r. ⌜ r ≡ setNoteSpeedOf note speed self ⌝ }
     {
         let n = places(self.count);
@@ -488,7 +490,7 @@ impl Channel {
         self.play(Tick::new(params, head.now, head.data_len), data)
     }
 
-    pub fn process_sample(self, params: Params, input: f32, data: &mut [u32]) -> Played
+    pub fn with_sample(self, params: Params, input: f32, data: &mut [u32]) -> Played
         ensures { λ r. ⌜ r ≡ processSampleOf params input self (now («data» .entry)) ⌝ }
         ensures { λ r. ⌜ now («data» .exit) ≡ memoryOf input self (now («data» .entry)) ⌝ }
     {
@@ -511,9 +513,9 @@ impl Channel {
                 position,
                 note,
                 velocity,
-            } => self.start_playing(params, position, note, velocity),
-            Change::Stop { params, note } => self.stop_playing(params, note),
-            Change::Speed { note, speed } => self.set_note_speed(note, speed),
+            } => self.with_start(params, position, note, velocity),
+            Change::Stop { params, note } => self.with_stop(params, note),
+            Change::Speed { note, speed } => self.with_note_speed(note, speed),
             Change::Head(change) => self.head_changed(change),
             Change::Reset => self.reset(),
         }

@@ -6,6 +6,9 @@ ghost use Rattle.clip.specs.Positions.{elapsedAt, leadOf, travelAt, loop
 ghost use Rattle.clip.specs.Updates.{madeOf, backOf, foundAt, reversingAt, shiftFor, settledOf, sameMode, withSpeed, withMode, withLength, withDataLength};
 ghost use Rattle.clip.specs.Refusals.{goodLength, goodClip, refusedAt, newOf, dataToClipOf, isPingpongReversingOf, elapsedOf, clipOffsetOf, offsetOf, updateSpeedOf, updateModeOf, updateLengthOf, updateDataLengthOf};
 
+// A place or a length in samples.
+pub type T = f32;
+
 pub enum Mode {
     Loop,
     PingPong,
@@ -13,11 +16,11 @@ pub enum Mode {
 
 pub struct Clip {
     pub since: usize,
-    pub start: f32,
+    pub start: T,
     pub speed: f32,
-    pub length: f32,
-    pub data_length: f32,
-    pub shift: f32,
+    pub length: T,
+    pub data_length: T,
+    pub shift: T,
     pub mode: Mode,
 }
 

@@ -5,6 +5,10 @@ use Rattle.common_types.specs.declared.Note.{Note}
 abbrev pub noteOf : ℕ → ℕ → Note
 noteOf note channel = record { note = note; channel = channel }
 
+-- the Rust's default
+abbrev pub defaultNote : Note
+defaultNote = noteOf 0 0
+
 -- note times 256 plus channel
 abbrev pub intoU64Of : Note → ℕ
 intoU64Of n = n .note * 256 + n .channel

@@ -131,7 +131,7 @@ fn play(c: &mut Channel, time: usize, data_len: usize, params: Params, data: &[u
     output
 }
 
-pub fn process_sample(c: &mut Channel, params: Params, input: f32, data: &mut [u32]) -> f32
+pub fn with_sample(c: &mut Channel, params: Params, input: f32, data: &mut [u32]) -> f32
     ensures { λ r. ⌜ (r ≡ processSampleOf params input (now (c .entry)) (now («data» .entry)) .output)
         × (now (c .exit) ≡ processSampleOf params input (now (c .entry)) (now («data» .entry)) .channel)
         × (now («data» .exit) ≡ memoryOf input (now (c .entry)) (now («data» .entry))) ⌝ }

@@ -373,7 +373,7 @@ fn part_sample(
         × (now (c .exit) ≡ processSampleOf params input (now (c .entry)) (take (end - start) (drop start (now (memory .entry)))) .channel)
         × (now (memory .exit) ≡ take start (now (memory .entry)) ++ (memoryOf input (now (c .entry)) (take (end - start) (drop start (now (memory .entry)))) ++ drop (end - start) (drop start (now (memory .entry))))) ⌝ }
 {
-    let output = in_place::process_sample(c, params, input, &mut memory[start..end]);
+    let output = in_place::with_sample(c, params, input, &mut memory[start..end]);
     at_volume(params, output)
 }
 

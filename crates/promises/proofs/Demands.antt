@@ -63,6 +63,9 @@ use Rattle.promises.proofs.Memory.{part-unwritten, part-written}
 use Rattle.promises.proofs.Outcomes.{settled, one-outcome, number-code, left-after, output-answered, chain-run, run-chain}
 use Rattle.promises.proofs.Infos.{infos-given, infos-counted, infos-listed}
 use Rattle.promises.proofs.Table.{table-holds}
+use Rattle.promises.proofs.Broken.{row-nine}
+use Rattle.promises.proofs.Rows.{row-tests}
+use Rattle.promises.proofs.SmallParts.{row-seven}
 use Rattle.promises.proofs.Demand3.{demand3}
 use Rattle.promises.proofs.Whole.{memory-after, no-panic, whole}
 
@@ -186,6 +189,9 @@ demand1 = record {
   plain-rows = plain-rows;
   set-up-rows = λ count p m r h. ap (λ (a : Answer). a .number) h;
   held = λ w c r h n. (left-after w c r h ∙ after-held w c n, untouched w c r h n);
+  tests = row-tests;
+  small-parts = row-seven;
+  broken = row-nine;
 }
 
 -- ---- demand 2

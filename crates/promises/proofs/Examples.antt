@@ -53,18 +53,18 @@ use Rattle.promises.proofs.Demands.{demands}
 use Rattle.promises.proofs.Demand3.{demand3}
 
 -- whatever a run computes by
-computing : Unit {0}
+unfoldable pub computing : Unit {0}
 unfolding floorOf minOf maxOf crossingOf any every without fold seek speedOf timeLengthOf lengthOf loopLengthOf lengthBeyond beyondLimits progressOf levelOf towardOf steppedOf goodRamp goodVolume raised inState misusedOf skippedOf startOf stopOf recordedOf dataAfter goodRecorder leadOf travelAt loopedOf roundTripOf mirroredOf bouncedOf wrappedOf placedOf clipOffsetAt clipToDataOf offsetAt indexAt madeOf backOf foundAt reversingAt shiftFor settledOf withSpeed withMode withLength withDataLength goodLength goodClip tickOf lateOf overOf shouldRemoveOf movedOf productOf soundedOf finishOf playedOutOf endedOf volumeStepped turnOf freshOf blankVoice atSpeedOf goodVoice nextTime headOf rampOf passthruOf closedOf goodHead channelOf resetOf anyUnfinishedOf handledOf pushedOf startPlayingOf wantedOf findOf finishedAtOf stopPlayingOf spedOf setNoteSpeedOf headChangedOf keptOf addedOf heardOf playedOf playedIfOf takenOf begunOf passesOver heardBy turnedOf letsGo leavesOf leftOf turnsOf stepOf memoryOf processSampleOf changedOf fullOf goodVoicesOf goodChannel goodSizes goodSampler capacityOf goodWith setUpNumber startNumber stopNumber speedNumber plainNumber sampleNumber frameNumber channelNumber notesOf listNumber setUpOf eachOf answerOf partOf playedAt sampledOf outputOf memoryAt sampleOf sampleMemory entryOf entriesOf framedOf act isReset isSample decayOf fateOf follow stops becomes newOf outOf playsOut followAll stoppedIn finishedIn setUp questionNumber code after run doneTo event events isResetCall output before add sub mul div rem neg lt le eq ofInt toUnsigned isNan ofBits toBits nanBits ofFields
 computing = tt
 
 -- ---- parameters, keys, calls
-abbrev half : Float
+abbrev pub half : Float
 half = fin false 1 (negsuc 0)
 
-abbrev two : Float
+abbrev pub two : Float
 two = fin false 1 (pos 1)
 
-abbrev with : ℕ → LoopMode → NoteOffBehaviour → Params
+abbrev pub with : ℕ → LoopMode → NoteOffBehaviour → Params
 with decay mode behaviour = record {
   «attack_samples» = 0;
   «decay_samples» = decay;
@@ -78,36 +78,36 @@ with decay mode behaviour = record {
   «note_off_behavior» = behaviour;
 }
 
-abbrev plain : Params
+abbrev pub plain : Params
 plain = with 0 loop.Loop off.Decay
 
-abbrev once : Params
+abbrev pub once : Params
 once = with 0 loop.PlayOnce off.Decay
 
-abbrev fading : NoteOffBehaviour → Params
+abbrev pub fading : NoteOffBehaviour → Params
 fading behaviour = with 2 loop.Loop behaviour
 
-abbrev key : ℕ → Note
+abbrev pub key : ℕ → Note
 key n = record { note = n; channel = 0 }
 
-abbrev press : ℕ → Call
+abbrev pub press : ℕ → Call
 press n = start zero32 (key n) one32 plain
 
 -- both channels, no input
-abbrev quiet : Params → Call
+abbrev pub quiet : Params → Call
 quiet p = frame (zero32 ∷ zero32 ∷ []) p
 
 -- ---- set-up of 2 channels on 4 cells, and a recording of 2 samples on each: 0.5, 1 and 1, 0.5
-abbrev init : InitParams
+abbrev pub init : InitParams
 init = record { «auto_passthru» = false }
 
-abbrev cells : List ℕ
+abbrev pub cells : List ℕ
 cells = 0 ∷ 0 ∷ 0 ∷ 0 ∷ []
 
-abbrev recorded : List Call
+abbrev pub recorded : List Call
 recorded = startRecording ∷ frame (half ∷ one32 ∷ []) plain ∷ frame (one32 ∷ half ∷ []) plain ∷ stopRecording ∷ []
 
-abbrev since : List Call → World
+abbrev pub since : List Call → World
 since cs = run (setUp 2 init cells) (recorded ++ cs)
 
 -- channel 1's part of the memory then: 1 and 0.5 as patterns

@@ -8,5 +8,10 @@ pub mod Whole
 pub mod Outcomes
 pub mod Infos
 pub mod Table
+pub mod Broken
+pub mod Rows
+pub mod SmallParts
 pub mod Demands
 pub mod Examples
+pub mod Edges
+pub mod Rules

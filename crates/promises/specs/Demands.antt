@@ -93,6 +93,9 @@ use Rattle.promises.specs.Outcomes.{
   Chain,
 }
 use Rattle.promises.specs.Table.{TableHolds}
+use Rattle.promises.specs.Broken.{RowNine}
+use Rattle.promises.specs.Rows.{RowTests}
+use Rattle.promises.specs.SmallParts.{RowSeven}
 
 -- Names. A World is the record and the memory lent with it. `code w c` is the number of the call c on it, `after w c` what the call leaves, `run w cs` what several leave, `chan w j` channel j, and `event w c j` what the call
 -- does to channel j: nothing where it is refused, a change, or `sounds p x m`, a sample with the parameters p, the input x and the channel's part m of the memory. `live c` are a channel's voices, `voiceAt c n` is the one at
@@ -168,6 +171,10 @@ pub record Demand1 : Type 0 where
   pub unmade : (count : ℕ) (p : InitParams) (m : List ℕ) → setUpNumber count (length m) ≢ 0 → (c : Call) → code (setUp count p m) c ≡ 9
   -- "and state, sample memory and frame hold what they held." So do lent lists.
   pub held : (w : World) (c : Call) (r : Outcome (on w c)) → Allows (on w c) r → code w c ≢ 0 → (leftBy w c r ≡ w) × Untouched w c r
+  -- The tests of rows 1 to 6, "given exactly when", in document 01's words; row 7, of the small parts; and row 9, with what a broken record is.
+  pub tests : RowTests
+  pub small-parts : RowSeven
+  pub broken : RowNine
 
 -- "No accepted call reaches a panic of the Rust." docs/READING.md has each place of it that can panic. Those that arguments reach are refused by the rows above; the others are shut out in every record that set-up and calls leave.
 

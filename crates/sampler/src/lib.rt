@@ -55,6 +55,7 @@ use channel::Change;
 use channel::Channel;
 use channel::HeadChange;
 use common_types::InitParams;
+pub use common_types::LoopMode;
 use common_types::Note;
 use common_types::Params;
 
@@ -386,7 +387,7 @@ impl Sampler {
         let capacity = self.capacity;
         let start = part_start(j, capacity);
         let end = start + capacity;
-        let played = c.process_sample(params, input, &mut memory[start..end]);
+        let played = c.with_sample(params, input, &mut memory[start..end]);
         let channel = played.channel;
         self.channels[j] = channel;
         Stepped {

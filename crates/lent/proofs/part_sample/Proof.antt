@@ -1,4 +1,4 @@
--- `lent::part_sample` meets its contract: a walk of its MIR, by hand. The channel goes to `process_sample` as it is; of the memory, the part from `start` to `end` is lent, for a lifetime that is made for the call. What comes back goes to `at_volume`. Assumes nothing.
+-- `lent::part_sample` meets its contract: a walk of its MIR, by hand. The channel goes to `with_sample` as it is; of the memory, the part from `start` to `end` is lent, for a lifetime that is made for the call. What comes back goes to `at_volume`. Assumes nothing.
 use mathlib.Core.Path.{_≡_, refl, sym, ap, subst}
 use Prim.Native.Nat.{ℕ, _-_, _*_, _≤_, _<_, _^_}
 use native.Mathlib.Nat.{le-trans}
@@ -53,10 +53,10 @@ use Rattle.channel.specs.declared.Played.{Played}
 use Rattle.channel.specs.Channels.{processSampleOf, memoryOf}
 use Rattle.channel.proofs.Samples.{memory-kept}
 use Rattle.channel.proofs.Channel as C
-use Rattle.in_place.proofs.process_sample as g
-use Rattle.in_place.proofs.process_sample.Symbol as g-def
-use Rattle.in_place.proofs.process_sample.Symbol.{name as #g}
-use Rattle.in_place.proofs.process_sample.Met as g-thm
+use Rattle.in_place.proofs.with_sample as g
+use Rattle.in_place.proofs.with_sample.Symbol as g-def
+use Rattle.in_place.proofs.with_sample.Symbol.{name as #g}
+use Rattle.in_place.proofs.with_sample.Met as g-thm
 use Rattle.lent.proofs.Middle.{start-is, lends-middle, comes-back}
 use Rattle.lent.proofs.at_volume as v
 use Rattle.lent.proofs.at_volume.Symbol as v-def
@@ -176,7 +176,7 @@ module _ {M : Type 1} (𝓤 : URA M) (H : Heap 𝓤) (A : Atoms 𝓤) (W : Given
   v-of : (r : Float) → ent 𝓤 (ensured 𝓤 H A v.ended (v.clauses 𝓤 H A at-mem run) tt (p, (played .output, tt)) tt r) (fact 𝓤 (r ≡ output))
   v-of r = exE 𝓤 _ (λ ws. snd∗ 𝓤 (sem 𝓤 H A (lasts v.ended tt (p, (played .output, tt)) ws)) (fact 𝓤 (r ≡ output)))
 
-  -- what `process_sample` ensures
+  -- what `with_sample` ensures
   abbrev Does : Float → Channel → List ℕ → Type 0
   Does r c′ l = (r ≡ played .output) × (c′ ≡ played .channel) × (l ≡ last)
 
@@ -251,5 +251,5 @@ part-sample-spec 𝓤 H 𝓜 𝓖 𝓡 =
     entered 𝓤 H (tripleOf 𝓤 H (𝓖 .A) f.signature (f.spec 𝓤 H (𝓖 .A) (𝓜 .mem) (𝓡 .run)))
     (tables 𝓤 H 𝓜 𝓡 code.env .C) (tables 𝓤 H 𝓜 𝓡 code.env .Λ) #f code.function (code.unfolded 𝓤 H 𝓜 𝓡)
     (part-sample-meets 𝓤 H (𝓖 .A) (givenOf 𝓤 H 𝓜 𝓖) (𝓜 .mem) (𝓡 .run) (tablesOf 𝓤 H 𝓜 (tables 𝓤 H 𝓜 𝓡 code.env))
-    (cited 𝓤 H (G 𝓤 H (𝓖 .A) (𝓜 .mem) (𝓡 .run)) 𝓜 𝓡 code.env #g g-def.routine code.calls-in-place·process-sample (g-thm.met 𝓤 H 𝓜 𝓖 𝓡))
+    (cited 𝓤 H (G 𝓤 H (𝓖 .A) (𝓜 .mem) (𝓡 .run)) 𝓜 𝓡 code.env #g g-def.routine code.calls-in-place·with-sample (g-thm.met 𝓤 H 𝓜 𝓖 𝓡))
     (cited 𝓤 H (Loud 𝓤 H (𝓖 .A) (𝓜 .mem) (𝓡 .run)) 𝓜 𝓡 code.env #v v-def.routine code.calls-lent·at-volume (v-thm.met 𝓤 H 𝓜 𝓖 𝓡)))

@@ -7,20 +7,20 @@ use Rattle.channel.proofs.Channel.changed.Tie as tie
 enum-known-change : tie.Need-enum-known-change
 enum-known-change c = search needs
 
-start-playing-requires : tie.Need-start-playing-requires
-start-playing-requires c κs = search needs
+with-start-requires : tie.Need-with-start-requires
+with-start-requires c κs = search needs
 
 enum-known-change-2 : tie.Need-enum-known-change-2
 enum-known-change-2 c = search needs
 
-stop-playing-requires : tie.Need-stop-playing-requires
-stop-playing-requires c κs = search needs
+with-stop-requires : tie.Need-with-stop-requires
+with-stop-requires c κs = search needs
 
 enum-known-change-3 : tie.Need-enum-known-change-3
 enum-known-change-3 c = search needs
 
-set-note-speed-requires : tie.Need-set-note-speed-requires
-set-note-speed-requires c κs = search needs
+with-note-speed-requires : tie.Need-with-note-speed-requires
+with-note-speed-requires c κs = search needs
 
 enum-known-change-4 : tie.Need-enum-known-change-4
 enum-known-change-4 c = search needs
@@ -36,15 +36,15 @@ reset-requires c κs = search needs
 
 returns : tie.Need-returns
 unfolding changedOf
-returns c = simp (c .start-playing .ensures, c .before .before .change .given .1)
+returns c = simp (c .with-start .ensures, c .before .before .change .given .1)
 
 returns-2 : tie.Need-returns-2
 unfolding changedOf
-returns-2 c = simp (c .stop-playing .ensures, c .before .before .change2 .given .1)
+returns-2 c = simp (c .with-stop .ensures, c .before .before .change2 .given .1)
 
 returns-3 : tie.Need-returns-3
 unfolding changedOf
-returns-3 c = simp (c .set-note-speed .ensures, c .before .before .change3 .given .1)
+returns-3 c = simp (c .with-note-speed .ensures, c .before .before .change3 .given .1)
 
 returns-4 : tie.Need-returns-4
 unfolding changedOf
@@ -59,11 +59,11 @@ changed-spec =
     tie.close
     (tie.spec
     enum-known-change
-    start-playing-requires
+    with-start-requires
     enum-known-change-2
-    stop-playing-requires
+    with-stop-requires
     enum-known-change-3
-    set-note-speed-requires
+    with-note-speed-requires
     enum-known-change-4
     head-changed-requires
     enum-told

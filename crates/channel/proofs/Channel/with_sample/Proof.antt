@@ -1,8 +1,8 @@
--- `Channel::process_sample` meets its contract: recording first, then the voices, then the input at its level, then the close. Assumes nothing.
+-- `Channel::with_sample` meets its contract: recording first, then the voices, then the input at its level, then the close. Assumes nothing.
 use Rattle.channel.specs.Channels.{processSampleOf}
 use borrow.Author.Needs.{needs}
-use Rattle.channel.proofs.Channel.process_sample.Statement.{statement}
-use Rattle.channel.proofs.Channel.process_sample.Tie as tie
+use Rattle.channel.proofs.Channel.with_sample.Statement.{statement}
+use Rattle.channel.proofs.Channel.with_sample.Tie as tie
 
 record-requires : tie.Need-record-requires
 record-requires c κs = search needs
@@ -29,8 +29,8 @@ returns c =
     let plays = rw e at (c .before .before .before .before .play-voices .ensures) in
     (simp (c .closed .ensures, c .before .any-unfinished .ensures, c .before .before .before .mixed .ensures, plays, c .before .before .before .before .before .before .before .before .before .«record» .ensures .0), e)
 
-pub process-sample-spec : {M : Type 1} → statement M
-process-sample-spec =
+pub with-sample-spec : {M : Type 1} → statement M
+with-sample-spec =
     tie.close
     (tie.spec
     record-requires

@@ -1,12 +1,12 @@
--- `Channel::set_note_speed` meets its contract, by the law of loops that store. Assumes nothing.
+-- `Channel::with_note_speed` meets its contract, by the law of loops that store. Assumes nothing.
 use Prim.Native.Nat.{_-_}
 use native.Mathlib.Nat.{le-refl}
 use Rattle.walks.proofs.Loops.{Walk, stores, ends, long, begins}
 use Rattle.channel.specs.Channels.{live, spedOf, setNoteSpeedOf}
 use Rattle.channel.proofs.Slots.{none, mapFrom, map-on}
 use borrow.Author.Needs.{needs}
-use Rattle.channel.proofs.Channel.set_note_speed.Statement.{statement}
-use Rattle.channel.proofs.Channel.set_note_speed.Tie as tie
+use Rattle.channel.proofs.Channel.with_note_speed.Statement.{statement}
+use Rattle.channel.proofs.Channel.with_note_speed.Tie as tie
 
 abbrev Inv-loop : tie.InvT-loop
 Inv-loop note speed self₀ n i₀ self i = Walk (mapFrom (spedOf note speed) self₀ 0 (live self₀)) (mapFrom (spedOf note speed) self i) (self .voices) n i
@@ -48,8 +48,8 @@ returns : tie.Need-returns Inv-loop μ-loop
 unfolding setNoteSpeedOf
 returns c = ends (c .before .loop .inv) (c .loop-test .left)
 
-pub set-note-speed-spec : {M : Type 1} → statement M
-set-note-speed-spec =
+pub with-note-speed-spec : {M : Type 1} → statement M
+with-note-speed-spec =
     tie.close
     (tie.spec
     Inv-loop

@@ -1,4 +1,4 @@
--- `process_sample` meets its contract: a walk of its MIR, by hand, of five calls. The channel's borrow is opened once. Its head is read, and overwritten in place at the end; the whole channel is lent on to
+-- `with_sample` meets its contract: a walk of its MIR, by hand, of five calls. The channel's borrow is opened once. Its head is read, and overwritten in place at the end; the whole channel is lent on to
 -- `play`, and then shared with `any_unfinished`. The memory is lent again to `Head::recorded`, and then shared with `play`. Assumes nothing.
 use mathlib.Core.Path.{_≡_, refl, sym, _∙_, ap, subst}
 use Prim.Native.Nat.{ℕ, _<_, _^_}
@@ -90,10 +90,10 @@ use Rattle.in_place.proofs.any_unfinished as asked
 use Rattle.in_place.proofs.any_unfinished.Symbol as asked-def
 use Rattle.in_place.proofs.any_unfinished.Symbol.{name as #in-place·any-unfinished}
 use Rattle.in_place.proofs.any_unfinished.Met as asked-thm
-use Rattle.in_place.proofs.process_sample.Key.{name as #in-place·process-sample}
-use Rattle.in_place.proofs.process_sample as sample
-use Rattle.in_place.proofs.process_sample.Statement as stated
-use Rattle.in_place.proofs.process_sample.Code as code
+use Rattle.in_place.proofs.with_sample.Key.{name as #in-place·with-sample}
+use Rattle.in_place.proofs.with_sample as sample
+use Rattle.in_place.proofs.with_sample.Statement as stated
+use Rattle.in_place.proofs.with_sample.Code as code
 
 -- the locals' types, as `code.function` spells them
 abbrev ty : Ty → Ty
@@ -378,11 +378,11 @@ module _ {M : Type 1} (𝓤 : URA M) (H : Heap 𝓤) (A : Atoms 𝓤) (W : Given
       )
       (sample.clauses 𝓤 H A at-mem run) (WpFn 𝓤 H (𝓣 .C) (𝓣 .Λ) code.function) (WpFn-mono 𝓤 H (W .laws) 𝓣 code.function) sample-walks
 
-pub process-sample-spec : {M : Type 1} → stated.statement M
+pub with-sample-spec : {M : Type 1} → stated.statement M
 unfolding code.routine tablesOf
-process-sample-spec 𝓤 H 𝓜 𝓖 𝓡 =
+with-sample-spec 𝓤 H 𝓜 𝓖 𝓡 =
     entered 𝓤 H (tripleOf 𝓤 H (𝓖 .A) sample.signature (sample.spec 𝓤 H (𝓖 .A) (𝓜 .mem) (𝓡 .run)))
-    (tables 𝓤 H 𝓜 𝓡 code.env .C) (tables 𝓤 H 𝓜 𝓡 code.env .Λ) #in-place·process-sample code.function (code.unfolded 𝓤 H 𝓜 𝓡)
+    (tables 𝓤 H 𝓜 𝓡 code.env .C) (tables 𝓤 H 𝓜 𝓡 code.env .Λ) #in-place·with-sample code.function (code.unfolded 𝓤 H 𝓜 𝓡)
     (sample-meets 𝓤 H (𝓖 .A) (givenOf 𝓤 H 𝓜 𝓖) (𝓜 .mem) (𝓡 .run) (tablesOf 𝓤 H 𝓜 (tables 𝓤 H 𝓜 𝓡 code.env))
     (cited 𝓤 H (Recorded 𝓤 H (𝓖 .A) (𝓜 .mem) (𝓡 .run)) 𝓜 𝓡 code.env #channel·Head·recorded recorded-def.routine code.calls-channel·Head·recorded (recorded-thm.met 𝓤 H 𝓜 𝓖 𝓡))
     (cited 𝓤 H (Play 𝓤 H (𝓖 .A) (𝓜 .mem) (𝓡 .run)) 𝓜 𝓡 code.env #in-place·play play-def.routine code.calls-in-place·play (play-thm.met 𝓤 H 𝓜 𝓖 𝓡))

@@ -1,9 +1,9 @@
--- `Channel::start_playing` meets its contract: its test is that of `startPlayingOf`. Assumes nothing.
+-- `Channel::with_start` meets its contract: its test is that of `startPlayingOf`. Assumes nothing.
 use borrow.Author.Tests.{eq-eqb, ne-eqb}
 use Rattle.channel.specs.Channels.{startPlayingOf}
 use borrow.Author.Needs.{needs}
-use Rattle.channel.proofs.Channel.start_playing.Statement.{statement}
-use Rattle.channel.proofs.Channel.start_playing.Tie as tie
+use Rattle.channel.proofs.Channel.with_start.Statement.{statement}
+use Rattle.channel.proofs.Channel.with_start.Tie as tie
 
 returns : tie.Need-returns
 unfolding startPlayingOf
@@ -22,6 +22,6 @@ returns-2 : tie.Need-returns-2
 unfolding startPlayingOf
 returns-2 c = simp (c .handle-passthru .ensures, c .before .push .ensures, c .before .before .new .ensures, ne-eqb _ _ (c .before .before .before .if1 .left))
 
-pub start-playing-spec : {M : Type 1} → statement M
-start-playing-spec =
+pub with-start-spec : {M : Type 1} → statement M
+with-start-spec =
     tie.close (tie.spec returns new-requires push-requires handle-passthru-requires returns-2)

@@ -1,9 +1,9 @@
--- `process_sample` meets its contract, by the state and the room at the write place. Assumes nothing.
+-- `with_sample` meets its contract, by the state and the room at the write place. Assumes nothing.
 use borrow.Author.Tests.{lt-ltb, le-ltb}
 use borrow.Author.Needs.{needs}
 use Rattle.recorder.specs.Recording.{recordedOf, dataAfter, inState, skippedOf}
-use Rattle.recorder.proofs.Recorder.process_sample.Statement.{statement}
-use Rattle.recorder.proofs.Recorder.process_sample.Tie as tie
+use Rattle.recorder.proofs.Recorder.with_sample.Statement.{statement}
+use Rattle.recorder.proofs.Recorder.with_sample.Tie as tie
 
 enum-known-state : tie.Need-enum-known-state
 enum-known-state c = search needs
@@ -51,8 +51,8 @@ returns-3 c =
     let is = c .before .before .before .state .given .1 in
     (simp (is, lt-ltb _ _ (c .before .if1 .left), c .larger .ensures), simp (is, lt-ltb _ _ (c .before .if1 .left)))
 
-pub process-sample-spec : {M : Type 1} → statement M
-process-sample-spec =
+pub with-sample-spec : {M : Type 1} → statement M
+with-sample-spec =
     tie.close
     (tie.spec
     enum-known-state
