@@ -1,6 +1,6 @@
 -- Document 01's example, computed from its bytes to its lines; and listings at each edge of what is good. Assumes nothing.
 use mathlib.Core.Path.{_≡_, refl}
-use mathlib.Core.Bool.{cond}
+use mathlib.Core.Bool.{false, cond}
 use mathlib.Core.List.{List, [], _∷_, _++_}
 use Prim.Native.Nat.{ℕ, _+_, _-_, _*_}
 use Prim.Native.String.{String}
@@ -25,6 +25,10 @@ use Rattle.listing.specs.Lines.{hexDigit, hexDigits, outputOf, outputsOf
 use Rattle.listing.specs.Records.{halfAt, wordAt, floatAt, goodHeader, headerOf, lengthOf as bytesOf, restOf, goodSettings, goodRecord, loopModeOf, noteOffOf, loopLengthOf as listedLengthOf, transportOf, paramsOf, frameCallOf, callOf, recordOf}
 use Rattle.listing.specs.Steps.{clockOf, voicesOf, answeredOf, settingsOf, frameOf, playedOf as playOf, memoryAfter, playerOf, laterBy, openedOf, stepOf, stepMemory}
 use Rattle.listing.specs.Whole.{printedFrom, printed}
+use Rattle.listing.specs.Faults.{headerFaultOf, settingsFaultOf, kindFaultOf, recordFaultOf}
+use Rattle.listing.specs.declared.records.Header.{Header}
+use Rattle.listing.specs.declared.faults.HeaderFault.the-variants as header
+use Rattle.listing.specs.declared.faults.RecordFault.the-variants as fault
 
 -- ---- bytes from hexadecimal digits, among which spaces don't count
 abbrev nibble : ℕ → ℕ
@@ -133,3 +137,35 @@ mode-three = refl
 passed-on : printed (fromHex "010201 0009 06 FF800001 BE800000") ≡ text ("F 0 NAN BE800000 0" ∷ [])
 unfolding computing
 passed-on = refl
+
+-- ---- reasons, at each edge: one channel, records that are bad for one thing
+abbrev mono : Header
+mono = record { stereo = false; «auto_passthru» = false }
+
+reasons : Unit {0}
+unfolding text fromHex pairs bytes halfAt without goodHeader bytesOf headerFaultOf settingsFaultOf kindFaultOf recordFaultOf
+reasons = tt
+
+three-of-two : headerFaultOf (fromHex "0103 00") ≡ header.Channels 3
+unfolding reasons
+three-of-two = refl
+
+half-a-length : recordFaultOf mono (fromHex "00") ≡ fault.NoLength
+unfolding reasons
+half-a-length = refl
+
+length-of-46 : recordFaultOf mono (fromHex "002E") ≡ fault.TooLong 46
+unfolding reasons
+length-of-46 = refl
+
+two-missing : recordFaultOf mono (fromHex "0005 06 3F00") ≡ fault.Cut 3 5
+unfolding reasons
+two-missing = refl
+
+kind-eight : recordFaultOf mono (fromHex "0001 08") ≡ fault.Kind 8
+unfolding reasons
+kind-eight = refl
+
+frame-of-four : recordFaultOf mono (fromHex "0004 06 3F0000") ≡ fault.Length 6 4 5
+unfolding reasons
+frame-of-four = refl
