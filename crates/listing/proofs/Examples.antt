@@ -33,6 +33,9 @@ use Rattle.listing.specs.Whole.{printedFrom, printed}
 use Rattle.listing.specs.declared.records.Header.{Header}
 use Rattle.listing.specs.declared.records.Reading.the-variants.{Good}
 use Rattle.listing.specs.declared.records.Call.the-variants.{Parameters, Start, Stop, Speed, StartRecording, StopRecording, Mono, Stereo, Reset}
+use Rattle.listing.specs.Faults.{headerFaultOf, settingsFaultOf, kindFaultOf, recordFaultOf}
+use Rattle.listing.specs.declared.faults.HeaderFault.the-variants as header
+use Rattle.listing.specs.declared.faults.RecordFault.the-variants as fault
 
 -- ---- bytes from hexadecimal digits, among which spaces don't count
 abbrev nibble : ℕ → ℕ
@@ -241,3 +244,35 @@ old-ones-left :
     ≡ text ("E 0 0" ∷ "E 0 4" ∷ "F 0 3F000000 0" ∷ [])
 unfolding computing
 old-ones-left = refl
+
+-- ---- reasons, at each edge: one channel, records that are bad for one thing
+abbrev mono : Header
+mono = record { stereo = false; «auto_passthru» = false }
+
+reasons : Unit {0}
+unfolding text fromHex pairs bytes halfAt without goodHeader bytesOf headerFaultOf settingsFaultOf kindFaultOf recordFaultOf
+reasons = tt
+
+three-of-two : headerFaultOf (fromHex "0103 00") ≡ header.Channels 3
+unfolding reasons
+three-of-two = refl
+
+half-a-length : recordFaultOf mono (fromHex "00") ≡ fault.NoLength
+unfolding reasons
+half-a-length = refl
+
+length-of-46 : recordFaultOf mono (fromHex "002E") ≡ fault.TooLong 46
+unfolding reasons
+length-of-46 = refl
+
+two-missing : recordFaultOf mono (fromHex "0005 06 3F00") ≡ fault.Cut 3 5
+unfolding reasons
+two-missing = refl
+
+kind-eight : recordFaultOf mono (fromHex "0001 08") ≡ fault.Kind 8
+unfolding reasons
+kind-eight = refl
+
+frame-of-four : recordFaultOf mono (fromHex "0004 06 3F0000") ≡ fault.Length 6 4 5
+unfolding reasons
+frame-of-four = refl

@@ -100,7 +100,7 @@ fn frame_length(h: Header) -> usize
     if h.stereo { 9 } else { 5 }
 }
 
-fn length_of(h: Header, kind: u8) -> usize
+pub fn length_of(h: Header, kind: u8) -> usize
     ensures { λ r. ⌜ r ≡ lengthOf h kind ⌝ }
 {
     let lengths = [45, 11, 3, 7, 1, 1, frame_length(h), 1];
