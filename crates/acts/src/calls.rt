@@ -7,7 +7,6 @@ use common_types::Note;
 use common_types::Params;
 use lines::field::f32_at;
 use lines::field::u32_at;
-use lines::field::u64_at;
 use lines::field::wide;
 use replies::lent;
 use sampler::Answer;
@@ -130,23 +129,4 @@ fn frame_of(h: Heard, i: u32, p: Params, fields: &[u8], memory: &mut [u32]) -> H
     let s = h.sampler;
     let x = f32_at(fields, 4) + binary32::u32_to_f32(i) * f32_at(fields, 8);
     stepped(s, [x, -x, x], p, fields, memory)
-}
-
-// Kind 10 puts every clock on by the number at 8, but no further than its end. No call does that: it stands for a long silence.
-pub fn put_on(s: Sampler, fields: &[u8]) -> Answer
-    requires { ⌜ 64 ≤ length (now fields) ⌝ }
-{
-    let n = u64_at(fields, 8) as usize;
-    let mut sampler = s;
-    sampler.channels[0].head.now = later(s.channels[0].head.now, n);
-    sampler.channels[1].head.now = later(s.channels[1].head.now, n);
-    Answer { sampler, number: 0 }
-}
-
-fn later(now: usize, n: usize) -> usize {
-    let last = channel::LAST_TIME;
-    if last <= now {
-        return now;
-    }
-    if last - now < n { last } else { now + n }
 }

@@ -246,9 +246,6 @@ unfolding computing
 old-ones-left = refl
 
 -- ---- reasons, at each edge: one channel, records that are bad for one thing
-abbrev mono : Header
-mono = record { stereo = false; «auto_passthru» = false }
-
 reasons : Unit {0}
 unfolding text fromHex pairs bytes halfAt without goodHeader bytesOf headerFaultOf settingsFaultOf kindFaultOf recordFaultOf
 reasons = tt

@@ -69,7 +69,7 @@ fn put_line(out: &mut [u8; 65536], at: usize, kind: u8, number: u8, digits: usiz
     end(out, second)
 }
 
-fn put_count(out: &mut [u8; 65536], at: usize, kind: u8, a: Counted) -> usize
+pub fn put_count(out: &mut [u8; 65536], at: usize, kind: u8, a: Counted) -> usize
     requires { ⌜ at + 22 ≤ 65536 ⌝ }
     ensures { λ r. ⌜ r ≡ at + 22 ⌝ }
 {
@@ -79,7 +79,7 @@ fn put_count(out: &mut [u8; 65536], at: usize, kind: u8, a: Counted) -> usize
     }
 }
 
-fn put_told(out: &mut [u8; 65536], at: usize, kind: u8, a: Told) -> usize
+pub fn put_told(out: &mut [u8; 65536], at: usize, kind: u8, a: Told) -> usize
     requires { ⌜ at + 7 ≤ 65536 ⌝ }
     ensures { λ r. ⌜ r ≡ at + 7 ⌝ }
 {
@@ -107,7 +107,7 @@ fn put_place(
     end(out, third)
 }
 
-fn put_offset(out: &mut [u8; 65536], at: usize, kind: u8, a: OffsetAnswer) -> usize
+pub fn put_offset(out: &mut [u8; 65536], at: usize, kind: u8, a: OffsetAnswer) -> usize
     requires { ⌜ at + 24 ≤ 65536 ⌝ }
     ensures { λ r. ⌜ r ≡ at + 24 ⌝ }
 {
@@ -121,7 +121,7 @@ fn put_offset(out: &mut [u8; 65536], at: usize, kind: u8, a: OffsetAnswer) -> us
 }
 
 // The number and the count with which the line of a list begins.
-fn put_listed(out: &mut [u8; 65536], at: usize, kind: u8, a: Counted) -> usize
+pub fn put_listed(out: &mut [u8; 65536], at: usize, kind: u8, a: Counted) -> usize
     requires { ⌜ at + 8 ≤ 65536 ⌝ }
     ensures { λ r. ⌜ r ≡ at + 8 ⌝ }
 {
@@ -151,7 +151,7 @@ fn error_text(s: Sampler, channel: usize, room: usize, out: &mut [u8; 65536], at
     end(out, second)
 }
 
-fn put_bytes(out: &mut [u8; 65536], at: usize, text: &[u8; 64]) -> usize
+pub fn put_bytes(out: &mut [u8; 65536], at: usize, text: &[u8; 64]) -> usize
     requires { ⌜ at + 192 ≤ 65536 ⌝ }
     ensures { λ r. ⌜ r ≡ at + 192 ⌝ }
 {
@@ -176,7 +176,7 @@ fn active_notes(s: Sampler, channel: usize, room: usize, out: &mut [u8; 65536], 
     end(out, second)
 }
 
-fn put_notes(out: &mut [u8; 65536], at: usize, notes: &[u64; 34]) -> usize
+pub fn put_notes(out: &mut [u8; 65536], at: usize, notes: &[u64; 34]) -> usize
     requires { ⌜ at + 578 ≤ 65536 ⌝ }
     ensures { λ r. ⌜ r ≡ at + 578 ⌝ }
 {
@@ -205,7 +205,7 @@ fn put_infos(out: &mut [u8; 65536], at: usize, a: VoiceInfos) -> usize
     end(out, place)
 }
 
-fn put_info(out: &mut [u8; 65536], at: usize, info: VoiceInfo) -> usize
+pub fn put_info(out: &mut [u8; 65536], at: usize, info: VoiceInfo) -> usize
     requires { ⌜ at + 27 ≤ 65536 ⌝ }
     ensures { λ r. ⌜ r ≡ at + 27 ⌝ }
 {

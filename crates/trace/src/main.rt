@@ -3,12 +3,13 @@
 // short or whose kind is not known is answered by `X`, and the program ends.
 //
 // Kinds: 0 set-up; 1 parameters; 2 start, 3 stop, 4 note speed, 5 and 6 start and stop of recording, 7 reset; 8 sample of one channel; 9 frame;
-// 10 clocks put on; 11 the recordings; 12 frames processed, 13 data length, 14 is recording, 15 last recorded offset, 16 error text, 17 active
-// notes, 18 voice info; 19 many frames. A set-up takes back the parameters to the defaults.
+// 10 clocks put on, or a field put; 11 the recordings; 12 frames processed, 13 data length, 14 is recording, 15 last recorded offset, 16 error text,
+// 17 active notes, 18 voice info; 19 many frames. A set-up takes back the parameters to the defaults.
 ghost use mathlib.Core.Path.{_≡_};
 ghost use Prim.Native.Nat.{_+_, _*_, _≤_, _<_};
 ghost use lib.ListN.{length};
 use acts::calls;
+use acts::puts;
 use acts::recording::recordings;
 use acts::run::Run;
 use acts::run::begun;
@@ -108,7 +109,7 @@ fn plain(run: Run, fields: &[u8], out: &mut [u8; 65536], at: usize) -> Run
     match kind {
         1 => parameters(run, fields).told(kind, out, at),
         2..=7 => run.answered(kind, calls::call(s, p, fields), out, at),
-        10 => run.answered(kind, calls::put_on(s, fields), out, at),
+        10 => run.answered(kind, puts::put(s, fields), out, at),
         12..=18 => run.on(s, query(s, p, fields, out, at)),
         _ => bad(run, out, at),
     }
