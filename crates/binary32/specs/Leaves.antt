@@ -6,6 +6,12 @@ use mathlib.Core.Bool.{Bool, true, false, not, _||_, Bool·beq, cond}
 use lib.IntN.{pos}
 use lib.Ieee.{Float, nan, inf, fin, binary32, up, down, round, lt, eq, isNan, ofInt, toUnsigned, ofBits, toBits}
 
+abbrev pub zero32 : Float
+zero32 = fin false 0 (pos 0)
+
+abbrev pub one32 : Float
+one32 = fin false 1 (pos 0)
+
 -- A whole number of any width `as f32`: the nearest float, at a tie the one whose last digit is even (754, 5.4.1, convertFromInt; reference, int-to-float).
 abbrev pub asFloat : ℕ → Float
 asFloat n = ofInt binary32 (pos n)

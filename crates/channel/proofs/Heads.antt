@@ -12,7 +12,7 @@ use Rattle.binary32.proofs.Truth.{yes, cond-split}
 use Rattle.common_types.specs.declared.Params.{Params}
 use Rattle.common_types.proofs.Limits.{within}
 use Rattle.volume.specs.Levels.{steppedOf, goodVolume}
-use Rattle.clip.specs.Positions.{zero32, one32}
+use Rattle.binary32.specs.Leaves.{zero32, one32}
 use Rattle.recorder.specs.declared.Recorded.{Recorded}
 use Rattle.recorder.specs.Recording.{goodRecorder, goodRecorded}
 use Rattle.recorder.proofs.Good.{new-good}

@@ -13,12 +13,12 @@ use lib.Ieee.{Float, binary32, fits}
 use lib.Ieee.Fits.{cond-fits}
 use Rattle.binary32.proofs.Truth.{cond-split}
 use Rattle.walks.specs.Each.{Each}
-use Rattle.walks.proofs.Each.{each-set, each-push, each-map, front-map}
+use Rattle.walks.proofs.Lists.Each.{each-set, each-push, each-map, front-map}
 use Rattle.common_types.specs.declared.InitParams.{InitParams}
 use Rattle.common_types.specs.declared.Params.{Params}
 use Rattle.common_types.specs.declared.Note.{Note}
 use Rattle.common_types.proofs.Limits.{within}
-use Rattle.clip.specs.Positions.{zero32, one32}
+use Rattle.binary32.specs.Leaves.{zero32, one32}
 use Rattle.recorder.specs.Recording.{startOf, stopOf}
 use Rattle.recorder.proofs.Good.{start-good, stop-good}
 use Rattle.voice.specs.declared.Voice.{Voice}

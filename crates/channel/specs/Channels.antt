@@ -7,12 +7,11 @@ use lib.Dec.{leb, ltb, eqb}
 use lib.ListN.{length, take, getD, set, replicate}
 use lib.Seq.{sets}
 use lib.Ieee.{Float, binary32, add}
-use Rattle.binary32.specs.Leaves.{bitsOf}
+use Rattle.binary32.specs.Leaves.{bitsOf, zero32, one32}
 use Rattle.walks.specs.Walks.{any, every, without, fold, seek}
 use Rattle.common_types.specs.declared.InitParams.{InitParams}
 use Rattle.common_types.specs.declared.Params.{Params}
 use Rattle.common_types.specs.declared.Note.{Note}
-use Rattle.clip.specs.Positions.{zero32, one32}
 use Rattle.recorder.specs.Recording.{recordedOf, dataAfter}
 use Rattle.voice.specs.declared.Voice.{Voice}
 use Rattle.voice.specs.declared.Tick.{Tick}

@@ -7,9 +7,9 @@ use Rattle.common_types.specs.declared.Params.{Params}
 use Rattle.volume.specs.declared.Volume.{Volume}
 use Rattle.volume.specs.declared.Volume.the-variants.{Static}
 use Rattle.volume.specs.Levels.{levelOf, towardOf, steppedOf, goodVolume}
-use Rattle.clip.specs.Positions.{zero32, one32}
+use Rattle.binary32.specs.Leaves.{zero32, one32}
 use Rattle.recorder.specs.declared.Recorded.{Recorded}
-use Rattle.recorder.specs.Recording.{newOf, startOf, stopOf, goodRecorder}
+use Rattle.recorder.specs.Recording.{newRecorderOf, startOf, stopOf, goodRecorder}
 use Rattle.channel.specs.declared.Head.{Head}
 use Rattle.channel.specs.declared.HeadChange.{HeadChange}
 use Rattle.channel.specs.declared.HeadChange.the-variants.{StartRecording, StopRecording}
@@ -30,7 +30,7 @@ nextTime now = cond (ltb now lastTime) (now + 1) now
 
 -- ---- a new head, and what a reset leaves: pass-through at 0 whatever set-up had
 unfoldable pub headOf : Float → Head
-headOf level = record { now = 0; «data_len» = 0; «passthru_volume» = Static level; recorder = newOf; «passthru_on» = false }
+headOf level = record { now = 0; «data_len» = 0; «passthru_volume» = Static level; recorder = newRecorderOf; «passthru_on» = false }
 
 -- ---- the changes that touch no voice
 unfoldable pub headChangedOf : HeadChange → Head → Head
@@ -55,12 +55,12 @@ abbrev pub mixedOf : Float → Float → Head → Float
 mixedOf x played h = add binary32 (add binary32 zero32 played) (mul binary32 x (levelOf (h .«passthru_volume») (h .now)))
 
 -- a sample later
-abbrev pub laterOf : Head → Head
-laterOf h = record { now = nextTime (h .now); «data_len» = h .«data_len»; «passthru_volume» = h .«passthru_volume»; recorder = h .recorder; «passthru_on» = h .«passthru_on» }
+abbrev pub clockedOf : Head → Head
+clockedOf h = record { now = nextTime (h .now); «data_len» = h .«data_len»; «passthru_volume» = h .«passthru_volume»; recorder = h .recorder; «passthru_on» = h .«passthru_on» }
 
 -- the end of a sample: the level's step, the change of state, and the clock
 unfoldable pub closedOf : Params → Bool → Head → Head
-closedOf p unfinished h = laterOf (passthruOf p unfinished (withPassthru (h .«passthru_on») (steppedOf (h .«passthru_volume») (h .now)) h))
+closedOf p unfinished h = clockedOf (passthruOf p unfinished (withPassthru (h .«passthru_on») (steppedOf (h .«passthru_volume») (h .now)) h))
 
 -- ---- a head that may stand in a record of that capacity
 unfoldable pub goodHead : ℕ → Head → Bool

@@ -6,12 +6,11 @@ ghost use mathlib.Core.Path.{_≡_};
 ghost use Prim.Native.Nat.{min};
 ghost use mathlib.Core.Bool.{cond};
 ghost use lib.ListN.{length};
-ghost use Rattle.binary32.specs.Leaves.{bitsOf};
-ghost use Rattle.clip.specs.Positions.{zero32, one32};
+ghost use Rattle.binary32.specs.Leaves.{bitsOf, zero32, one32};
 ghost use Rattle.recorder.specs.Recording.{recordedOf, dataAfter};
 ghost use Rattle.voice.specs.Voices.{shouldRemoveOf};
 ghost use Rattle.channel.specs.declared.HeadChange.the-variants.{StartRecording, StopRecording};
-ghost use Rattle.channel.specs.Heads.{nextTime, headOf, headChangedOf, laterOf, passesOf, withRecorded, withPassthru, rampOf, passthruOf, mixedOf, closedOf, goodHead};
+ghost use Rattle.channel.specs.Heads.{nextTime, headOf, headChangedOf, clockedOf, passesOf, withRecorded, withPassthru, rampOf, passthruOf, mixedOf, closedOf, goodHead};
 ghost use Rattle.channel.specs.Channels.{
   withHead,
   sameNote,
@@ -215,7 +214,7 @@ impl Head {
 
     // The head a sample later, with pass-through at that state and level.
     fn after(self, on: bool, volume: Volume) -> Self
-        ensures { λ r. ⌜ r ≡ laterOf (withPassthru on volume self) ⌝ }
+        ensures { λ r. ⌜ r ≡ clockedOf (withPassthru on volume self) ⌝ }
     {
         let recorder = self.recorder;
         Self {

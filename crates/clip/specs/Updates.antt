@@ -4,7 +4,8 @@
 use Prim.Native.Nat.{ℕ}
 use mathlib.Core.Bool.{Bool, true, false, cond}
 use lib.Ieee.{Float, binary32, add, sub, lt, le, eq}
-use Rattle.clip.specs.Positions.{zero32, travelAt, roundTripOf, mirroredOf, offsetAt}
+use Rattle.binary32.specs.Leaves.{zero32}
+use Rattle.clip.specs.Positions.{travelAt, roundTripOf, mirroredOf, offsetAt}
 use Rattle.clip.specs.declared.Mode.{Mode}
 use Rattle.clip.specs.declared.Mode.the-variants.{Loop, PingPong}
 use Rattle.clip.specs.declared.Clip.{Clip}

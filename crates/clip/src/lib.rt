@@ -4,7 +4,7 @@
 ghost use mathlib.Core.Path.{_≡_};
 ghost use Rattle.clip.specs.Positions.{elapsedAt, leadOf, travelAt, loopedOf, roundTripOf, mirroredOf, bouncedOf, wrappedOf, placedOf, clipOffsetAt, clipToDataOf, offsetAt, indexAt};
 ghost use Rattle.clip.specs.Updates.{madeOf, backOf, foundAt, reversingAt, shiftFor, settledOf, sameMode, withSpeed, withMode, withLength, withDataLength};
-ghost use Rattle.clip.specs.Refusals.{goodLength, goodClip, refusedAt, newOf, dataToClipOf, isPingpongReversingOf, elapsedOf, clipOffsetOf, offsetOf, updateSpeedOf, updateModeOf, updateLengthOf, updateDataLengthOf};
+ghost use Rattle.clip.specs.Refusals.{goodLength, goodClip, clipRefusedAt, newClipOf, dataToClipOf, isPingpongReversingOf, elapsedOf, clipOffsetOf, offsetOf, updateSpeedOf, updateModeOf, updateLengthOf, updateDataLengthOf};
 
 // A place or a length in samples.
 pub type T = f32;
@@ -142,7 +142,7 @@ impl Clip {
 
     // Whether number 7 refuses this clip at this time.
     fn refused_at(self, now: usize) -> bool
-        ensures { λ r. ⌜ r ≡ refusedAt self now ⌝ }
+        ensures { λ r. ⌜ r ≡ clipRefusedAt self now ⌝ }
     {
         !(self.good() & (self.since <= now) & (now <= LAST_TIME))
     }
@@ -330,7 +330,7 @@ impl Clip {
         data_length: f32,
         mode: Mode,
     ) -> ClipAnswer
-        ensures { λ r. ⌜ r ≡ newOf since start speed length «data_length» mode ⌝ }
+        ensures { λ r. ⌜ r ≡ newClipOf since start speed length «data_length» mode ⌝ }
     {
         let clip = Clip::made(since, start, speed, length, data_length, mode);
         if clip.refused_at(since) {

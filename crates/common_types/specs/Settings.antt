@@ -52,6 +52,14 @@ timeLengthOf (Bars x) t =
     mul binary32 x
     (div binary32 (mul binary32 (samplesPerQuarterNoteOf t) (asFloat (t .«time_sig_numerator»))) (asFloat (t .«time_sig_denominator»)))
 
+-- the float that a length carries
+abbrev pub carried : TimeOrRatio → Float
+carried (Time (QuarterNotes x)) = x
+carried (Time (Samples x)) = x
+carried (Time (Seconds x)) = x
+carried (Time (Bars x)) = x
+carried (Ratio x) = x
+
 -- a ratio is of the data length n
 unfoldable pub lengthOf : TimeOrRatio → Transport → ℕ → Float
 lengthOf (Time v) t n = timeLengthOf v t

@@ -4,7 +4,7 @@ use mathlib.Core.Bool.{false}
 use mathlib.Core.List.{List}
 use lib.ListN.{length}
 use lib.Ieee.{Float}
-use Rattle.clip.specs.Positions.{zero32, one32}
+use Rattle.binary32.specs.Leaves.{zero32, one32}
 use Rattle.common_types.specs.Notes.{noteOf}
 use Rattle.common_types.specs.Settings.{defaultParams}
 use Rattle.common_types.specs.declared.InitParams.{InitParams}

@@ -29,7 +29,7 @@ use Rattle.channel.specs.Channels.{
 use Rattle.channel.proofs.Heads.{head-change-now, passthru-now, next-later, next-one, closed-now}
 use Rattle.fates.specs.Engine.{begunOf, stepOf}
 use Rattle.fates.specs.Events.{Event, idle, changes, sounds, act, acts, isReset, isSample}
-use Rattle.fates.proofs.Cases.{neither, either}
+use Rattle.walks.proofs.Tests.{neither, either}
 
 handled-clock : (p : Params) (c : Channel) → handledOf p c .head .now ≡ c .head .now
 unfolding handledOf

@@ -25,8 +25,8 @@ use Rattle.channel.specs.Channels.{
 }
 use Rattle.fates.specs.Engine.{bornOf, turnedOf, leavesOf, leftOf}
 use Rattle.fates.specs.Events.{Event, idle, changes, sounds, act, isReset, emptyAt, tickAt}
-use Rattle.fates.specs.Places.{Housed, voiceAt, at, gone, fateOf, follow, newOf}
-use Rattle.fates.proofs.Looks.{never, look-below, look-some, look-back, look-map, look-unmap, take-map, rank-order, keep-stood, without-fewer}
+use Rattle.fates.specs.Places.{Housed, voiceAt, at, gone, fateOf, follow, addedBy}
+use Rattle.walks.proofs.Lists.Looks.{never, look-below, look-some, look-back, look-map, look-unmap, take-map, rank-order, keep-stood, without-fewer}
 use Rattle.fates.proofs.Lives.{live-length, live-started, live-sped, live-sounded}
 use Rattle.fates.proofs.Stops.{found, stopped-none, live-stopped}
 use Rattle.fates.proofs.Housing.{housed}
@@ -88,8 +88,8 @@ left-came t m vs k u h =
     (s .place, w .0, w .1, rw (b, ← take-map (turnedOf t m) (s .place) vs) (ap at (s .moves)))
 
 pub covered : (e : Event) (c : Channel) → Housed c → (k : ℕ) (u : Voice) → voiceAt (act e c) k ≡ some u
-    → Came e c k ⊎ ((k ≡ length (live c)) × (newOf e c ≡ u ∷ []))
-unfolding act follow isReset newOf resetOf
+    → Came e c k ⊎ ((k ≡ length (live c)) × (addedBy e c ≡ u ∷ []))
+unfolding act follow isReset addedBy resetOf
 covered idle c h k u s = inl (record { place = k; voice = u; stood = s; follows = refl })
 covered (changes (change.Start p position note velocity)) c h k u s =
     go (eqb (c .head .«data_len») 0 || not (ltb (c .count) 32)) (subst (λ (l : List Voice). getElem? l k ≡ some u) (live-started p position note velocity c h) s)

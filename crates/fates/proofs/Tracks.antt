@@ -27,8 +27,8 @@ use Rattle.channel.specs.Channels.{
 }
 use Rattle.fates.specs.Engine.{begunOf, turnedOf, leavesOf, leftOf}
 use Rattle.fates.specs.Events.{Event, idle, changes, sounds, act, isReset, emptyAt, tickAt}
-use Rattle.fates.specs.Places.{Housed, voiceAt, at, gone, fateOf, follow, foundAt, becomes}
-use Rattle.fates.proofs.Looks.{look-front, look-map, look-set-same, look-set-other, take-map, keep-look}
+use Rattle.fates.specs.Places.{Housed, voiceAt, at, gone, fateOf, follow, findsAt, becomes}
+use Rattle.walks.proofs.Lists.Looks.{look-front, look-map, look-set-same, look-set-other, take-map, keep-look}
 use Rattle.fates.proofs.Lives.{live-started, live-sped, live-sounded}
 use Rattle.fates.proofs.Stops.{found, stopped-none, live-stopped}
 
@@ -47,7 +47,7 @@ look-started p position note velocity c h n v k =
 
 -- ---- a stop
 pub look-stopped : (p : Params) (note : Note) (c : Channel) → Housed c → (n : ℕ) (v : Voice) → voiceAt c n ≡ some v
-    → voiceAt (stopPlayingOf p note c) n ≡ some (cond (foundAt (findOf note c) n) (finishOf (c .head .now) (p .«decay_samples») v) v)
+    → voiceAt (stopPlayingOf p note c) n ≡ some (cond (findsAt (findOf note c) n) (finishOf (c .head .now) (p .«decay_samples») v) v)
 look-stopped p note c h n v k = go (findOf note c) refl
   where
     w : Voice
@@ -63,7 +63,7 @@ look-stopped p note c h n v k = go (findOf note c) refl
         subst (λ (l : List Voice). getElem? l n ≡ some v) (sym (live-stopped p note c h i (f .voice) e (f .stands)))
         (look-set-other (live c) i n _ (eqb-false i n q) ∙ k)
 
-    go : (f : Found) → findOf note c ≡ f → voiceAt (stopPlayingOf p note c) n ≡ some (cond (foundAt f n) w v)
+    go : (f : Found) → findOf note c ≡ f → voiceAt (stopPlayingOf p note c) n ≡ some (cond (findsAt f n) w v)
     go Nothing e = subst (λ (d : Channel). voiceAt d n ≡ some v) (sym (stopped-none p note c e)) k
     go (At i) e = placed i e (eqb i n) refl
 

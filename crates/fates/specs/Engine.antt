@@ -13,7 +13,7 @@ use Rattle.common_types.specs.declared.Note.{Note}
 use Rattle.common_types.specs.declared.NoteOffBehaviour.{NoteOffBehaviour}
 use Rattle.common_types.specs.declared.NoteOffBehaviour.the-variants as off
 use Rattle.volume.specs.Levels.{isStaticAndMuteOf, levelOf}
-use Rattle.clip.specs.Positions.{zero32}
+use Rattle.binary32.specs.Leaves.{zero32}
 use Rattle.voice.specs.declared.Voice.{Voice}
 use Rattle.voice.specs.declared.Tick.{Tick}
 use Rattle.voice.specs.Voices.{tickOf, lateOf, shouldRemoveOf, productOf, soundedOf, endedOf, volumeStepped, freshOf}

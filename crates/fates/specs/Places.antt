@@ -46,15 +46,15 @@ follow idle c n = at n
 
 -- ---- what the event makes of it
 
-abbrev pub foundAt : Found → ℕ → Bool
-foundAt (At i) n = eqb i n
-foundAt Nothing n = false
+abbrev pub findsAt : Found → ℕ → Bool
+findsAt (At i) n = eqb i n
+findsAt Nothing n = false
 
 -- a stop finds that voice: it is the first unfinished one with the note
 unfoldable pub stops : Event → Channel → ℕ → Bool
 stops idle c n = false
 stops (changes (change.Start p position note velocity)) c n = false
-stops (changes (change.Stop p note)) c n = foundAt (findOf note c) n
+stops (changes (change.Stop p note)) c n = findsAt (findOf note c) n
 stops (changes (change.Speed note speed)) c n = false
 stops (changes (change.Head d)) c n = false
 stops (changes change.Reset) c n = false
@@ -63,22 +63,22 @@ stops (sounds p x m) c n = false
 unfoldable pub becomes : Event → Channel → ℕ → Voice → Voice
 becomes idle c n v = v
 becomes (changes (change.Start p position note velocity)) c n v = v
-becomes (changes (change.Stop p note)) c n v = cond (foundAt (findOf note c) n) (finishOf (c .head .now) (p .«decay_samples») v) v
+becomes (changes (change.Stop p note)) c n v = cond (findsAt (findOf note c) n) (finishOf (c .head .now) (p .«decay_samples») v) v
 becomes (changes (change.Speed note speed)) c n v = spedOf note speed v
 becomes (changes (change.Head d)) c n v = v
 becomes (changes change.Reset) c n v = v
 becomes (sounds p x m) c n v = cond (emptyAt m c) v (turnedOf (tickAt p m c) (memoryOf x c m) v)
 
 -- the voice that the event adds, at the end: a start's own, unless the recording is empty
-unfoldable pub newOf : Event → Channel → List Voice
-newOf idle c = []
-newOf (changes (change.Start p position note velocity)) c =
+unfoldable pub addedBy : Event → Channel → List Voice
+addedBy idle c = []
+addedBy (changes (change.Start p position note velocity)) c =
     cond (eqb (c .head .«data_len») 0 || not (ltb (c .count) 32)) [] (bornOf p position note velocity c ∷ [])
-newOf (changes (change.Stop p note)) c = []
-newOf (changes (change.Speed note speed)) c = []
-newOf (changes (change.Head d)) c = []
-newOf (changes change.Reset) c = []
-newOf (sounds p x m) c = []
+addedBy (changes (change.Stop p note)) c = []
+addedBy (changes (change.Speed note speed)) c = []
+addedBy (changes (change.Head d)) c = []
+addedBy (changes change.Reset) c = []
+addedBy (sounds p x m) c = []
 
 -- ---- whether the event finishes it
 

@@ -9,7 +9,7 @@ use lib.Ieee.{Float, binary32, add, mul}
 use Rattle.walks.specs.Walks.{fold}
 use Rattle.common_types.specs.declared.Params.{Params}
 use Rattle.volume.specs.Levels.{levelOf}
-use Rattle.clip.specs.Positions.{zero32}
+use Rattle.binary32.specs.Leaves.{zero32}
 use Rattle.voice.specs.declared.Voice.{Voice}
 use Rattle.voice.specs.declared.Tick.{Tick}
 use Rattle.voice.specs.Voices.{productOf, atSpeedOf}

@@ -27,7 +27,7 @@ use denote.Triple.Statement.{Contract}
 use denote.Triple.Clauses.{ensured, lasts}
 use borrow.Struct.Behind.{look-at, put-at}
 use borrow.Struct.Items.{cut-records}
-use Rattle.walks.proofs.Inside.{Inside, elem-set, elem-look, within}
+use Rattle.walks.proofs.Steps.Inside.{Inside, elem-set, elem-look, within}
 use Rattle.voice.specs.declared.Voice.{Voice}
 use Rattle.voice.proofs.Voice as R
 use Rattle.voice.proofs.Voice.Laws as R′

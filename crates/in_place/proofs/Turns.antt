@@ -8,9 +8,9 @@ use lib.Dec.{eqb}
 use lib.ListN.{length, take}
 use lib.Ieee.{Float}
 use borrow.Author.Tests.{eqb-true}
-use Rattle.walks.proofs.Loops.{Walk, take-most}
+use Rattle.walks.proofs.Lists.Loops.{Walk, take-most}
 use Rattle.common_types.specs.declared.Params.{Params}
-use Rattle.clip.specs.Positions.{zero32}
+use Rattle.binary32.specs.Leaves.{zero32}
 use Rattle.voice.specs.declared.Voice.{Voice}
 use Rattle.voice.specs.declared.Tick.{Tick}
 use Rattle.voice.specs.Voices.{tickOf}
@@ -20,10 +20,10 @@ use Rattle.channel.specs.declared.Played.{Played}
 use Rattle.channel.specs.Heads.{mixedOf, closedOf}
 use Rattle.channel.specs.Channels.{withHead, withVoices, anyUnfinishedOf, playedOf, playedIfOf}
 use Rattle.channel.proofs.Turns.{restOf, rest-start, rest-end}
-use Rattle.in_place.specs.Turns.{unusedTick, turnsOf, begunOf, countedOf, playedBy}
+use Rattle.in_place.specs.Turns.{unusedTick, turnCountOf, sharedOf, voicesLeftOf, playedBy}
 
-pub turns-few : (p : Params) (time len count : ℕ) → begunOf p time len count .turns ≤ 32
-unfolding begunOf turnsOf
+pub turns-few : (p : Params) (time len count : ℕ) → sharedOf p time len count .turns ≤ 32
+unfolding sharedOf turnCountOf
 turns-few p time len count = go (eqb len 0)
   where
     go : (z : Bool) → cond z 0 (min count 32) ≤ 32
@@ -32,10 +32,10 @@ turns-few p time len count = go (eqb len 0)
 
 module _ (p : Params) (time len : ℕ) (ms : List ℕ) (h : Channel) (all : length (h .voices) ≡ 32) where
   abbrev t : Tick
-  t = begunOf p time len (h .count) .tick
+  t = sharedOf p time len (h .count) .tick
 
   abbrev n : ℕ
-  n = begunOf p time len (h .count) .turns
+  n = sharedOf p time len (h .count) .turns
 
   pub begins-there : Walk (restOf t ms h 0 zero32 (take n (h .voices))) (restOf t ms (withVoices (h .voices) (h .count) h) 0 zero32) (h .voices) n 0
   begins-there = record { upto = zero-le; within = omega (arith, turns-few p time len (h .count), all); same = refl }
@@ -49,8 +49,8 @@ module _ (p : Params) (time len : ℕ) (ms : List ℕ) (h : Channel) (all : leng
     none-taken : (u : Tick) → left k ≡ restOf u ms h 0 zero32 [] → left k ≡ record { channel = withVoices (h .voices) 0 h; output = zero32 }
     none-taken u e = e ∙ rest-end u ms h 0 zero32
 
-    count-stays : (u : Tick) → left k ≡ restOf u ms h 0 zero32 (take (min (h .count) 32) (h .voices)) → countedOf (min (h .count) 32) k (h .count) ≡ k
-    unfolding countedOf
+    count-stays : (u : Tick) → left k ≡ restOf u ms h 0 zero32 (take (min (h .count) 32) (h .voices)) → voicesLeftOf (min (h .count) 32) k (h .count) ≡ k
+    unfolding voicesLeftOf
     count-stays u e = go (eqb (min (h .count) 32) 0) refl
       where
         go : (z : Bool) → eqb (min (h .count) 32) 0 ≡ z → cond z (h .count) k ≡ k
@@ -61,8 +61,8 @@ module _ (p : Params) (time len : ℕ) (ms : List ℕ) (h : Channel) (all : leng
             c ∙ sym (ap (λ (r : Played). r .channel .count) (none-taken u (e ∙ ap (λ (j : ℕ). restOf u ms h 0 zero32 (take j (h .voices))) m)))
 
     ended-at : (u : Tick) (z : Bool) → left k ≡ restOf u ms h 0 zero32 (take (cond z 0 (min (h .count) 32)) (h .voices))
-        → left (countedOf (cond z 0 (min (h .count) 32)) k (h .count)) ≡ cond z (record { channel = h; output = zero32 }) (playedOf u ms h)
-    unfolding countedOf
+        → left (voicesLeftOf (cond z 0 (min (h .count) 32)) k (h .count)) ≡ cond z (record { channel = h; output = zero32 }) (playedOf u ms h)
+    unfolding voicesLeftOf
     ended-at u true e = ap (λ (r : Played). record { channel = withVoices (r .channel .voices) (h .count) h; output = r .output }) (none-taken u e)
     ended-at u false e = ap left (count-stays u e) ∙ e ∙ ap (restOf u ms h 0 zero32) (take-most (h .voices) (h .count) 32 all) ∙ rest-start u ms h
 
@@ -75,8 +75,8 @@ module _ (p : Params) (time len : ℕ) (ms : List ℕ) (h : Channel) (all : leng
     by-tick u v m false f = refl
 
     module _ (e : restOf t ms (withVoices l (h .count) h) k out [] ≡ restOf t ms h 0 zero32 (take n (h .voices))) where
-      ended : left (countedOf n k (h .count)) ≡ playedBy p time len ms h
-      unfolding playedBy begunOf turnsOf
+      ended : left (voicesLeftOf n k (h .count)) ≡ playedBy p time len ms h
+      unfolding playedBy sharedOf turnCountOf
       ended =
           let v = tickOf p time len in
           ended-at v (eqb len 0) (sym (rest-end t ms (withVoices l (h .count) h) k out) ∙ e ∙ by-tick unusedTick v n (eqb n 0) refl)
@@ -84,7 +84,7 @@ module _ (p : Params) (time len : ℕ) (ms : List ℕ) (h : Channel) (all : leng
       pub ended-output : out ≡ playedBy p time len ms h .output
       ended-output = ap (λ (r : Played). r .output) ended
 
-      pub ended-channel : withVoices l (countedOf n k (h .count)) h ≡ playedBy p time len ms h .channel
+      pub ended-channel : withVoices l (voicesLeftOf n k (h .count)) h ≡ playedBy p time len ms h .channel
       ended-channel = ap (λ (r : Played). r .channel) ended
 
 -- ---- a sample, once it is recorded: the voices play whatever head stands in the channel, which is overwritten at the end

@@ -6,7 +6,7 @@ use lib.Dec.{leb, eqb}
 use Rattle.common_types.specs.declared.Params.{Params}
 use Rattle.common_types.specs.declared.NoteOffBehaviour.the-variants.{Decay}
 use Rattle.clip.specs.declared.Mode.the-variants.{Loop}
-use Rattle.clip.specs.Positions.{zero32}
+use Rattle.binary32.specs.Leaves.{zero32}
 use Rattle.voice.specs.declared.Tick.{Tick}
 use Rattle.voice.specs.Voices.{tickOf}
 use Rattle.channel.specs.declared.Head.{Head}
@@ -17,8 +17,8 @@ use Rattle.channel.specs.Channels.{playedOf}
 use Rattle.in_place.specs.declared.Start.{Start}
 
 -- how many voices take a turn: none if the recording is empty, otherwise as many as there are, and never more than there are places
-unfoldable pub turnsOf : ℕ → ℕ → ℕ
-turnsOf len count = cond (eqb len 0) 0 (min count 32)
+unfoldable pub turnCountOf : ℕ → ℕ → ℕ
+turnCountOf len count = cond (eqb len 0) 0 (min count 32)
 
 -- what stands where no voice takes a turn; no voice sees it
 unfoldable pub unusedTick : Tick
@@ -34,14 +34,14 @@ unusedTick = record {
   «note_off_behavior» = Decay;
 }
 
-unfoldable pub begunOf : Params → ℕ → ℕ → ℕ → Start
-begunOf p time len count =
-    let n = turnsOf len count in
+unfoldable pub sharedOf : Params → ℕ → ℕ → ℕ → Start
+sharedOf p time len count =
+    let n = turnCountOf len count in
     record { tick = cond (eqb n 0) unusedTick (tickOf p time len); turns = n }
 
 -- how many voices there are after the turns: where there was none, as many as before
-unfoldable pub countedOf : ℕ → ℕ → ℕ → ℕ
-countedOf turns kept count = cond (eqb turns 0) count kept
+unfoldable pub voicesLeftOf : ℕ → ℕ → ℕ → ℕ
+voicesLeftOf turns kept count = cond (eqb turns 0) count kept
 
 -- the voices play if the recording isn't empty: a channel's `playedIfOf`, at a clock and with a recording's length that its head doesn't have yet
 unfoldable pub playedBy : Params → ℕ → ℕ → List ℕ → Channel → Played

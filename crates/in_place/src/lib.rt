@@ -2,7 +2,7 @@
 // equals the same definition as that of crate `channel` by value. Those that take a channel lent are proved by hand.
 ghost use mathlib.Core.Path.{_≡_};
 ghost use Rattle.channel.specs.Channels.{anyUnfinishedOf, memoryOf, processSampleOf, goodChannel};
-ghost use Rattle.in_place.specs.Turns.{unusedTick, turnsOf, begunOf, countedOf, playedBy, headGoodOf};
+ghost use Rattle.in_place.specs.Turns.{unusedTick, turnCountOf, sharedOf, voicesLeftOf, playedBy, headGoodOf};
 use channel::Channel;
 use channel::Head;
 use clip::Mode;
@@ -35,7 +35,7 @@ fn unused() -> Tick
 
 // With an empty recording no voice takes a turn.
 fn turns_of(data_len: usize, count: usize) -> usize
-    ensures { λ r. ⌜ r ≡ turnsOf «data_len» count ⌝ }
+    ensures { λ r. ⌜ r ≡ turnCountOf «data_len» count ⌝ }
 {
     if data_len == 0 {
         return 0;
@@ -44,7 +44,7 @@ fn turns_of(data_len: usize, count: usize) -> usize
 }
 
 fn begun(time: usize, data_len: usize, count: usize, params: Params) -> Start
-    ensures { λ r. ⌜ r ≡ begunOf params time «data_len» count ⌝ }
+    ensures { λ r. ⌜ r ≡ sharedOf params time «data_len» count ⌝ }
 {
     let turns = turns_of(data_len, count);
     if turns == 0 {
@@ -61,7 +61,7 @@ fn begun(time: usize, data_len: usize, count: usize, params: Params) -> Start
 
 // How many voices there are once `turns` took their turn and `kept` of them stayed.
 fn counted(turns: usize, kept: usize, count: usize) -> usize
-    ensures { λ r. ⌜ r ≡ countedOf turns kept count ⌝ }
+    ensures { λ r. ⌜ r ≡ voicesLeftOf turns kept count ⌝ }
 {
     if turns == 0 { count } else { kept }
 }

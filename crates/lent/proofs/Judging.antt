@@ -41,7 +41,7 @@ use denote.Triple.Statement.{Contract, Triple}
 use denote.Triple.Call.{calls-at}
 use denote.Triple.Clauses.{Ended, Clauses, ensured, lasts, closing}
 use denote.Triple.Walked.{says, Stays, stay-dropped, stay-none, walkOf, ends-at, walked, goes-silent, goes-none, walk-meets}
-use Rattle.walks.proofs.Inside.{Back, goes-in, comes-out, big}
+use Rattle.walks.proofs.Steps.Inside.{Back, goes-in, comes-out, big}
 use Rattle.in_place.proofs.Bytes.{channel-bytes}
 use Rattle.lent.proofs.Bytes.{count-at, capacity-at}
 use Rattle.lent.proofs.Rows.{Datum, row}

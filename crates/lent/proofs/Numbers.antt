@@ -7,6 +7,7 @@ use native.Mathlib.Omega.{arith}
 use lib.Dec.{leb, ltb}
 use lib.ListN.{length, take}
 use lib.Seq.{take-nil}
+use Rattle.walks.proofs.Tests.{and-true, or-false}
 use Rattle.walks.specs.Walks.{any, every}
 use Rattle.common_types.specs.declared.Params.{Params}
 use Rattle.common_types.specs.Settings.{beyondLimits}
@@ -18,14 +19,6 @@ use Rattle.sampler.specs.Refusals.{row, channelAt, goodSizes, goodSampler, good
 use Rattle.lent.specs.Numbers.{allGood, anyEnded, numberOf}
 
 -- ---- of two, the first n
-and-true : (a : Bool) → a ≡ (a && true)
-and-true true = refl
-and-true false = refl
-
-or-false : (a : Bool) → a ≡ (a || false)
-or-false true = refl
-or-false false = refl
-
 pub all-first : (a b : Bool) → a ≡ allGood 1 (a ∷ b ∷ [])
 unfolding allGood every
 all-first a b = and-true a

@@ -28,7 +28,7 @@ use denote.Struct.Laws as LL
 use borrow.Struct.Behind.{look-at, put-at}
 use borrow.Struct.Inner.{cut-record}
 use borrow.Struct.Items.{cut-records}
-use Rattle.walks.proofs.Inside.{Inside, elem-set, elem-look, within}
+use Rattle.walks.proofs.Steps.Inside.{Inside, elem-set, elem-look, within}
 use Rattle.channel.specs.declared.Channel.{Channel}
 use Rattle.channel.specs.Channels.{channelOf}
 use Rattle.channel.proofs.Head as E

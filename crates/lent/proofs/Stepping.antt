@@ -50,21 +50,14 @@ use denote.Triple.Call.{calls-at}
 use denote.Triple.Clauses.{Ended, Clauses, ensured, lasts, closing}
 use denote.Triple.Walked.{says, Stays, stay-ref, stay-slice, stay-none, walkOf, ends-at, walked, goes-ref, goes-slice, goes-none, walk-meets}
 use borrow.Rule.Slice.PartMut.{midOf, putMid, same-len-mid}
-use Rattle.walks.proofs.Inside.{Back, goes-in, comes-out, opened, big}
-use Rattle.walks.proofs.Again.{LentAgain, lends-again, comes-back}
-use Rattle.walks.proofs.Rounds.{rounds}
+use Rattle.walks.proofs.Tests.{holds, fails}
+use Rattle.walks.proofs.Steps.Inside.{Back, goes-in, comes-out, opened, big}
+use Rattle.walks.proofs.Steps.Again.{LentAgain, lends-again, comes-back}
+use Rattle.walks.proofs.Steps.Rounds.{rounds}
 use Rattle.in_place.proofs.Bytes.{channel-bytes}
 use Rattle.lent.proofs.Bytes.{capacity-at}
 use Rattle.lent.proofs.Rows.{Datum, row}
 use Rattle.lent.proofs.Seats.{Seats, seat, lies}
-
-holds : (t : Bool) → Holds t → t ≡ true
-holds true _ = refl
-holds false a = absurd a
-
-fails : (t : Bool) → (Holds t → ⊥) → t ≡ false
-fails true f = absurd (f tt)
-fails false _ = refl
 
 pub record Turning (T C P : Datum) (S : Seats T C) : Type 1 where
   pub numberOf : T .like .Denot → ℕ → P .like .Denot → ℕ → ℕ

@@ -23,7 +23,7 @@ use Rattle.voice.specs.Voices.{tickOf, lateOf, overOf, shouldRemoveOf, movedOf,
 use Rattle.channel.specs.Heads.{headChangedOf, nextTime, headOf, rampOf, passthruOf, closedOf, goodHead}
 use Rattle.channel.specs.Channels.{channelOf, resetOf, anyUnfinishedOf, handledOf, pushedOf, startPlayingOf, wantedOf, findOf, finishedAtOf, stopPlayingOf, spedOf, setNoteSpeedOf, keptOf, addedOf, heardOf, playedOf, playedIfOf, takenOf, memoryOf, processSampleOf, changedOf, fullOf, goodVoicesOf, goodChannel}
 use Rattle.sampler.specs.Refusals.{goodSizes, goodSampler, capacityOf, goodWith, setUpNumber, startNumber, stopNumber, speedNumber, plainNumber, frameNumber}
-use Rattle.sampler.specs.Samplers.{setUpOf, eachOf, answerOf, partOf, playedAt, steppedOf as steppedAt, outputOf as outputAt, memoryAt, entryOf, entriesOf, framedOf}
+use Rattle.sampler.specs.Samplers.{setUpOf, eachOf, answerOf, partOf, playedAt, channelSteppedOf as steppedAt, outputOf as outputAt, memoryAt, entryOf, entriesOf, framedOf}
 use Rattle.decimal.specs.Decimal.{digits, decimal}
 use Rattle.decimal.specs.Lines.{bytes, lineOf, textOf}
 use Rattle.listing.specs.Lines.{hexDigit, hexDigits, outputOf, outputsOf, answerLine, frameLine, badLine, newline}

@@ -14,7 +14,7 @@ use Rattle.walks.specs.Walks.{any}
 use Rattle.common_types.specs.declared.Params.{Params}
 use Rattle.common_types.specs.declared.Note.{Note}
 use Rattle.common_types.specs.Settings.{beyondLimits}
-use Rattle.clip.specs.Positions.{zero32}
+use Rattle.binary32.specs.Leaves.{zero32}
 use Rattle.voice.specs.Soundness.{FittingParams}
 use Rattle.channel.specs.declared.Channel.{Channel}
 use Rattle.channel.specs.declared.Change.{Change}
@@ -28,7 +28,7 @@ use Rattle.sampler.proofs.Rows.{passed, frame-steps}
 use Rattle.sampler.proofs.Entries.{sample-reaches, frame-reaches}
 use Rattle.fates.specs.Events.{idle, changes, sounds}
 use Rattle.promises.specs.Runs.{World, Call, change, start, sample, frame, asks, code, chan, doneTo, event, output, FittingCall}
-use Rattle.fates.proofs.Cases.{neither}
+use Rattle.walks.proofs.Tests.{neither}
 use Rattle.promises.proofs.Apart.{frame-output}
 use Rattle.promises.proofs.Calls.{Standing}
 

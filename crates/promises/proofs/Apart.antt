@@ -12,7 +12,7 @@ use lib.ListN.{length, take, drop, getD, length-set, length-append}
 use lib.Seq.{length-take-le, take-append-le, take-take, drop-append-add, drop-drop, drop-at, take-at, getD-set-same, getD-set-other}
 use lib.Ieee.{Float, binary32, mul}
 use Rattle.common_types.specs.declared.Params.{Params}
-use Rattle.clip.specs.Positions.{zero32}
+use Rattle.binary32.specs.Leaves.{zero32}
 use Rattle.channel.specs.declared.Channel.{Channel}
 use Rattle.channel.specs.declared.Played.{Played}
 use Rattle.channel.specs.Channels.{memoryOf}
@@ -20,7 +20,7 @@ use Rattle.channel.specs.Channels.{processSampleOf as channelSampleOf}
 use Rattle.channel.proofs.Samples.{memory-kept}
 use Rattle.sampler.specs.declared.Sampler.{Sampler}
 use Rattle.sampler.specs.Refusals.{channelAt}
-use Rattle.sampler.specs.Samplers.{Steps, framed, partOf, playedAt, steppedOf, outputOf, memoryAt, Framed, entryOf, entriesOf}
+use Rattle.sampler.specs.Samplers.{Steps, framed, partOf, playedAt, channelSteppedOf, outputOf, memoryAt, Framed, entryOf, entriesOf}
 use Rattle.sampler.proofs.Entries.{part-length, memory-at-length}
 
 -- ---- parts of a list
@@ -77,16 +77,16 @@ module _ (s : Sampler) (i : ℕ) (m : List ℕ) (h : i * s .capacity + s .capaci
         ∙ take-at written (drop (i * s .capacity + s .capacity) m) (s .capacity) written-length
 
 module _ (s : Sampler) (i : ℕ) (p : Params) (x : Float) (m : List ℕ) where
-  pub channel-apart : (j : ℕ) → j ≢ i → channelAt (steppedOf s i p x m) j ≡ channelAt s j
-  unfolding steppedOf
+  pub channel-apart : (j : ℕ) → j ≢ i → channelAt (channelSteppedOf s i p x m) j ≡ channelAt s j
+  unfolding channelSteppedOf
   channel-apart j e = getD-set-other (s .channels) i j (playedAt s i p x m .channel) _ e
 
-  pub channel-own : i < length (s .channels) → channelAt (steppedOf s i p x m) i ≡ channelSampleOf p x (channelAt s i) (partOf s i m) .channel
-  unfolding steppedOf playedAt
+  pub channel-own : i < length (s .channels) → channelAt (channelSteppedOf s i p x m) i ≡ channelSampleOf p x (channelAt s i) (partOf s i m) .channel
+  unfolding channelSteppedOf playedAt
   channel-own h = getD-set-same (s .channels) i (playedAt s i p x m .channel) _ h
 
-  pub stepped-length : length (steppedOf s i p x m .channels) ≡ length (s .channels)
-  unfolding steppedOf
+  pub stepped-length : length (channelSteppedOf s i p x m .channels) ≡ length (s .channels)
+  unfolding channelSteppedOf
   stepped-length = length-set (s .channels) i (playedAt s i p x m .channel)
 
 -- ---- a frame
@@ -109,7 +109,7 @@ playedBy p r = channelSampleOf p (r .input) (r .channel) (r .part)
 
 -- the entry of another channel leaves it as it was
 entry-apart : (p : Params) (i : ℕ) (f : Framed) (j : ℕ) → j ≢ i → Held i f → readIn (entryOf p i f) j ≡ readIn f j
-unfolding entryOf steppedOf partOf
+unfolding entryOf channelSteppedOf partOf
 entry-apart p i f j q held =
     let s : Sampler = f .sampler in
     let x : Float = getD (f .frame) i zero32 in
@@ -130,7 +130,7 @@ room-here n i f h = le-trans (le-of-eq (sym (suc-mul i (f .sampler .capacity))))
     ahead = omega arith
 
 room-on : (p : Params) (n i : ℕ) (f : Framed) → Room (suc n) i f → Room n (i + 1) (entryOf p i f)
-unfolding entryOf steppedOf
+unfolding entryOf channelSteppedOf
 room-on p n i f h =
     let s : Sampler = f .sampler in
     le-trans (le-of-eq (ap (λ (z : ℕ). z * s .capacity) shift)) (le-trans h (le-of-eq (sym (memory-at-length s i (f .memory) (room-here n i f h) (getD (f .frame) i zero32)))))
@@ -203,7 +203,7 @@ module _ (s : Sampler) (xs : List Float) (p : Params) (m : List ℕ) (h : Steps 
 
   pub frame-part : partOf (entriesOf p (length xs) 0 (framed s xs m) .sampler) j (entriesOf p (length xs) 0 (framed s xs m) .memory)
       ≡ cond (ltb j (length xs)) (memoryOf (getD xs j zero32) (channelAt s j) (partOf s j m)) (partOf s j m)
-  unfolding entryOf steppedOf partOf
+  unfolding entryOf channelSteppedOf partOf
   frame-part =
       entries-frame p j (λ (f : Framed). partOf (f .sampler) j (f .memory)) (λ i f q r. part-apart (f .sampler) i (f .memory) r (getD (f .frame) i zero32) j q) (λ (f : Framed). Unit {0}) (λ i f u. tt)
       (λ (r : Reads). memoryOf (r .input) (r .channel) (r .part)) (λ f u a b. part-own (f .sampler) j (f .memory) a (getD (f .frame) j zero32)) (framed s xs m) tt h

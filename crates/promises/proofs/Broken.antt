@@ -12,14 +12,14 @@ use lib.Dec.{leb, ltb, eqb}
 use lib.ListN.{take, getD, getElem?}
 use lib.Ieee.{Float, le, ofInt}
 use Rattle.walks.specs.Walks.{every}
-use Rattle.walks.proofs.Every.{both}
+use Rattle.walks.proofs.Lists.Every.{both}
 use Rattle.volume.specs.declared.Volume.{Volume}
 use Rattle.volume.specs.declared.Volume.the-variants.{Static, Linear}
 use Rattle.volume.specs.Levels.{goodRamp, goodVolume}
 use Rattle.recorder.specs.declared.State.{State}
 use Rattle.recorder.specs.declared.State.the-variants.{Triggered, Idle}
 use Rattle.recorder.specs.Recording.{goodRecorder}
-use Rattle.clip.specs.Positions.{zero32, one32}
+use Rattle.binary32.specs.Leaves.{zero32, one32}
 use Rattle.clip.specs.declared.Clip.{Clip}
 use Rattle.clip.specs.Refusals.{most32, goodLength, goodClip}
 use Rattle.voice.specs.declared.Voice.{Voice}

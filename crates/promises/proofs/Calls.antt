@@ -9,18 +9,18 @@ use lib.Dec.{eqb, ltb}
 use lib.ListN.{length, drop, getD, length-set, length-map, List·getD-append, List·getD-map}
 use lib.Seq.{length-sets, length-take-le, getD-take}
 use lib.Ieee.{Float}
-use Rattle.walks.proofs.Loops.{getD-any}
-use Rattle.walks.proofs.Runs.{run-front}
+use Rattle.walks.proofs.Lists.Loops.{getD-any}
+use Rattle.walks.proofs.Lists.Runs.{run-front}
 use Rattle.common_types.specs.declared.InitParams.{InitParams}
 use Rattle.common_types.specs.declared.Params.{Params}
-use Rattle.clip.specs.Positions.{zero32}
+use Rattle.binary32.specs.Leaves.{zero32}
 use Rattle.channel.specs.declared.Channel.{Channel}
 use Rattle.channel.specs.declared.Change.{Change}
 use Rattle.channel.specs.Channels.{channelOf, changedOf}
 use Rattle.channel.specs.Channels.{processSampleOf as channelSampleOf}
 use Rattle.sampler.specs.declared.Sampler.{Sampler}
 use Rattle.sampler.specs.Refusals.{present, channelAt, goodSizes, capacityOf, setUpNumber, sampleNumber, frameNumber}
-use Rattle.sampler.specs.Samplers.{samplerOf, setUpOf, eachOf, answerOf, partOf, playedAt, steppedOf, processSampleOf, Framed, framed, entryOf, entriesOf, framedOf}
+use Rattle.sampler.specs.Samplers.{samplerOf, setUpOf, eachOf, answerOf, partOf, playedAt, channelSteppedOf, processSampleOf, Framed, framed, entryOf, entriesOf, framedOf}
 use Rattle.sampler.proofs.Rows.{sizes-count, frame-steps}
 use Rattle.fates.specs.Events.{idle, changes, sounds, act, acts}
 use Rattle.fates.specs.Places.{Housed}
@@ -70,14 +70,14 @@ module _ (w : World) (two : length (w .sampler .channels) ≡ 2) (few : w .sampl
       m : List ℕ
       m = w .memory
 
-      which : (b : Bool) → eqb i j ≡ b → channelAt (steppedOf s i p x m) j ≡ act (cond b (sounds p x (partOf s j m)) idle) (channelAt s j)
+      which : (b : Bool) → eqb i j ≡ b → channelAt (channelSteppedOf s i p x m) j ≡ act (cond b (sounds p x (partOf s j m)) idle) (channelAt s j)
       which true e =
-          subst (λ (y : ℕ). channelAt (steppedOf s y p x m) j ≡ channelSampleOf p x (channelAt s j) (partOf s j m) .channel) (sym (eqb-true i j e)) (channel-own s j p x m (omega arith))
+          subst (λ (y : ℕ). channelAt (channelSteppedOf s y p x m) j ≡ channelSampleOf p x (channelAt s j) (partOf s j m) .channel) (sym (eqb-true i j e)) (channel-own s j p x m (omega arith))
           ∙ sounds-same p x (channelAt s j) (partOf s j m)
       which false e = channel-apart s i p x m j (λ q. eqb-false i j e (sym q))
 
       go : (b : Bool) → eqb (sampleNumber s i p (length m)) 0 ≡ b
-          → channelAt (cond b (steppedOf s i p x m) s) j ≡ act (cond b (cond (eqb i j) (sounds p x (partOf s j m)) idle) idle) (channelAt s j)
+          → channelAt (cond b (channelSteppedOf s i p x m) s) j ≡ act (cond b (cond (eqb i j) (sounds p x (partOf s j m)) idle) idle) (channelAt s j)
       go true e = which (eqb i j) refl
       go false e = refl
 
@@ -135,8 +135,8 @@ unfolding answerOf eachOf
 kept-answer number d s =
     kept-if s (eachOf d s) s (eqb number 0) (record { channels = length-sets (s .channels) 0 (map (changedOf d) (present s)); count = refl; capacity = refl }) (kept-refl s)
 
-kept-step : (s : Sampler) (j : ℕ) (p : Params) (x : Float) (m : List ℕ) → Kept s (steppedOf s j p x m)
-unfolding steppedOf
+kept-step : (s : Sampler) (j : ℕ) (p : Params) (x : Float) (m : List ℕ) → Kept s (channelSteppedOf s j p x m)
+unfolding channelSteppedOf
 kept-step s j p x m = record { channels = length-set (s .channels) j (playedAt s j p x m .channel); count = refl; capacity = refl }
 
 kept-entries : (p : Params) (n j : ℕ) (f : Framed) → Kept (f .sampler) (entriesOf p n j f .sampler)

@@ -23,11 +23,11 @@ use Rattle.channel.specs.Channels.{live, fullOf}
 use Rattle.sampler.specs.Refusals.{setUpNumber}
 use Rattle.fates.specs.Engine.{bornOf, stepOf}
 use Rattle.fates.specs.Events.{Event, idle, sounds, act, acts, isReset, isSample, emptyAt, decayOf, lastOf, beforeLast}
-use Rattle.fates.specs.Places.{Housed, voiceAt, Place, at, gone, follow, becomes, newOf, onward, followAll, stoppedIn, finishes}
+use Rattle.fates.specs.Places.{Housed, voiceAt, Place, at, gone, follow, becomes, addedBy, onward, followAll, stoppedIn, finishes}
 use Rattle.fates.specs.Sounding.{Sounds, First}
 use Rattle.promises.specs.Runs.{World, setUp, Call, change, start, sample, frame, asks, code, after, run, chan, doneTo, event, events, isResetCall, output, final, before}
 use Rattle.promises.specs.Demands.{isEmpty, Leaves, SoundsIn, FirstIn, Demand3}
-use Rattle.fates.proofs.Cases.{neither, either}
+use Rattle.walks.proofs.Tests.{neither, either}
 use Rattle.fates.proofs.Tracks.{gone-never, tracks}
 use Rattle.fates.proofs.Order.{Came, ordered, covered, fewer}
 use Rattle.fates.proofs.Terms.{sounds-later}
@@ -152,8 +152,8 @@ module _ (w : World) (st : Standing w) (j : ℕ) (k : j < w .sampler .count) whe
       = subst (λ (d : Channel). d .count < chan w j .count) (sym e) (fewer (event w c j) (chan w j) house (event-reset w c j r) n v s g) in
       (less, rw (lt-leb 32 (chan (after w c) j .count) (omega (arith, house .room))) (and-false (not (isEmpty (chan (after w c) j)))))
 
-  came : (c : Call) (u : Voice) (i : ℕ) → Came (event w c j) (chan w j) i ⊎ ((i ≡ length (live (chan w j))) × (newOf (event w c j) (chan w j) ≡ u ∷ []))
-      → ((n : ℕ) × (v : Voice) × (voiceAt (chan w j) n ≡ some v) × (follow (event w c j) (chan w j) n ≡ at i)) ⊎ ((i ≡ length (live (chan w j))) × (newOf (event w c j) (chan w j) ≡ u ∷ []))
+  came : (c : Call) (u : Voice) (i : ℕ) → Came (event w c j) (chan w j) i ⊎ ((i ≡ length (live (chan w j))) × (addedBy (event w c j) (chan w j) ≡ u ∷ []))
+      → ((n : ℕ) × (v : Voice) × (voiceAt (chan w j) n ≡ some v) × (follow (event w c j) (chan w j) n ≡ at i)) ⊎ ((i ≡ length (live (chan w j))) × (addedBy (event w c j) (chan w j) ≡ u ∷ []))
   came c u i (inl r) = inl (r .place, r .voice, r .stood, r .follows)
   came c u i (inr r) = inr r
 

@@ -23,7 +23,7 @@ use Rattle.channel.specs.Channels.{live}
 use Rattle.sampler.specs.declared.Sampler.{Sampler}
 use Rattle.sampler.specs.declared.Answer.{Answer}
 use Rattle.sampler.specs.Refusals.{channelAt, goodSizes, goodSampler, capacityOf, goodWith, noChannel, row, setUpNumber, startNumber, stopNumber, speedNumber, plainNumber, sampleNumber, frameNumber, channelNumber}
-use Rattle.sampler.specs.Samplers.{samplerOf, setUpOf, eachOf, answerOf, processSampleOf, sampleMemory, steppedOf, memoryAt, Framed, framed, entriesOf, framedOf}
+use Rattle.sampler.specs.Samplers.{samplerOf, setUpOf, eachOf, answerOf, processSampleOf, sampleMemory, channelSteppedOf, memoryAt, Framed, framed, entriesOf, framedOf}
 use Rattle.questions.specs.Questions.{recorderAt, notesOf, inFront, listNumber, listAfter, infoNumber, answered, noInfos, infosWith, getVoiceInfoOf}
 use Rattle.questions.specs.declared.VoiceInfos.{VoiceInfos}
 use Rattle.lent.specs.Lists.{listedOf}
@@ -91,7 +91,7 @@ sample-held : (w : World) (j : ℕ) (x y : Float) (p : Params) → sampleNumber 
 unfolding processSampleOf sampleMemory
 sample-held w j x y p h =
     let n = sampleNumber (w .sampler) j p (length (w .memory)) in
-    λ t. record { sampler = other n (steppedOf (w .sampler) j p x (w .memory)) (w .sampler) h t; memory = other n (memoryAt (w .sampler) j y (w .memory)) (w .memory) h t }
+    λ t. record { sampler = other n (channelSteppedOf (w .sampler) j p x (w .memory)) (w .sampler) h t; memory = other n (memoryAt (w .sampler) j y (w .memory)) (w .memory) h t }
 
 after-held : (w : World) (c : Call) → code w c ≢ 0 → after w c ≡ w
 unfolding after code framedOf

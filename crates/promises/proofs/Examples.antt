@@ -18,8 +18,7 @@ use Rattle.common_types.specs.declared.NoteOffBehaviour.{NoteOffBehaviour}
 use Rattle.common_types.specs.declared.NoteOffBehaviour.the-variants as off
 use Rattle.common_types.specs.declared.time_value.TimeOrRatio.the-variants.{Ratio}
 use Rattle.common_types.specs.Settings.{defaultTransport}
-use Rattle.clip.specs.Positions.{zero32, one32}
-use Rattle.binary32.specs.Leaves.{floorOf, minOf, maxOf, crossingOf}
+use Rattle.binary32.specs.Leaves.{floorOf, minOf, maxOf, crossingOf, zero32, one32}
 use Rattle.walks.specs.Walks.{any, every, without, fold, seek}
 use Rattle.common_types.specs.Settings.{speedOf, timeLengthOf, lengthOf, loopLengthOf, lengthBeyond, beyondLimits}
 use Rattle.volume.specs.Levels.{progressOf, levelOf, towardOf, steppedOf, goodRamp, goodVolume}
@@ -38,11 +37,11 @@ use Rattle.sampler.specs.Refusals.{goodSizes, goodSampler, capacityOf, goodWith
 use Rattle.questions.specs.declared.VoiceInfo.{VoiceInfo}
 use Rattle.questions.specs.declared.Counted.the-variants as counted
 use Rattle.questions.specs.Questions.{notesOf, listNumber, voiceInfoOf, infoNumber}
-use Rattle.sampler.specs.Samplers.{withChannels, setUpOf, eachOf, answerOf, partOf, playedAt, steppedOf as sampledOf, outputOf, memoryAt, processSampleOf as sampleOf, sampleMemory, entryOf, entriesOf, framedOf}
+use Rattle.sampler.specs.Samplers.{withChannels, setUpOf, eachOf, answerOf, partOf, playedAt, channelSteppedOf as sampledOf, outputOf, memoryAt, processSampleOf as sampleOf, sampleMemory, entryOf, entriesOf, framedOf}
 use Rattle.fates.specs.Engine.{begunOf, passesOver, heardBy, turnedOf, letsGo, leavesOf, leftOf, turnsOf, stepOf}
 use Rattle.fates.specs.Events.{tickAt, act, isReset, isSample, decayOf}
 use Rattle.fates.specs.Sounding.{termsOf}
-use Rattle.fates.specs.Places.{voiceAt, at, gone, fateOf, follow, stops, becomes, newOf, outOf, playsOut, followAll, stoppedIn, finishedIn}
+use Rattle.fates.specs.Places.{voiceAt, at, gone, fateOf, follow, stops, becomes, addedBy, outOf, playsOut, followAll, stoppedIn, finishedIn}
 use Rattle.promises.specs.Runs.{World, Call, start, stop, speed, startRecording, stopRecording, sample, frame, getDataLen, iterActiveNotes, fillVoiceInfo, asks, FittingCall, chan, ownPart, setUp, questionNumber, code, after, run, doneTo, event, events, isResetCall, output, before}
 use lib.Ieee.{Float, nan, fin, binary32, fits, add, sub, mul, div, rem, neg, lt, le, eq, ofInt, toUnsigned, isNan, ofBits, toBits, nanBits, ofFields}
 use Rattle.promises.specs.Outcomes.{on, leftBy}
@@ -54,7 +53,7 @@ use Rattle.promises.proofs.Demand3.{demand3}
 
 -- whatever a run computes by
 unfoldable pub computing : Unit {0}
-unfolding floorOf minOf maxOf crossingOf any every without fold seek speedOf timeLengthOf lengthOf loopLengthOf lengthBeyond beyondLimits progressOf levelOf towardOf steppedOf goodRamp goodVolume raised inState misusedOf skippedOf startOf stopOf recordedOf dataAfter goodRecorder leadOf travelAt loopedOf roundTripOf mirroredOf bouncedOf wrappedOf placedOf clipOffsetAt clipToDataOf offsetAt indexAt madeOf backOf foundAt reversingAt shiftFor settledOf withSpeed withMode withLength withDataLength goodLength goodClip tickOf lateOf overOf shouldRemoveOf movedOf productOf soundedOf finishOf playedOutOf endedOf volumeStepped turnOf freshOf blankVoice atSpeedOf goodVoice nextTime headOf rampOf passthruOf closedOf goodHead channelOf resetOf anyUnfinishedOf handledOf pushedOf startPlayingOf wantedOf findOf finishedAtOf stopPlayingOf spedOf setNoteSpeedOf headChangedOf keptOf addedOf heardOf playedOf playedIfOf takenOf begunOf passesOver heardBy turnedOf letsGo leavesOf leftOf turnsOf stepOf memoryOf processSampleOf changedOf fullOf goodVoicesOf goodChannel goodSizes goodSampler capacityOf goodWith setUpNumber startNumber stopNumber speedNumber plainNumber sampleNumber frameNumber channelNumber notesOf listNumber setUpOf eachOf answerOf partOf playedAt sampledOf outputOf memoryAt sampleOf sampleMemory entryOf entriesOf framedOf act isReset isSample decayOf fateOf follow stops becomes newOf outOf playsOut followAll stoppedIn finishedIn setUp questionNumber code after run doneTo event events isResetCall output before add sub mul div rem neg lt le eq ofInt toUnsigned isNan ofBits toBits nanBits ofFields
+unfolding floorOf minOf maxOf crossingOf any every without fold seek speedOf timeLengthOf lengthOf loopLengthOf lengthBeyond beyondLimits progressOf levelOf towardOf steppedOf goodRamp goodVolume raised inState misusedOf skippedOf startOf stopOf recordedOf dataAfter goodRecorder leadOf travelAt loopedOf roundTripOf mirroredOf bouncedOf wrappedOf placedOf clipOffsetAt clipToDataOf offsetAt indexAt madeOf backOf foundAt reversingAt shiftFor settledOf withSpeed withMode withLength withDataLength goodLength goodClip tickOf lateOf overOf shouldRemoveOf movedOf productOf soundedOf finishOf playedOutOf endedOf volumeStepped turnOf freshOf blankVoice atSpeedOf goodVoice nextTime headOf rampOf passthruOf closedOf goodHead channelOf resetOf anyUnfinishedOf handledOf pushedOf startPlayingOf wantedOf findOf finishedAtOf stopPlayingOf spedOf setNoteSpeedOf headChangedOf keptOf addedOf heardOf playedOf playedIfOf takenOf begunOf passesOver heardBy turnedOf letsGo leavesOf leftOf turnsOf stepOf memoryOf processSampleOf changedOf fullOf goodVoicesOf goodChannel goodSizes goodSampler capacityOf goodWith setUpNumber startNumber stopNumber speedNumber plainNumber sampleNumber frameNumber channelNumber notesOf listNumber setUpOf eachOf answerOf partOf playedAt sampledOf outputOf memoryAt sampleOf sampleMemory entryOf entriesOf framedOf act isReset isSample decayOf fateOf follow stops becomes addedBy outOf playsOut followAll stoppedIn finishedIn setUp questionNumber code after run doneTo event events isResetCall output before add sub mul div rem neg lt le eq ofInt toUnsigned isNan ofBits toBits nanBits ofFields
 computing = tt
 
 -- ---- parameters, keys, calls
@@ -233,13 +232,13 @@ unfolding computing
 none-else-met = came (trio-promised .none-else (quiet plain) 1 (voice (after trio (quiet plain)) 1) refl)
   where
     came : ((n : ℕ) × (v : Voice) × (voiceAt (chan trio 1) n ≡ some v) × (follow (event trio (quiet plain) 1) (chan trio 1) n ≡ at 1))
-        ⊎ ((1 ≡ length (live (chan trio 1))) × (newOf (event trio (quiet plain) 1) (chan trio 1) ≡ voice (after trio (quiet plain)) 1 ∷ []))
+        ⊎ ((1 ≡ length (live (chan trio 1))) × (addedBy (event trio (quiet plain) 1) (chan trio 1) ≡ voice (after trio (quiet plain)) 1 ∷ []))
         → (n : ℕ) × (follow (event trio (quiet plain) 1) (chan trio 1) n ≡ at 1)
     came (inl r) = (r .0, r .3)
     came (inr r) = let z : _≡_ {A = ℕ} 0 1 = ap length (r .1) in absurd (omega arith)
 
 -- a start's own, at the end
-pub none-else-new : newOf (event older (press 61) 1) (chan older 1) ≡ voice (after older (press 61)) 1 ∷ []
+pub none-else-new : addedBy (event older (press 61) 1) (chan older 1) ≡ voice (after older (press 61)) 1 ∷ []
 unfolding computing
 none-else-new = refl
 

@@ -8,7 +8,7 @@ use lib.Dec.{eqb, ltb}
 use lib.ListN.{length, take, drop, getD}
 use lib.Ieee.{Float}
 use Rattle.common_types.specs.declared.Params.{Params}
-use Rattle.clip.specs.Positions.{zero32}
+use Rattle.binary32.specs.Leaves.{zero32}
 use Rattle.channel.specs.declared.Channel.{Channel}
 use Rattle.channel.specs.Channels.{memoryOf}
 use Rattle.sampler.specs.declared.Sampler.{Sampler}

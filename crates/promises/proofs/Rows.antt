@@ -9,16 +9,15 @@ use borrow.Author.Tests.{leb-true, le-leb, ltb-true, lt-ltb, ltb-false, le-ltb, 
 use lib.Dec.{leb, ltb, eqb}
 use lib.ListN.{take, getD}
 use lib.Ieee.{Float, le, lt, ofInt}
-use Rattle.binary32.specs.Leaves.{asFloat}
+use Rattle.binary32.specs.Leaves.{asFloat, zero32, one32}
 use Rattle.walks.specs.Walks.{any}
-use Rattle.walks.proofs.Every.{both}
+use Rattle.walks.proofs.Lists.Every.{both}
 use Rattle.common_types.specs.declared.Params.{Params}
 use Rattle.common_types.specs.declared.Transport.{Transport}
 use Rattle.common_types.specs.declared.time_value.TimeValue.{TimeValue}
 use Rattle.common_types.specs.declared.time_value.TimeOrRatio.{TimeOrRatio}
 use Rattle.common_types.specs.declared.time_value.TimeOrRatio.the-variants.{Time, Ratio}
 use Rattle.common_types.specs.Settings.{timeLengthOf, lengthBeyond, beyondLimits}
-use Rattle.clip.specs.Positions.{zero32, one32}
 use Rattle.channel.specs.declared.Channel.{Channel}
 use Rattle.channel.specs.Heads.{headOf}
 use Rattle.channel.specs.Channels.{channelOf, fullOf}

@@ -6,7 +6,7 @@ use Prim.Native.Nat.{ℕ, _+_, _*_, _^_}
 use lib.IntN.{pos, negsuc}
 use lib.ListN.{replicate, take}
 use lib.Ieee.{Float, nan, inf, fin, neg}
-use Rattle.binary32.specs.Leaves.{asFloat, floorOf, minOf, maxOf, absOf, crossingOf}
+use Rattle.binary32.specs.Leaves.{asFloat, floorOf, minOf, maxOf, absOf, crossingOf, zero32, one32}
 use Rattle.common_types.specs.declared.Params.{Params}
 use Rattle.common_types.specs.declared.Note.{Note}
 use Rattle.common_types.specs.declared.Transport.{Transport}
@@ -29,7 +29,7 @@ use Rattle.volume.specs.Levels.{isStaticAndMuteOf, levelOf, towardOf, steppedOf
 use Rattle.clip.specs.declared.Clip.{Clip}
 use Rattle.clip.specs.declared.Mode.{Mode}
 use Rattle.clip.specs.declared.Mode.the-variants.{Loop, PingPong}
-use Rattle.clip.specs.Positions.{zero32, one32, mirroredOf, clipOffsetAt, offsetAt, indexAt}
+use Rattle.clip.specs.Positions.{mirroredOf, clipOffsetAt, offsetAt, indexAt}
 use Rattle.clip.specs.Updates.{withSpeed, withMode, withLength, withDataLength}
 use Rattle.voice.specs.declared.Voice.{Voice}
 use Rattle.voice.specs.declared.Tick.{Tick}

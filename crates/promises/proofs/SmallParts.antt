@@ -10,7 +10,7 @@ use lib.IntN.{pos}
 use lib.Ieee.{Float, nan, inf, fin, binary32, up, down, mul, le, lt, eq, ofInt, toUnsigned}
 use lib.Ieee.Exact.{HasValue}
 use lib.Ieee.Fits.{down-pos}
-use Rattle.binary32.specs.Leaves.{asFloat, asWhole, floorOf}
+use Rattle.binary32.specs.Leaves.{asFloat, asWhole, floorOf, zero32}
 use Rattle.binary32.proofs.Truth.{same-test}
 use Rattle.binary32.proofs.Values.{le-value}
 use Rattle.common_types.specs.Modes.{indexFromF32Of}
@@ -19,7 +19,7 @@ use Rattle.volume.specs.declared.Volume.{Volume}
 use Rattle.volume.specs.declared.Volume.the-variants.{Static, Linear}
 use Rattle.volume.specs.declared.LevelAnswer.the-variants as level
 use Rattle.volume.specs.declared.VolumeAnswer.the-variants as volume
-use Rattle.volume.specs.Levels.{levelNumber, volumeNumber, goodRamp, goodVolume, refusedAt as unreadAt, valueOf, toOf, stepOf}
+use Rattle.volume.specs.Levels.{levelNumber, volumeNumber, goodRamp, goodVolume, clipRefusedAt as unreadAt, valueOf, toOf, stepOf}
 use Rattle.clip.specs.declared.Clip.{Clip}
 use Rattle.clip.specs.declared.Mode.{Mode}
 use Rattle.clip.specs.declared.ClipAnswer.the-variants as clip
@@ -27,8 +27,7 @@ use Rattle.clip.specs.declared.FoundAnswer.the-variants as found
 use Rattle.clip.specs.declared.PositionAnswer.the-variants as position
 use Rattle.clip.specs.declared.ElapsedAnswer.the-variants as elapsed
 use Rattle.clip.specs.declared.ReversingAnswer.the-variants as reversing
-use Rattle.clip.specs.Positions.{zero32}
-use Rattle.clip.specs.Refusals.{most32, goodLength, goodClip, refusedAt, clipNumber, foundNumber, positionNumber, elapsedNumber, reversingNumber, newOf, dataToClipOf, isPingpongReversingOf, elapsedOf, clipOffsetOf, offsetOf, updateSpeedOf, updateModeOf, updateLengthOf, updateDataLengthOf}
+use Rattle.clip.specs.Refusals.{most32, goodLength, goodClip, clipRefusedAt, clipNumber, foundNumber, positionNumber, elapsedNumber, reversingNumber, newClipOf, dataToClipOf, isPingpongReversingOf, elapsedOf, clipOffsetOf, offsetOf, updateSpeedOf, updateModeOf, updateLengthOf, updateDataLengthOf}
 use Rattle.clip.specs.Updates.{madeOf}
 use Rattle.sampler.specs.Refusals.{row}
 use Rattle.promises.specs.SmallParts.{notIn, badSizes, badClip, badAt, badTime, RowSeven}
@@ -92,21 +91,21 @@ clip-bad c =
     not-and (goodLength (c .length) && goodLength (c .«data_length»)) (le zero32 (c .start) && le (c .start) most32)
     ∙ ap (λ (t : Bool). t || notIn 0 (2 ^ 22) (c .start)) (not-and (goodLength (c .length)) (goodLength (c .«data_length»)))
 
-clip-bad-at : (c : Clip) (now : ℕ) → refusedAt c now ≡ badAt c now
-unfolding refusedAt
+clip-bad-at : (c : Clip) (now : ℕ) → clipRefusedAt c now ≡ badAt c now
+unfolding clipRefusedAt
 clip-bad-at c now =
     not-and (goodClip c && leb (c .since) now) (leb now (2 ^ 48))
     ∙ ap₂ (λ (p q : Bool). p || q) (not-and (goodClip c) (leb (c .since) now) ∙ ap₂ (λ (p q : Bool). p || q) (clip-bad c) (not-le (c .since) now)) (not-le now (2 ^ 48))
 
 made-bad : (since : ℕ) (start speed length data-length : Float) (mode : Mode)
-    → refusedAt (madeOf since start speed length data-length mode) since ≡ (badSizes length data-length start || ltb (2 ^ 48) since)
+    → clipRefusedAt (madeOf since start speed length data-length mode) since ≡ (badSizes length data-length start || ltb (2 ^ 48) since)
 unfolding madeOf
 made-bad since start speed length data-length mode =
     clip-bad-at (madeOf since start speed length data-length mode) since
     ∙ ap (λ (t : Bool). (badSizes length data-length start || t) || ltb (2 ^ 48) since) (le-ltb since since (omega arith))
     ∙ ap (λ (t : Bool). t || ltb (2 ^ 48) since) (or-false (badSizes length data-length start))
 
-length-bad : (c : Clip) (now : ℕ) (length : Float) → (refusedAt c now || not (goodLength length)) ≡ (badAt c now || notIn 1 (2 ^ 22) length)
+length-bad : (c : Clip) (now : ℕ) (length : Float) → (clipRefusedAt c now || not (goodLength length)) ≡ (badAt c now || notIn 1 (2 ^ 22) length)
 unfolding goodLength ofInt
 length-bad c now length = ap (λ (t : Bool). t || notIn 1 (2 ^ 22) length) (clip-bad-at c now)
 
@@ -146,7 +145,7 @@ from-three : (i : ℕ) → cond (ltb i 3) 0 7 ≡ row (leb 3 i) 7 0
 from-three i = swapped (ltb i 3) 0 7 ∙ ap (λ (t : Bool). row t 7 0) (not-lt i 3)
 
 pub row-seven : RowSeven
-unfolding valueOf toOf stepOf newOf dataToClipOf isPingpongReversingOf elapsedOf clipOffsetOf offsetOf updateSpeedOf updateModeOf updateLengthOf updateDataLengthOf
+unfolding valueOf toOf stepOf newClipOf dataToClipOf isPingpongReversingOf elapsedOf clipOffsetOf offsetOf updateSpeedOf updateModeOf updateLengthOf updateDataLengthOf
 row-seven = record {
   value = λ v now. refusal levelNumber level.Refused _ refl refl (unreadAt v now) (badTime v now) (volume-bad v now);
   to = λ v now duration target. refusal volumeNumber volume.Refused _ refl refl (unreadAt v now || ltb (2 ^ 24) duration) (badTime v now || ltb (2 ^ 24) duration) (ap (λ (t : Bool). t || ltb (2 ^ 24) duration) (volume-bad v now));
@@ -155,15 +154,15 @@ row-seven = record {
   note-off-index = λ i. note-off-number i ∙ from-three i;
   loop-mode-float = λ x. loop-mode-number (indexFromF32Of x 3) ∙ from-three (indexFromF32Of x 3) ∙ ap (λ (t : Bool). row t 7 0) (index-number x);
   note-off-float = λ x. note-off-number (indexFromF32Of x 3) ∙ from-three (indexFromF32Of x 3) ∙ ap (λ (t : Bool). row t 7 0) (index-number x);
-  new = λ since start speed length data-length mode. refusal clipNumber clip.Refused _ refl refl (refusedAt (madeOf since start speed length data-length mode) since) _ (made-bad since start speed length data-length mode);
+  new = λ since start speed length data-length mode. refusal clipNumber clip.Refused _ refl refl (clipRefusedAt (madeOf since start speed length data-length mode) since) _ (made-bad since start speed length data-length mode);
   data-to-clip = λ c x. ap foundNumber (swapped (goodClip c && (le zero32 x && lt x (c .«data_length»))) _ found.Refused)
       ∙ refusal foundNumber found.Refused _ refl refl (not (goodClip c && (le zero32 x && lt x (c .«data_length»)))) _ (place-bad c x);
-  is-pingpong-reversing = λ c now. refusal reversingNumber reversing.Refused _ refl refl (refusedAt c now) (badAt c now) (clip-bad-at c now);
-  elapsed = λ c now. refusal elapsedNumber elapsed.Refused _ refl refl (refusedAt c now) (badAt c now) (clip-bad-at c now);
-  clip-offset = λ c now. refusal positionNumber position.Refused _ refl refl (refusedAt c now) (badAt c now) (clip-bad-at c now);
-  offset = λ c now. refusal positionNumber position.Refused _ refl refl (refusedAt c now) (badAt c now) (clip-bad-at c now);
-  update-speed = λ c now speed. refusal clipNumber clip.Refused _ refl refl (refusedAt c now) (badAt c now) (clip-bad-at c now);
-  update-mode = λ c now mode. refusal clipNumber clip.Refused _ refl refl (refusedAt c now) (badAt c now) (clip-bad-at c now);
-  update-length = λ c now length. refusal clipNumber clip.Refused _ refl refl (refusedAt c now || not (goodLength length)) _ (length-bad c now length);
-  update-data-length = λ c now length. refusal clipNumber clip.Refused _ refl refl (refusedAt c now || not (goodLength length)) _ (length-bad c now length);
+  is-pingpong-reversing = λ c now. refusal reversingNumber reversing.Refused _ refl refl (clipRefusedAt c now) (badAt c now) (clip-bad-at c now);
+  elapsed = λ c now. refusal elapsedNumber elapsed.Refused _ refl refl (clipRefusedAt c now) (badAt c now) (clip-bad-at c now);
+  clip-offset = λ c now. refusal positionNumber position.Refused _ refl refl (clipRefusedAt c now) (badAt c now) (clip-bad-at c now);
+  offset = λ c now. refusal positionNumber position.Refused _ refl refl (clipRefusedAt c now) (badAt c now) (clip-bad-at c now);
+  update-speed = λ c now speed. refusal clipNumber clip.Refused _ refl refl (clipRefusedAt c now) (badAt c now) (clip-bad-at c now);
+  update-mode = λ c now mode. refusal clipNumber clip.Refused _ refl refl (clipRefusedAt c now) (badAt c now) (clip-bad-at c now);
+  update-length = λ c now length. refusal clipNumber clip.Refused _ refl refl (clipRefusedAt c now || not (goodLength length)) _ (length-bad c now length);
+  update-data-length = λ c now length. refusal clipNumber clip.Refused _ refl refl (clipRefusedAt c now || not (goodLength length)) _ (length-bad c now length);
 }

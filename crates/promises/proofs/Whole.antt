@@ -45,7 +45,7 @@ use Rattle.fates.specs.Events.{lengthAt, tickAt}
 use Rattle.questions.specs.Questions.{recorderAt, notesOf, listNumber, infoNumber}
 use Rattle.promises.specs.Runs.{World, setUp, Question, getFramesProcessed, getDataLen, isRecording, getLastRecordedOffset, printErrorInfo, iterActiveNotes, getVoiceInfo, fillVoiceInfo, questionNumber, Call, change, sample, frame, asks, code, after, run, chan, FittingCall}
 use Rattle.promises.specs.Demands.{lengthened, sped, toldLength, Asked, AllPlaced, Plays, NoPanic, Whole}
-use Rattle.fates.proofs.Looks.{look-below, look-value}
+use Rattle.walks.proofs.Lists.Looks.{look-below, look-value}
 use Rattle.fates.proofs.Lives.{live-length}
 use Rattle.promises.proofs.Calls.{Standing, standing-run, standing-new}
 use Rattle.promises.proofs.Accepted.{Heard, heard, start-opens}

@@ -13,7 +13,7 @@ use lib.Ieee.{Float, nan, fin, binary32, up, down, add, mul, isNan, fits}
 use lib.Ieee.Exact.{HasValue}
 use Rattle.walks.specs.Walks.{any}
 use Rattle.walks.specs.Each.{Each}
-use Rattle.binary32.specs.Leaves.{asFloat, asWhole, floorOf, minOf, maxOf, bitsOf, floatOf}
+use Rattle.binary32.specs.Leaves.{asFloat, asWhole, floorOf, minOf, maxOf, bitsOf, floatOf, zero32}
 use Rattle.common_types.specs.declared.InitParams.{InitParams}
 use Rattle.common_types.specs.declared.Params.{Params}
 use Rattle.common_types.specs.declared.Note.{Note}
@@ -24,7 +24,7 @@ use Rattle.volume.specs.Levels.{levelOf}
 use Rattle.clip.specs.declared.Clip.{Clip}
 use Rattle.clip.specs.declared.Found.the-variants.{At}
 use Rattle.clip.specs.declared.FoundAnswer.the-variants.{Done}
-use Rattle.clip.specs.Positions.{zero32, clipOffsetAt, offsetAt, indexAt}
+use Rattle.clip.specs.Positions.{clipOffsetAt, offsetAt, indexAt}
 use Rattle.clip.specs.Updates.{atSpeed, atMode, atLength, backOf, foundAt, withSpeed, withLength, withDataLength}
 use Rattle.clip.specs.Refusals.{dataToClipOf}
 use Rattle.clip.specs.Bounds.{Sound, Inside, Within}
@@ -41,7 +41,7 @@ use Rattle.questions.specs.declared.Counted.the-variants as Counted
 use Rattle.questions.specs.Questions.{recorderAt, notesOf, voiceInfoOf}
 use Rattle.fates.specs.Engine.{stepOf}
 use Rattle.fates.specs.Events.{act, sounds, lengthAt, isSample, emptyAt, tickAt, decayOf}
-use Rattle.fates.specs.Places.{voiceAt, at, gone, follow, becomes, followAll, newOf, finishes, stoppedIn, finishedIn}
+use Rattle.fates.specs.Places.{voiceAt, at, gone, follow, becomes, followAll, addedBy, finishes, stoppedIn, finishedIn}
 use Rattle.fates.specs.Sounding.{termsOf, totalOf}
 use Rattle.promises.specs.Runs.{
   World,
@@ -339,7 +339,7 @@ pub record Demand3 (w : World) (j : ℕ) : Type 0 where
   -- and each that is there after a call was there before it, or is the start's own, at the end.
   pub none-else : (c : Call) (k : ℕ) (u : Voice) → voiceAt (chan (after w c) j) k ≡ some u
       → ((n : ℕ) × (v : Voice) × (voiceAt (chan w j) n ≡ some v) × (follow (event w c j) (chan w j) n ≡ at k))
-      ⊎ ((k ≡ length (live (chan w j))) × (newOf (event w c j) (chan w j) ≡ u ∷ []))
+      ⊎ ((k ≡ length (live (chan w j))) × (addedBy (event w c j) (chan w j) ≡ u ∷ []))
   -- GOES. "A voice finished at count r is gone by the end of any accepted sample n that finds the recording not empty, if n is at least r plus the larger of the decay at finishing and the decay at n." The call c finishes it,
   -- at the count of its channel then and with its own decay; the last of c ∷ cs, which may be c itself, is the sample. In between modes and decays may be anything.
   pub goes : (c : Call) (n : ℕ) (v : Voice) → voiceAt (chan w j) n ≡ some v → finishes (event w c j) (chan w j) n ≡ true

@@ -17,7 +17,7 @@ use Rattle.clip.specs.Refusals.{
   positionNumber,
   elapsedNumber,
   reversingNumber,
-  newOf,
+  newClipOf,
   dataToClipOf,
   isPingpongReversingOf,
   elapsedOf,
@@ -61,7 +61,7 @@ pub record RowSeven : Type 0 where
   pub note-off-float : (x : Float) → noteOffNumber (noteOffFromF32Of x) ≡ row (le (asFloat 3) (floorOf (mul binary32 x (asFloat 3)))) 7 0
   -- A new clip is refused where it would be bad, at its own time.
   pub new : (since : ℕ) (start speed length data-length : Float) (mode : Mode)
-      → clipNumber (newOf since start speed length data-length mode) ≡ row (badSizes length data-length start || ltb (2 ^ 48) since) 7 0
+      → clipNumber (newClipOf since start speed length data-length mode) ≡ row (badSizes length data-length start || ltb (2 ^ 48) since) 7 0
   -- "`data_to_clip` outside 0 to below the data length"
   pub data-to-clip : (c : Clip) (x : Float) → foundNumber (dataToClipOf c x) ≡ row (badClip c || not (le (asFloat 0) x && lt x (c .«data_length»))) 7 0
   pub is-pingpong-reversing : (c : Clip) (now : ℕ) → reversingNumber (isPingpongReversingOf c now) ≡ row (badAt c now) 7 0

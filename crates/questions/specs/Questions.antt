@@ -5,9 +5,8 @@ use mathlib.Core.List.{List, map, _++_}
 use lib.Dec.{eqb, ltb}
 use lib.ListN.{length, drop, replicate}
 use lib.Ieee.{Float, binary32, add, div, rem}
-use Rattle.binary32.specs.Leaves.{asFloat}
+use Rattle.binary32.specs.Leaves.{asFloat, zero32, one32}
 use Rattle.walks.specs.Walks.{without}
-use Rattle.clip.specs.Positions.{zero32, one32}
 use Rattle.common_types.specs.declared.Params.{Params}
 use Rattle.common_types.specs.Notes.{intoU64Of}
 use Rattle.common_types.specs.Settings.{beyondLimits, loopLengthOf}

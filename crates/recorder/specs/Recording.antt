@@ -17,8 +17,8 @@ unfoldable pub raised : ℕ → ℕ
 raised n = cond (ltb n 4294967295) (n + 1) n
 
 -- idle, with no error counted
-abbrev pub newOf : Recorder
-newOf = record { state = Idle; «skipped_samples» = 0; «incorrect_state» = 0 }
+abbrev pub newRecorderOf : Recorder
+newRecorderOf = record { state = Idle; «skipped_samples» = 0; «incorrect_state» = 0 }
 
 -- the recorder in another state
 unfoldable pub inState : State → Recorder → Recorder

@@ -10,7 +10,7 @@ ghost use Rattle.recorder.specs.ErrorText.{errorText, printErrorInfoOf, 
 ghost use Rattle.recorder.specs.Recording.{
   raised,
   misusedOf,
-  newOf,
+  newRecorderOf,
   startOf,
   stopOf,
   recordedOf,
@@ -80,7 +80,7 @@ fn smaller(a: usize, b: usize) -> usize
 
 impl Recorder {
     pub fn new() -> Recorder
-        ensures { λ r. ⌜ r ≡ newOf ⌝ }
+        ensures { λ r. ⌜ r ≡ newRecorderOf ⌝ }
     {
         Recorder {
             state: State::Idle,

@@ -12,7 +12,7 @@ use Rattle.channel.specs.declared.Played.{Played}
 use Rattle.channel.specs.Channels.{memoryOf}
 use Rattle.channel.specs.Channels.{processSampleOf as channelSampleOf}
 use Rattle.sampler.specs.Refusals.{channelAt}
-use Rattle.sampler.specs.Samplers.{withChannels, partOf, playedAt, steppedOf, outputOf, memoryAt}
+use Rattle.sampler.specs.Samplers.{withChannels, partOf, playedAt, channelSteppedOf, outputOf, memoryAt}
 use Rattle.sampler.specs.declared.Sampler.{Sampler}
 
 module _ (s : Sampler) (j a e : ℕ) (m : List ℕ) (starts : a ≡ j * s .capacity) (ends : e ≡ a + s .capacity) where
@@ -28,8 +28,8 @@ module _ (s : Sampler) (j a e : ℕ) (m : List ℕ) (starts : a ≡ j * s .capac
     unfolding playedAt
     played-is = plays ∙ ap (λ (d : Channel). channelSampleOf p x d (take (e - a) (drop a m))) is ∙ ap (channelSampleOf p x (channelAt s j)) part-is
 
-    pub stepped-is : withChannels (set (s .channels) j (r .channel)) s ≡ steppedOf s j p x m
-    unfolding steppedOf
+    pub stepped-is : withChannels (set (s .channels) j (r .channel)) s ≡ channelSteppedOf s j p x m
+    unfolding channelSteppedOf
     stepped-is = ap (λ (q : Played). withChannels (set (s .channels) j (q .channel)) s) played-is
 
     pub output-is : mul binary32 (p .volume) (r .output) ≡ outputOf s j p x m

@@ -7,7 +7,7 @@ use lib.Dec.{eqb}
 use lib.ListN.{length, take, drop, getD, set}
 use lib.Seq.{sets}
 use lib.Ieee.{Float, binary32, mul}
-use Rattle.clip.specs.Positions.{zero32}
+use Rattle.binary32.specs.Leaves.{zero32}
 use Rattle.common_types.specs.declared.InitParams.{InitParams}
 use Rattle.common_types.specs.declared.Params.{Params}
 use Rattle.common_types.specs.declared.Note.{Note}
@@ -86,8 +86,8 @@ partOf s j m = take (s .capacity) (drop (j * s .capacity) m)
 unfoldable pub playedAt : Sampler → ℕ → Params → Float → List ℕ → Played
 playedAt s j p x m = channelSampleOf p x (channelAt s j) (partOf s j m)
 
-unfoldable pub steppedOf : Sampler → ℕ → Params → Float → List ℕ → Sampler
-steppedOf s j p x m = withChannels (set (s .channels) j (playedAt s j p x m .channel)) s
+unfoldable pub channelSteppedOf : Sampler → ℕ → Params → Float → List ℕ → Sampler
+channelSteppedOf s j p x m = withChannels (set (s .channels) j (playedAt s j p x m .channel)) s
 
 unfoldable pub outputOf : Sampler → ℕ → Params → Float → List ℕ → Float
 outputOf s j p x m = mul binary32 (p .volume) (playedAt s j p x m .output)
@@ -100,7 +100,7 @@ unfoldable pub processSampleOf : Sampler → ℕ → Float → Params → List �
 processSampleOf s j x p m =
     let number = sampleNumber s j p (length m) in
     record {
-      sampler = cond (eqb number 0) (steppedOf s j p x m) s;
+      sampler = cond (eqb number 0) (channelSteppedOf s j p x m) s;
       output = cond (eqb number 0) (outputOf s j p x m) zero32;
       number = number;
     }
@@ -125,7 +125,7 @@ pub record Frames (f : Framed) (s : Sampler) (entries : List Float) (m : List �
 
 unfoldable pub entryOf : Params → ℕ → Framed → Framed
 entryOf p j f = record {
-  sampler = steppedOf (f .sampler) j p (getD (f .frame) j zero32) (f .memory);
+  sampler = channelSteppedOf (f .sampler) j p (getD (f .frame) j zero32) (f .memory);
   frame = set (f .frame) j (outputOf (f .sampler) j p (getD (f .frame) j zero32) (f .memory));
   memory = memoryAt (f .sampler) j (getD (f .frame) j zero32) (f .memory);
 }

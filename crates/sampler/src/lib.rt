@@ -6,7 +6,7 @@ ghost use mathlib.Core.Bool.{_&&_};
 ghost use lib.Dec.{leb};
 ghost use lib.Ieee.{le};
 ghost use lib.ListN.{length, take};
-ghost use Rattle.clip.specs.Positions.{zero32, one32};
+ghost use Rattle.binary32.specs.Leaves.{zero32, one32};
 ghost use Rattle.walks.specs.Walks.{any, every};
 ghost use Rattle.channel.specs.Channels.{fullOf, goodChannel};
 ghost use Rattle.sampler.specs.Refusals.{
@@ -39,7 +39,7 @@ ghost use Rattle.sampler.specs.Samplers.{
   startRecordingOf,
   stopRecordingOf,
   resetOf,
-  steppedOf,
+  channelSteppedOf,
   outputOf,
   memoryAt,
   processSampleOf,
@@ -380,7 +380,7 @@ impl Sampler {
     // A sample of channel j, on its part of the memory.
     fn step(mut self, j: usize, params: Params, input: f32, memory: &mut [u32]) -> Stepped
         requires { ⌜ Ready self j (length (now memory)) ⌝ }
-        ensures { λ r. ⌜ (r .sampler ≡ steppedOf self j params input (now (memory .entry))) × (r .output ≡ outputOf self j params input (now (memory .entry))) ⌝ }
+        ensures { λ r. ⌜ (r .sampler ≡ channelSteppedOf self j params input (now (memory .entry))) × (r .output ≡ outputOf self j params input (now (memory .entry))) ⌝ }
         ensures { λ r. ⌜ now (memory .exit) ≡ memoryAt self j input (now (memory .entry)) ⌝ }
     {
         let c = self.channels[j];

@@ -6,12 +6,11 @@ use mathlib.Core.Bool.{true, not}
 use lib.Dec.{T}
 use lib.Ieee.{Float, binary32, le, fits}
 use Rattle.common_types.specs.declared.Params.{Params}
-use Rattle.common_types.specs.Settings.{beyondLimits}
-use Rattle.common_types.proofs.LoopLengths.{carried}
+use Rattle.common_types.specs.Settings.{carried, beyondLimits}
 use Rattle.volume.specs.declared.Volume.{Volume}
 use Rattle.volume.specs.declared.Volume.the-variants.{Static, Linear}
 use Rattle.volume.specs.Levels.{goodVolume}
-use Rattle.clip.specs.Positions.{zero32, one32}
+use Rattle.binary32.specs.Leaves.{zero32, one32}
 use Rattle.clip.specs.Bounds.{Fitting}
 use Rattle.voice.specs.Voices.{goodVoice}
 use Rattle.voice.specs.declared.Voice.{Voice}

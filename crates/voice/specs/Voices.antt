@@ -6,7 +6,7 @@ use mathlib.Core.List.{List}
 use lib.Dec.{leb}
 use lib.ListN.{getD}
 use lib.Ieee.{Float, binary32, add, mul, le}
-use Rattle.binary32.specs.Leaves.{asFloat, floorOf, absOf, crossingOf, floatOf}
+use Rattle.binary32.specs.Leaves.{asFloat, floorOf, absOf, crossingOf, floatOf, zero32, one32}
 use Rattle.common_types.specs.declared.LoopMode.{LoopMode}
 use Rattle.common_types.specs.declared.LoopMode.the-variants as loop
 use Rattle.common_types.specs.declared.NoteOffBehaviour.{NoteOffBehaviour}
@@ -20,7 +20,7 @@ use Rattle.volume.specs.Levels.{isStaticAndMuteOf, levelOf, towardOf, steppedOf
 use Rattle.clip.specs.declared.Clip.{Clip}
 use Rattle.clip.specs.declared.Mode.{Mode}
 use Rattle.clip.specs.declared.Mode.the-variants as mode
-use Rattle.clip.specs.Positions.{zero32, one32, indexAt}
+use Rattle.clip.specs.Positions.{indexAt}
 use Rattle.clip.specs.Updates.{withLength, withSpeed, withDataLength, withMode}
 use Rattle.clip.specs.Refusals.{goodClip}
 use Rattle.voice.specs.declared.Voice.{Voice}
@@ -76,12 +76,12 @@ movedOf t v =
     withMode (withDataLength (withSpeed (withLength (v .clip2) now (t .length)) now (mul binary32 (v .speed) (t .speed))) now (t .«data_length»)) now (t .mode)
 
 -- the value recorded at a place of the channel's memory
-abbrev pub recordedOf : List ℕ → ℕ → Float
-recordedOf m i = floatOf (getD m i 0)
+abbrev pub recordedValueOf : List ℕ → ℕ → Float
+recordedValueOf m i = floatOf (getD m i 0)
 
 -- the recorded value at the clip's index times the level now: the voice's term of the output
 unfoldable pub productOf : Tick → List ℕ → Voice → Float
-productOf t m v = mul binary32 (recordedOf m (indexAt (movedOf t v) (t .now))) (levelOf (v .volume) (t .now))
+productOf t m v = mul binary32 (recordedValueOf m (indexAt (movedOf t v) (t .now))) (levelOf (v .volume) (t .now))
 
 unfoldable pub soundedOf : Tick → List ℕ → Voice → Voice
 soundedOf t m v = record {

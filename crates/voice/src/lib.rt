@@ -2,7 +2,7 @@
 ghost use mathlib.Core.Path.{_≡_};
 ghost use Prim.Native.Nat.{_-_};
 ghost use mathlib.Core.Bool.{cond};
-ghost use Rattle.voice.specs.Voices.{tickOf, clipModeOf, playsOnceOf, lateOf, overOf, shouldRemoveOf, recordedOf, movedOf, soundedOf, finishOf, playedOutOf, endedOf, volumeStepped, fadedOf, turnOf, freshOf, blankVoice, atSpeedOf, goodVoice};
+ghost use Rattle.voice.specs.Voices.{tickOf, clipModeOf, playsOnceOf, lateOf, overOf, shouldRemoveOf, recordedValueOf, movedOf, soundedOf, finishOf, playedOutOf, endedOf, volumeStepped, fadedOf, turnOf, freshOf, blankVoice, atSpeedOf, goodVoice};
 use clip::Clip;
 use clip::Mode;
 use common_types::LoopMode;
@@ -83,7 +83,7 @@ fn plays_once(mode: LoopMode) -> bool
 
 // The value recorded at a place of the channel's memory.
 fn recorded(data: &[u32], index: usize) -> f32
-    ensures { λ r. ⌜ r ≡ recordedOf (now («data» .entry)) index ⌝ }
+    ensures { λ r. ⌜ r ≡ recordedValueOf (now («data» .entry)) index ⌝ }
 {
     if index < data.len() {
         binary32::from_bits(data[index])

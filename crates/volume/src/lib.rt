@@ -2,7 +2,7 @@
 // that are known to be good. `value`, `to` and `step`, the Rust's names, refuse a bad argument first (number 7 of document 01).
 ghost use mathlib.Core.Path.{_≡_};
 ghost use Prim.Native.Nat.{_-_};
-ghost use Rattle.volume.specs.Levels.{defaultVolume, isStaticOf, isStaticAndMuteOf, progressOf, levelOf, laterOf, towardOf, steppedOf, goodRamp, goodVolume, refusedAt, valueOf, toOf, stepOf};
+ghost use Rattle.volume.specs.Levels.{defaultVolume, isStaticOf, isStaticAndMuteOf, progressOf, levelOf, laterOf, towardOf, steppedOf, goodRamp, goodVolume, levelRefusedAt, valueOf, toOf, stepOf};
 
 pub enum Volume {
     Static(f32),
@@ -184,7 +184,7 @@ impl Volume {
     }
 
     fn refused_at(self, now: usize) -> bool
-        ensures { λ r. ⌜ r ≡ refusedAt self now ⌝ }
+        ensures { λ r. ⌜ r ≡ levelRefusedAt self now ⌝ }
     {
         if now > LAST_TIME {
             return true;

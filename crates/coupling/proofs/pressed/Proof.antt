@@ -1,7 +1,7 @@
 -- `pressed` meets its contract. Assumes nothing.
 use mathlib.Core.Path.{_≡_, refl}
 use lib.Ieee.{Float, ofBits}
-use Rattle.clip.specs.Positions.{zero32, one32}
+use Rattle.binary32.specs.Leaves.{zero32, one32}
 use Rattle.common_types.specs.declared.Note.{Note}
 use Rattle.common_types.specs.declared.Params.{Params}
 use Rattle.sampler.specs.declared.Answer.{Answer}

@@ -46,10 +46,11 @@ use denote.Triple.Clauses.{ensured}
 use denote.Triple.Table.{entered, cited}
 use denote.Triple.Walked.{says, Stays, stay-none-ref, walkOf, Walks, ends-at, walked, goes-none-ref, walk-meets}
 use borrow.Table.OneValue.{part-in}
+use Rattle.walks.proofs.Lists.Fronts.{any-next}
 use Rattle.walks.specs.Walks.{any}
-use Rattle.walks.proofs.Loops.{take-most}
-use Rattle.walks.proofs.Inside.{goes-in, comes-out}
-use Rattle.walks.proofs.Rounds.{rounds}
+use Rattle.walks.proofs.Lists.Loops.{take-most}
+use Rattle.walks.proofs.Steps.Inside.{goes-in, comes-out}
+use Rattle.walks.proofs.Steps.Rounds.{rounds}
 use Rattle.voice.specs.declared.Voice.{Voice}
 use Rattle.voice.proofs.Voice as R
 use Rattle.voice.proofs.Voice.Laws as R′
@@ -63,7 +64,7 @@ use Rattle.channel.proofs.places.Symbol as places-def
 use Rattle.channel.proofs.places.Symbol.{name as #channel·places}
 use Rattle.channel.proofs.places.Met as places-thm
 use Rattle.in_place.proofs.Bytes.{voice-bytes}
-use Rattle.in_place.proofs.Lists.{holds, fails, one-more, any-next}
+use Rattle.walks.proofs.Tests.{holds, fails, one-more}
 use Rattle.in_place.proofs.Places.{Places, to-places, goes-places, places-of, cv, vv, spot, places-are, reads-voice}
 use Rattle.in_place.proofs.any_unfinished.Key.{name as #in-place·any-unfinished}
 use Rattle.in_place.proofs.any_unfinished as asked

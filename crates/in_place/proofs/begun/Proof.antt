@@ -1,7 +1,7 @@
--- `begun` meets its contract: its test is that of `begunOf`. Assumes nothing.
+-- `begun` meets its contract: its test is that of `sharedOf`. Assumes nothing.
 use borrow.Author.Needs.{needs}
 use borrow.Author.Tests.{eq-eqb, ne-eqb}
-use Rattle.in_place.specs.Turns.{begunOf}
+use Rattle.in_place.specs.Turns.{sharedOf}
 use Rattle.in_place.proofs.begun.Statement.{statement}
 use Rattle.in_place.proofs.begun.Tie as tie
 
@@ -12,14 +12,14 @@ unused-requires : tie.Need-unused-requires
 unused-requires c κs = search needs
 
 returns : tie.Need-returns
-unfolding begunOf
+unfolding sharedOf
 returns c = simp (c .unused .ensures, ← (c .before .before .turns-of .ensures), eq-eqb _ _ (c .before .if1 .taken))
 
 new-requires : tie.Need-new-requires
 new-requires c κs = search needs
 
 returns-2 : tie.Need-returns-2
-unfolding begunOf
+unfolding sharedOf
 returns-2 c = simp (c .new .ensures, ← (c .before .before .turns-of .ensures), ne-eqb _ _ (c .before .if1 .left))
 
 pub begun-spec : {M : Type 1} → statement M

@@ -1,15 +1,15 @@
--- `counted` meets its contract: its test is that of `countedOf`. Assumes nothing.
+-- `counted` meets its contract: its test is that of `voicesLeftOf`. Assumes nothing.
 use borrow.Author.Tests.{eq-eqb, ne-eqb}
-use Rattle.in_place.specs.Turns.{countedOf}
+use Rattle.in_place.specs.Turns.{voicesLeftOf}
 use Rattle.in_place.proofs.counted.Statement.{statement}
 use Rattle.in_place.proofs.counted.Tie as tie
 
 returns : tie.Need-returns
-unfolding countedOf
+unfolding voicesLeftOf
 returns c = simp (eq-eqb _ _ (c .if1 .taken))
 
 returns-2 : tie.Need-returns-2
-unfolding countedOf
+unfolding voicesLeftOf
 returns-2 c = simp (ne-eqb _ _ (c .if1 .left))
 
 pub counted-spec : {M : Type 1} → statement M

@@ -46,10 +46,11 @@ use denote.Triple.Clauses.{ensured, lasts}
 use denote.Triple.Table.{entered, cited}
 use denote.Triple.Walked.{says, Stays, stay-none, stay-none-ref, walkOf, Walks, ends-at, walked, goes-none, goes-none-ref, walk-meets}
 use borrow.Table.OneValue.{part-in}
+use Rattle.walks.proofs.Lists.Fronts.{every-next}
 use Rattle.walks.specs.Walks.{every}
-use Rattle.walks.proofs.Loops.{take-most}
-use Rattle.walks.proofs.Inside.{goes-in, comes-out}
-use Rattle.walks.proofs.Rounds.{rounds}
+use Rattle.walks.proofs.Lists.Loops.{take-most}
+use Rattle.walks.proofs.Steps.Inside.{goes-in, comes-out}
+use Rattle.walks.proofs.Steps.Rounds.{rounds}
 use Rattle.voice.specs.declared.Voice.{Voice}
 use Rattle.voice.specs.Voices.{goodVoice}
 use Rattle.voice.proofs.Voice as R
@@ -71,7 +72,7 @@ use Rattle.channel.proofs.places.Symbol.{name as #channel·places}
 use Rattle.channel.proofs.places.Met as places-thm
 use Rattle.in_place.specs.Turns.{headGoodOf}
 use Rattle.in_place.proofs.Bytes.{voice-bytes}
-use Rattle.in_place.proofs.Lists.{holds, fails, one-more, and-true, and-assoc, every-next}
+use Rattle.walks.proofs.Tests.{holds, fails, one-more, and-true, and-assoc}
 use Rattle.in_place.proofs.Places.{Places, to-places, goes-places, places-of, cv, vv, ev, spot, places-are, reads-voice}
 use Rattle.in_place.proofs.head_good as head-good
 use Rattle.in_place.proofs.head_good.Symbol as head-good-def

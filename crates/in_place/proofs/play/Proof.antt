@@ -52,13 +52,13 @@ use denote.Triple.Clauses.{ensured, lasts}
 use denote.Triple.Table.{entered, cited}
 use denote.Triple.Walked.{says, Stays, stay-ref, stay-none, stay-dropped, walkOf, Walks, ends-at, walked, goes-ref, goes-none, goes-silent, walk-meets}
 use borrow.Table.OneValue.{part-in}
-use Rattle.walks.proofs.Loops.{Walk, turns as turns-on, stores, ends as ends-there}
-use Rattle.walks.proofs.Inside.{goes-in, comes-out, opened}
-use Rattle.walks.proofs.Rounds.{rounds}
+use Rattle.walks.proofs.Lists.Loops.{Walk, turns as turns-on, stores, ends as ends-there}
+use Rattle.walks.proofs.Steps.Inside.{goes-in, comes-out, opened}
+use Rattle.walks.proofs.Steps.Rounds.{rounds}
 use Rattle.common_types.specs.declared.Params.{Params}
 use Rattle.common_types.proofs.Params as P
 use Rattle.common_types.proofs.Params.Laws as P′
-use Rattle.clip.specs.Positions.{zero32}
+use Rattle.binary32.specs.Leaves.{zero32}
 use Rattle.voice.specs.declared.Voice.{Voice}
 use Rattle.voice.specs.declared.Tick.{Tick}
 use Rattle.voice.specs.Voices.{turnOf, shouldRemoveOf}
@@ -87,9 +87,9 @@ use Rattle.channel.proofs.sound.Symbol as sounds-def
 use Rattle.channel.proofs.sound.Symbol.{name as #channel·sound}
 use Rattle.channel.proofs.sound.Met as sounds-thm
 use Rattle.in_place.specs.declared.Start.{Start}
-use Rattle.in_place.specs.Turns.{begunOf, countedOf, playedBy}
+use Rattle.in_place.specs.Turns.{sharedOf, voicesLeftOf, playedBy}
 use Rattle.in_place.proofs.Bytes.{voice-bytes, count-at}
-use Rattle.in_place.proofs.Lists.{holds, fails, denied}
+use Rattle.walks.proofs.Tests.{holds, fails, denied}
 use Rattle.in_place.proofs.Turns.{turns-few, begins-there, ended-output, ended-channel}
 use Rattle.in_place.proofs.Places.{cv, vv, spot, places-are, reads-voice, sets-voice}
 use Rattle.in_place.proofs.Start as S
@@ -215,7 +215,7 @@ module _ {M : Type 1} (𝓤 : URA M) (H : Heap 𝓤) (A : Atoms 𝓤) (W : Given
 
   -- what the turns share; how many there are; the channel with other voices
   abbrev s₀ : Start
-  s₀ = begunOf p time len (h .count)
+  s₀ = sharedOf p time len (h .count)
 
   abbrev t : Tick
   t = s₀ .tick
@@ -237,7 +237,7 @@ module _ {M : Type 1} (𝓤 : URA M) (H : Heap 𝓤) (A : Atoms 𝓤) (W : Given
     fits : T (fitsF binary32 (s .out))
 
   abbrev last : State → Channel
-  last s = withVoices (s .voices) (countedOf n (s .k) (h .count)) h
+  last s = withVoices (s .voices) (voicesLeftOf n (s .k) (h .count)) h
 
   abbrev Done : State → Type 0
   Done s = (s .out ≡ playedBy p time len ms h .output) × (last s ≡ playedBy p time len ms h .channel)
@@ -308,8 +308,8 @@ module _ {M : Type 1} (𝓤 : URA M) (H : Heap 𝓤) (A : Atoms 𝓤) (W : Given
       qed W (‵ ftrue ∷ []) ∵ nothing ! $ owned ! usize (Is usize) (uint-makes 𝓤 H A W w64) (h .count) _ (refl, fits) $ fjoin ! $ owned ! usize (Is usize) (uint-makes 𝓤 H A W w64) k _ (refl, k-fits) $ fjoin ! $
       owned ! usize (Is usize) (uint-makes 𝓤 H A W w64) n _ (refl, n-fits) $ fjoin ! $ move ! (1 ∷ 0 ∷ []) $ join ! $ nothing ! $ move ! (1 ∷ 0 ∷ []) $ join ! $ done !
 
-  counted-of : (k r : ℕ) → ent 𝓤 (ensured 𝓤 H A counted.ended (counted.clauses 𝓤 H A at-mem run) tt (n, (k, (h .count, tt))) tt r) (fact 𝓤 (r ≡ countedOf n k (h .count)))
-  counted-of k r = exE 𝓤 _ (λ ws. snd∗ 𝓤 (sem 𝓤 H A (lasts counted.ended tt (n, (k, (h .count, tt))) ws)) (fact 𝓤 (r ≡ countedOf n k (h .count))))
+  counted-of : (k r : ℕ) → ent 𝓤 (ensured 𝓤 H A counted.ended (counted.clauses 𝓤 H A at-mem run) tt (n, (k, (h .count, tt))) tt r) (fact 𝓤 (r ≡ voicesLeftOf n k (h .count)))
+  counted-of k r = exE 𝓤 _ (λ ws. snd∗ 𝓤 (sem 𝓤 H A (lasts counted.ended tt (n, (k, (h .count, tt))) ws)) (fact 𝓤 (r ≡ voicesLeftOf n k (h .count))))
 
   module _ (𝓣 : Tables 𝓤 H) (known-Turn : Triple 𝓤 (𝓣 .C #voice·Voice·turn) (Turn 𝓤 H A at-mem run)) (known-Sounds : Triple 𝓤 (𝓣 .C #channel·sound) (Sounds 𝓤 H A at-mem run))
       (known-Removes : Triple 𝓤 (𝓣 .C #voice·Voice·should-remove) (Removes 𝓤 H A at-mem run)) (known-Counted : Triple 𝓤 (𝓣 .C #in-place·counted) (Counted 𝓤 H A at-mem run))
@@ -499,7 +499,7 @@ module _ {M : Type 1} (𝓤 : URA M) (H : Heap 𝓤) (A : Atoms 𝓤) (W : Given
           nothing ! $ use1 W (raw (Counted 𝓤 H A at-mem run .pre (to-counted (s .k)))) (goes-counted (s .k) (omega (arith, few)) k-fits fits) $
           calls-at ! (fmOf 𝓤 H (W .laws) 𝓣) (Counted 𝓤 H A at-mem run) known-Counted (to-counted (s .k)) (and-then ! (load ! (from ! (stop !)) (look ! 25 refl)) (and-then ! (load ! (from ! (stop !)) (look ! 4 refl)) (and-then ! (load ! (from ! (stop !)) (look ! 29 refl)) (no-more !)))) (λ a-m.
           use1 W (later (some (λ (m : ℕ). (‵ ftrue ⊛ ‵ (usize .own m (a-m ∷ []))) ⊛ raw (ensured 𝓤 H A counted.ended (counted.clauses 𝓤 H A at-mem run) tt (n, (s .k, (h .count, tt))) tt m)))) (id⊢ 𝓤 _) $ await ! tt $ pick ! (λ m.
-          split ! $ move ! (1 ∷ []) $ use1 W (raw (fact 𝓤 (m ≡ countedOf n (s .k) (h .count)))) (counted-of (s .k) m) $ heard ! (m ≡ countedOf n (s .k) (h .count)) (λ e-m. split ! $ drop ! $ peeks ! usize (Is usize) (shows 𝓤 H A usize) m (a-m ∷ []) (λ is-m. drop ! $
+          split ! $ move ! (1 ∷ []) $ use1 W (raw (fact 𝓤 (m ≡ voicesLeftOf n (s .k) (h .count)))) (counted-of (s .k) m) $ heard ! (m ≡ voicesLeftOf n (s .k) (h .count)) (λ e-m. split ! $ drop ! $ peeks ! usize (Is usize) (shows 𝓤 H A usize) m (a-m ∷ []) (λ is-m. drop ! $
           land ! (from ! (stop !)) (init ! 27 refl (uint-lawful 𝓤 H A W w64 .typed m _ is-m .0)) $ rewrite ! 27 (λ (z : Val). ‵ (fat fullShare word l₁₅ 0 z)) (ap only (is-m .0)) refl $
           assigns ! (of-opd ! (load ! (from ! (stop !)) (look ! 27 refl))) (from ! (hop ! (look ! 18 refl) (fld ! {τ = word} {d = count-at} refl (stop !)))) (store-in ! 0 (sub ! 1 {τ = word} {d = count-at} refl (whole !)) (tt, record { fits = is-m .1 })) $
           move ! (1 ∷ []) $ drop ! $ owned ! C.the-row (Is C.the-row) (LL.makes C.the-type C′.the-plain 𝓤 H A) (withVoices (s .voices) m h) _ (changed m (is-m .1) is) $ move ! (1 ∷ 0 ∷ []) $

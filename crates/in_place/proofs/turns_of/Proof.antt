@@ -1,19 +1,19 @@
--- `turns_of` meets its contract: its test is that of `turnsOf`. Assumes nothing.
+-- `turns_of` meets its contract: its test is that of `turnCountOf`. Assumes nothing.
 use borrow.Author.Needs.{needs}
 use borrow.Author.Tests.{eq-eqb, ne-eqb}
-use Rattle.in_place.specs.Turns.{turnsOf}
+use Rattle.in_place.specs.Turns.{turnCountOf}
 use Rattle.in_place.proofs.turns_of.Statement.{statement}
 use Rattle.in_place.proofs.turns_of.Tie as tie
 
 returns : tie.Need-returns
-unfolding turnsOf
+unfolding turnCountOf
 returns c = simp (eq-eqb _ _ (c .if1 .taken))
 
 places-requires : tie.Need-places-requires
 places-requires c κs = search needs
 
 returns-2 : tie.Need-returns-2
-unfolding turnsOf
+unfolding turnCountOf
 returns-2 c = simp (ne-eqb _ _ (c .before .if1 .left), c .places .ensures)
 
 pub turns-of-spec : {M : Type 1} → statement M

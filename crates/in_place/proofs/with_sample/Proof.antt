@@ -48,9 +48,9 @@ use denote.Triple.Clauses.{ensured, lasts}
 use denote.Triple.Table.{entered, cited}
 use denote.Triple.Walked.{says, Stays, stay-ref, stay-slice, stay-none, walkOf, Walks, ends-at, walked, goes-ref, goes-slice, goes-none, walk-meets}
 use borrow.Table.OneValue.{part-in}
-use Rattle.walks.proofs.Inside.{opened}
-use Rattle.walks.proofs.Again.{LentAgain, lends-again, comes-back}
-use Rattle.walks.proofs.Shared.{LentShared, shares-again, is-back}
+use Rattle.walks.proofs.Steps.Inside.{opened}
+use Rattle.walks.proofs.Steps.Again.{LentAgain, lends-again, comes-back}
+use Rattle.walks.proofs.Steps.Shared.{LentShared, shares-again, is-back}
 use Rattle.binary32.specs.Leaves.{bitsOf}
 use Rattle.common_types.specs.declared.Params.{Params}
 use Rattle.common_types.proofs.Params as P

@@ -58,7 +58,8 @@ use Rattle.questions.proofs.VoiceInfos as S
 use Rattle.questions.proofs.VoiceInfos.Laws as S′
 use Rattle.questions.proofs.Counted as Q
 use Rattle.questions.proofs.Counted.Laws as Q′
-use Rattle.walks.proofs.Rounds.{rounds}
+use Rattle.walks.proofs.Tests.{holds, fails}
+use Rattle.walks.proofs.Steps.Rounds.{rounds}
 use Rattle.lent.specs.Lists.{countedOf, listedOf}
 use Rattle.walks.proofs.Fronts.{fronted, fronted-next, fronted-length, fronted-front}
 use Rattle.lent.proofs.info_at as info-at
@@ -73,14 +74,6 @@ use Rattle.lent.proofs.fill.Key.{name as #fill}
 use Rattle.lent.proofs.fill as fill
 use Rattle.lent.proofs.fill.Statement as stated
 use Rattle.lent.proofs.fill.Code as code
-
-holds : (t : Bool) → T t → t ≡ true
-holds true _ = refl
-holds false a = absurd a
-
-fails : (t : Bool) → (T t → ⊥) → t ≡ false
-fails true f = absurd (f tt)
-fails false _ = refl
 
 -- ---- the locals' types, as `code.function` spells them
 abbrev ty : Ty → Ty

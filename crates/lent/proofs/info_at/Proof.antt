@@ -1,7 +1,7 @@
 -- `info_at` meets its contract: the array has 32 infos. Assumes nothing.
 use native.Mathlib.Omega.{arith}
 use lib.Ieee.{nan}
-use Rattle.walks.proofs.Loops.{long, getD-any}
+use Rattle.walks.proofs.Lists.Loops.{long, getD-any}
 use Rattle.questions.specs.Questions.{noInfo}
 use borrow.Author.Needs.{needs}
 use Rattle.lent.proofs.info_at.Statement.{statement}

@@ -1,7 +1,7 @@
 -- `Channel::with_note_speed` meets its contract, by the law of loops that store. Assumes nothing.
 use Prim.Native.Nat.{_-_}
 use native.Mathlib.Nat.{le-refl}
-use Rattle.walks.proofs.Loops.{Walk, stores, ends, long, begins}
+use Rattle.walks.proofs.Lists.Loops.{Walk, stores, ends, long, begins}
 use Rattle.channel.specs.Channels.{live, spedOf, setNoteSpeedOf}
 use Rattle.channel.proofs.Slots.{none, mapFrom, map-on}
 use borrow.Author.Needs.{needs}

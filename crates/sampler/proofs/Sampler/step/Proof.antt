@@ -2,7 +2,7 @@
 use mathlib.Core.Path.{refl}
 use mathlib.Core.Bool.{false}
 use Rattle.channel.specs.Channels.{channelOf}
-use Rattle.walks.proofs.Loops.{long, getD-any}
+use Rattle.walks.proofs.Lists.Loops.{long, getD-any}
 use Rattle.sampler.proofs.Seats.{none}
 use Rattle.sampler.proofs.Parts.{stepped-is, output-is, memory-is}
 use borrow.Author.Needs.{needs}

@@ -7,8 +7,8 @@ use mathlib.Core.Option.{none, some}
 use Prim.Native.Nat.{ℕ, zero, suc, _+_, _<_}
 use native.Mathlib.Omega.{arith}
 use lib.ListN.{length, take, getD, set, getElem?}
 use Rattle.walks.specs.Walks.{without}
-use Rattle.walks.proofs.Each.{fewer}
+use Rattle.walks.proofs.Lists.Each.{fewer}
 
 module _ {A : Type 0} where
   pub never : (x : A) → none ≡ some x → ⊥

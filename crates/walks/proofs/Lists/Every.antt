@@ -7,7 +7,7 @@ use native.Mathlib.Omega.{arith}
 use lib.ListN.{length, getD, take, set}
 use lib.Seq.{slice, getD-take, length-take-le}
 use Rattle.walks.specs.Walks.{every}
-use Rattle.walks.proofs.Loops.{next, stored}
+use Rattle.walks.proofs.Lists.Loops.{next, stored}
 
 pub both : (a b : Bool) → (a && b) ≡ true → (a ≡ true) × (b ≡ true)
 both true b h = (refl, h)
