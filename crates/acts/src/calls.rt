@@ -102,8 +102,8 @@ fn stepped(s: Sampler, entries: [f32; 3], p: Params, fields: &[u8], memory: &mut
     }
 }
 
-// Kind 19: as many frames as the number at 12 says, of which the last is shown. How many entries at 1; they are x, -x and x, where x is the
-// float at 4, and in each further frame more by the float at 8; the samples of memory lent at 16.
+// Kind 19: as many frames as the number at 12 says, of which the last is shown. How many entries at 1; they are x, -x
+// and x, where x is the float at 4, and in each further frame more by the float at 8; the samples of memory lent at 16.
 pub fn frames(run: Run, fields: &[u8], memory: &mut [u32]) -> Heard
     requires { ⌜ 64 ≤ length (now fields) ⌝ }
 {

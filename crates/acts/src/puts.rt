@@ -1,6 +1,7 @@
-// Kind 10, which is no call. It puts the clocks on, which stands for a long silence, or a field of the record to its limit or past it, for the
-// records that are broken. What is put is the number at 1; it is of the channel at 2 and the voice at 3. By the number n at 8 a field comes to
-// stand n past its limit (past the clock, the data length or the capacity), or is n; a float is read at 12, the length of a ramp at 16.
+// Kind 10, which is no call. It puts the clocks on, which stands for a long silence, or a field of the record to its
+// limit or past it, for the records that are broken. What is put is the number at 1; it is of the channel at 2 and the
+// voice at 3. By the number n at 8 a field comes to stand n past its limit (past the clock, the data length or the
+// capacity), or is n; a float is read at 12, the length of a ramp at 16.
 ghost use mathlib.Core.Path.{_≡_};
 ghost use Prim.Native.Nat.{_+_, _≤_, _<_};
 ghost use lib.ListN.{length};
@@ -101,7 +102,8 @@ fn put_channel(c: Channel, capacity: usize, p: Order) -> Channel {
     r
 }
 
-// 4 the data length past the capacity, 5 the write place past the data length, 6 the clock past 2^48, 7 a ramp of pass-through.
+// 4 the data length past the capacity, 5 the write place past the data length, 6 the clock past 2^48, 7 a ramp of
+// pass-through.
 fn put_head(h: Head, capacity: usize, p: Order) -> Head {
     let mut r = h;
     let recorder = h.recorder;

@@ -1,7 +1,8 @@
-// One channel: up to 32 voices over a recording in lent memory. Each function takes every value of its arguments, and equals a definition
-// in specs/. Those that begin with `with_` are the calls that the Rust's channel has too (a start, a stop, a note's speed, a sample): they
-// refuse nothing, and are for records that are known to be good. The sampler's calls, under the Rust's names, refuse first. A sample is its
-// 32-bit pattern, and `data` is the channel's part of the lent memory.
+// One channel: up to 32 voices over a recording in lent memory. Each function takes every value of its arguments, and
+// equals a definition in specs/. Those that begin with `with_` are the calls that the Rust's channel has too (a start,
+// a stop, a note's speed, a sample): they refuse nothing, and are for records that are known to be good. The sampler's
+// calls, under the Rust's names, refuse first. A sample is its 32-bit pattern, and `data` is the channel's part of the
+// lent memory.
 ghost use mathlib.Core.Path.{_≡_};
 ghost use Prim.Native.Nat.{min};
 ghost use mathlib.Core.Bool.{cond};
@@ -10,7 +11,20 @@ ghost use Rattle.binary32.specs.Leaves.{bitsOf, zero32, one32};
 ghost use Rattle.recorder.specs.Recording.{recordedOf, dataAfter};
 ghost use Rattle.voice.specs.Voices.{shouldRemoveOf};
 ghost use Rattle.channel.specs.declared.HeadChange.the-variants.{StartRecording, StopRecording};
-ghost use Rattle.channel.specs.Heads.{nextTime, headOf, headChangedOf, clockedOf, passesOf, withRecorded, withPassthru, rampOf, passthruOf, mixedOf, closedOf, goodHead};
+ghost use Rattle.channel.specs.Heads.{
+  nextTime,
+  headOf,
+  headChangedOf,
+  clockedOf,
+  passesOf,
+  withRecorded,
+  withPassthru,
+  rampOf,
+  passthruOf,
+  mixedOf,
+  closedOf,
+  goodHead,
+};
 ghost use Rattle.channel.specs.Channels.{
   withHead,
   sameNote,
@@ -158,7 +172,8 @@ impl Head {
 
     // The head once the sample has been recorded.
     pub fn recorded(self, input: f32, data: &mut [u32]) -> Self
-        ensures { λ r. ⌜ (r ≡ withRecorded (recordedOf (self .recorder) (self .«data_len») (length (now («data» .entry)))) self)
+        ensures { λ r. ⌜ (r
+            ≡ withRecorded (recordedOf (self .recorder) (self .«data_len») (length (now («data» .entry)))) self)
             × (now («data» .exit) ≡ dataAfter (self .recorder) (bitsOf input) (now («data» .entry))) ⌝ }
     {
         let recorder = self.recorder;

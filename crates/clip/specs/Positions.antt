@@ -1,5 +1,5 @@
--- Where a clip is at a time (document 01, module 4). Floats are binary32, and operations go in the Rust's order. Each definition takes every clip and every time.
--- Definitions only. Assumes nothing.
+-- Where a clip is at a time (document 01, module 4). Floats are binary32, and operations go in the Rust's order. Each
+-- definition takes every clip and every time. Definitions only. Assumes nothing.
 use Prim.Native.Nat.{ℕ, _-_}
 use mathlib.Core.Bool.{false, cond}
 use lib.IntN.{pos}

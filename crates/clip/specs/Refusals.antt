@@ -1,5 +1,5 @@
--- Document 01's number 7 for a clip, and each call under the Rust's name: refused, or what the definitions of Positions and Updates say.
--- Definitions only. Assumes nothing.
+-- Document 01's number 7 for a clip, and each call under the Rust's name: refused, or what the definitions of Positions
+-- and Updates say. Definitions only. Assumes nothing.
 use Prim.Native.Nat.{ℕ, _^_}
 use mathlib.Core.Bool.{Bool, false, not, _&&_, _||_, cond}
 use lib.Dec.{leb}
@@ -47,7 +47,8 @@ newClipOf since start speed length data-length mode =
 
 -- the place has to be in 0 to below the data length
 unfoldable pub dataToClipOf : Clip → Float → FoundAnswer
-dataToClipOf c x = cond (goodClip c && (le zero32 x && lt x (c .«data_length»))) (found.Done (foundAt c x)) found.Refused
+dataToClipOf c x = cond (goodClip c && (le zero32 x && lt x (c .«data_length»))) (found.Done (foundAt c x))
+    found.Refused
 
 unfoldable pub isPingpongReversingOf : Clip → ℕ → ReversingAnswer
 isPingpongReversingOf c now = cond (clipRefusedAt c now) reversing.Refused (reversing.Done (reversingAt c now))
@@ -68,10 +69,12 @@ unfoldable pub updateModeOf : Clip → ℕ → Mode → ClipAnswer
 updateModeOf c now mode = cond (clipRefusedAt c now) clip.Refused (clip.Done (withMode c now mode))
 
 unfoldable pub updateLengthOf : Clip → ℕ → Float → ClipAnswer
-updateLengthOf c now length = cond (clipRefusedAt c now || not (goodLength length)) clip.Refused (clip.Done (withLength c now length))
+updateLengthOf c now length = cond (clipRefusedAt c now || not (goodLength length)) clip.Refused
+    (clip.Done (withLength c now length))
 
 unfoldable pub updateDataLengthOf : Clip → ℕ → Float → ClipAnswer
-updateDataLengthOf c now length = cond (clipRefusedAt c now || not (goodLength length)) clip.Refused (clip.Done (withDataLength c now length))
+updateDataLengthOf c now length = cond (clipRefusedAt c now || not (goodLength length)) clip.Refused
+    (clip.Done (withDataLength c now length))
 
 -- ---- document 01's number for each answer
 abbrev pub clipNumber : ClipAnswer → ℕ

@@ -1,10 +1,51 @@
-// A clip: which part of a recording a voice plays, and where it is at a time. Each function equals a definition in specs/.
-// `made`, `good`, the functions that end in `_at` and those that begin with `with_` take every clip and every time: they are for clips that
-// are known to be good. Those under the Rust's names first refuse bad arguments (number 7 of document 01), and then answer the same.
+// A clip: which part of a recording a voice plays, and where it is at a time. Each function equals a definition in
+// specs/. `made`, `good`, the functions that end in `_at` and those that begin with `with_` take every clip and every
+// time: they are for clips that are known to be good. Those under the Rust's names first refuse bad arguments (number 7
+// of document 01), and then answer the same.
 ghost use mathlib.Core.Path.{_≡_};
-ghost use Rattle.clip.specs.Positions.{elapsedAt, leadOf, travelAt, loopedOf, roundTripOf, mirroredOf, bouncedOf, wrappedOf, placedOf, clipOffsetAt, clipToDataOf, offsetAt, indexAt};
-ghost use Rattle.clip.specs.Updates.{madeOf, backOf, foundAt, reversingAt, shiftFor, settledOf, sameMode, withSpeed, withMode, withLength, withDataLength};
-ghost use Rattle.clip.specs.Refusals.{goodLength, goodClip, clipRefusedAt, newClipOf, dataToClipOf, isPingpongReversingOf, elapsedOf, clipOffsetOf, offsetOf, updateSpeedOf, updateModeOf, updateLengthOf, updateDataLengthOf};
+ghost use Rattle.clip.specs.Positions.{
+  elapsedAt,
+  leadOf,
+  travelAt,
+  loopedOf,
+  roundTripOf,
+  mirroredOf,
+  bouncedOf,
+  wrappedOf,
+  placedOf,
+  clipOffsetAt,
+  clipToDataOf,
+  offsetAt,
+  indexAt,
+};
+ghost use Rattle.clip.specs.Updates.{
+  madeOf,
+  backOf,
+  foundAt,
+  reversingAt,
+  shiftFor,
+  settledOf,
+  sameMode,
+  withSpeed,
+  withMode,
+  withLength,
+  withDataLength,
+};
+ghost use Rattle.clip.specs.Refusals.{
+  goodLength,
+  goodClip,
+  clipRefusedAt,
+  newClipOf,
+  dataToClipOf,
+  isPingpongReversingOf,
+  elapsedOf,
+  clipOffsetOf,
+  offsetOf,
+  updateSpeedOf,
+  updateModeOf,
+  updateLengthOf,
+  updateDataLengthOf,
+};
 
 // A place or a length in samples.
 pub type T = f32;

@@ -1,4 +1,5 @@
--- A key: its note and its MIDI channel, and the two packed into one number (document 01, module 1). Definitions only. Assumes nothing.
+-- A key: its note and its MIDI channel, and the two packed into one number (document 01, module 1). Definitions only.
+-- Assumes nothing.
 use Prim.Native.Nat.{ℕ, _+_, _*_, _/_, _%_}
 use Rattle.common_types.specs.declared.Note.{Note}
 

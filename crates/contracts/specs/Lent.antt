@@ -88,7 +88,8 @@ pub record Lent (m : List ℕ) : Type 2 where
       (λ κs (s, (position, (note, (velocity, (params, _))))) r (left, _).
       Allows (on (lying (now s) m) (start position note velocity params)) (answer (now left) r))
   pub stop-playing : Ensures stop-playing.ended stop-playing-code.routine
-      (λ κs (s, (note, (params, _))) r (left, _). Allows (on (lying (now s) m) (stop note params)) (answer (now left) r))
+      (λ κs (s, (note, (params, _))) r (left, _). Allows (on (lying (now s) m) (stop note params))
+      (answer (now left) r))
   pub set-note-speed : Ensures set-note-speed.ended set-note-speed-code.routine
       (λ κs (s, (note, (rate, _))) r (left, _). Allows (on (lying (now s) m) (speed note rate)) (answer (now left) r))
   pub start-recording : Ensures start-recording.ended start-recording-code.routine

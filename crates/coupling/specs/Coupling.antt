@@ -10,7 +10,15 @@ use Rattle.common_types.specs.Settings.{defaultParams}
 use Rattle.common_types.specs.declared.InitParams.{InitParams}
 use Rattle.common_types.specs.declared.Note.{Note}
 use Rattle.common_types.specs.declared.Params.{Params}
-use Rattle.sampler.specs.Samplers.{setUpOf, startRecordingOf, stopRecordingOf, startPlayingOf, stopPlayingOf, Framed, framedOf}
+use Rattle.sampler.specs.Samplers.{
+  setUpOf,
+  startRecordingOf,
+  stopRecordingOf,
+  startPlayingOf,
+  stopPlayingOf,
+  Framed,
+  framedOf,
+}
 use Rattle.sampler.specs.declared.Sampler.{Sampler}
 use Rattle.questions.specs.Questions.{getVoiceInfoOf}
 use Rattle.questions.specs.declared.VoiceInfos.{VoiceInfos}

@@ -1,5 +1,5 @@
-// A host, as small as it can be: it sets the engine up, records a frame, presses a key, plays a frame, lets the key go, and asks what sounds.
-// `rt check coupling` proves it, runs it, and holds what it prints to the file `stdout`.
+// A host, as small as it can be: it sets the engine up, records a frame, presses a key, plays a frame, lets the key go,
+// and asks what sounds. `rt check coupling` proves it, runs it, and holds what it prints to the file `stdout`.
 ghost use mathlib.Core.Path.{_≡_};
 ghost use lib.ListN.{length};
 ghost use Rattle.sampler.specs.Samplers.{Frames, framedOf};
@@ -23,7 +23,8 @@ fn params() -> Params
 
 // Set-up, and one frame recorded. The frame's entries become outputs.
 fn recorded(frame: &mut [f32], memory: &mut [u32]) -> Sampler
-    ensures { λ r. ⌜ Frames (recordedOf (now (frame .entry)) (now (memory .entry))) r (now (frame .exit)) (now (memory .exit)) ⌝ }
+    ensures { λ r. ⌜ Frames (recordedOf (now (frame .entry)) (now (memory .entry))) r (now (frame .exit))
+        (now (memory .exit)) ⌝ }
 {
     let init = InitParams {
         auto_passthru: false,
@@ -44,7 +45,8 @@ fn pressed(s: Sampler) -> Sampler
 
 // One frame is played.
 fn sounded(s: Sampler, frame: &mut [f32], memory: &mut [u32]) -> Sampler
-    ensures { λ r. ⌜ Frames (framedOf s (now (frame .entry)) settings (now (memory .entry))) r (now (frame .exit)) (now (memory .exit)) ⌝ }
+    ensures { λ r. ⌜ Frames (framedOf s (now (frame .entry)) settings (now (memory .entry))) r (now (frame .exit))
+        (now (memory .exit)) ⌝ }
 {
     s.process_frame(frame, params(), memory).sampler
 }

@@ -1,5 +1,5 @@
-// Plays document 01's event listing from standard input, and prints a line for each record. What the bytes mean is said and proved in the crate
-// `listing`; this program reads and writes. It plays what is there before it waits for more.
+// Plays document 01's event listing from standard input, and prints a line for each record. What the bytes mean is said
+// and proved in the crate `listing`; this program reads and writes. It plays what is there before it waits for more.
 mod words;
 
 ghost use mathlib.Core.Path.{_≡_};

@@ -1,5 +1,6 @@
--- What one call does to one channel: nothing, a change, or a sample with the channel's part of the memory. A start and a sample are put together of their parts (Engine); the other changes are as the contracts cite them.
--- Definitions only. Assumes nothing.
+-- What one call does to one channel: nothing, a change, or a sample with the channel's part of the memory. A start and
+-- a sample are put together of their parts (Engine); the other changes are as the contracts cite them. Definitions
+-- only. Assumes nothing.
 use mathlib.Core.Path.{_≡_}
 use Prim.Native.Nat.{ℕ}
 use mathlib.Core.Bool.{Bool, true, false}

@@ -1,5 +1,5 @@
--- How a voice of one channel is followed through events. A voice is told by its place among those that there are: a sample moves it up by as many as leave before it,
--- and nothing else moves it. Definitions only. Assumes nothing.
+-- How a voice of one channel is followed through events. A voice is told by its place among those that there are: a
+-- sample moves it up by as many as leave before it, and nothing else moves it. Definitions only. Assumes nothing.
 use mathlib.Core.Path.{_≡_}
 use Prim.Native.Nat.{ℕ, _≤_}
 use mathlib.Core.Bool.{Bool, false, not, _&&_, _||_, cond}
@@ -33,7 +33,8 @@ pub data Place : Type 0 where
 
 -- ---- where it is afterwards
 
--- after a sample in which the voices play: one that leaves after its turn is gone, and any other stands behind those that are left before it
+-- after a sample in which the voices play: one that leaves after its turn is gone, and any other stands behind those
+-- that are left before it
 unfoldable pub fateOf : Tick → List ℕ → List Voice → ℕ → Option Voice → Place
 fateOf t m vs n none = gone
 fateOf t m vs n (some v) = cond (leavesOf t (turnedOf t m v)) gone (at (length (leftOf t m (take n vs))))
@@ -63,7 +64,8 @@ stops (sounds p x m) c n = false
 unfoldable pub becomes : Event → Channel → ℕ → Voice → Voice
 becomes idle c n v = v
 becomes (changes (change.Start p position note velocity)) c n v = v
-becomes (changes (change.Stop p note)) c n v = cond (findsAt (findOf note c) n) (finishOf (c .head .now) (p .«decay_samples») v) v
+becomes (changes (change.Stop p note)) c n v = cond (findsAt (findOf note c) n)
+    (finishOf (c .head .now) (p .«decay_samples») v) v
 becomes (changes (change.Speed note speed)) c n v = spedOf note speed v
 becomes (changes (change.Head d)) c n v = v
 becomes (changes change.Reset) c n v = v

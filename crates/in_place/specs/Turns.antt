@@ -16,7 +16,8 @@ use Rattle.channel.specs.Heads.{goodHead}
 use Rattle.channel.specs.Channels.{playedOf}
 use Rattle.in_place.specs.declared.Start.{Start}
 
--- how many voices take a turn: none if the recording is empty, otherwise as many as there are, and never more than there are places
+-- how many voices take a turn: none if the recording is empty, otherwise as many as there are, and never more than
+-- there are places
 unfoldable pub turnCountOf : ℕ → ℕ → ℕ
 turnCountOf len count = cond (eqb len 0) 0 (min count 32)
 
@@ -43,7 +44,8 @@ sharedOf p time len count =
 unfoldable pub voicesLeftOf : ℕ → ℕ → ℕ → ℕ
 voicesLeftOf turns kept count = cond (eqb turns 0) count kept
 
--- the voices play if the recording isn't empty: a channel's `playedIfOf`, at a clock and with a recording's length that its head doesn't have yet
+-- the voices play if the recording isn't empty: a channel's `playedIfOf`, at a clock and with a recording's length that
+-- its head doesn't have yet
 unfoldable pub playedBy : Params → ℕ → ℕ → List ℕ → Channel → Played
 playedBy p time len m c = cond (eqb len 0) (record { channel = c; output = zero32 }) (playedOf (tickOf p time len) m c)
 

@@ -1,5 +1,6 @@
-// One channel's sample in place: the channel is lent, and its voices are moved one at a time, so that no channel is copied. Each function
-// equals the same definition as that of crate `channel` by value. Those that take a channel lent are proved by hand.
+// One channel's sample in place: the channel is lent, and its voices are moved one at a time, so that no channel is
+// copied. Each function equals the same definition as that of crate `channel` by value. Those that take a channel lent
+// are proved by hand.
 ghost use mathlib.Core.Path.{_≡_};
 ghost use Rattle.channel.specs.Channels.{anyUnfinishedOf, memoryOf, processSampleOf, goodChannel};
 ghost use Rattle.in_place.specs.Turns.{unusedTick, turnCountOf, sharedOf, voicesLeftOf, playedBy, headGoodOf};
@@ -104,8 +105,9 @@ pub fn any_unfinished(c: &Channel) -> bool
     found
 }
 
-// Each voice takes its turn if the recording isn't empty; those that are then to be removed leave, and the others move up in order. The
-// clock and the recording's length are those that the head will have: it is stored once, at the sample's end.
+// Each voice takes its turn if the recording isn't empty; those that are then to be removed leave, and the others move
+// up in order. The clock and the recording's length are those that the head will have: it is stored once, at the
+// sample's end.
 fn play(c: &mut Channel, time: usize, data_len: usize, params: Params, data: &[u32]) -> f32
     ensures { λ r. ⌜ (r ≡ playedBy params time «data_len» (now («data» .entry)) (now (c .entry)) .output)
         × (now (c .exit) ≡ playedBy params time «data_len» (now («data» .entry)) (now (c .entry)) .channel) ⌝ }

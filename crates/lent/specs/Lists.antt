@@ -1,4 +1,5 @@
--- Voice info on a lent list: what is answered, and the list afterwards, from the answer that is given by value. Definitions only. Assumes nothing.
+-- Voice info on a lent list: what is answered, and the list afterwards, from the answer that is given by value.
+-- Definitions only. Assumes nothing.
 use Prim.Native.Nat.{ℕ}
 use mathlib.Core.List.{List}
 use lib.ListN.{length, take}

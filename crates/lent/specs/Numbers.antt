@@ -1,4 +1,5 @@
--- The number of a frame from what is asked of the record's channels: of each whether it is good, and its clock. Definitions only. Assumes nothing.
+-- The number of a frame from what is asked of the record's channels: of each whether it is good, and its clock.
+-- Definitions only. Assumes nothing.
 use Prim.Native.Nat.{ℕ, _*_}
 use mathlib.Core.Bool.{Bool, not, _&&_}
 use mathlib.Core.List.{List}
@@ -21,4 +22,5 @@ anyEnded n times = any (leb lastTime) (take n times)
 -- `frameNumber` of a record whose channels are so
 unfoldable pub numberOf : ℕ → ℕ → List Bool → List ℕ → ℕ → Params → ℕ → ℕ
 numberOf count capacity good times n p size =
-    row (not ((goodSizes count capacity && allGood count good) && leb (count * capacity) size)) 9 (row (ltb count n) 1 (row (beyondLimits p) 4 (row (anyEnded n times) 6 0)))
+    row (not ((goodSizes count capacity && allGood count good) && leb (count * capacity) size)) 9
+    (row (ltb count n) 1 (row (beyondLimits p) 4 (row (anyEnded n times) 6 0)))

@@ -1,6 +1,6 @@
-// The sampler's calls on one record that its host lends, with the definitions of the calls by value in their contracts. A frame is played where
-// the record stands. The other calls hand a copy of it to the call by value. What takes a record, a channel or a list of records lent is
-// proved by hand.
+// The sampler's calls on one record that its host lends, with the definitions of the calls by value in their contracts.
+// A frame is played where the record stands. The other calls hand a copy of it to the call by value. What takes a
+// record, a channel or a list of records lent is proved by hand.
 ghost use mathlib.Core.Path.{_≡_};
 ghost use Rattle.sampler.specs.Samplers.{
   startPlayingOf,
@@ -107,7 +107,8 @@ pub fn start_playing(
     velocity: f32,
     params: Params,
 ) -> u8
-    ensures { λ r. ⌜ record { sampler = now (s .exit); number = r } ≡ startPlayingOf (now (s .entry)) position note velocity params ⌝ }
+    ensures { λ r. ⌜ record { sampler = now (s .exit); number = r }
+        ≡ startPlayingOf (now (s .entry)) position note velocity params ⌝ }
 {
     change(s, start_of(position, note, velocity, params))
 }
@@ -154,7 +155,8 @@ struct Sampling {
 }
 
 fn sample_of(s: Sampler, channel: usize, input: f32, params: Params, memory: &mut [u32]) -> Sampling
-    ensures { λ r. ⌜ record { sampler = r .sampler; output = r .sampled .output; number = r .sampled .number } ≡ sampleOf s channel input params (now (memory .entry)) ⌝ }
+    ensures { λ r. ⌜ record { sampler = r .sampler; output = r .sampled .output; number = r .sampled .number }
+        ≡ sampleOf s channel input params (now (memory .entry)) ⌝ }
     ensures { λ r. ⌜ now (memory .exit) ≡ sampleMemory s channel input params (now (memory .entry)) ⌝ }
 {
     let r = s.process_sample(channel, input, params, memory);
@@ -174,7 +176,8 @@ pub fn process_sample(
     params: Params,
     memory: &mut [u32],
 ) -> Sampled
-    ensures { λ r. ⌜ (record { sampler = now (s .exit); output = r .output; number = r .number } ≡ sampleOf (now (s .entry)) channel input params (now (memory .entry)))
+    ensures { λ r. ⌜ (record { sampler = now (s .exit); output = r .output; number = r .number }
+        ≡ sampleOf (now (s .entry)) channel input params (now (memory .entry)))
         × (now (memory .exit) ≡ sampleMemory (now (s .entry)) channel input params (now (memory .entry))) ⌝ }
 {
     let r = sample_of(*s, channel, input, params, memory);
@@ -207,13 +210,15 @@ pub fn get_last_recorded_offset(s: &Sampler, channel: usize) -> OffsetAnswer
 }
 
 pub fn print_error_info(s: &Sampler, channel: usize, text: &mut [u8]) -> Counted
-    ensures { λ r. ⌜ (r ≡ printErrorInfoOf (now (s .entry)) channel (length (now (text .entry)))) × (now (text .exit) ≡ errorTextAfter (now (s .entry)) channel (now (text .entry))) ⌝ }
+    ensures { λ r. ⌜ (r ≡ printErrorInfoOf (now (s .entry)) channel (length (now (text .entry))))
+        × (now (text .exit) ≡ errorTextAfter (now (s .entry)) channel (now (text .entry))) ⌝ }
 {
     questions::print_error_info(*s, channel, text)
 }
 
 pub fn iter_active_notes(s: &Sampler, channel: usize, notes: &mut [u64]) -> Counted
-    ensures { λ r. ⌜ (r ≡ iterActiveNotesOf (now (s .entry)) channel (length (now (notes .entry)))) × (now (notes .exit) ≡ activeNotesAfter (now (s .entry)) channel (now (notes .entry))) ⌝ }
+    ensures { λ r. ⌜ (r ≡ iterActiveNotesOf (now (s .entry)) channel (length (now (notes .entry))))
+        × (now (notes .exit) ≡ activeNotesAfter (now (s .entry)) channel (now (notes .entry))) ⌝ }
 {
     questions::iter_active_notes(*s, channel, notes)
 }
@@ -256,7 +261,8 @@ pub fn get_voice_info(
     params: Params,
     list: &mut [VoiceInfo],
 ) -> Counted
-    ensures { λ r. ⌜ (r ≡ voiceInfoCounted (now (s .entry)) channel params (now (list .entry))) × (now (list .exit) ≡ voiceInfoAfter (now (s .entry)) channel params (now (list .entry))) ⌝ }
+    ensures { λ r. ⌜ (r ≡ voiceInfoCounted (now (s .entry)) channel params (now (list .entry)))
+        × (now (list .exit) ≡ voiceInfoAfter (now (s .entry)) channel params (now (list .entry))) ⌝ }
 {
     let v = questions::get_voice_info(*s, channel, params, list.len());
     fill(list, v)
@@ -287,7 +293,8 @@ fn any_ended(n: usize, first: usize, second: usize) -> bool
 }
 
 fn sizes_good(count: usize, capacity: usize, first: bool, second: bool, size: usize) -> bool
-    ensures { λ r. ⌜ r ≡ ((goodSizes count capacity && allGood count (first ∷ second ∷ [])) && leb (count * capacity) size) ⌝ }
+    ensures { λ r. ⌜ r
+        ≡ ((goodSizes count capacity && allGood count (first ∷ second ∷ [])) && leb (count * capacity) size) ⌝ }
 {
     if sampler::good_sizes(count, capacity) {
         all_good(count, first, second) & sampler::enough(count, capacity, size)
@@ -369,9 +376,15 @@ fn part_sample(
     end: usize,
 ) -> f32
     requires { ⌜ (start ≤ end) × (end ≤ length (now memory)) ⌝ }
-    ensures { λ r. ⌜ (r ≡ mul binary32 (params .volume) (processSampleOf params input (now (c .entry)) (take (end - start) (drop start (now (memory .entry)))) .output))
-        × (now (c .exit) ≡ processSampleOf params input (now (c .entry)) (take (end - start) (drop start (now (memory .entry)))) .channel)
-        × (now (memory .exit) ≡ take start (now (memory .entry)) ++ (memoryOf input (now (c .entry)) (take (end - start) (drop start (now (memory .entry)))) ++ drop (end - start) (drop start (now (memory .entry))))) ⌝ }
+    ensures { λ r. ⌜ (r
+        ≡ mul binary32 (params .volume)
+        (processSampleOf params input (now (c .entry)) (take (end - start) (drop start (now (memory .entry)))) .output))
+        × (now (c .exit)
+        ≡ processSampleOf params input (now (c .entry))
+        (take (end - start) (drop start (now (memory .entry)))) .channel)
+        × (now (memory .exit) ≡ take start (now (memory .entry))
+        ++ (memoryOf input (now (c .entry)) (take (end - start) (drop start (now (memory .entry))))
+        ++ drop (end - start) (drop start (now (memory .entry))))) ⌝ }
 {
     let output = in_place::with_sample(c, params, input, &mut memory[start..end]);
     at_volume(params, output)
@@ -379,8 +392,10 @@ fn part_sample(
 
 // A sample of each channel in turn, each entry of the frame replaced by its output.
 pub fn process_frame(s: &mut Sampler, frame: &mut [f32], params: Params, memory: &mut [u32]) -> u8
-    ensures { λ r. ⌜ (r ≡ frameNumber (now (s .entry)) (length (now (frame .entry))) params (length (now (memory .entry))))
-        × Frames (framedOf (now (s .entry)) (now (frame .entry)) params (now (memory .entry))) (now (s .exit)) (now (frame .exit)) (now (memory .exit)) ⌝ }
+    ensures { λ r. ⌜ (r
+        ≡ frameNumber (now (s .entry)) (length (now (frame .entry))) params (length (now (memory .entry))))
+        × Frames (framedOf (now (s .entry)) (now (frame .entry)) params (now (memory .entry))) (now (s .exit))
+        (now (frame .exit)) (now (memory .exit)) ⌝ }
 {
     let entries = frame.len();
     let number = frame_number(s, entries, params, memory.len());

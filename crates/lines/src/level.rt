@@ -1,5 +1,5 @@
-// A volume as a word: its kind, 0 for a steady level and 1 for a ramp, the ramp's two times, and its two floats. A steady level stands in the
-// place of the first.
+// A volume as a word: its kind, 0 for a steady level and 1 for a ramp, the ramp's two times, and its two floats. A
+// steady level stands in the place of the first.
 ghost use mathlib.Core.Path.{_≡_};
 ghost use Prim.Native.Nat.{_+_, _≤_, _<_};
 use crate::line::begin;

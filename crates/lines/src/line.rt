@@ -1,5 +1,6 @@
-// A line of answers: words with a space between them, each an answer. A word is one number in upper-case hexadecimal digits, or several
-// with a colon between them. Each function puts its text at a place of `out`, and answers the place after it.
+// A line of answers: words with a space between them, each an answer. A word is one number in upper-case hexadecimal
+// digits, or several with a colon between them. Each function puts its text at a place of `out`, and answers the place
+// after it.
 ghost use mathlib.Core.Path.{_≡_};
 ghost use Prim.Native.Nat.{_+_, _≤_, _<_};
 use libc::STDOUT_FILENO;

@@ -1,6 +1,7 @@
-// The parameters in a record: bytes length kind at 4, loop mode at 5, note-off mode at 6 and auto pass-through at 7 (modes in the order of their
-// declaration, length kinds as in document 01's listing, and each byte above the last is taken for the last); floats volume at 16, value at 20,
-// rate at 24, tempo at 28; whole numbers numerator at 32, denominator at 36, attack at 40, decay at 48; floats speed at 56 and reverse speed at 60.
+// The parameters in a record: bytes length kind at 4, loop mode at 5, note-off mode at 6 and auto pass-through at 7
+// (modes in the order of their declaration, length kinds as in document 01's listing, and each byte above the last is
+// taken for the last); floats volume at 16, value at 20, rate at 24, tempo at 28; whole numbers numerator at 32,
+// denominator at 36, attack at 40, decay at 48; floats speed at 56 and reverse speed at 60.
 ghost use Prim.Native.Nat.{_≤_};
 ghost use lib.ListN.{length};
 use crate::field::f32_at;

@@ -1,5 +1,5 @@
--- What is wrong with a bad header or record, in the order in which it is looked for. There is a fault exactly where `goodHeader` or `goodRecord`
--- fails: `proofs/Faultless: header-faultless`, `record-faultless`. Definitions only.
+-- What is wrong with a bad header or record, in the order in which it is looked for. There is a fault exactly where
+-- `goodHeader` or `goodRecord` fails: `proofs/Faultless: header-faultless`, `record-faultless`. Definitions only.
 use Prim.Native.Nat.{ℕ, _+_, _-_}
 use mathlib.Core.Bool.{Bool, true, false, not, cond, _||_}
 use mathlib.Core.List.{List}
@@ -45,7 +45,8 @@ settingsFaultOf r =
 unfoldable pub kindFaultOf : Header → List ℕ → RecordFault
 kindFaultOf h r =
     cond (ltb 7 (kindOf r)) (fault.Kind (kindOf r))
-    (cond (not (eqb (halfAt r 0) (lengthOf h (kindOf r)))) (fault.Length (kindOf r) (halfAt r 0) (lengthOf h (kindOf r)))
+    (cond (not (eqb (halfAt r 0) (lengthOf h (kindOf r))))
+    (fault.Length (kindOf r) (halfAt r 0) (lengthOf h (kindOf r)))
     (cond (eqb (kindOf r) 0) (settingsFaultOf r)
     fault.None))
 

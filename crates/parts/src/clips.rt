@@ -1,6 +1,6 @@
-// Part 4: clip. The arguments: bytes mode at 1 (0 loop, 1 ping-pong), kind of update at 2 (0 speed, 1 mode, 2 length, 3 data length) and new
-// mode at 3; floats start at 4, speed at 8, length at 12, data length at 16, shift at 20, x (a place in the data) at 24, value (a new speed
-// or length) at 28; whole numbers since at 32, now at 40, later at 48.
+// Part 4: clip. The arguments: bytes mode at 1 (0 loop, 1 ping-pong), kind of update at 2 (0 speed, 1 mode, 2 length, 3
+// data length) and new mode at 3; floats start at 4, speed at 8, length at 12, data length at 16, shift at 20, x (a
+// place in the data) at 24, value (a new speed or length) at 28; whole numbers since at 32, now at 40, later at 48.
 ghost use mathlib.Core.Path.{_≡_};
 ghost use Prim.Native.Nat.{_+_, _≤_, _<_};
 ghost use lib.ListN.{length};

@@ -1,5 +1,6 @@
-// Part 2: volume. The arguments: at 1 a byte, 0 for a steady level and 1 for a ramp; whole numbers start at 8, end at 16, now at 24,
-// duration at 32; floats from at 40 (also the steady level), till at 44, target at 48; a whole number later at 56.
+// Part 2: volume. The arguments: at 1 a byte, 0 for a steady level and 1 for a ramp; whole numbers start at 8, end at
+// 16, now at 24, duration at 32; floats from at 40 (also the steady level), till at 44, target at 48; a whole number
+// later at 56.
 ghost use mathlib.Core.Path.{_≡_};
 ghost use Prim.Native.Nat.{_+_, _≤_, _<_};
 ghost use lib.ListN.{length};

@@ -1,6 +1,6 @@
-// Answers records from standard input with a line each on standard output, for the comparison with the Rust (oracle/README.md).
-// A record is 64 bytes: the number of a part, then the arguments of that part's functions. A record that is cut short or that
-// names no part is answered by `X`, and the program ends.
+// Answers records from standard input with a line each on standard output, for the comparison with the Rust
+// (oracle/README.md). A record is 64 bytes: the number of a part, then the arguments of that part's functions. A record
+// that is cut short or that names no part is answered by `X`, and the program ends.
 ghost use Prim.Native.Nat.{_+_, _*_, _≤_, _<_};
 ghost use lib.ListN.{length};
 use libc::STDIN_FILENO;
@@ -68,7 +68,8 @@ fn answers(chunk: &[u8], out: &mut [u8; 65536]) -> Answered
     }
 }
 
-// Puts the line that answers the record at `at`, and answers the place after it: `at` itself where the record names no part.
+// Puts the line that answers the record at `at`, and answers the place after it: `at` itself where the record names no
+// part.
 fn answer(fields: &[u8], out: &mut [u8; 65536], at: usize) -> usize
     requires { ⌜ 64 ≤ length (now fields) ⌝ }
     requires { ⌜ at + 512 ≤ 65536 ⌝ }

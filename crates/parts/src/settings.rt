@@ -1,7 +1,8 @@
-// Part 1: common_types and time_value. The arguments: bytes note at 1, channel at 2, time unit at 3, length kind at 4, loop mode at 5 and
-// note-off mode at 6 (units and modes in the order of their declaration, length kinds as in document 01's listing); a whole number n at 8,
-// which is a packed note, an index and a data length; floats x at 16, value at 20, rate at 24, tempo at 28; whole numbers numerator at 32,
-// denominator at 36, attack at 40, decay at 48; floats speed at 56 and reverse speed at 60.
+// Part 1: common_types and time_value. The arguments: bytes note at 1, channel at 2, time unit at 3, length kind at 4,
+// loop mode at 5 and note-off mode at 6 (units and modes in the order of their declaration, length kinds as in document
+// 01's listing); a whole number n at 8, which is a packed note, an index and a data length; floats x at 16, value at
+// 20, rate at 24, tempo at 28; whole numbers numerator at 32, denominator at 36, attack at 40, decay at 48; floats
+// speed at 56 and reverse speed at 60.
 ghost use mathlib.Core.Path.{_≡_};
 ghost use Prim.Native.Nat.{_+_, _≤_, _<_};
 ghost use lib.ListN.{length};

@@ -1,5 +1,6 @@
--- Document 01's row 9 in its own words: which records are whole, with whole numbers compared by ≤ and floats by their comparison, in the document's order. The engine's tests are those of the crates' `good` definitions: `RowNine` says that
--- they are these. Definitions only. Assumes nothing.
+-- Document 01's row 9 in its own words: which records are whole, with whole numbers compared by ≤ and floats by their
+-- comparison, in the document's order. The engine's tests are those of the crates' `good` definitions: `RowNine` says
+-- that they are these. Definitions only. Assumes nothing.
 use mathlib.Core.Path.{_≡_}
 use mathlib.Core.Bool.{true}
 use mathlib.Core.Logic.{_⊎_, _≢_, _↔_}
@@ -20,7 +21,8 @@ use Rattle.fates.specs.Places.{voiceAt}
 abbrev pub In : ℕ → ℕ → Float → Type 0
 In a b x = (le (asFloat a) x ≡ true) × (le x (asFloat b) ≡ true)
 
--- "A clip is bad if length or data length is not in 1 to 2^22, or start not in 0 to 2^22. Shift and speed may be anything."
+-- "A clip is bad if length or data length is not in 1 to 2^22, or start not in 0 to 2^22. Shift and speed may be
+-- anything."
 pub record GoodClip (c : Clip) : Type 0 where
   pub length : In 1 (2 ^ 22) (c .length)
   pub data-length : In 1 (2 ^ 22) (c .«data_length»)
@@ -32,10 +34,12 @@ IsVoice c v = (n : ℕ) × (voiceAt c n ≡ some v)
 
 -- a ramp from the time a to the time b: pass-through's, or that of a voice below the count
 abbrev pub IsRamp : Channel → ℕ → ℕ → Type 0
-IsRamp c a b = (x : Float) × (y : Float) × ((c .head .«passthru_volume» ≡ Linear a b x y) ⊎ ((v : Voice) × IsVoice c v × (v .volume ≡ Linear a b x y)))
+IsRamp c a b = (x : Float) × (y : Float)
+    × ((c .head .«passthru_volume» ≡ Linear a b x y) ⊎ ((v : Voice) × IsVoice c v × (v .volume ≡ Linear a b x y)))
 
--- "a voice count exceeds 32, data length exceeds capacity, a write place exceeds the data length, the clock exceeds 2^48, a `since`, `finished_at` or ramp start lies after the clock, a ramp is empty or longer than 2^24, or a clip is bad.
--- Only voices below the count are judged."
+-- "a voice count exceeds 32, data length exceeds capacity, a write place exceeds the data length, the clock exceeds
+-- 2^48, a `since`, `finished_at` or ramp start lies after the clock, a ramp is empty or longer than 2^24, or a clip is
+-- bad. Only voices below the count are judged."
 pub record GoodChannel (capacity : ℕ) (c : Channel) : Type 0 where
   pub voices : c .count ≤ 32
   pub data-length : c .head .«data_len» ≤ capacity
@@ -65,8 +69,11 @@ pub record RowNine : Type 0 where
   -- "sample memory shorter than channel count times capacity"
   pub memory : (s : Sampler) (size : ℕ) → (goodWith s size ≡ true) ↔ (GoodRecord s × (s .count * s .capacity ≤ size))
   -- "set-up with another channel count or capacity 0"
-  pub set-up : (count size : ℕ) → (setUpNumber count size ≡ 0) ↔ (((count ≡ 1) ⊎ (count ≡ 2)) × (capacityOf count size ≢ 0))
-  -- "A channel's capacity is the lent memory's length divided by the channel count, rounded down, at most 2^22": the largest number n that is no more than that
+  pub set-up : (count size : ℕ)
+      → (setUpNumber count size ≡ 0) ↔ (((count ≡ 1) ⊎ (count ≡ 2)) × (capacityOf count size ≢ 0))
+  -- "A channel's capacity is the lent memory's length divided by the channel count, rounded down, at most 2^22": the
+  -- largest number n that is no more than that
   pub capacity : (count size n : ℕ) → 0 < count → (n ≤ capacityOf count size) ↔ ((n * count ≤ size) × (n ≤ 2 ^ 22))
   -- the sizes of a whole record are those "that set-up can give", with memory of some size
-  pub given : (count capacity : ℕ) → GoodSizes count capacity ↔ ((size : ℕ) × (setUpNumber count size ≡ 0) × (capacityOf count size ≡ capacity))
+  pub given : (count capacity : ℕ)
+      → GoodSizes count capacity ↔ ((size : ℕ) × (setUpNumber count size ≡ 0) × (capacityOf count size ≡ capacity))

@@ -1,8 +1,8 @@
 -- Every public call with all that it is given, and which outcomes its contract allows: the result, and what was lent to
 -- it as it is at the end. `Allows` says of each call what the `ensures` lines of its function say, in the same
--- definitions. That it does is checked of each function in the crate `contracts`: of those by value (sampler/src/lib.rt,
--- questions/src/lib.rt) by a twin whose `ensures` is `Allows`, and of those on a record that the host lends
--- (lent/src/lib.rt) by the theorem `Lent` on the function itself. Definitions only. Assumes nothing.
+-- definitions. That it does is checked of each function in the crate `contracts`: of those by value
+-- (sampler/src/lib.rt, questions/src/lib.rt) by a twin whose `ensures` is `Allows`, and of those on a record that the
+-- host lends (lent/src/lib.rt) by the theorem `Lent` on the function itself. Definitions only. Assumes nothing.
 use mathlib.Core.Path.{_≡_}
 use Prim.Native.Nat.{ℕ}
 use mathlib.Core.List.{List, [], _∷_}
@@ -101,7 +101,8 @@ Outcome (on w (asks (fillVoiceInfo j p list))) = InfoOutcome
 abbrev pub Allows : (g : Given) → Outcome g → Type 0
 Allows (new count p m) r = r ≡ setUpOf count p (length m)
 Allows (on w (change d)) r = r ≡ changeOf (w .sampler) d
-Allows (on w (sample j x p)) r = (r .answer ≡ processSampleOf (w .sampler) j x p (w .memory)) × (r .memory ≡ sampleMemory (w .sampler) j x p (w .memory))
+Allows (on w (sample j x p)) r = (r .answer ≡ processSampleOf (w .sampler) j x p (w .memory))
+    × (r .memory ≡ sampleMemory (w .sampler) j x p (w .memory))
 Allows (on w (frame xs p)) r =
     (r .answer .number ≡ frameNumber (w .sampler) (length xs) p (length (w .memory)))
     × Frames (framedOf (w .sampler) xs p (w .memory)) (r .answer .sampler) (r .frame) (r .memory)
@@ -109,10 +110,13 @@ Allows (on w (asks (getFramesProcessed j))) r = r ≡ getFramesProcessedOf (w .s
 Allows (on w (asks (getDataLen j))) r = r ≡ getDataLenOf (w .sampler) j
 Allows (on w (asks (isRecording j))) r = r ≡ isRecordingOf (w .sampler) j
 Allows (on w (asks (getLastRecordedOffset j))) r = r ≡ getLastRecordedOffsetOf (w .sampler) j
-Allows (on w (asks (printErrorInfo j text))) r = (r .answer ≡ printErrorInfoOf (w .sampler) j (length text)) × (r .lent ≡ errorTextAfter (w .sampler) j text)
-Allows (on w (asks (iterActiveNotes j notes))) r = (r .answer ≡ iterActiveNotesOf (w .sampler) j (length notes)) × (r .lent ≡ activeNotesAfter (w .sampler) j notes)
+Allows (on w (asks (printErrorInfo j text))) r = (r .answer ≡ printErrorInfoOf (w .sampler) j (length text))
+    × (r .lent ≡ errorTextAfter (w .sampler) j text)
+Allows (on w (asks (iterActiveNotes j notes))) r = (r .answer ≡ iterActiveNotesOf (w .sampler) j (length notes))
+    × (r .lent ≡ activeNotesAfter (w .sampler) j notes)
 Allows (on w (asks (getVoiceInfo j p room))) r = r ≡ getVoiceInfoOf (w .sampler) j p room
-Allows (on w (asks (fillVoiceInfo j p list))) r = (r .answer ≡ voiceInfoCounted (w .sampler) j p list) × (r .lent ≡ voiceInfoAfter (w .sampler) j p list)
+Allows (on w (asks (fillVoiceInfo j p list))) r = (r .answer ≡ voiceInfoCounted (w .sampler) j p list)
+    × (r .lent ≡ voiceInfoAfter (w .sampler) j p list)
 
 -- one outcome, and no other
 pub record Settled (g : Given) : Type 0 where
@@ -168,4 +172,5 @@ Untouched w (asks (fillVoiceInfo j p list)) r = r .lent ≡ list
 -- ---- runs by the contracts alone: each call leaves what some outcome that its contract allows leaves
 pub data Chain : World → List Call → World → Type 0 where
   ended : {w : World} → Chain w [] w
-  called : {w u : World} {c : Call} {cs : List Call} (r : Outcome (on w c)) → Allows (on w c) r → Chain (leftBy w c r) cs u → Chain w (c ∷ cs) u
+  called : {w u : World} {c : Call} {cs : List Call} (r : Outcome (on w c)) → Allows (on w c) r
+      → Chain (leftBy w c r) cs u → Chain w (c ∷ cs) u

@@ -1,4 +1,5 @@
--- The tests of document 01's rows 1 to 6 in its own words, "given exactly when": whole numbers by ≤, floats by their comparison. Definitions only. Assumes nothing.
+-- The tests of document 01's rows 1 to 6 in its own words, "given exactly when": whole numbers by ≤, floats by their
+-- comparison. Definitions only. Assumes nothing.
 use mathlib.Core.Path.{_≡_}
 use mathlib.Core.Bool.{true, false}
 use mathlib.Core.Logic.{_⊎_, _≢_, _↔_}

@@ -1,5 +1,6 @@
--- Runs of calls: the record and the memory lent with it, as each call leaves them for the next, and what each call does to one channel. A call changes them by the very definitions that its contract cites.
--- Definitions only. Assumes nothing.
+-- Runs of calls: the record and the memory lent with it, as each call leaves them for the next, and what each call does
+-- to one channel. A call changes them by the very definitions that its contract cites. Definitions only. Assumes
+-- nothing.
 use Prim.Native.Nat.{ℕ}
 use mathlib.Core.Bool.{Bool, true, false, cond}
 use mathlib.Core.List.{List, [], _∷_}
@@ -40,7 +41,8 @@ pub record World : Type 0 where
 unfoldable pub setUp : ℕ → InitParams → List ℕ → World
 setUp count p m = record { sampler = setUpOf count p (length m) .sampler; memory = m }
 
--- the questions, each of one channel; a lent list is given as it is lent. Voice info is answered by value, with the room that the caller has, and in a lent list
+-- the questions, each of one channel; a lent list is given as it is lent. Voice info is answered by value, with the
+-- room that the caller has, and in a lent list
 pub data Question : Type 0 where
   getFramesProcessed : (j : ℕ) → Question
   getDataLen : (j : ℕ) → Question
@@ -82,8 +84,10 @@ questionNumber w (getFramesProcessed j) = channelNumber (w .sampler) j
 questionNumber w (getDataLen j) = channelNumber (w .sampler) j
 questionNumber w (isRecording j) = channelNumber (w .sampler) j
 questionNumber w (getLastRecordedOffset j) = channelNumber (w .sampler) j
-questionNumber w (printErrorInfo j text) = listNumber (w .sampler) j (errorText (recorderAt (w .sampler) j)) (length text)
-questionNumber w (iterActiveNotes j notes) = listNumber (w .sampler) j (notesOf (live (channelAt (w .sampler) j))) (length notes)
+questionNumber w (printErrorInfo j text) = listNumber (w .sampler) j (errorText (recorderAt (w .sampler) j))
+    (length text)
+questionNumber w (iterActiveNotes j notes) = listNumber (w .sampler) j (notesOf (live (channelAt (w .sampler) j)))
+    (length notes)
 questionNumber w (getVoiceInfo j p room) = infoNumber (w .sampler) j p room
 questionNumber w (fillVoiceInfo j p list) = infoNumber (w .sampler) j p (length list)
 
@@ -99,8 +103,16 @@ withSampler s w = record { sampler = s; memory = w .memory }
 
 unfoldable pub after : World → Call → World
 after w (change d) = withSampler (changeOf (w .sampler) d .sampler) w
-after w (sample j x p) = record { sampler = processSampleOf (w .sampler) j x p (w .memory) .sampler; memory = sampleMemory (w .sampler) j x p (w .memory) }
-after w (frame xs p) = record { sampler = framedOf (w .sampler) xs p (w .memory) .sampler; memory = framedOf (w .sampler) xs p (w .memory) .memory }
+after w (sample j x p) =
+    record {
+      sampler = processSampleOf (w .sampler) j x p (w .memory) .sampler;
+      memory = sampleMemory (w .sampler) j x p (w .memory);
+    }
+after w (frame xs p) =
+    record {
+      sampler = framedOf (w .sampler) xs p (w .memory) .sampler;
+      memory = framedOf (w .sampler) xs p (w .memory) .memory;
+    }
 after w (asks q) = w
 
 unfoldable pub run : World → List Call → World

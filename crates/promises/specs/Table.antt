@@ -1,4 +1,5 @@
--- Document 01's K1 to K10 as one table: a case, and what it gives. Floats are compared by all that they are, so -0 is not 0. Definitions only. Assumes nothing.
+-- Document 01's K1 to K10 as one table: a case, and what it gives. Floats are compared by all that they are, so -0 is
+-- not 0. Definitions only. Assumes nothing.
 use mathlib.Core.Path.{_≡_}
 use Prim.Native.Nat.{ℕ, _+_}
 use mathlib.Core.Bool.{false}
@@ -76,7 +77,8 @@ abbrev pub clipOf : Float → Float → Float → Mode → ℕ → Case
 clipOf start speed length mode now = offset (madeOf 0 start speed length (asFloat 10) mode) now
 
 abbrev pub K1 : List Row
-K1 = from (clipOf (asFloat 8) (asFloat 1) (asFloat 4) Loop) 0 (asFloat 8 ∷ asFloat 9 ∷ asFloat 0 ∷ asFloat 1 ∷ asFloat 8 ∷ [])
+K1 = from (clipOf (asFloat 8) (asFloat 1) (asFloat 4) Loop) 0
+    (asFloat 8 ∷ asFloat 9 ∷ asFloat 0 ∷ asFloat 1 ∷ asFloat 8 ∷ [])
 
 abbrev pub K2 : List Row
 K2 = from (clipOf (asFloat 8) minusOne (asFloat 4) Loop) 0 (asFloat 1 ∷ asFloat 0 ∷ [])
@@ -87,7 +89,8 @@ K3 =
     (asFloat 0 ∷ asFloat 1 ∷ asFloat 2 ∷ asFloat 3 ∷ asFloat 3 ∷ asFloat 2 ∷ asFloat 1 ∷ asFloat 0 ∷ asFloat 0 ∷ [])
 
 abbrev pub K4 : List Row
-K4 = rowOf (clipOf (asFloat 0) nan (asFloat 4) Loop 0) (asFloat 3) ∷ rowOf (clipOf (asFloat 0) nan (asFloat 4) PingPong 0) (asFloat 0) ∷ []
+K4 = rowOf (clipOf (asFloat 0) nan (asFloat 4) Loop 0) (asFloat 3)
+    ∷ rowOf (clipOf (asFloat 0) nan (asFloat 4) PingPong 0) (asFloat 0) ∷ []
 
 -- length 1.5
 abbrev pub K5 : List Row
@@ -112,7 +115,8 @@ timed p t v = record {
 }
 
 abbrev pub K7 : Params → ℕ → List Row
-K7 p n = rowOf (loopLength (timed p (p .transport) (Samples nan)) n) (asFloat 1) ∷ rowOf (loopLength (timed p (p .transport) (Samples half)) n) (asFloat 1) ∷ []
+K7 p n = rowOf (loopLength (timed p (p .transport) (Samples nan)) n) (asFloat 1)
+    ∷ rowOf (loopLength (timed p (p .transport) (Samples half)) n) (asFloat 1) ∷ []
 
 abbrev pub K8 : Params → ℕ → List Row
 K8 p n =

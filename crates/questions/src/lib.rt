@@ -1,5 +1,5 @@
-// The questions of the sampler: what its host may ask of one channel, with the refusals of document 01's table. Each takes every value of its
-// arguments, and equals a definition in specs/. On a refusal a lent list holds what it held.
+// The questions of the sampler: what its host may ask of one channel, with the refusals of document 01's table. Each
+// takes every value of its arguments, and equals a definition in specs/. On a refusal a lent list holds what it held.
 ghost use mathlib.Core.Path.{_≡_};
 ghost use Prim.Native.Nat.{_+_, _≤_};
 ghost use mathlib.Core.Bool.{not};

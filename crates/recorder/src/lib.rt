@@ -1,6 +1,6 @@
-// The recorder: writes incoming samples to the memory that its host lends, and counts what went wrong.
-// A sample is its 32-bit pattern. The memory's length is the capacity; data_len is the length of the recording in it. `with_sample` takes
-// every write place, also one past the data, and is for recorders that are known to be good.
+// The recorder: writes incoming samples to the memory that its host lends, and counts what went wrong. A sample is its
+// 32-bit pattern. The memory's length is the capacity; data_len is the length of the recording in it. `with_sample`
+// takes every write place, also one past the data, and is for recorders that are known to be good.
 use decimal::Line;
 ghost use mathlib.Core.Path.{_≡_};
 ghost use Prim.Native.Nat.{max, min};

@@ -1,5 +1,6 @@
-// The lines that answer the questions of a host: records of kinds 12 to 18, of the channel at 8, with room in a list for the number at 12.
-// Each function puts the line of an answer at a place of `out`, and answers the place after it. Of a list that was lent all is shown.
+// The lines that answer the questions of a host: records of kinds 12 to 18, of the channel at 8, with room in a list
+// for the number at 12. Each function puts the line of an answer at a place of `out`, and answers the place after it.
+// Of a list that was lent all is shown.
 ghost use mathlib.Core.Path.{_≡_};
 ghost use Prim.Native.Nat.{_+_, _*_, _≤_, _<_};
 ghost use lib.ListN.{length};

@@ -1,4 +1,5 @@
--- Document 01's table: which number each call answers, in the table's order, and 0 where none of its rows holds. Definitions only.
+-- Document 01's table: which number each call answers, in the table's order, and 0 where none of its rows holds.
+-- Definitions only.
 use Prim.Native.Nat.{ℕ, _*_, _/_, _^_, min}
 use mathlib.Core.Bool.{Bool, false, not, _&&_, _||_, cond}
 use mathlib.Core.List.{List}
@@ -67,7 +68,8 @@ setUpNumber count size = row (not (goodSizes count (capacityOf count size))) 9 0
 
 unfoldable pub startNumber : Sampler → Float → Note → Params → ℕ
 startNumber s position note p =
-    row (not (goodSampler s)) 9 (row (badNote note) 2 (row (badPosition position) 3 (row (beyondLimits p) 4 (row (anyFull s) 5 0))))
+    row (not (goodSampler s)) 9
+    (row (badNote note) 2 (row (badPosition position) 3 (row (beyondLimits p) 4 (row (anyFull s) 5 0))))
 
 unfoldable pub stopNumber : Sampler → Note → Params → ℕ
 stopNumber s note p = row (not (goodSampler s)) 9 (row (badNote note) 2 (row (beyondLimits p) 4 0))
@@ -88,12 +90,14 @@ changeNumber s (change.Head d) = plainNumber s
 changeNumber s change.Reset = plainNumber s
 
 unfoldable pub sampleNumber : Sampler → ℕ → Params → ℕ → ℕ
-sampleNumber s j p size = row (not (goodWith s size)) 9 (row (noChannel s j) 1 (row (beyondLimits p) 4 (row (atEnd (channelAt s j)) 6 0)))
+sampleNumber s j p size = row (not (goodWith s size)) 9
+    (row (noChannel s j) 1 (row (beyondLimits p) 4 (row (atEnd (channelAt s j)) 6 0)))
 
 -- a frame of n entries
 unfoldable pub frameNumber : Sampler → ℕ → Params → ℕ → ℕ
 frameNumber s n p size =
-    row (not (goodWith s size)) 9 (row (ltb (s .count) n) 1 (row (beyondLimits p) 4 (row (any atEnd (take n (s .channels))) 6 0)))
+    row (not (goodWith s size)) 9
+    (row (ltb (s .count) n) 1 (row (beyondLimits p) 4 (row (any atEnd (take n (s .channels))) 6 0)))
 
 -- a question of one channel
 unfoldable pub channelNumber : Sampler → ℕ → ℕ

@@ -1,4 +1,5 @@
--- What each call does to the record and the memory lent with it (document 01, module 6). On a refusal both hold what they held. Definitions only.
+-- What each call does to the record and the memory lent with it (document 01, module 6). On a refusal both hold what
+-- they held. Definitions only.
 use mathlib.Core.Path.{_≡_}
 use Prim.Native.Nat.{ℕ, zero, suc, _+_, _*_, _≤_, _<_}
 use mathlib.Core.Bool.{cond}
@@ -18,7 +19,15 @@ use Rattle.channel.specs.declared.Channel.{Channel}
 use Rattle.channel.specs.declared.Played.{Played}
 use Rattle.channel.specs.Channels.{channelOf, changedOf, memoryOf}
 use Rattle.channel.specs.Channels.{processSampleOf as channelSampleOf}
-use Rattle.sampler.specs.Refusals.{present, channelAt, capacityOf, setUpNumber, changeNumber, sampleNumber, frameNumber}
+use Rattle.sampler.specs.Refusals.{
+  present,
+  channelAt,
+  capacityOf,
+  setUpNumber,
+  changeNumber,
+  sampleNumber,
+  frameNumber,
+}
 use Rattle.sampler.specs.declared.Sampler.{Sampler}
 use Rattle.sampler.specs.declared.Answer.{Answer}
 use Rattle.sampler.specs.declared.SampleAnswer.{SampleAnswer}
@@ -94,7 +103,8 @@ outputOf s j p x m = mul binary32 (p .volume) (playedAt s j p x m .output)
 
 -- the memory with channel j's part as the sample leaves it
 unfoldable pub memoryAt : Sampler → ℕ → Float → List ℕ → List ℕ
-memoryAt s j x m = take (j * s .capacity) m ++ (memoryOf x (channelAt s j) (partOf s j m) ++ drop (j * s .capacity + s .capacity) m)
+memoryAt s j x m = take (j * s .capacity) m
+    ++ (memoryOf x (channelAt s j) (partOf s j m) ++ drop (j * s .capacity + s .capacity) m)
 
 unfoldable pub processSampleOf : Sampler → ℕ → Float → Params → List ℕ → SampleAnswer
 processSampleOf s j x p m =

@@ -1,4 +1,5 @@
--- What the theorems call sound of a record, and the records that set-up and calls reach. Definitions only. Assumes nothing.
+-- What the theorems call sound of a record, and the records that set-up and calls reach. Definitions only. Assumes
+-- nothing.
 use mathlib.Core.Path.{_≡_}
 use mathlib.Core.Logic.{_≢_}
 use mathlib.Core.Bool.{true}
@@ -12,7 +13,15 @@ use Rattle.common_types.specs.declared.Params.{Params}
 use Rattle.voice.specs.Soundness.{FittingParams}
 use Rattle.channel.specs.declared.Change.{Change}
 use Rattle.channel.specs.Soundness.{FittingChannel, FittingChange}
-use Rattle.sampler.specs.Refusals.{present, goodSampler, setUpNumber, changeNumber, sampleNumber, frameNumber, channelNumber}
+use Rattle.sampler.specs.Refusals.{
+  present,
+  goodSampler,
+  setUpNumber,
+  changeNumber,
+  sampleNumber,
+  frameNumber,
+  channelNumber,
+}
 use Rattle.sampler.specs.Samplers.{setUpOf, changeOf, processSampleOf, framedOf}
 use Rattle.sampler.specs.declared.Sampler.{Sampler}
 
@@ -26,12 +35,15 @@ pub record SoundSampler (s : Sampler) : Type 0 where
   pub good : goodSampler s ≡ true
   pub fitting : FittingSampler s
 
--- ---- what set-up with memory of that size, and then any calls, refused or not and with any memory lent to them, leave as the record
+-- ---- what set-up with memory of that size, and then any calls, refused or not and with any memory lent to them, leave
+-- as the record
 pub data Reached (size : ℕ) : Sampler → Type 0 where
   new : (count : ℕ) (p : InitParams) → setUpNumber count size ≡ 0 → Reached size (setUpOf count p size .sampler)
   changed : (s : Sampler) (x : Change) → Reached size s → FittingChange x → Reached size (changeOf s x .sampler)
-  sampled : (s : Sampler) (j : ℕ) (x : Float) (p : Params) (m : List ℕ) → Reached size s → FittingParams p → Reached size (processSampleOf s j x p m .sampler)
-  framed : (s : Sampler) (frame : List Float) (p : Params) (m : List ℕ) → Reached size s → FittingParams p → Reached size (framedOf s frame p m .sampler)
+  sampled : (s : Sampler) (j : ℕ) (x : Float) (p : Params) (m : List ℕ) → Reached size s → FittingParams p
+      → Reached size (processSampleOf s j x p m .sampler)
+  framed : (s : Sampler) (frame : List Float) (p : Params) (m : List ℕ) → Reached size s → FittingParams p
+      → Reached size (framedOf s frame p m .sampler)
 
 -- row 9 answers no call, with memory of that size
 pub record Unbroken (s : Sampler) (size : ℕ) : Type 0 where

@@ -1,5 +1,5 @@
-// The sampler by value: every public call, with the refusals of document 01's table. Each takes every value of its arguments, and equals a
-// definition in specs/. On a refusal the record and what is lent with it hold what they held.
+// The sampler by value: every public call, with the refusals of document 01's table. Each takes every value of its
+// arguments, and equals a definition in specs/. On a refusal the record and what is lent with it hold what they held.
 ghost use mathlib.Core.Path.{_≡_};
 ghost use Prim.Native.Nat.{_+_, _*_, _≤_, _<_, min};
 ghost use mathlib.Core.Bool.{_&&_};
@@ -380,7 +380,8 @@ impl Sampler {
     // A sample of channel j, on its part of the memory.
     fn step(mut self, j: usize, params: Params, input: f32, memory: &mut [u32]) -> Stepped
         requires { ⌜ Ready self j (length (now memory)) ⌝ }
-        ensures { λ r. ⌜ (r .sampler ≡ channelSteppedOf self j params input (now (memory .entry))) × (r .output ≡ outputOf self j params input (now (memory .entry))) ⌝ }
+        ensures { λ r. ⌜ (r .sampler ≡ channelSteppedOf self j params input (now (memory .entry)))
+            × (r .output ≡ outputOf self j params input (now (memory .entry))) ⌝ }
         ensures { λ r. ⌜ now (memory .exit) ≡ memoryAt self j input (now (memory .entry)) ⌝ }
     {
         let c = self.channels[j];
@@ -426,7 +427,9 @@ impl Sampler {
     // A sample of each channel in turn, each entry of the frame replaced by its output.
     fn entries(mut self, frame: &mut [f32], params: Params, memory: &mut [u32]) -> Sampler
         requires { ⌜ Steps self (length (now frame)) (length (now memory)) ⌝ }
-        ensures { λ r. ⌜ Frames (entriesOf params (length (now (frame .entry))) 0 (framed self (now (frame .entry)) (now (memory .entry)))) r (now (frame .exit)) (now (memory .exit)) ⌝ }
+        ensures { λ r. ⌜ Frames
+            (entriesOf params (length (now (frame .entry))) 0 (framed self (now (frame .entry)) (now (memory .entry))))
+            r (now (frame .exit)) (now (memory .exit)) ⌝ }
     {
         let n = frame.len();
         let mut j = 0;
@@ -441,8 +444,10 @@ impl Sampler {
     }
 
     pub fn process_frame(self, frame: &mut [f32], params: Params, memory: &mut [u32]) -> Answer
-        ensures { λ r. ⌜ r .number ≡ frameNumber self (length (now (frame .entry))) params (length (now (memory .entry))) ⌝ }
-        ensures { λ r. ⌜ Frames (framedOf self (now (frame .entry)) params (now (memory .entry))) (r .sampler) (now (frame .exit)) (now (memory .exit)) ⌝ }
+        ensures { λ r. ⌜ r .number
+            ≡ frameNumber self (length (now (frame .entry))) params (length (now (memory .entry))) ⌝ }
+        ensures { λ r. ⌜ Frames (framedOf self (now (frame .entry)) params (now (memory .entry))) (r .sampler)
+            (now (frame .exit)) (now (memory .exit)) ⌝ }
     {
         let number = self.frame_number(frame.len(), params, memory.len());
         if number != 0 {

@@ -1,6 +1,6 @@
-// The text of a sampler's record, for programs that print it: a line for each channel, and after it one for each of its voices.
-// Numbers are in hexadecimal, floats by their bits, and a NaN is 7FC00000. Of a clip's shift a zero of either sign is written alike.
-// Each function puts its text at a place of `out`, and answers the place after it.
+// The text of a sampler's record, for programs that print it: a line for each channel, and after it one for each of its
+// voices. Numbers are in hexadecimal, floats by their bits, and a NaN is 7FC00000. Of a clip's shift a zero of either
+// sign is written alike. Each function puts its text at a place of `out`, and answers the place after it.
 ghost use mathlib.Core.Path.{_≡_};
 ghost use Prim.Native.Nat.{_+_, _*_, _≤_, _<_};
 use channel::Channel;

@@ -1,10 +1,12 @@
-// Plays listings from standard input on the sampler, and prints after each call what it answered and what it left, for the comparison with
-// the Rust (oracle/README.md). A record is 64 bytes: its kind, then fields at fixed places, big-endian, floats by their bits. One that is cut
-// short or whose kind is not known is answered by `X`, and the program ends.
+// Plays listings from standard input on the sampler, and prints after each call what it answered and what it left, for
+// the comparison with the Rust (oracle/README.md). A record is 64 bytes: its kind, then fields at fixed places,
+// big-endian, floats by their bits. One that is cut short or whose kind is not known is answered by `X`, and the
+// program ends.
 //
-// Kinds: 0 set-up; 1 parameters; 2 start, 3 stop, 4 note speed, 5 and 6 start and stop of recording, 7 reset; 8 sample of one channel; 9 frame;
-// 10 clocks put on, or a field put; 11 the recordings; 12 frames processed, 13 data length, 14 is recording, 15 last recorded offset, 16 error text,
-// 17 active notes, 18 voice info; 19 many frames. A set-up takes back the parameters to the defaults.
+// Kinds: 0 set-up; 1 parameters; 2 start, 3 stop, 4 note speed, 5 and 6 start and stop of recording, 7 reset; 8 sample
+// of one channel; 9 frame; 10 clocks put on, or a field put; 11 the recordings; 12 frames processed, 13 data length, 14
+// is recording, 15 last recorded offset, 16 error text, 17 active notes, 18 voice info; 19 many frames. A set-up takes
+// back the parameters to the defaults.
 ghost use mathlib.Core.Path.{_≡_};
 ghost use Prim.Native.Nat.{_+_, _*_, _≤_, _<_};
 ghost use lib.ListN.{length};

@@ -1,5 +1,6 @@
--- What one voice does in one sample (document 01, module 6, and the Rust's play_voices, should_remove_voice, finish_voice and start_playing).
--- No voice reads another, so the Rust's passes over all voices are, for each, one turn. Definitions only.
+-- What one voice does in one sample (document 01, module 6, and the Rust's play_voices, should_remove_voice,
+-- finish_voice and start_playing). No voice reads another, so the Rust's passes over all voices are, for each, one
+-- turn. Definitions only.
 use Prim.Native.Nat.{ℕ, _-_}
 use mathlib.Core.Bool.{Bool, true, false, not, _&&_, _||_, cond}
 use mathlib.Core.List.{List}
@@ -73,7 +74,9 @@ shouldRemoveOf t v = v .finished && overOf (t .«note_off_behavior») (isStaticA
 unfoldable pub movedOf : Tick → Voice → Clip
 movedOf t v =
     let now = t .now in
-    withMode (withDataLength (withSpeed (withLength (v .clip2) now (t .length)) now (mul binary32 (v .speed) (t .speed))) now (t .«data_length»)) now (t .mode)
+    withMode (withDataLength
+    (withSpeed (withLength (v .clip2) now (t .length)) now (mul binary32 (v .speed) (t .speed))) now (t .«data_length»))
+    now (t .mode)
 
 -- the value recorded at a place of the channel's memory
 abbrev pub recordedValueOf : List ℕ → ℕ → Float
@@ -178,7 +181,15 @@ unfoldable pub blankVoice : Voice
 blankVoice = record {
   «finished_at» = 0;
   «last_sample_index» = 0;
-  clip2 = record { since = 0; start = zero32; speed = zero32; length = one32; «data_length» = one32; shift = zero32; mode = mode.Loop };
+  clip2 = record {
+    since = 0;
+    start = zero32;
+    speed = zero32;
+    length = one32;
+    «data_length» = one32;
+    shift = zero32;
+    mode = mode.Loop;
+  };
   volume = Static zero32;
   «loop_start_percent» = zero32;
   played = zero32;
@@ -205,6 +216,8 @@ atSpeedOf speed v = record {
   «is_at_zero_crossing» = v .«is_at_zero_crossing»;
 }
 
--- ---- a voice that may stand in a record whose clock is at `now`: no time of its lies after the clock, its ramp is good, and so is its clip
+-- ---- a voice that may stand in a record whose clock is at `now`: no time of its lies after the clock, its ramp is
+-- good, and so is its clip
 unfoldable pub goodVoice : ℕ → Voice → Bool
-goodVoice now v = leb (v .clip2 .since) now && leb (v .«finished_at») now && goodVolume now (v .volume) && goodClip (v .clip2)
+goodVoice now v = leb (v .clip2 .since) now && leb (v .«finished_at») now && goodVolume now (v .volume)
+    && goodClip (v .clip2)

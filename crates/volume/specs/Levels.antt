@@ -1,5 +1,6 @@
--- What a volume reads at a time, how it changes, and when its parts are refused (document 01, module 3 and number 7). A volume is steady, `Static level`,
--- or a ramp between two times and two levels, `Linear start end from target`. Definitions only. Assumes nothing.
+-- What a volume reads at a time, how it changes, and when its parts are refused (document 01, module 3 and number 7). A
+-- volume is steady, `Static level`, or a ramp between two times and two levels, `Linear start end from target`.
+-- Definitions only. Assumes nothing.
 use Prim.Native.Nat.{ℕ, _+_, _-_, _^_, min}
 use mathlib.Core.Bool.{Bool, true, false, not, _&&_, _||_, cond}
 use lib.Dec.{leb, ltb, eqb}

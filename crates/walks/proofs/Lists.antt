@@ -5,3 +5,4 @@ pub mod Fronts
 pub mod Looks
 pub mod Loops
 pub mod Runs
+pub mod Stored

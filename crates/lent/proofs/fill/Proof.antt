@@ -61,7 +61,7 @@ use Rattle.questions.proofs.Counted.Laws as Q′
 use Rattle.walks.proofs.Tests.{holds, fails}
 use Rattle.walks.proofs.Steps.Rounds.{rounds}
 use Rattle.lent.specs.Lists.{countedOf, listedOf}
-use Rattle.walks.proofs.Fronts.{fronted, fronted-next, fronted-length, fronted-front}
+use Rattle.walks.proofs.Lists.Stored.{fronted, fronted-next, fronted-length, fronted-front}
 use Rattle.lent.proofs.info_at as info-at
 use Rattle.lent.proofs.info_at.Symbol as info-at-def
 use Rattle.lent.proofs.info_at.Symbol.{name as #info-at}
