@@ -19,7 +19,7 @@ use Rattle.volume.specs.declared.Volume.{Volume}
 use Rattle.volume.specs.declared.Volume.the-variants.{Static, Linear}
 use Rattle.volume.specs.declared.LevelAnswer.the-variants as level
 use Rattle.volume.specs.declared.VolumeAnswer.the-variants as volume
-use Rattle.volume.specs.Levels.{levelNumber, volumeNumber, goodRamp, goodVolume, clipRefusedAt as unreadAt, valueOf, toOf, stepOf}
+use Rattle.volume.specs.Levels.{levelNumber, volumeNumber, goodRamp, goodVolume, levelRefusedAt as unreadAt, valueOf, toOf, stepOf}
 use Rattle.clip.specs.declared.Clip.{Clip}
 use Rattle.clip.specs.declared.Mode.{Mode}
 use Rattle.clip.specs.declared.ClipAnswer.the-variants as clip

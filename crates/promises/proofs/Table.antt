@@ -8,7 +8,7 @@ use Rattle.binary32.specs.Leaves.{minOf, maxOf}
 use Rattle.common_types.specs.Times.{quarterNotesPerBarOf, samplesPerQuarterNoteOf, samplesPerBarOf, asSamplesOf}
 use Rattle.common_types.specs.Settings.{timeLengthOf, lengthOf, loopLengthOf}
 use Rattle.volume.specs.Levels.{progressOf, levelOf, towardOf, goodRamp, goodVolume, valueOf}
-use Rattle.volume.specs.Levels.{clipRefusedAt as levelRefusedAt}
+use Rattle.volume.specs.Levels.{levelRefusedAt}
 use Rattle.clip.specs.Positions.{leadOf, travelAt, loopedOf, roundTripOf, mirroredOf, bouncedOf, wrappedOf, placedOf, clipOffsetAt, clipToDataOf, offsetAt}
 use Rattle.clip.specs.Updates.{madeOf}
 use Rattle.clip.specs.Refusals.{goodLength, goodClip, clipRefusedAt, offsetOf}
