@@ -289,7 +289,7 @@ fn broken(s: &mut Song) {
 
 /// A field of the record is put to its limit or past it, and calls follow.
 fn spoiled(s: &mut Song) {
-    for _ in 0..s.r.below(4) + 1 {
+    for _ in 0..s.r.below(6) + 2 {
         let room = s.r.pick(&[2, 6, 20]);
         s.begin(room);
         let n = s.r.below(room) + 1;
@@ -560,7 +560,7 @@ impl Song {
         let counts: &[u64] = if self.count == 2 { &[0, 1, 2, 3, far] } else { &[0, 1] };
         let record = match self.r.below(12) {
             0 => puts::put(puts::CHANNELS, self.r.pick(counts)),
-            1 => puts::put(puts::CAPACITY, self.r.pick(&[0, 1 << 22, (1 << 22) + 1, far])),
+            1 => puts::put(puts::CAPACITY, self.r.pick(&[0, 1 << 22, 1 << 22, (1 << 22) + 1, far])),
             2 => puts::put(puts::DATA_LENGTH, by.min(5)),
             3 => puts::put(puts::WRITE_PLACE, by),
             4 => puts::put(puts::CLOCK, self.r.pick(&[0, 1, u64::MAX, (1u64 << 48).wrapping_neg(), far])),
