@@ -31,7 +31,7 @@ fn recorded(frame: &mut [f32], memory: &mut [u32]) -> Sampler
     };
     let s = Sampler::new(2, init, memory).sampler;
     let s = s.start_recording().sampler;
-    sounded(s, frame, memory)
+    sounded(s, frame, params(), memory)
 }
 
 // The recording ends, and a key is pressed.
@@ -43,12 +43,13 @@ fn pressed(s: Sampler) -> Sampler
         .sampler
 }
 
-// One frame is played.
-fn sounded(s: Sampler, frame: &mut [f32], memory: &mut [u32]) -> Sampler
-    ensures { λ r. ⌜ Frames (framedOf s (now (frame .entry)) settings (now (memory .entry))) r (now (frame .exit))
+// One frame is played on the host's own record, which it lends for the call.
+fn sounded(mut s: Sampler, frame: &mut [f32], params: Params, memory: &mut [u32]) -> Sampler
+    ensures { λ r. ⌜ Frames (framedOf s (now (frame .entry)) params (now (memory .entry))) r (now (frame .exit))
         (now (memory .exit)) ⌝ }
 {
-    s.process_frame(frame, params(), memory).sampler
+    lent::process_frame(&mut s, frame, params, memory);
+    s
 }
 
 // The key is let go. What sounds on channel 0?
@@ -69,7 +70,7 @@ fn main() {
     let mut input = [0.5, 0.25];
     let s = recorded(&mut input, &mut memory);
     let mut output = [0.0, 0.0];
-    let s = sounded(pressed(s), &mut output, &mut memory);
+    let s = sounded(pressed(s), &mut output, params(), &mut memory);
     print(output[0]);
     print(output[1]);
     let voices = told(s);

@@ -10,6 +10,9 @@ new-requires c κs = search needs
 start-recording-requires : tie.Need-start-recording-requires
 start-recording-requires c κs = search needs
 
+params-requires : tie.Need-params-requires
+params-requires c κs = search needs
+
 sounded-requires : tie.Need-sounded-requires
 sounded-requires c κs = search needs
 
@@ -29,6 +32,7 @@ recorded-spec =
     (tie.spec
     new-requires
     start-recording-requires
+    params-requires
     sounded-requires
     same-length
     same-length-2
