@@ -1,4 +1,4 @@
-//! The records of a listing: their kinds and fields, as crates/trace reads them, and how they read to a person.
+//! The records of a listing: their kinds and fields, as crates/oracle_trace reads them, and how they read to a person.
 
 use crate::params;
 use crate::puts;

@@ -1,4 +1,4 @@
-//! Records of kind 10, which is no call: one puts the clocks on, or a field of the record to its limit or past it, as crates/acts/src/puts.rt reads them.
+//! Records of kind 10, which is no call: one puts the clocks on, or a field of the record to its limit or past it, as crates/oracle_acts/src/puts.rt reads them.
 //! And whether a record is broken, by document 01's list.
 
 use crate::engine::{Engine, LAST_TIME, MOST_SAMPLES, MOST_VOICES};

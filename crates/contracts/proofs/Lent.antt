@@ -1,20 +1,20 @@
 -- What each lent call ensures is its own theorem: its contract says the same of the same definitions. Assumes nothing.
 use Prim.Native.Nat.{ℕ}
 use mathlib.Core.List.{List}
-use Rattle.lent.proofs.start_playing.Met as start-playing-thm
-use Rattle.lent.proofs.stop_playing.Met as stop-playing-thm
-use Rattle.lent.proofs.set_note_speed.Met as set-note-speed-thm
-use Rattle.lent.proofs.start_recording.Met as start-recording-thm
-use Rattle.lent.proofs.stop_recording.Met as stop-recording-thm
-use Rattle.lent.proofs.reset.Met as reset-thm
-use Rattle.lent.proofs.process_frame.Met as process-frame-thm
-use Rattle.lent.proofs.get_frames_processed.Met as get-frames-processed-thm
-use Rattle.lent.proofs.get_data_len.Met as get-data-len-thm
-use Rattle.lent.proofs.is_recording.Met as is-recording-thm
-use Rattle.lent.proofs.get_last_recorded_offset.Met as get-last-recorded-offset-thm
-use Rattle.lent.proofs.print_error_info.Met as print-error-info-thm
-use Rattle.lent.proofs.iter_active_notes.Met as iter-active-notes-thm
-use Rattle.lent.proofs.get_voice_info.Met as get-voice-info-thm
+use Rattle.lent_sampler.proofs.start_playing.Met as start-playing-thm
+use Rattle.lent_sampler.proofs.stop_playing.Met as stop-playing-thm
+use Rattle.lent_sampler.proofs.set_note_speed.Met as set-note-speed-thm
+use Rattle.lent_sampler.proofs.start_recording.Met as start-recording-thm
+use Rattle.lent_sampler.proofs.stop_recording.Met as stop-recording-thm
+use Rattle.lent_sampler.proofs.reset.Met as reset-thm
+use Rattle.lent_sampler.proofs.process_frame.Met as process-frame-thm
+use Rattle.lent_sampler.proofs.get_frames_processed.Met as get-frames-processed-thm
+use Rattle.lent_sampler.proofs.get_data_len.Met as get-data-len-thm
+use Rattle.lent_sampler.proofs.is_recording.Met as is-recording-thm
+use Rattle.lent_sampler.proofs.get_last_recorded_offset.Met as get-last-recorded-offset-thm
+use Rattle.lent_sampler.proofs.print_error_info.Met as print-error-info-thm
+use Rattle.lent_sampler.proofs.iter_active_notes.Met as iter-active-notes-thm
+use Rattle.lent_sampler.proofs.get_voice_info.Met as get-voice-info-thm
 use Rattle.contracts.specs.Lent.{Lent}
 
 pub lent : (m : List ℕ) → Lent m

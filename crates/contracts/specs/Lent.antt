@@ -1,6 +1,6 @@
 -- Every call on a record that its host lends leaves what the call by value may leave: `Allows`, with the record at the
 -- end for the one that is handed back. A function that takes a record lent is proved by hand, and so would be its twin;
--- so it is said of the functions of lent/src/lib.rt themselves, as they run. `proofs/Lent: lent` proves it. Definitions
+-- so it is said of the functions of lent_sampler/src/lib.rt themselves, as they run. `proofs/Lent: lent` proves it. Definitions
 -- only. Assumes nothing.
 use Prim.Native.Nat.{ℕ}
 use mathlib.Core.List.{List}
@@ -37,34 +37,34 @@ use Rattle.promises.specs.Runs.{
   asks,
 }
 use Rattle.promises.specs.Outcomes.{on, Allows}
-use Rattle.lent.proofs.start_playing as start-playing
-use Rattle.lent.proofs.start_playing.Symbol as start-playing-code
-use Rattle.lent.proofs.stop_playing as stop-playing
-use Rattle.lent.proofs.stop_playing.Symbol as stop-playing-code
-use Rattle.lent.proofs.set_note_speed as set-note-speed
-use Rattle.lent.proofs.set_note_speed.Symbol as set-note-speed-code
-use Rattle.lent.proofs.start_recording as start-recording
-use Rattle.lent.proofs.start_recording.Symbol as start-recording-code
-use Rattle.lent.proofs.stop_recording as stop-recording
-use Rattle.lent.proofs.stop_recording.Symbol as stop-recording-code
-use Rattle.lent.proofs.reset as reset
-use Rattle.lent.proofs.reset.Symbol as reset-code
-use Rattle.lent.proofs.process_frame as process-frame
-use Rattle.lent.proofs.process_frame.Symbol as process-frame-code
-use Rattle.lent.proofs.get_frames_processed as get-frames-processed
-use Rattle.lent.proofs.get_frames_processed.Symbol as get-frames-processed-code
-use Rattle.lent.proofs.get_data_len as get-data-len
-use Rattle.lent.proofs.get_data_len.Symbol as get-data-len-code
-use Rattle.lent.proofs.is_recording as is-recording
-use Rattle.lent.proofs.is_recording.Symbol as is-recording-code
-use Rattle.lent.proofs.get_last_recorded_offset as get-last-recorded-offset
-use Rattle.lent.proofs.get_last_recorded_offset.Symbol as get-last-recorded-offset-code
-use Rattle.lent.proofs.print_error_info as print-error-info
-use Rattle.lent.proofs.print_error_info.Symbol as print-error-info-code
-use Rattle.lent.proofs.iter_active_notes as iter-active-notes
-use Rattle.lent.proofs.iter_active_notes.Symbol as iter-active-notes-code
-use Rattle.lent.proofs.get_voice_info as get-voice-info
-use Rattle.lent.proofs.get_voice_info.Symbol as get-voice-info-code
+use Rattle.lent_sampler.proofs.start_playing as start-playing
+use Rattle.lent_sampler.proofs.start_playing.Symbol as start-playing-code
+use Rattle.lent_sampler.proofs.stop_playing as stop-playing
+use Rattle.lent_sampler.proofs.stop_playing.Symbol as stop-playing-code
+use Rattle.lent_sampler.proofs.set_note_speed as set-note-speed
+use Rattle.lent_sampler.proofs.set_note_speed.Symbol as set-note-speed-code
+use Rattle.lent_sampler.proofs.start_recording as start-recording
+use Rattle.lent_sampler.proofs.start_recording.Symbol as start-recording-code
+use Rattle.lent_sampler.proofs.stop_recording as stop-recording
+use Rattle.lent_sampler.proofs.stop_recording.Symbol as stop-recording-code
+use Rattle.lent_sampler.proofs.reset as reset
+use Rattle.lent_sampler.proofs.reset.Symbol as reset-code
+use Rattle.lent_sampler.proofs.process_frame as process-frame
+use Rattle.lent_sampler.proofs.process_frame.Symbol as process-frame-code
+use Rattle.lent_sampler.proofs.get_frames_processed as get-frames-processed
+use Rattle.lent_sampler.proofs.get_frames_processed.Symbol as get-frames-processed-code
+use Rattle.lent_sampler.proofs.get_data_len as get-data-len
+use Rattle.lent_sampler.proofs.get_data_len.Symbol as get-data-len-code
+use Rattle.lent_sampler.proofs.is_recording as is-recording
+use Rattle.lent_sampler.proofs.is_recording.Symbol as is-recording-code
+use Rattle.lent_sampler.proofs.get_last_recorded_offset as get-last-recorded-offset
+use Rattle.lent_sampler.proofs.get_last_recorded_offset.Symbol as get-last-recorded-offset-code
+use Rattle.lent_sampler.proofs.print_error_info as print-error-info
+use Rattle.lent_sampler.proofs.print_error_info.Symbol as print-error-info-code
+use Rattle.lent_sampler.proofs.iter_active_notes as iter-active-notes
+use Rattle.lent_sampler.proofs.iter_active_notes.Symbol as iter-active-notes-code
+use Rattle.lent_sampler.proofs.get_voice_info as get-voice-info
+use Rattle.lent_sampler.proofs.get_voice_info.Symbol as get-voice-info-code
 
 -- The function, whatever it is given, is safe, ends, and then Q holds of its arguments, its result, and what its
 -- arguments are at the end. It is what the check states of a function with no `requires` and Q for its `ensures`.

@@ -42,7 +42,7 @@ use denote.Triple.Clauses.{Ended, Clauses, ensured, lasts, closing}
 use denote.Triple.Walked.{says, Stays, stay-none, gave-slice, walkOf, ends-at, walked, goes-none, goes-gave-slice, walk-meets}
 use borrow.Table.OneValue.{part-in}
 use Rattle.walks.proofs.Steps.Inside.{opened}
-use Rattle.lent.proofs.Rows.{Datum, row}
+use Rattle.lent_sampler.proofs.Rows.{Datum, row}
 
 module _ (T P : Datum) (k : Name) (number : T .like .Denot → ℕ → P .like .Denot → ℕ → ℕ) (Leaves : T .like .Denot → List Float → P .like .Denot → List ℕ → T .like .Denot → List Float → List ℕ → Type 0) where
   abbrev Tr : RattleType

@@ -48,7 +48,7 @@ fn sounded(mut s: Sampler, frame: &mut [f32], params: Params, memory: &mut [u32]
     ensures { λ r. ⌜ Frames (framedOf s (now (frame .entry)) params (now (memory .entry))) r (now (frame .exit))
         (now (memory .exit)) ⌝ }
 {
-    lent::process_frame(&mut s, frame, params, memory);
+    lent_sampler::process_frame(&mut s, frame, params, memory);
     s
 }
 

@@ -26,7 +26,7 @@ use Rattle.sampler.specs.Refusals.{channelAt, goodSizes, goodSampler, capacityO
 use Rattle.sampler.specs.Samplers.{samplerOf, setUpOf, eachOf, answerOf, processSampleOf, sampleMemory, channelSteppedOf, memoryAt, Framed, framed, entriesOf, framedOf}
 use Rattle.questions.specs.Questions.{recorderAt, notesOf, inFront, listNumber, listAfter, infoNumber, answered, noInfos, infosWith, getVoiceInfoOf}
 use Rattle.questions.specs.declared.VoiceInfos.{VoiceInfos}
-use Rattle.lent.specs.Lists.{listedOf}
+use Rattle.lent_sampler.specs.Lists.{listedOf}
 use Rattle.channel.specs.declared.Change.the-variants.{Start, Stop, Speed, Head, Reset}
 use Rattle.promises.specs.Runs.{
   World,

@@ -16,7 +16,7 @@ use Rattle.sampler.specs.Refusals.{channelAt, frameNumber}
 use Rattle.sampler.specs.Samplers.{answerOf, processSampleOf, sampleMemory, framedOf}
 use Rattle.questions.specs.declared.VoiceInfos.{VoiceInfos}
 use Rattle.questions.specs.declared.Counted.the-variants as counted
-use Rattle.lent.specs.Lists.{countedOf, voiceInfoCounted, voiceInfoAfter}
+use Rattle.lent_sampler.specs.Lists.{countedOf, voiceInfoCounted, voiceInfoAfter}
 use Rattle.questions.specs.Questions.{countedNumber, toldNumber, offsetNumber, recorderAt, notesOf, answered, printErrorInfoOf, errorTextAfter, iterActiveNotesOf, activeNotesAfter, getVoiceInfoOf}
 use Rattle.questions.proofs.Numbers.{frames-number, data-len-number, recording-number, offset-number, list-number, info-number}
 use Rattle.promises.specs.Runs.{

@@ -2,7 +2,7 @@
 -- it as it is at the end. `Allows` says of each call what the `ensures` lines of its function say, in the same
 -- definitions. That it does is checked of each function in the crate `contracts`: of those by value
 -- (sampler/src/lib.rt, questions/src/lib.rt) by a twin whose `ensures` is `Allows`, and of those on a record that the
--- host lends (lent/src/lib.rt) by the theorem `Lent` on the function itself. Definitions only. Assumes nothing.
+-- host lends (lent_sampler/src/lib.rt) by the theorem `Lent` on the function itself. Definitions only. Assumes nothing.
 use mathlib.Core.Path.{_≡_}
 use Prim.Native.Nat.{ℕ}
 use mathlib.Core.List.{List, [], _∷_}
@@ -40,7 +40,7 @@ use Rattle.questions.specs.Questions.{
   activeNotesAfter,
   getVoiceInfoOf,
 }
-use Rattle.lent.specs.Lists.{voiceInfoCounted, voiceInfoAfter}
+use Rattle.lent_sampler.specs.Lists.{voiceInfoCounted, voiceInfoAfter}
 use Rattle.promises.specs.Runs.{
   World,
   getFramesProcessed,
