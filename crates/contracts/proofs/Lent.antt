@@ -7,6 +7,8 @@ use Rattle.lent_sampler.proofs.set_note_speed.Met as set-note-speed-thm
 use Rattle.lent_sampler.proofs.start_recording.Met as start-recording-thm
 use Rattle.lent_sampler.proofs.stop_recording.Met as stop-recording-thm
 use Rattle.lent_sampler.proofs.reset.Met as reset-thm
+use Rattle.lent_sampler.proofs.change.Met as change-thm
+use Rattle.lent_sampler.proofs.process_sample.Met as process-sample-thm
 use Rattle.lent_sampler.proofs.process_frame.Met as process-frame-thm
 use Rattle.lent_sampler.proofs.get_frames_processed.Met as get-frames-processed-thm
 use Rattle.lent_sampler.proofs.get_data_len.Met as get-data-len-thm
@@ -25,6 +27,8 @@ lent m = record {
   start-recording = λ M. start-recording-thm.met;
   stop-recording = λ M. stop-recording-thm.met;
   reset = λ M. reset-thm.met;
+  change = λ M. change-thm.met;
+  process-sample = λ M. process-sample-thm.met;
   process-frame = λ M. process-frame-thm.met;
   get-frames-processed = λ M. get-frames-processed-thm.met;
   get-data-len = λ M. get-data-len-thm.met;

@@ -27,12 +27,14 @@ use Rattle.promises.specs.Runs.{
   printErrorInfo,
   iterActiveNotes,
   fillVoiceInfo,
+  change,
   start,
   stop,
   speed,
   startRecording,
   stopRecording,
   reset,
+  sample,
   frame,
   asks,
 }
@@ -49,6 +51,10 @@ use Rattle.lent_sampler.proofs.stop_recording as stop-recording
 use Rattle.lent_sampler.proofs.stop_recording.Symbol as stop-recording-code
 use Rattle.lent_sampler.proofs.reset as reset
 use Rattle.lent_sampler.proofs.reset.Symbol as reset-code
+use Rattle.lent_sampler.proofs.change as change-call
+use Rattle.lent_sampler.proofs.change.Symbol as change-code
+use Rattle.lent_sampler.proofs.process_sample as process-sample
+use Rattle.lent_sampler.proofs.process_sample.Symbol as process-sample-code
 use Rattle.lent_sampler.proofs.process_frame as process-frame
 use Rattle.lent_sampler.proofs.process_frame.Symbol as process-frame-code
 use Rattle.lent_sampler.proofs.get_frames_processed as get-frames-processed
@@ -82,8 +88,10 @@ lying s m = record { sampler = s; memory = m }
 abbrev pub answer : Sampler → ℕ → Answer
 answer s number = record { sampler = s; number = number }
 
--- m is the memory that lies beside the record; only a frame is lent it
+-- m is the memory that lies beside the record; only a sample and a frame are lent it
 pub record Lent (m : List ℕ) : Type 2 where
+  pub change : Ensures change-call.ended change-code.routine
+      (λ κs (s, (d, _)) r (left, _). Allows (on (lying (now s) m) (change d)) (answer (now left) r))
   pub start-playing : Ensures start-playing.ended start-playing-code.routine
       (λ κs (s, (position, (note, (velocity, (params, _))))) r (left, _).
       Allows (on (lying (now s) m) (start position note velocity params)) (answer (now left) r))
@@ -98,6 +106,13 @@ pub record Lent (m : List ℕ) : Type 2 where
       (λ κs (s, _) r (left, _). Allows (on (lying (now s) m) stopRecording) (answer (now left) r))
   pub reset : Ensures reset.ended reset-code.routine
       (λ κs (s, _) r (left, _). Allows (on (lying (now s) m) reset) (answer (now left) r))
+  pub process-sample : Ensures process-sample.ended process-sample-code.routine
+      (λ κs (s, (channel, (input, (params, (memory, _))))) r (left, (_, (_, (_, (written, _))))).
+      Allows (on (lying (now s) (now memory)) (sample channel input params))
+      (record {
+        answer = record { sampler = now left; output = r .output; number = r .number };
+        memory = now written;
+      }))
   pub process-frame : Ensures process-frame.ended process-frame-code.routine
       (λ κs (s, (entries, (params, (memory, _)))) r (left, (played, (_, (written, _)))).
       Allows (on (lying (now s) (now memory)) (frame (now entries) params))
