@@ -154,7 +154,8 @@ struct Sampling {
 }
 
 fn sample_of(s: Sampler, channel: usize, input: f32, params: Params, memory: &mut [u32]) -> Sampling
-    ensures { λ r. ⌜ record { sampler = r .sampler; output = r .sampled .output; number = r .sampled .number } ≡ sampleOf s channel input params (now (memory .entry)) ⌝ }
+    ensures { λ r. ⌜ record { sampler = r .sampler; output = r .sampled .output; number = r .sampled .number }
+        ≡ sampleOf s channel input params (now (memory .entry)) ⌝ }
     ensures { λ r. ⌜ now (memory .exit) ≡ sampleMemory s channel input params (now (memory .entry)) ⌝ }
 {
     let r = s.process_sample(channel, input, params, memory);
@@ -174,7 +175,8 @@ pub fn process_sample(
     params: Params,
     memory: &mut [u32],
 ) -> Sampled
-    ensures { λ r. ⌜ (record { sampler = now (s .exit); output = r .output; number = r .number } ≡ sampleOf (now (s .entry)) channel input params (now (memory .entry)))
+    ensures { λ r. ⌜ (record { sampler = now (s .exit); output = r .output; number = r .number }
+        ≡ sampleOf (now (s .entry)) channel input params (now (memory .entry)))
         × (now (memory .exit) ≡ sampleMemory (now (s .entry)) channel input params (now (memory .entry))) ⌝ }
 {
     let r = sample_of(*s, channel, input, params, memory);
