@@ -3,7 +3,7 @@
 --     steps-frame      the function meets its contract, from those of the calls
 -- Assumes `Given`.
 use mathlib.Core.Path.{_≡_, refl, sym, _∙_, ap, subst}
-use Prim.Native.Nat.{ℕ, suc, _+_, _-_, _*_, _<_, _≤_, _^_}
+use Prim.Native.Nat.{ℕ, suc, _+_, _-_, _*_, _<_, _≤_, _^_, min}
 use native.Mathlib.Nat.{add-zero, lt-irrefl}
 use native.Mathlib.Numerals.{add-one}
 use native.Mathlib.Omega.{arith}
@@ -20,7 +20,7 @@ use base.Logic.{SProp, ent, sep, id⊢, via, exE, apply∗, snd∗, emp, fst∗}
 use base.Fml.{Lft, GName, Share, ftrue, fat, froom, fdies, flft, fobs, fauth, fbor, fobor, fres, flent}
 use prog.Wp.{Heap, Out, Env, afterSeq, afterBlock, afterTurn, Calls, Loops, Wp, atReturn, WpFn, Tables}
 use ghost.Atoms.{Atoms, sem}
-use contract.Monad.{fact}
+use contract.Monad.{fact, factI, fact-use}
 use sound.WpLaws.{fmOf, WpFn-mono}
 use types.Kit.{Given, Item, ‵, raw, _⊛_, some, later, ⋆, anyQ, atRet, _$_, _∵_, !, qed, by, move, keep, use1, use2, use3, drop, split, join, pick, rewrite, fsplit, fsplit3, fjoin, fjoin3, feqI, feqL, suffices, frame, await, done}
 use types.Part.{agg, whole, sub, look-in}
@@ -55,6 +55,7 @@ use Rattle.walks.proofs.Steps.Inside.{Back, goes-in, comes-out, opened, big}
 use Rattle.walks.proofs.Steps.Again.{LentAgain, lends-again, comes-back}
 use Rattle.walks.proofs.Steps.Rounds.{rounds}
 use Rattle.lent_channel.proofs.Bytes.{channel-bytes}
+use Rattle.sampler.proofs.Parts.{starts-at}
 use Rattle.lent_sampler.proofs.Bytes.{capacity-at}
 use Rattle.lent_sampler.proofs.Rows.{Datum, row}
 use Rattle.lent_sampler.proofs.Seats.{Seats, seat, lies}
@@ -164,7 +165,7 @@ module _ (T C P : Datum) (S : Seats T C) (#number #steps #start #sample : Name) 
   start-ended = record { signature = record { lifetimes = 0; outlives = []; params = plain (λ _. usize) ∷ plain (λ _. usize) ∷ []; result = plain (λ _. usize) }; kept = (yes, (yes, tt)) }
 
   abbrev start-clauses : {M : Type 1} (𝓤 : URA M) → Clauses 𝓤 start-ended
-  start-clauses 𝓤 κs a = record { ghost = Unit {0}; requires = λ _. fact 𝓤 (a .0 < 2); ensures = λ _ r e. fact 𝓤 (r ≡ a .0 * a .1 .0) }
+  start-clauses 𝓤 κs a = record { ghost = Unit {0}; requires = λ _. emp 𝓤; ensures = λ _ r e. fact 𝓤 (r ≡ min (a .0) 1 * a .1 .0) }
 
   abbrev sample-ended : Ended
   sample-ended = record {
@@ -285,10 +286,10 @@ module _ (T C P : Datum) (S : Seats T C) (#number #steps #start #sample : Name) 
 
     goes-start : (i : ℕ) → i < 2 → size < 2 ^ 64 → ent 𝓤 (sem 𝓤 H A ftrue) (Starts 𝓤 H A .pre (to-start i))
     goes-start i low fits =
-        qed W (‵ ftrue ∷ []) ∵ says ! low $ frame ! $ nothing ! $ owned ! usize (Is usize) (uint-makes 𝓤 H A W w64) size _ (refl, fits) $ fjoin ! $ owned ! usize (Is usize) (uint-makes 𝓤 H A W w64) i _ (refl, omega (arith, low)) $ fjoin ! $ done !
+        qed W (‵ ftrue ∷ []) ∵ nothing ! $ owned ! usize (Is usize) (uint-makes 𝓤 H A W w64) size _ (refl, fits) $ fjoin ! $ owned ! usize (Is usize) (uint-makes 𝓤 H A W w64) i _ (refl, omega (arith, low)) $ fjoin ! $ move ! (1 ∷ 0 ∷ []) $ join ! $ nothing ! $ move ! (1 ∷ 0 ∷ []) $ join ! $ done !
 
-    start-of : (i r : ℕ) → ent 𝓤 (ensured 𝓤 H A start-ended (start-clauses 𝓤) tt (i, (size, tt)) tt r) (fact 𝓤 (r ≡ i * size))
-    start-of i r = exE 𝓤 _ (λ ws. snd∗ 𝓤 (sem 𝓤 H A (lasts start-ended tt (i, (size, tt)) ws)) (fact 𝓤 (r ≡ i * size)))
+    start-of : (i r : ℕ) → i < 2 → ent 𝓤 (ensured 𝓤 H A start-ended (start-clauses 𝓤) tt (i, (size, tt)) tt r) (fact 𝓤 (r ≡ i * size))
+    start-of i r low = exE 𝓤 _ (λ ws. fact-use 𝓤 (r ≡ min i 1 * size) (snd∗ 𝓤 (sem 𝓤 H A (lasts start-ended tt (i, (size, tt)) ws)) (fact 𝓤 (r ≡ min i 1 * size))) (λ h. factI 𝓤 (r ≡ i * size) _ (starts-at i size r low h)))
 
     -- ---- the call of `#sample`: a channel c at j, lent for α under the name δ, and the memory k, lent for β under the name ε
     abbrev lent : C .like .Denot → ℕ → GName → RefT (C .like .Denot)
@@ -395,7 +396,7 @@ module _ (T C P : Datum) (S : Seats T C) (#number #steps #start #sample : Name) 
               nothing ! $ use1 W (raw (Starts 𝓤 H A .pre (to-start i))) (goes-start i (ready .0) size-fits) $
               calls-at ! (fmOf 𝓤 H (W .laws) 𝓣) (Starts 𝓤 H A) known-start (to-start i) (and-then ! (load ! (from ! (stop !)) (look ! 5 refl)) (and-then ! (load ! (from ! (stop !)) (look ! 28 refl)) (no-more !))) (λ w.
               use1 W (later (some (λ (r : ℕ). (‵ ftrue ⊛ ‵ (usize .own r (w ∷ []))) ⊛ raw (ensured 𝓤 H A start-ended (start-clauses 𝓤) tt (i, (size, tt)) tt r)))) (id⊢ 𝓤 _) $ await ! tt $ pick ! (λ a.
-              split ! $ move ! (1 ∷ []) $ use1 W (raw (fact 𝓤 (a ≡ i * size))) (start-of i a) $ heard ! (a ≡ i * size) (λ e. split ! $ drop ! $ peeks ! usize (Is usize) (shows 𝓤 H A usize) a (w ∷ []) (λ isa. drop ! $
+              split ! $ move ! (1 ∷ []) $ use1 W (raw (fact 𝓤 (a ≡ i * size))) (start-of i a (ready .0)) $ heard ! (a ≡ i * size) (λ e. split ! $ drop ! $ peeks ! usize (Is usize) (shows 𝓤 H A usize) a (w ∷ []) (λ isa. drop ! $
               land ! (from ! (stop !)) (init ! 5 refl (uint-lawful 𝓤 H A W w64 .typed a _ isa .0)) $ rewrite ! 5 (λ (u : Val). ‵ (fat fullShare (tyInt w64) l₁₀ 0 u)) (ap only (isa .0)) refl $
               assigns ! (bin ! (load ! (from ! (stop !)) (look ! 5 refl)) (load ! (from ! (stop !)) (look ! 27 refl)) (record { fits = end-fits a e })) (from ! (stop !)) (init ! 6 refl (tt, record { fits = end-fits a e })) $
               assigns ! (bin ! (load ! (from ! (stop !)) (look ! 4 refl)) (big ! (record { fits = lit< tt })) (record { fits = seat-fits })) (from ! (stop !)) (init ! 9 refl (tt, record { fits = seat-fits })) $

@@ -358,14 +358,6 @@ fn at_volume(params: Params, output: f32) -> f32
     params.volume * output
 }
 
-// Where channel j's part of the memory begins.
-fn part_start(j: usize, capacity: usize) -> usize
-    requires { ⌜ j < 2 ⌝ }
-    ensures { λ r. ⌜ r ≡ j * capacity ⌝ }
-{
-    if j == 0 { 0 } else { capacity }
-}
-
 // A sample of a channel on the part of the memory from `start` to `end`, at the parameters' volume.
 fn part_sample(
     c: &mut Channel,
@@ -403,7 +395,7 @@ pub fn process_frame(s: &mut Sampler, frame: &mut [f32], params: Params, memory:
     let capacity = s.capacity;
     let mut j: usize = 0;
     while j < n {
-        let start = part_start(j, capacity);
+        let start = sampler::part_start(j, capacity);
         let end = start + capacity;
         frame[j] = part_sample(&mut s.channels[j], params, frame[j], memory, start, end);
         j += 1;

@@ -117,10 +117,9 @@ fn capacity_of(count: usize, size: usize) -> usize
     }
 }
 
-// Where channel j's part of the memory begins.
-fn part_start(j: usize, capacity: usize) -> usize
-    requires { ⌜ j < 2 ⌝ }
-    ensures { λ r. ⌜ r ≡ j * capacity ⌝ }
+// Where channel j's part of the memory begins; the second's for every j above it.
+pub fn part_start(j: usize, capacity: usize) -> usize
+    ensures { λ r. ⌜ r ≡ min j 1 * capacity ⌝ }
 {
     if j == 0 { 0 } else { capacity }
 }

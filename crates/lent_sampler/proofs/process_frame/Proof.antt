@@ -7,10 +7,10 @@ use Rattle.channel.specs.Channels.{processSampleOf, memoryOf}
 use Rattle.channel.proofs.Samples.{memory-kept}
 use Rattle.sampler.specs.Refusals.{frameNumber}
 use Rattle.sampler.specs.Samplers.{Frames, framedOf}
-use Rattle.lent_sampler.proofs.part_start as start
-use Rattle.lent_sampler.proofs.part_start.Symbol as start-def
-use Rattle.lent_sampler.proofs.part_start.Symbol.{name as #start}
-use Rattle.lent_sampler.proofs.part_start.Met as start-thm
+use Rattle.sampler.proofs.part_start as start
+use Rattle.sampler.proofs.part_start.Symbol as start-def
+use Rattle.sampler.proofs.part_start.Symbol.{name as #start}
+use Rattle.sampler.proofs.part_start.Met as start-thm
 use Rattle.lent_sampler.proofs.Lent.{sampler, channel, params}
 use Rattle.lent_sampler.proofs.Seats.{seats}
 use Rattle.lent_sampler.proofs.Turned.{stepsOf, Turned, turned-starts, turned-low, turned-on, turned-ends}
@@ -59,5 +59,5 @@ process-frame-spec 𝓤 H 𝓜 𝓖 𝓡 =
     (steps-frame sampler channel params seats #number #steps #start #sample turning 𝓤 H (𝓖 .A) (givenOf 𝓤 H 𝓜 𝓖) (tablesOf 𝓤 H 𝓜 (tables 𝓤 H 𝓜 𝓡 code.env))
     (cited 𝓤 H (tripleOf 𝓤 H (𝓖 .A) number.signature (number.spec 𝓤 H (𝓖 .A) (𝓜 .mem) (𝓡 .run))) 𝓜 𝓡 code.env #number number-def.routine code.calls-lent-sampler·frame-number (number-thm.met 𝓤 H 𝓜 𝓖 𝓡))
     (cited 𝓤 H (tripleOf 𝓤 H (𝓖 .A) steps.signature (steps.spec 𝓤 H (𝓖 .A) (𝓜 .mem) (𝓡 .run))) 𝓜 𝓡 code.env #steps steps-def.routine code.calls-lent-sampler·steps (steps-thm.met 𝓤 H 𝓜 𝓖 𝓡))
-    (cited 𝓤 H (tripleOf 𝓤 H (𝓖 .A) start.signature (start.spec 𝓤 H (𝓖 .A) (𝓜 .mem) (𝓡 .run))) 𝓜 𝓡 code.env #start start-def.routine code.calls-lent-sampler·part-start (start-thm.met 𝓤 H 𝓜 𝓖 𝓡))
+    (cited 𝓤 H (tripleOf 𝓤 H (𝓖 .A) start.signature (start.spec 𝓤 H (𝓖 .A) (𝓜 .mem) (𝓡 .run))) 𝓜 𝓡 code.env #start start-def.routine code.calls-sampler·part-start (start-thm.met 𝓤 H 𝓜 𝓖 𝓡))
     (cited 𝓤 H (tripleOf 𝓤 H (𝓖 .A) sample.signature (sample.spec 𝓤 H (𝓖 .A) (𝓜 .mem) (𝓡 .run))) 𝓜 𝓡 code.env #sample sample-def.routine code.calls-lent-sampler·part-sample (sample-thm.met 𝓤 H 𝓜 𝓖 𝓡)))
