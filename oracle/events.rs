@@ -21,6 +21,9 @@ mod listing;
 mod params;
 #[path = "events/print.rs"]
 mod print;
+#[allow(dead_code)]
+#[path = "trace/puts.rs"]
+mod puts;
 #[path = "shared/random.rs"]
 mod random;
 #[path = "shared/record.rs"]

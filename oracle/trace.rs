@@ -3,6 +3,8 @@
 //!     trace compare SEED COUNT COMMAND [WORD..]    COMMAND with its words runs the port
 //!     trace replay FILE COMMAND [WORD..]           plays one listing on both sides, and shows where they differ
 //!     trace sample DIR                             writes DIR/stdin and DIR/stdout
+//!
+//! Where the first word is `lent`, the port is the program over the calls on a lent record.
 
 use audio_sampler_lib::inside;
 
@@ -16,6 +18,8 @@ mod listing;
 mod params;
 #[path = "trace/port.rs"]
 mod port;
+#[path = "trace/puts.rs"]
+mod puts;
 #[path = "shared/random.rs"]
 mod random;
 #[path = "shared/record.rs"]
@@ -36,6 +40,7 @@ mod text;
 #[path = "shared/values.rs"]
 mod values;
 
+use engine::Calls;
 use port::Port;
 use std::process::ExitCode;
 
@@ -44,14 +49,18 @@ fn main() -> ExitCode {
     std::panic::set_hook(Box::new(|_| ()));
     let words: Vec<String> = std::env::args().skip(1).collect();
     let words: Vec<&str> = words.iter().map(String::as_str).collect();
-    let ended = match words[..] {
+    let (calls, words) = match words[..] {
+        ["lent", ref words @ ..] => (Calls::Lent, words),
+        ref words => (Calls::ByValue, words),
+    };
+    let ended = match *words {
         ["compare", seed, count, command, ref words @ ..] => match (seed.parse(), count.parse()) {
-            (Ok(seed), Ok(count)) => compare::run(seed, count, &Port { command, words }),
+            (Ok(seed), Ok(count)) => compare::run(seed, count, &Port { calls, command, words }),
             _ => Err("SEED and COUNT are numbers".into()),
         },
-        ["replay", path, command, ref words @ ..] => report::replayed(path, &Port { command, words }),
+        ["replay", path, command, ref words @ ..] => report::replayed(path, &Port { calls, command, words }),
         ["sample", dir] => sample::write(dir).map(|()| true),
-        _ => Err("usage: trace compare SEED COUNT COMMAND [WORD..] | trace replay FILE COMMAND [WORD..] | trace sample DIR".into()),
+        _ => Err("usage: trace [lent] compare SEED COUNT COMMAND [WORD..] | trace [lent] replay FILE COMMAND [WORD..] | trace sample DIR".into()),
     };
     match ended {
         Ok(true) => ExitCode::SUCCESS,

@@ -9,13 +9,13 @@ pub const STYLES: [&str; 5] = ["noise", "a header and noise", "good", "damaged",
 pub fn input(seed: u64, number: u64) -> (usize, Vec<u8>) {
     let mut r = Random::new(seed.wrapping_mul(0x1_0000_0001).wrapping_add(number.wrapping_mul(0x9e37_79b9)));
     let r = &mut r;
-    let style = if number % 500 == 499 { 4 } else { r.pick(&[0, 1, 2, 2, 3, 3, 3, 3]) };
+    let style = if number % 250 == 249 { 4 } else { r.pick(&[0, 1, 2, 2, 3, 3, 3, 3]) };
     let bytes = match style {
         0 => noise(r, 120),
         1 => [header(r), noise(r, 120)].concat(),
         2 => good(r),
         3 => damaged(r),
-        _ => overflowing(r),
+        _ => overflowing(r, 1 + (number / 250 % 2) as u8),
     };
     (style, bytes)
 }
@@ -98,13 +98,13 @@ fn break_bytes(r: &mut Random, bytes: &mut Vec<u8>) {
     }
 }
 
-/// The recording meets its capacity, and then is played.
-fn overflowing(r: &mut Random) -> Vec<u8> {
-    let head = header(r);
-    let channels = head[1] as usize;
-    let mut l = vec![head, parameters(r, false), record(4, vec![])];
+/// The recording meets its capacity, and then is played. All of it prints more than 64 KB.
+fn overflowing(r: &mut Random, channel_count: u8) -> Vec<u8> {
+    let channels = channel_count as usize;
+    let mut l = vec![vec![1, channel_count, r.below(2) as u8], parameters(r, false), record(4, vec![])];
     l.extend((0..4100).map(|_| frame(r, channels, false)).collect::<Vec<_>>());
-    l.extend([record(5, vec![]), start(r, false)]);
+    l.push(record(5, vec![]));
+    l.extend((0..4).map(|_| start(r, false)).collect::<Vec<_>>());
     l.extend((0..20).map(|_| frame(r, channels, false)).collect::<Vec<_>>());
     l.concat()
 }

@@ -1,7 +1,7 @@
 //! What document 01 has `events` print on an input, played on the Rust.
 
 use crate::decode::{Header, Input, SAMPLES};
-use crate::engine::{Engine, Shown};
+use crate::engine::{Calls, Engine, Shown};
 use crate::inside;
 use crate::listing::set_up;
 use crate::params::{beyond_limits, params};
@@ -35,7 +35,7 @@ fn play(bytes: &[u8], text: &mut String) {
 }
 
 fn opened(header: &Header) -> Engine {
-    let mut engine = Engine::new();
+    let mut engine = Engine::new(Calls::ByValue);
     let channels = header.channels as u32;
     engine.call(&set_up(channels, header.auto_passthru, channels * SAMPLES));
     engine

@@ -1,6 +1,6 @@
 //! Plays listings on both sides, and compares what they write.
 
-use crate::engine::play;
+use crate::engine::{play, Calls};
 use crate::listing::bytes;
 use crate::port::Port;
 use crate::report::disagreement;
@@ -15,7 +15,7 @@ pub fn run(seed: u64, count: u64, port: &Port) -> Result<bool, String> {
     let input = child.stdin.take().unwrap();
     let writer = std::thread::spawn(move || ask(seed, count, input));
     let output = BufReader::with_capacity(1 << 16, child.stdout.take().unwrap());
-    let (tally, differs) = compare(seed, count, output)?;
+    let (tally, differs) = compare(seed, count, port.calls, output)?;
     if let Some(number) = differs {
         child.kill().map_err(|e| e.to_string())?;
         child.wait().map_err(|e| e.to_string())?;
@@ -23,7 +23,8 @@ pub fn run(seed: u64, count: u64, port: &Port) -> Result<bool, String> {
     }
     writer.join().unwrap().map_err(|e| e.to_string())?;
     child.wait().map_err(|e| e.to_string())?;
-    println!("seed {seed}: {} listings, {} calls, {} fields equal, none differs", tally.listings, tally.calls, tally.fields);
+    let calls = if port.calls == Calls::Lent { " on a lent record" } else { "" };
+    println!("seed {seed}{calls}: {} listings, {} calls, {} fields equal, none differs", tally.listings, tally.calls, tally.fields);
     tally.print();
     Ok(true)
 }
@@ -38,7 +39,7 @@ fn ask(seed: u64, count: u64, input: impl Write) -> std::io::Result<()> {
 }
 
 /// What the run has met, and the number of the first listing that is answered otherwise.
-fn compare(seed: u64, count: u64, mut output: impl Read) -> Result<(Tally, Option<u64>), String> {
+fn compare(seed: u64, count: u64, calls: Calls, mut output: impl Read) -> Result<(Tally, Option<u64>), String> {
     let (mut tally, mut rust, mut port) = (Tally::default(), Text::default(), Vec::new());
     let mut styles = vec![0; STYLES.len()];
     for number in 0..count {
@@ -47,7 +48,7 @@ fn compare(seed: u64, count: u64, mut output: impl Read) -> Result<(Tally, Optio
         }
         let (style, records) = listing(seed, number);
         rust.clear();
-        play(&records, &mut rust, &mut tally);
+        play(calls, &records, &mut rust, &mut tally);
         port.resize(rust.bytes.len(), 0);
         // A port that has written less has written something else.
         if output.read_exact(&mut port).is_err() || port != rust.bytes {
@@ -57,8 +58,11 @@ fn compare(seed: u64, count: u64, mut output: impl Read) -> Result<(Tally, Optio
         tally.listings += 1;
         tally.fields += rust.fields;
     }
-    if output.read(&mut [0]).map_err(|e| e.to_string())? > 0 {
-        return Err("the port goes on after the last listing".into());
+    let mut rest = String::new();
+    output.read_to_string(&mut rest).map_err(|e| e.to_string())?;
+    let made = if calls == Calls::Lent { tally.made() } else { String::new() };
+    if rest != made {
+        return Err(format!("after the last listing the port writes '{rest}', not '{made}'"));
     }
     tally.styles(STYLES.iter().map(|s| s.name).zip(styles));
     Ok((tally, None))

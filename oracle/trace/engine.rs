@@ -5,22 +5,30 @@ use crate::listing::*;
 use crate::params::{beyond_limits, float, params};
 use crate::record::Record;
 use crate::tally::{Census, Tally};
-use crate::text::Text;
+use crate::text::{bits, Text};
 use audio_sampler_lib::common_types::{InitParams, Note, Params};
 use audio_sampler_lib::sampler::{Channel, Sampler, VoiceInfo};
 use std::ops::Range;
 use std::panic::{catch_unwind, AssertUnwindSafe};
 
-const MOST_VOICES: usize = 32;
-const MOST_SAMPLES: usize = 1 << 22;
-const LAST_TIME: usize = 1 << 48;
+pub const MOST_VOICES: usize = 32;
+pub const MOST_SAMPLES: usize = 1 << 22;
+pub const LAST_TIME: usize = 1 << 48;
+
+/// Which of the port's calls are played: those by value, or those on a lent record, of which voice info fills a lent list.
+#[derive(Clone, Copy, PartialEq)]
+pub enum Calls {
+    ByValue,
+    Lent,
+}
 
 pub struct Engine {
     pub sampler: Sampler,
     pub params: Params,
+    calls: Calls,
     /// 0 where the set-up was refused: then every call is.
-    count: usize,
-    capacity: usize,
+    pub count: usize,
+    pub capacity: usize,
     /// The skip counts of document 01, which the Rust doesn't have: its recording grows without end.
     pub skipped: [u64; 2],
 }
@@ -45,8 +53,8 @@ fn row(rows: &[(u8, bool)]) -> u8 {
 }
 
 /// Plays a listing. A panic of the Rust is written as a line, and ends it.
-pub fn play(records: &[Record], text: &mut Text, tally: &mut Tally) {
-    let mut engine = Engine::new();
+pub fn play(calls: Calls, records: &[Record], text: &mut Text, tally: &mut Tally) {
+    let mut engine = Engine::new(calls);
     for record in records {
         if catch_unwind(AssertUnwindSafe(|| engine.record(record, text, tally))).is_err() {
             text.bytes.extend(b"panic\n");
@@ -56,8 +64,9 @@ pub fn play(records: &[Record], text: &mut Text, tally: &mut Tally) {
 }
 
 impl Engine {
-    pub fn new() -> Self {
-        Engine { sampler: Sampler::new(0, &InitParams::default()), params: Params::default(), count: 0, capacity: 0, skipped: [0; 2] }
+    pub fn new(calls: Calls) -> Self {
+        let sampler = Sampler::new(0, &InitParams::default());
+        Engine { sampler, params: Params::default(), calls, count: 0, capacity: 0, skipped: [0; 2] }
     }
 
     fn record(&mut self, r: &Record, text: &mut Text, tally: &mut Tally) {
@@ -68,6 +77,7 @@ impl Engine {
         text.put(1, number as u64);
         self.show(shown, text);
         tally.call(kind, number, &before, &Census::of(self), &self.params);
+        tally.asked(r);
     }
 
     /// Makes a record's call.
@@ -84,7 +94,10 @@ impl Engine {
             SAMPLE => self.sample(r),
             FRAME => self.frame(r, [float(r, FLOAT), float(r, FLOAT + 4), float(r, FLOAT + 8)]),
             FRAMES => self.frames(r),
-            CLOCK => (self.put_on(r), Shown::Record),
+            PUT => {
+                self.put(r);
+                (0, Shown::Record)
+            }
             RECORDINGS => (0, Shown::Recordings),
             _ => self.query(r),
         }
@@ -111,7 +124,7 @@ impl Engine {
         let (note, position, velocity) = (note(r), float(r, FLOAT), float(r, SECOND));
         let full = |c: &Channel| !inside::recording(c).is_empty() && inside::voices(c).len() >= MOST_VOICES;
         let number = row(&[
-            (9, self.count == 0),
+            (9, self.broken()),
             (2, note.channel > 15),
             (3, !(0.0 <= position && position <= 1.0)),
             (4, beyond_limits(&self.params)),
@@ -125,7 +138,7 @@ impl Engine {
 
     fn stop(&mut self, r: &Record) -> u8 {
         let note = note(r);
-        let number = row(&[(9, self.count == 0), (2, note.channel > 15), (4, beyond_limits(&self.params))]);
+        let number = row(&[(9, self.broken()), (2, note.channel > 15), (4, beyond_limits(&self.params))]);
         if number == 0 {
             self.sampler.stop_playing(note, &self.params);
         }
@@ -134,7 +147,7 @@ impl Engine {
 
     fn note_speed(&mut self, r: &Record) -> u8 {
         let note = note(r);
-        let number = row(&[(9, self.count == 0), (2, note.channel > 15)]);
+        let number = row(&[(9, self.broken()), (2, note.channel > 15)]);
         if number == 0 {
             self.sampler.set_note_speed(note, float(r, FLOAT));
         }
@@ -142,7 +155,7 @@ impl Engine {
     }
 
     fn plain(&mut self, call: impl Fn(&mut Sampler, &Params)) -> u8 {
-        if self.count == 0 {
+        if self.broken() {
             return 9;
         }
         call(&mut self.sampler, &self.params);
@@ -150,17 +163,11 @@ impl Engine {
     }
 
     fn reset(&mut self) -> u8 {
-        self.skipped = [0; 2];
-        self.plain(|s, _| s.reset())
-    }
-
-    /// No call: every clock goes on, but no further than its end.
-    fn put_on(&mut self, r: &Record) -> u8 {
-        for c in &mut self.sampler.channels {
-            let now = inside::clock(c).saturating_add(r.u64_at(SECOND) as usize);
-            inside::put_clock(c, now.min(LAST_TIME));
+        let number = self.plain(|s, _| s.reset());
+        if number == 0 {
+            self.skipped = [0; 2];
         }
-        0
+        number
     }
 
     fn sample(&mut self, r: &Record) -> (u8, Shown) {
@@ -193,10 +200,10 @@ impl Engine {
     }
 
     fn step_number(&self, r: &Record, present: bool, stepped: Range<usize>) -> u8 {
-        let short = (r.u32_at(LENT) as usize).min(MEMORY) < self.count * self.capacity;
+        let short = (r.u32_at(LENT) as usize).min(MEMORY) < self.count.saturating_mul(self.capacity);
         let mut channels = stepped.filter_map(|j| self.sampler.channels.get(j));
         row(&[
-            (9, self.count == 0 || short),
+            (9, self.broken() || short),
             (1, !present),
             (4, beyond_limits(&self.params)),
             (6, channels.any(|c| inside::clock(c) >= LAST_TIME)),
@@ -227,7 +234,7 @@ impl Engine {
 
     fn query(&self, r: &Record) -> (u8, Shown) {
         let (kind, channel, room) = (r.u8_at(0), r.u32_at(CHANNEL) as usize, r.u32_at(ROOM) as usize);
-        let number = row(&[(9, self.count == 0), (1, channel >= self.count), (4, kind == VOICE_INFO && beyond_limits(&self.params))]);
+        let number = row(&[(9, self.broken()), (1, channel >= self.count), (4, kind == VOICE_INFO && beyond_limits(&self.params))]);
         if number != 0 {
             return (number, refused(kind));
         }
@@ -274,17 +281,16 @@ impl Engine {
             Shown::ErrorText(words) => text.list(words.len(), words.bytes().map(|b| (2, b as u64)), (2, b'.' as u64), TEXT),
             Shown::Notes(notes) => text.list(notes.len(), notes.iter().map(|n| (16, *n)), (16, u64::MAX), NOTES),
             Shown::Infos(infos) => {
-                text.put(2, infos.len() as u64);
-                for x in infos.iter().flat_map(|i| [i.start, i.end, i.pos]) {
-                    text.float(x);
-                }
-                text.end();
+                let figures = infos.iter().flat_map(|i| [i.start, i.end, i.pos]).map(|x| (8, bits(x)));
+                // By value the answer has no rest; a lent list held -1 everywhere.
+                let size = 3 * if self.calls == Calls::Lent { INFOS } else { infos.len() };
+                text.list(infos.len(), figures, (8, bits(-1.0)), size);
             }
         }
     }
 
     fn show_record(&self, text: &mut Text) {
-        text.put(1, self.count as u64);
+        text.put(1, self.count as u64 % 16);
         text.last(8, self.capacity as u64);
         for (j, c) in self.sampler.channels.iter().enumerate() {
             text.channel(c, self.counts(j));

@@ -18,12 +18,24 @@ pub fn recording(c: &Channel) -> &[f32] {
     &c.data
 }
 
+pub fn recording_mut(c: &mut Channel) -> &mut Vec<f32> {
+    &mut c.data
+}
+
 pub fn voices(c: &Channel) -> &[Voice] {
     &c.voices
 }
 
+pub fn voices_mut(c: &mut Channel) -> &mut Vec<Voice> {
+    &mut c.voices
+}
+
 pub fn passthru(c: &Channel) -> (bool, &Volume) {
     (c.passthru_on, &c.passthru_volume)
+}
+
+pub fn put_passthru(c: &mut Channel, volume: Volume) {
+    c.passthru_volume = volume;
 }
 
 pub fn write_place(c: &Channel) -> Option<usize> {

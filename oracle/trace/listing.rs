@@ -1,6 +1,7 @@
-//! The records of a listing: their kinds and fields, as crates/trace reads them, and how they read to a person.
+//! The records of a listing: their kinds and fields, as crates/oracle_trace reads them, and how they read to a person.
 
 use crate::params;
+use crate::puts;
 use crate::record::Record;
 
 pub const SET_UP: u8 = 0;
@@ -13,7 +14,7 @@ pub const STOP_RECORDING: u8 = 6;
 pub const RESET: u8 = 7;
 pub const SAMPLE: u8 = 8;
 pub const FRAME: u8 = 9;
-pub const CLOCK: u8 = 10;
+pub const PUT: u8 = 10;
 pub const RECORDINGS: u8 = 11;
 pub const FRAMES_PROCESSED: u8 = 12;
 pub const DATA_LEN: u8 = 13;
@@ -27,15 +28,16 @@ pub const FRAMES: u8 = 19;
 /// The kinds by their numbers. Those in brackets are no calls.
 pub const NAMES: [&str; 20] = [
     "set-up", "parameters", "start_playing", "stop_playing", "set_note_speed", "start_recording", "stop_recording", "reset", "process_sample",
-    "process_frame", "(clocks put on)", "(recordings)", "get_frames_processed", "get_data_len", "is_recording", "get_last_recorded_offset",
+    "process_frame", "(a field put)", "(recordings)", "get_frames_processed", "get_data_len", "is_recording", "get_last_recorded_offset",
     "print_error_info", "iter_active_notes", "get_voice_info", "many of process_frame",
 ];
 
 /// How many samples of memory the port has to lend.
 pub const MEMORY: usize = 65536;
-/// How many entries the lists for the error text and for the active notes have at most.
+/// How many entries the lists for the error text, for the active notes and for the voice info have at most.
 pub const TEXT: usize = 64;
 pub const NOTES: usize = 34;
+pub const INFOS: usize = 34;
 
 /// The places of the fields.
 pub const NOTE: usize = 1;
@@ -108,7 +110,7 @@ pub fn describe(r: &Record) -> String {
             float(r, SECOND),
             r.u32_at(LENT)
         ),
-        CLOCK => format!("by {}", r.u64_at(SECOND)),
+        PUT => puts::describe(r),
         FRAMES_PROCESSED..=LAST_OFFSET => format!("channel {}", r.u32_at(CHANNEL)),
         ERROR_TEXT..=VOICE_INFO => format!("channel {}, room for {}", r.u32_at(CHANNEL), r.u32_at(ROOM)),
         _ => String::new(),

@@ -1,9 +1,11 @@
 //! The port's program, and how it is run.
 
+use crate::engine::Calls;
 use std::io::Write;
 use std::process::{Child, Command, Stdio};
 
 pub struct Port<'a> {
+    pub calls: Calls,
     pub command: &'a str,
     pub words: &'a [&'a str],
 }

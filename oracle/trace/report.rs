@@ -1,6 +1,6 @@
 //! A disagreement: the listing, cut down to what it takes, and where the two sides differ.
 
-use crate::engine::play;
+use crate::engine::{play, Calls};
 use crate::listing::{bytes, describe};
 use crate::port::Port;
 use crate::record::Record;
@@ -72,7 +72,11 @@ fn cut(mut records: Vec<Record>, port: &Port) -> Result<Vec<Record>, String> {
 
 fn difference(records: &[Record], port: &Port) -> Result<Option<Difference>, String> {
     let mut text = Text::default();
-    play(records, &mut text, &mut Tally::default());
+    let mut tally = Tally::default();
+    play(port.calls, records, &mut text, &mut tally);
+    if port.calls == Calls::Lent {
+        text.bytes.extend(tally.made().bytes());
+    }
     let (rust, port) = (text.bytes, port.answer(bytes(records))?);
     if rust == port {
         return Ok(None);

@@ -1,6 +1,6 @@
 //! A fixed list of the Rust's answers, for a run of the port with no Rust at hand.
 
-use crate::engine::play;
+use crate::engine::{play, Calls};
 use crate::listing::bytes;
 use crate::record::{Record, SIZE};
 use crate::songs::{listing, STYLES};
@@ -35,7 +35,7 @@ fn shortest(style: usize) -> Vec<(Vec<u8>, Vec<Record>)> {
 
 fn answers(records: &[Record]) -> Vec<u8> {
     let mut text = Text::default();
-    play(records, &mut text, &mut Tally::default());
+    play(Calls::ByValue, records, &mut text, &mut Tally::default());
     text.bytes
 }
 

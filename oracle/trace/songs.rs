@@ -2,6 +2,7 @@
 
 use crate::listing::*;
 use crate::params;
+use crate::puts;
 use crate::random::Random;
 use crate::record::Record;
 use crate::values::{hostile_float, hostile_whole};
@@ -26,6 +27,7 @@ pub const STYLES: &[Style] = &[
     Style { name: "edges", share: 100, make: edges },
     Style { name: "refusals", share: 120, make: refusals },
     Style { name: "broken", share: 50, make: broken },
+    Style { name: "spoiled", share: 100, make: spoiled },
     Style { name: "late", share: 50, make: late },
     Style { name: "noise", share: 30, make: noise },
 ];
@@ -118,6 +120,13 @@ fn crowd(s: &mut Song) {
     for room in [0, 20, 31, 32] {
         s.ask(VOICE_INFO, room);
         s.ask(ACTIVE_NOTES, room);
+    }
+    // An empty recording has room for a voice, and takes none.
+    if s.r.below(2) == 0 {
+        s.record(0);
+        s.start();
+        let n = s.r.below(3);
+        s.record(n);
     }
     for _ in 0..s.r.below(8) + 3 {
         match s.r.below(4) {
@@ -278,6 +287,28 @@ fn broken(s: &mut Song) {
     s.frames(1);
 }
 
+/// A field of the record is put to its limit or past it, and calls follow.
+fn spoiled(s: &mut Song) {
+    for _ in 0..s.r.below(6) + 2 {
+        let room = s.r.pick(&[2, 6, 20]);
+        s.begin(room);
+        let n = s.r.below(room) + 1;
+        s.record(n);
+        for _ in 0..s.r.below(4) + 1 {
+            s.start();
+        }
+        s.stop();
+        let n = s.r.below(4);
+        s.frames(n);
+        s.spoil();
+        for _ in 0..s.r.below(6) + 3 {
+            s.any();
+        }
+    }
+    s.begin(1);
+    s.record(1);
+}
+
 /// Clocks that are far on, up to their end.
 fn late(s: &mut Song) {
     let room = s.r.pick(&[2, 10, 60]);
@@ -318,6 +349,7 @@ fn noise(s: &mut Song) {
         match kind {
             SET_UP if s.r.below(8) > 0 => s.settings(),
             RECORDINGS => s.event(),
+            PUT => s.put_on(),
             SAMPLE | FRAME => s.records.push(record.with_u32(LENT, MEMORY as u32)),
             FRAMES => s.records.push(record.with_u32(LENT, MEMORY as u32).with_u32(TIMES, 3)),
             _ => s.records.push(record),
@@ -516,7 +548,30 @@ impl Song {
             4 => u64::MAX,
             _ => self.r.below(1 << 26),
         };
-        self.records.push(Record::new(CLOCK).with_u64(SECOND, n));
+        self.records.push(puts::put(puts::CLOCKS, n));
+    }
+
+    /// Most often no further than one past a limit.
+    fn spoil(&mut self) {
+        let far = self.r.bits();
+        let by = self.r.pick(&[0, 0, 1, 1, 1, 2, u64::MAX, u64::MAX - 4, far]);
+        let long = self.r.pick(&[0, 1, 2, 1 << 24, (1 << 24) + 1, far]);
+        let x = self.float(|s| s.r.pick(&[0.0, -0.0, -1e-45, 0.99999994, 1.0, 1.5, 4194304.0, 4194304.5, f32::NAN, f32::INFINITY]));
+        let counts: &[u64] = if self.count == 2 { &[0, 1, 2, 3, far] } else { &[0, 1] };
+        let record = match self.r.below(12) {
+            0 => puts::put(puts::CHANNELS, self.r.pick(counts)),
+            1 => puts::put(puts::CAPACITY, self.r.pick(&[0, 1 << 22, 1 << 22, (1 << 22) + 1, far])),
+            2 => puts::put(puts::DATA_LENGTH, by.min(5)),
+            3 => puts::put(puts::WRITE_PLACE, by),
+            4 => puts::put(puts::CLOCK, self.r.pick(&[0, 1, u64::MAX, (1u64 << 48).wrapping_neg(), far])),
+            5 => puts::put_ramp(puts::PASSTHRU, by, long),
+            6 => puts::put(puts::SINCE, by),
+            7 => puts::put(puts::FINISHED_AT, by),
+            8 => puts::put_ramp(puts::VOLUME, by, long),
+            what => puts::put_float(puts::LENGTH + (what - 9) as u8, f32::from_bits(x)),
+        };
+        let (channel, voice) = (self.r.below(self.count) as u8, self.r.below(4) as u8);
+        self.records.push(puts::of(channel, voice, record));
     }
 
     fn query(&mut self, kind: u8) {

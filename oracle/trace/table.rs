@@ -2,6 +2,7 @@
 
 use crate::listing::*;
 use crate::params;
+use crate::puts::*;
 use crate::record::Record;
 
 const KEY: (u8, u8) = (60, 0);
@@ -10,7 +11,7 @@ const LENT_MEMORY: u32 = 16;
 const MOST_VOICES: usize = 32;
 
 pub fn listing() -> Vec<Record> {
-    [refused_set_ups(), rows(), full(), clock_end(), emptied()].concat()
+    [refused_set_ups(), rows(), full(), clock_end(), emptied(), broken(), broken_sizes(), judged()].concat()
 }
 
 /// Row 9: after each refused set-up every call is refused.
@@ -35,18 +36,20 @@ fn rows() -> Vec<Record> {
     l
 }
 
-/// Row 5: the last start that there is a place for, and one more.
+/// Row 5: the last start that there is a place for, and one more; a voice too many; and last an emptied recording, of which row 5 is not.
 fn full() -> Vec<Record> {
     let mut l = begun();
     l.extend((0..=MOST_VOICES).map(|_| press(0.0)));
+    l.extend([put(VOICES, 32), query(DATA_LEN, 0, 0), put(VOICES, 33), query(DATA_LEN, 0, 0), of_note(STOP, KEY), sound(0), put(VOICES, 32)]);
     l.extend([plain(RECORDINGS), of_note(STOP, KEY), whole_frame(2, LENT_MEMORY), press(0.0)]);
+    l.extend([press(0.0), plain(START_RECORDING), plain(STOP_RECORDING), press(0.0), query(ACTIVE_NOTES, 0, 64)]);
     l
 }
 
 /// Row 6.
 fn clock_end() -> Vec<Record> {
     let mut l = begun();
-    l.push(plain(CLOCK).with_u64(SECOND, u64::MAX));
+    l.push(put(CLOCKS, u64::MAX));
     l.extend([sound(0), whole_frame(2, LENT_MEMORY), whole_frame(0, LENT_MEMORY), plain(RECORDINGS)]);
     l
 }
@@ -55,6 +58,66 @@ fn clock_end() -> Vec<Record> {
 fn emptied() -> Vec<Record> {
     let mut l = begun();
     l.extend([plain(START_RECORDING), plain(STOP_RECORDING), query(DATA_LEN, 0, 0), query(DATA_LEN, 1, 0), plain(RECORDINGS)]);
+    l
+}
+
+/// Document 01's list of broken records: each field of a channel at its limit, where calls are done, and past it, where they are refused with 9.
+fn broken() -> Vec<Record> {
+    // The data length is judged while nothing records, and while it does.
+    let mut pairs: Vec<_> = [DATA_LENGTH, WRITE_PLACE, DATA_LENGTH, SINCE, FINISHED_AT].map(|what| (put(what, 0), put(what, 1))).into();
+    for what in [PASSTHRU, VOLUME] {
+        let ramps = [[0, 1, 1, 1], [0, 1, 0, 0], [0, 1 << 24, 0, (1 << 24) + 1]];
+        pairs.extend(ramps.map(|[by, long, past, longer]| (put_ramp(what, by, long), put_ramp(what, past, longer))));
+    }
+    for what in [LENGTH, CLIP_DATA] {
+        let lengths = [(1.0, 0.99999994), (4194304.0, 4194304.5), (1.0, f32::NAN)];
+        pairs.extend(lengths.map(|(x, past)| (put_float(what, x), put_float(what, past))));
+    }
+    let starts = [(0.0, -1e-45), (4194304.0, 4194304.5), (-0.0, f32::NAN)];
+    pairs.extend(starts.map(|(x, past)| (put_float(START_AT, x), put_float(START_AT, past))));
+    // A voice that decays.
+    pairs.push((of(0, 1, put(FINISHED_AT, 0)), of(0, 1, put(FINISHED_AT, 1))));
+    let mut l = sounding(1);
+    l.extend(pairs.into_iter().flat_map(|(limit, past)| [limit_and_past(1, limit, past), vec![limit]].concat()));
+    l.push(put(FINISHED_AT, 1));
+    l.extend(each_call(KEY, 0, LENT_MEMORY));
+    let last_channel = [sounding(2), limit_and_past(2, of(1, 0, put(SINCE, 0)), of(1, 0, put(SINCE, 1)))].concat();
+    let clock = [sounding(1), vec![put(CLOCKS, u64::MAX)], limit_and_past(1, put(CLOCK, 0), put(CLOCK, 1))].concat();
+    [l, last_channel, clock].concat()
+}
+
+/// Calls at the limit, which leave the voices as they are, and past it.
+fn limit_and_past(entries: u8, limit: Record, past: Record) -> Vec<Record> {
+    let accepted = [query(DATA_LEN, 0, 0), of_note(STOP, (1, 1)), whole_frame(entries, LENT_MEMORY)];
+    let refused = [query(DATA_LEN, 0, 0), press(0.0), sound(0), whole_frame(entries, LENT_MEMORY)];
+    [vec![limit], accepted.into(), vec![past], refused.into()].concat()
+}
+
+/// What set-up can't give: a capacity, and a channel count.
+fn broken_sizes() -> Vec<Record> {
+    let sizes = [(1, CAPACITY, 1 << 22, (1 << 22) + 1), (1, CAPACITY, 3, 2), (2, CHANNELS, 2, 3), (2, CHANNELS, 1, 0)];
+    let of_size = |(channels, what, limit, past)| [sounding(channels), limit_and_past(1, put(what, limit), put(what, past))].concat();
+    let mut l = sizes.map(of_size).concat();
+    l.extend([set_up(1, false, LENT_MEMORY), put(CAPACITY, 1), query(DATA_LEN, 0, 0), put(CAPACITY, 0), query(DATA_LEN, 0, 0), plain(RESET)]);
+    l
+}
+
+/// Only voices below the count are judged, and only channels.
+fn judged() -> Vec<Record> {
+    let past = [put(SINCE, 1), put(FINISHED_AT, 1), put_ramp(VOLUME, 0, 0), put_float(LENGTH, 0.0)];
+    let mut l = sounding(1);
+    l.extend(past.map(|r| of(0, 2, r)));
+    l.extend([of(1, 0, put(CLOCK, 1)), of(1, 0, put_ramp(PASSTHRU, 1, 1)), of(1, 0, put(DATA_LENGTH, 1)), of(1, 0, put(VOICES, 33))]);
+    l.extend([query(DATA_LEN, 0, 0), whole_frame(1, LENT_MEMORY), press(0.0), plain(RESET)]);
+    l
+}
+
+/// A voice that sounds and one that decays.
+fn sounding(channels: u32) -> Vec<Record> {
+    let mut l = vec![set_up(channels, false, LENT_MEMORY), settings(4.0, 0).with_u64(params::DECAY, 1 << 24), plain(START_RECORDING)];
+    l.extend((0..3).map(|_| whole_frame(channels as u8, LENT_MEMORY)));
+    l.extend([plain(STOP_RECORDING), press(0.0), start((61, 0), level(0.0), level(1.0)), of_note(STOP, (61, 0))]);
+    l.push(whole_frame(channels as u8, LENT_MEMORY));
     l
 }
 

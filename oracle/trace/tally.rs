@@ -3,6 +3,7 @@
 use crate::engine::Engine;
 use crate::inside;
 use crate::listing::*;
+use crate::record::Record;
 use audio_sampler_lib::common_types::Params;
 use audio_sampler_lib::time_value::{TimeOrRatio, TimeValue};
 use audio_sampler_lib::volume::Volume;
@@ -47,6 +48,7 @@ pub struct Tally {
     pub calls: u64,
     pub fields: u64,
     answers: [[u64; 10]; NAMES.len()],
+    frames_of_many: u64,
     met: BTreeMap<(&'static str, &'static str), u64>,
 }
 
@@ -72,6 +74,26 @@ impl Tally {
             SAMPLE | FRAME | FRAMES => self.samples(before, after, params),
             _ => (),
         }
+    }
+
+    /// A record of many frames asks for as many calls.
+    pub fn asked(&mut self, r: &Record) {
+        if r.u8_at(0) == FRAMES {
+            self.frames_of_many += r.u32_at(TIMES) as u64;
+        }
+    }
+
+    /// How often each call was asked for, by the kind of its record.
+    fn times(&self) -> [u64; NAMES.len()] {
+        let mut times = self.answers.map(|numbers| numbers.iter().sum());
+        times[FRAME as usize] += self.frames_of_many;
+        times
+    }
+
+    /// The same as the program over the lent calls writes at its end how often it made each.
+    pub fn made(&self) -> String {
+        let lines = self.times().into_iter().enumerate().filter(|m| m.1 > 0);
+        lines.map(|(kind, times)| format!("T {kind:02X} {times:016X}\n")).collect()
     }
 
     fn samples(&mut self, before: &Census, after: &Census, params: &Params) {
@@ -114,9 +136,9 @@ impl Tally {
 
     pub fn print(&self) {
         let numbers = [0, 1, 2, 3, 4, 5, 6, 8, 9];
-        println!("{:<26}{}", "answers", numbers.iter().map(|n| format!("{n:>10}")).collect::<String>());
-        for (name, counts) in NAMES.iter().zip(&self.answers) {
-            let cells = numbers.iter().map(|n| counts[*n]);
+        println!("{:<26}{}{:>10}", "answers", numbers.iter().map(|n| format!("{n:>10}")).collect::<String>(), "made");
+        for ((name, counts), made) in NAMES.iter().zip(&self.answers).zip(self.times()) {
+            let cells = numbers.iter().map(|n| counts[*n]).chain([made]);
             println!("  {name:<24}{}", cells.map(|n| if n == 0 { format!("{:>10}", ".") } else { format!("{n:>10}") }).collect::<String>());
         }
         let mut last = "";

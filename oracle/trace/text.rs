@@ -1,5 +1,6 @@
 //! Lines as the port's program writes them, and a count of the fields in them.
 
+use crate::engine::MOST_VOICES;
 use crate::inside;
 use audio_sampler_lib::clip::{Clip, Mode};
 use audio_sampler_lib::sampler::Channel;
@@ -117,7 +118,7 @@ impl Text {
         self.put(1, on as u64);
         self.volume(volume);
         self.last(16, inside::voices(c).len() as u64);
-        for v in inside::voices(c) {
+        for v in inside::voices(c).iter().take(MOST_VOICES) {
             self.voice(v);
         }
     }
@@ -132,6 +133,6 @@ impl Text {
 }
 
 /// A float by its bits. One NaN counts as any other.
-fn bits(x: f32) -> u64 {
+pub fn bits(x: f32) -> u64 {
     if x.is_nan() { 0x7fc0_0000 } else { x.to_bits() as u64 }
 }

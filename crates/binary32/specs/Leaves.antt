@@ -1,29 +1,39 @@
--- What each function of this crate means, from IEEE 754-2019 ("754") and Rust's public documents: the reference's chapter on operator expressions
--- ("numeric cast") and the page of the primitive type f32. A float is the kit's (`lib.Ieee`): `nan`, `inf s`, or `fin s m e`, the number m * 2 ^ e,
--- negative where s is true. There is one `nan`; `≡` on floats is identity, so -0 is not +0. Definitions only.
+-- What each function of this crate means, from IEEE 754-2019 ("754") and Rust's public documents: the reference's
+-- chapter on operator expressions ("numeric cast") and the page of the primitive type f32. A float is the kit's
+-- (`lib.Ieee`): `nan`, `inf s`, or `fin s m e`, the number m * 2 ^ e, negative where s is true. There is one `nan`; `≡`
+-- on floats is identity, so -0 is not +0. Definitions only.
 use Prim.Native.Nat.{ℕ, _+_, _-_, _*_, _/_}
 use mathlib.Core.Bool.{Bool, true, false, not, _||_, Bool·beq, cond}
 use lib.IntN.{pos}
 use lib.Ieee.{Float, nan, inf, fin, binary32, up, down, round, lt, eq, isNan, ofInt, toUnsigned, ofBits, toBits}
 
--- A whole number of any width `as f32`: the nearest float, at a tie the one whose last digit is even (754, 5.4.1, convertFromInt; reference, int-to-float).
+abbrev pub zero32 : Float
+zero32 = fin false 0 (pos 0)
+
+abbrev pub one32 : Float
+one32 = fin false 1 (pos 0)
+
+-- A whole number of any width `as f32`: the nearest float, at a tie the one whose last digit is even (754, 5.4.1,
+-- convertFromInt; reference, int-to-float).
 abbrev pub asFloat : ℕ → Float
 asFloat n = ofInt binary32 (pos n)
 
--- A float `as` an unsigned type of w bits: the fraction dropped, the nearest end of the range beyond it, and 0 for NaN (reference, float-to-int).
+-- A float `as` an unsigned type of w bits: the fraction dropped, the nearest end of the range beyond it, and 0 for NaN
+-- (reference, float-to-int).
 abbrev pub asWhole : ℕ → Float → ℕ
 asWhole w x = toUnsigned w x
 
--- The largest whole number that is not above x, with x's sign where it is zero (754, 5.9, roundToIntegralTowardNegative; f32::floor).
--- For a negative x of size n / d that is the size rounded up. `floor-exact` says that `round` changes nothing here.
+-- The largest whole number that is not above x, with x's sign where it is zero (754, 5.9,
+-- roundToIntegralTowardNegative; f32::floor). For a negative x of size n / d that is the size rounded up. `floor-exact`
+-- says that `round` changes nothing here.
 unfoldable pub floorOf : Float → Float
 floorOf nan = nan
 floorOf (inf s) = inf s
 floorOf (fin false m e) = round binary32 false (m * up e / down e) 1
 floorOf (fin true m e) = round binary32 true ((m * up e + (down e - 1)) / down e) 1
 
--- The smaller and the larger of two, where a NaN yields the other (f32::min, f32::max; 754, 9.6, minimumNumber and maximumNumber).
--- At equal values, zeros of either sign among them, it is the first: Rust leaves that choice open.
+-- The smaller and the larger of two, where a NaN yields the other (f32::min, f32::max; 754, 9.6, minimumNumber and
+-- maximumNumber). At equal values, zeros of either sign among them, it is the first: Rust leaves that choice open.
 unfoldable pub minOf : Float → Float → Float
 minOf a b = cond (isNan a) b (cond (lt b a) b a)
 
@@ -42,12 +52,15 @@ signOf nan = false
 signOf (inf s) = s
 signOf (fin s m e) = s
 
--- Document 01's crossing, from the last value to this one: a NaN on either side, a change of sign bit, or this value equal to 0.
--- The Rust compares f32::signum, which is the sign bit as 1 or -1, and NaN at a NaN, and NaN differs from all.
+-- Document 01's crossing, from the last value to this one: a NaN on either side, a change of sign bit, or this value
+-- equal to 0. The Rust compares f32::signum, which is the sign bit as 1 or -1, and NaN at a NaN, and NaN differs from
+-- all.
 unfoldable pub crossingOf : Float → Float → Bool
-crossingOf value last = isNan value || isNan last || not (Bool·beq (signOf value) (signOf last)) || eq value (fin false 0 (pos 0))
+crossingOf value last = isNan value || isNan last || not (Bool·beq (signOf value) (signOf last))
+    || eq value (fin false 0 (pos 0))
 
--- The bit pattern of a value, 7FC00000 for NaN, and the value of a bit pattern, NaN for every NaN pattern (754, 3.4; f32::to_bits, f32::from_bits).
+-- The bit pattern of a value, 7FC00000 for NaN, and the value of a bit pattern, NaN for every NaN pattern (754, 3.4;
+-- f32::to_bits, f32::from_bits).
 abbrev pub bitsOf : Float → ℕ
 bitsOf x = toBits binary32 x
 

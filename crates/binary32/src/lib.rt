@@ -1,10 +1,22 @@
-// What the engine needs of binary32 beyond the language's own operators: conversions, floor, minimum, maximum, size, the crossing test
-// and bit patterns. Each function takes every value of its arguments, and equals a definition in specs/Leaves.antt.
+// What the engine needs of binary32 beyond the language's own operators: conversions, floor, minimum, maximum, size,
+// the crossing test and bit patterns. Each function takes every value of its arguments, and equals a definition in
+// specs/Leaves.antt.
 ghost use mathlib.Core.Path.{_≡_};
 ghost use Prim.Native.Nat.{_*_, _^_, _<_};
 ghost use lib.Dec.{T};
 ghost use lib.Ieee.{binary32, lt, ofBits};
-ghost use Rattle.binary32.specs.Leaves.{asFloat, asWhole, floorOf, minOf, maxOf, absOf, signOf, crossingOf, bitsOf, floatOf};
+ghost use Rattle.binary32.specs.Leaves.{
+  asFloat,
+  asWhole,
+  floorOf,
+  minOf,
+  maxOf,
+  absOf,
+  signOf,
+  crossingOf,
+  bitsOf,
+  floatOf,
+};
 
 // `n as f32`. Both halves of 24 bits are exact below 2^48, so only their sum rounds.
 pub fn u64_to_f32(n: u64) -> f32
@@ -40,7 +52,8 @@ fn low_to_f32(n: u64) -> f32
     ((n >> 24) as f32) * 16777216.0 + ((n & 0xff_ffff) as f32)
 }
 
-// The float nearest to s * 2^16. Of a number from 2^48 on, the 17 lowest bits matter only by being zero or not: s holds the others, and that as its last bit.
+// The float nearest to s * 2^16. Of a number from 2^48 on, the 17 lowest bits matter only by being zero or not: s holds
+// the others, and that as its last bit.
 fn high_to_f32(s: u64) -> f32
     requires { ⌜ s < 2 ^ 48 ⌝ }
     ensures { λ r. ⌜ r ≡ asFloat (s * 2 ^ 16) ⌝ }
@@ -163,8 +176,8 @@ fn negative(x: f32) -> bool
     to_bits(x) / 0x8000_0000 == 1
 }
 
-// Whether the sound crosses zero from `last` to `value`. It is asked for every voice at every sample, of values that no one foresees: so it has no
-// branch, which a processor would take wrongly half of the time.
+// Whether the sound crosses zero from `last` to `value`. It is asked for every voice at every sample, of values that no
+// one foresees: so it has no branch, which a processor would take wrongly half of the time.
 pub fn crossing(value: f32, last: f32) -> bool
     ensures { λ r. ⌜ r ≡ crossingOf value last ⌝ }
 {

@@ -12,14 +12,16 @@ use Rattle.binary32.proofs.Truth.{yes, cond-split}
 use Rattle.common_types.specs.declared.Params.{Params}
 use Rattle.common_types.proofs.Limits.{within}
 use Rattle.volume.specs.Levels.{steppedOf, goodVolume}
-use Rattle.clip.specs.Positions.{zero32, one32}
+use Rattle.binary32.specs.Leaves.{zero32, one32}
 use Rattle.recorder.specs.declared.Recorded.{Recorded}
 use Rattle.recorder.specs.Recording.{goodRecorder, goodRecorded}
 use Rattle.recorder.proofs.Good.{new-good}
 use Rattle.voice.specs.Soundness.{Fits, SoundParams, FittingVolume, SoundVolume}
 use Rattle.voice.proofs.Volumes.{static-sound, volume-later, volume-stepped, volume-toward}
-use Rattle.channel.specs.Heads.{withRecorded, withPassthru, lastTime, nextTime, headOf, passesOf, rampOf, passthruOf, closedOf, goodHead}
+use Rattle.channel.specs.Heads.{withRecorded, withPassthru, lastTime, nextTime, headOf, headChangedOf, passesOf, rampOf, passthruOf, closedOf, goodHead}
 use Rattle.channel.specs.declared.Head.{Head}
+use Rattle.channel.specs.declared.HeadChange.{HeadChange}
+use Rattle.channel.specs.declared.HeadChange.the-variants.{StartRecording, StopRecording}
 
 pub record SoundHead (capacity : ℕ) (h : Head) : Type 0 where
   pub time : h .now ≤ 2 ^ 48
@@ -52,6 +54,12 @@ module _ (capacity : ℕ) (h : Head) where
 pub new-sound : (capacity : ℕ) (level : Float) → Fits level → SoundHead capacity (headOf level)
 unfolding headOf
 new-sound capacity level t = record { time = zero-le; volume = static-sound level 0 t; recorder = new-good capacity }
+
+-- a change that touches no voice leaves the clock
+pub head-change-now : (d : HeadChange) (h : Head) → headChangedOf d h .now ≡ h .now
+unfolding headChangedOf
+head-change-now StartRecording h = refl
+head-change-now StopRecording h = refl
 
 -- ---- changes
 pub passthru-now : (p : Params) (unfinished : Bool) (h : Head) → passthruOf p unfinished h .now ≡ h .now

@@ -13,7 +13,7 @@ use lib.Ieee.Fits.{and-i, and-l, and-r}
 use Rattle.binary32.proofs.Truth.{yes}
 use Rattle.walks.specs.Walks.{every}
 use Rattle.walks.specs.Each.{Each}
-use Rattle.walks.proofs.Each.{each-at, each-every, each-weaker, every-each}
+use Rattle.walks.proofs.Lists.Each.{each-at, each-every, each-weaker, every-each}
 use Rattle.recorder.specs.declared.Recorded.{Recorded}
 use Rattle.recorder.specs.Recording.{goodRecorded}
 use Rattle.recorder.proofs.Good.{good-length}

@@ -8,13 +8,13 @@ use lib.Dec.{eqb}
 use lib.ListN.{length, getD, length-map}
 use lib.Seq.{sets, length-sets}
 use lib.Ieee.{Float}
-use Rattle.binary32.specs.Leaves.{bitsOf}
+use Rattle.binary32.specs.Leaves.{bitsOf, zero32}
 use Rattle.binary32.proofs.Truth.{cond-split}
 use Rattle.walks.specs.Walks.{without}
 use Rattle.walks.specs.Each.{Each}
-use Rattle.walks.proofs.Each.{each-without, each-map, front-sets, fewer}
+use Rattle.walks.proofs.Lists.Each.{each-without, each-map, front-sets, fewer}
 use Rattle.common_types.specs.declared.Params.{Params}
-use Rattle.clip.specs.Positions.{zero32, indexAt}
+use Rattle.clip.specs.Positions.{indexAt}
 use Rattle.recorder.specs.Recording.{recordedOf, goodRecorded}
 use Rattle.recorder.proofs.Good.{sample-good}
 use Rattle.recorder.proofs.Memory.{memory-length}

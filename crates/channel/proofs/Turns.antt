@@ -10,7 +10,7 @@ use lib.ListN.{length, set}
 use lib.Seq.{sets}
 use lib.Ieee.{Float}
 use Rattle.walks.specs.Walks.{without, fold}
-use Rattle.clip.specs.Positions.{zero32}
+use Rattle.binary32.specs.Leaves.{zero32}
 use Rattle.voice.specs.declared.Voice.{Voice}
 use Rattle.voice.specs.declared.Tick.{Tick}
 use Rattle.voice.specs.Voices.{shouldRemoveOf, productOf, turnOf, soundedOf, endedOf, finishOf, volumeStepped, playedOutOf}

@@ -1,5 +1,6 @@
--- What each call does to one channel (document 01, module 6, and the Rust's Channel). The voices are the first `count` of 32 places; what stands in the others
--- is kept as it was. `m` is the channel's part of the lent memory. Definitions only.
+-- What each call does to one channel (document 01, module 6, and the Rust's Channel). The voices are the first `count`
+-- of 32 places; what stands in the others is kept as it was. `m` is the channel's part of the lent memory. Definitions
+-- only.
 use Prim.Native.Nat.{ℕ, _+_}
 use mathlib.Core.Bool.{Bool, not, _&&_, cond}
 use mathlib.Core.List.{List, map}
@@ -7,21 +8,31 @@ use lib.Dec.{leb, ltb, eqb}
 use lib.ListN.{length, take, getD, set, replicate}
 use lib.Seq.{sets}
 use lib.Ieee.{Float, binary32, add}
-use Rattle.binary32.specs.Leaves.{bitsOf}
+use Rattle.binary32.specs.Leaves.{bitsOf, zero32, one32}
 use Rattle.walks.specs.Walks.{any, every, without, fold, seek}
 use Rattle.common_types.specs.declared.InitParams.{InitParams}
 use Rattle.common_types.specs.declared.Params.{Params}
 use Rattle.common_types.specs.declared.Note.{Note}
-use Rattle.clip.specs.Positions.{zero32, one32}
-use Rattle.recorder.specs.Recording.{startOf, stopOf, recordedOf, dataAfter}
+use Rattle.recorder.specs.Recording.{recordedOf, dataAfter}
 use Rattle.voice.specs.declared.Voice.{Voice}
 use Rattle.voice.specs.declared.Tick.{Tick}
-use Rattle.voice.specs.Voices.{tickOf, shouldRemoveOf, productOf, turnOf, finishOf, freshOf, goodVoice, blankVoice, atSpeedOf}
-use Rattle.channel.specs.Heads.{headOf, withRecorded, passthruOf, mixedOf, closedOf, goodHead}
+use Rattle.voice.specs.Voices.{
+  tickOf,
+  shouldRemoveOf,
+  productOf,
+  turnOf,
+  finishOf,
+  freshOf,
+  goodVoice,
+  blankVoice,
+  atSpeedOf,
+}
+use Rattle.channel.specs.Heads.{headOf, headChangedOf, withRecorded, passthruOf, mixedOf, closedOf, goodHead}
 use Rattle.channel.specs.declared.Head.{Head}
 use Rattle.channel.specs.declared.Channel.{Channel}
 use Rattle.channel.specs.declared.Change.{Change}
 use Rattle.channel.specs.declared.Change.the-variants as change
+use Rattle.channel.specs.declared.HeadChange.the-variants.{StartRecording, StopRecording}
 use Rattle.channel.specs.declared.Played.{Played}
 use Rattle.channel.specs.declared.Found.{Found}
 use Rattle.channel.specs.declared.Found.the-variants.{At, Nothing}
@@ -38,7 +49,8 @@ live c = take (c .count) (c .voices)
 
 -- ---- set-up and reset
 unfoldable pub channelOf : InitParams → Channel
-channelOf p = record { voices = replicate 32 blankVoice; count = 0; head = headOf (cond (p .«auto_passthru») one32 zero32) }
+channelOf p =
+    record { voices = replicate 32 blankVoice; count = 0; head = headOf (cond (p .«auto_passthru») one32 zero32) }
 
 unfoldable pub resetOf : Channel → Channel
 resetOf c = record { voices = c .voices; count = 0; head = headOf zero32 }
@@ -61,7 +73,8 @@ pushedOf v c = cond (ltb (c .count) 32) (withVoices (set (c .voices) (c .count) 
 -- an empty recording takes no voice
 unfoldable pub startPlayingOf : Params → Float → Note → Float → Channel → Channel
 startPlayingOf p position note velocity c =
-    cond (eqb (c .head .«data_len») 0) c (handledOf p (pushedOf (freshOf p position note velocity (c .head .now) (c .head .«data_len»)) c))
+    cond (eqb (c .head .«data_len») 0) c
+    (handledOf p (pushedOf (freshOf p position note velocity (c .head .now) (c .head .«data_len»)) c))
 
 abbrev pub sameNote : Note → Note → Bool
 sameNote a b = eqb (a .note) (b .note) && eqb (a .channel) (b .channel)
@@ -78,7 +91,8 @@ unfoldable pub finishedAtOf : Params → Channel → Found → Channel
 finishedAtOf p c Nothing = c
 finishedAtOf p c (At i) =
     cond (ltb i 32)
-    (handledOf p (withVoices (set (c .voices) i (finishOf (c .head .now) (p .«decay_samples») (getD (c .voices) i blankVoice))) (c .count) c))
+    (handledOf p (withVoices
+    (set (c .voices) i (finishOf (c .head .now) (p .«decay_samples») (getD (c .voices) i blankVoice))) (c .count) c))
     c
 
 unfoldable pub stopPlayingOf : Params → Note → Channel → Channel
@@ -92,11 +106,11 @@ unfoldable pub setNoteSpeedOf : Note → Float → Channel → Channel
 setNoteSpeedOf note speed c = withVoices (sets (c .voices) 0 (map (spedOf note speed) (live c))) (c .count) c
 
 -- ---- recording
-unfoldable pub startRecordingOf : Channel → Channel
-startRecordingOf c = withHead (withRecorded (record { recorder = startOf (c .head .recorder); «data_len» = c .head .«data_len» }) (c .head)) c
+abbrev pub startRecordingOf : Channel → Channel
+startRecordingOf c = withHead (headChangedOf StartRecording (c .head)) c
 
-unfoldable pub stopRecordingOf : Channel → Channel
-stopRecordingOf c = withHead (withRecorded (stopOf (c .head .recorder) (c .head .«data_len»)) (c .head)) c
+abbrev pub stopRecordingOf : Channel → Channel
+stopRecordingOf c = withHead (headChangedOf StopRecording (c .head)) c
 
 -- ---- a sample
 
@@ -145,8 +159,7 @@ unfoldable pub changedOf : Change → Channel → Channel
 changedOf (change.Start p position note velocity) c = startPlayingOf p position note velocity c
 changedOf (change.Stop p note) c = stopPlayingOf p note c
 changedOf (change.Speed note speed) c = setNoteSpeedOf note speed c
-changedOf change.StartRecording c = startRecordingOf c
-changedOf change.StopRecording c = stopRecordingOf c
+changedOf (change.Head d) c = withHead (headChangedOf d (c .head)) c
 changedOf change.Reset c = resetOf c
 
 -- ---- questions

@@ -1,4 +1,5 @@
--- What of a channel is not its voices: clock, recording and pass-through (document 01, module 6, and the Rust's Channel). Definitions only.
+-- What of a channel is not its voices: clock, recording and pass-through (document 01, module 6, and the Rust's
+-- Channel). Definitions only.
 use Prim.Native.Nat.{ℕ, _+_, _^_}
 use mathlib.Core.Bool.{Bool, true, false, not, _&&_, Bool·beq, cond}
 use lib.Dec.{leb, ltb}
@@ -7,17 +8,33 @@ use Rattle.common_types.specs.declared.Params.{Params}
 use Rattle.volume.specs.declared.Volume.{Volume}
 use Rattle.volume.specs.declared.Volume.the-variants.{Static}
 use Rattle.volume.specs.Levels.{levelOf, towardOf, steppedOf, goodVolume}
-use Rattle.clip.specs.Positions.{zero32, one32}
+use Rattle.binary32.specs.Leaves.{zero32, one32}
 use Rattle.recorder.specs.declared.Recorded.{Recorded}
-use Rattle.recorder.specs.Recording.{newOf, goodRecorder}
+use Rattle.recorder.specs.Recording.{newRecorderOf, startOf, stopOf, goodRecorder}
 use Rattle.channel.specs.declared.Head.{Head}
+use Rattle.channel.specs.declared.HeadChange.{HeadChange}
+use Rattle.channel.specs.declared.HeadChange.the-variants.{StartRecording, StopRecording}
 
 -- ---- parts of a head changed
 abbrev pub withRecorded : Recorded → Head → Head
-withRecorded r h = record { now = h .now; «data_len» = r .«data_len»; «passthru_volume» = h .«passthru_volume»; recorder = r .recorder; «passthru_on» = h .«passthru_on» }
+withRecorded r
+    h = record {
+      now = h .now;
+      «data_len» = r .«data_len»;
+      «passthru_volume» = h .«passthru_volume»;
+      recorder = r .recorder;
+      «passthru_on» = h .«passthru_on»;
+    }
 
 abbrev pub withPassthru : Bool → Volume → Head → Head
-withPassthru on volume h = record { now = h .now; «data_len» = h .«data_len»; «passthru_volume» = volume; recorder = h .recorder; «passthru_on» = on }
+withPassthru on volume
+    h = record {
+      now = h .now;
+      «data_len» = h .«data_len»;
+      «passthru_volume» = volume;
+      recorder = h .recorder;
+      «passthru_on» = on;
+    }
 
 -- ---- the clock: it ends at 2 ^ 48, and a sample then is refused (row 6)
 abbrev pub lastTime : ℕ
@@ -28,9 +45,23 @@ nextTime now = cond (ltb now lastTime) (now + 1) now
 
 -- ---- a new head, and what a reset leaves: pass-through at 0 whatever set-up had
 unfoldable pub headOf : Float → Head
-headOf level = record { now = 0; «data_len» = 0; «passthru_volume» = Static level; recorder = newOf; «passthru_on» = false }
+headOf level =
+    record {
+      now = 0;
+      «data_len» = 0;
+      «passthru_volume» = Static level;
+      recorder = newRecorderOf;
+      «passthru_on» = false;
+    }
 
--- ---- handle_passthru: the input passes while it is asked for and no voice is unfinished; a change of that begins a ramp
+-- ---- the changes that touch no voice
+unfoldable pub headChangedOf : HeadChange → Head → Head
+headChangedOf StartRecording h = withRecorded (record { recorder = startOf (h .recorder); «data_len» = h .«data_len» })
+    h
+headChangedOf StopRecording h = withRecorded (stopOf (h .recorder) (h .«data_len»)) h
+
+-- ---- handle_passthru: the input passes while it is asked for and no voice is unfinished; a change of that begins a
+-- ramp
 abbrev pub passesOf : Params → Bool → Bool
 passesOf p unfinished = p .«auto_passthru» && not unfinished
 
@@ -45,16 +76,26 @@ passthruOf p unfinished h =
 
 -- what is heard: the voices' sum, and the input at its level
 abbrev pub mixedOf : Float → Float → Head → Float
-mixedOf x played h = add binary32 (add binary32 zero32 played) (mul binary32 x (levelOf (h .«passthru_volume») (h .now)))
+mixedOf x played h = add binary32 (add binary32 zero32 played)
+    (mul binary32 x (levelOf (h .«passthru_volume») (h .now)))
 
 -- a sample later
-abbrev pub laterOf : Head → Head
-laterOf h = record { now = nextTime (h .now); «data_len» = h .«data_len»; «passthru_volume» = h .«passthru_volume»; recorder = h .recorder; «passthru_on» = h .«passthru_on» }
+abbrev pub clockedOf : Head → Head
+clockedOf h =
+    record {
+      now = nextTime (h .now);
+      «data_len» = h .«data_len»;
+      «passthru_volume» = h .«passthru_volume»;
+      recorder = h .recorder;
+      «passthru_on» = h .«passthru_on»;
+    }
 
 -- the end of a sample: the level's step, the change of state, and the clock
 unfoldable pub closedOf : Params → Bool → Head → Head
-closedOf p unfinished h = laterOf (passthruOf p unfinished (withPassthru (h .«passthru_on») (steppedOf (h .«passthru_volume») (h .now)) h))
+closedOf p unfinished h = clockedOf
+    (passthruOf p unfinished (withPassthru (h .«passthru_on») (steppedOf (h .«passthru_volume») (h .now)) h))
 
 -- ---- a head that may stand in a record of that capacity
 unfoldable pub goodHead : ℕ → Head → Bool
-goodHead capacity h = leb (h .now) lastTime && goodVolume (h .now) (h .«passthru_volume») && goodRecorder (h .recorder) (h .«data_len») capacity
+goodHead capacity h = leb (h .now) lastTime && goodVolume (h .now) (h .«passthru_volume»)
+    && goodRecorder (h .recorder) (h .«data_len») capacity

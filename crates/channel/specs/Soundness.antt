@@ -26,8 +26,7 @@ unfoldable pub FittingChange : Change → Type 0
 FittingChange (change.Start p position note velocity) = FittingParams p × Fits position × Fits velocity
 FittingChange (change.Stop p note) = FittingParams p
 FittingChange (change.Speed note speed) = Fits speed
-FittingChange change.StartRecording = Unit {0}
-FittingChange change.StopRecording = Unit {0}
+FittingChange (change.Head d) = Unit {0}
 FittingChange change.Reset = Unit {0}
 
 -- a change that fits, and that rows 3 and 4 let through; row 5 isn't asked for
@@ -35,6 +34,5 @@ unfoldable pub SoundChange : Change → Type 0
 SoundChange (change.Start p position note velocity) = SoundParams p × SoundPosition position × Fits velocity
 SoundChange (change.Stop p note) = SoundParams p
 SoundChange (change.Speed note speed) = Fits speed
-SoundChange change.StartRecording = Unit {0}
-SoundChange change.StopRecording = Unit {0}
+SoundChange (change.Head d) = Unit {0}
 SoundChange change.Reset = Unit {0}

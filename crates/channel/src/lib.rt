@@ -1,15 +1,32 @@
-// One channel: up to 32 voices over a recording in lent memory. Each function takes every value of its arguments, and equals a definition
-// in specs/. A sample is its 32-bit pattern, and `data` is the channel's part of the lent memory.
+// One channel: up to 32 voices over a recording in lent memory. Each function takes every value of its arguments, and
+// equals a definition in specs/. Those that begin with `with_` are the calls that the Rust's channel has too (a start,
+// a stop, a note's speed, a sample): they refuse nothing, and are for records that are known to be good. The sampler's
+// calls, under the Rust's names, refuse first. A sample is its 32-bit pattern, and `data` is the channel's part of the
+// lent memory.
 ghost use mathlib.Core.Path.{_≡_};
 ghost use Prim.Native.Nat.{min};
 ghost use mathlib.Core.Bool.{cond};
 ghost use lib.ListN.{length};
-ghost use Rattle.binary32.specs.Leaves.{bitsOf};
-ghost use Rattle.clip.specs.Positions.{zero32, one32};
+ghost use Rattle.binary32.specs.Leaves.{bitsOf, zero32, one32};
 ghost use Rattle.recorder.specs.Recording.{recordedOf, dataAfter};
 ghost use Rattle.voice.specs.Voices.{shouldRemoveOf};
-ghost use Rattle.channel.specs.Heads.{nextTime, headOf, laterOf, passesOf, withRecorded, withPassthru, rampOf, passthruOf, mixedOf, closedOf, goodHead};
+ghost use Rattle.channel.specs.declared.HeadChange.the-variants.{StartRecording, StopRecording};
+ghost use Rattle.channel.specs.Heads.{
+  nextTime,
+  headOf,
+  headChangedOf,
+  clockedOf,
+  passesOf,
+  withRecorded,
+  withPassthru,
+  rampOf,
+  passthruOf,
+  mixedOf,
+  closedOf,
+  goodHead,
+};
 ghost use Rattle.channel.specs.Channels.{
+  withHead,
   sameNote,
   anyUnfinishedOf,
   channelOf,
@@ -90,9 +107,14 @@ pub enum Change {
         note: Note,
         speed: f32,
     },
+    Head(HeadChange),
+    Reset,
+}
+
+// A change that touches no voice.
+pub enum HeadChange {
     StartRecording,
     StopRecording,
-    Reset,
 }
 
 impl Head {
@@ -122,14 +144,41 @@ impl Head {
         }
     }
 
+    fn start_recording(self) -> Self
+        ensures { λ r. ⌜ r ≡ headChangedOf StartRecording self ⌝ }
+    {
+        let recorder = self.recorder;
+        self.with_recorded(Recorded {
+            recorder: recorder.start(),
+            data_len: self.data_len,
+        })
+    }
+
+    fn stop_recording(self) -> Self
+        ensures { λ r. ⌜ r ≡ headChangedOf StopRecording self ⌝ }
+    {
+        let recorder = self.recorder;
+        self.with_recorded(recorder.stop(self.data_len))
+    }
+
+    fn changed(self, change: HeadChange) -> Self
+        ensures { λ r. ⌜ r ≡ headChangedOf change self ⌝ }
+    {
+        match change {
+            HeadChange::StartRecording => self.start_recording(),
+            HeadChange::StopRecording => self.stop_recording(),
+        }
+    }
+
     // The head once the sample has been recorded.
     pub fn recorded(self, input: f32, data: &mut [u32]) -> Self
-        ensures { λ r. ⌜ (r ≡ withRecorded (recordedOf (self .recorder) (self .«data_len») (length (now («data» .entry)))) self)
+        ensures { λ r. ⌜ (r
+            ≡ withRecorded (recordedOf (self .recorder) (self .«data_len») (length (now («data» .entry)))) self)
             × (now («data» .exit) ≡ dataAfter (self .recorder) (bitsOf input) (now («data» .entry))) ⌝ }
     {
         let recorder = self.recorder;
         let sample = binary32::to_bits(input);
-        self.with_recorded(recorder.process_sample(sample, data, self.data_len))
+        self.with_recorded(recorder.with_sample(sample, data, self.data_len))
     }
 
     // What is heard: the voices' sum, and the input at its level.
@@ -180,7 +229,7 @@ impl Head {
 
     // The head a sample later, with pass-through at that state and level.
     fn after(self, on: bool, volume: Volume) -> Self
-        ensures { λ r. ⌜ r ≡ laterOf (withPassthru on volume self) ⌝ }
+        ensures { λ r. ⌜ r ≡ clockedOf (withPassthru on volume self) ⌝ }
     {
         let recorder = self.recorder;
         Self {
@@ -320,7 +369,7 @@ impl Channel {
     }
 
     // A channel with no recording takes no voice.
-    pub fn start_playing(self, params: Params, position: f32, note: Note, velocity: f32) -> Self
+    pub fn with_start(self, params: Params, position: f32, note: Note, velocity: f32) -> Self
         ensures { λ r. ⌜ r ≡ startPlayingOf params position note velocity self ⌝ }
     {
         let head = self.head;
@@ -365,7 +414,7 @@ impl Channel {
         self.handle_passthru(params)
     }
 
-    pub fn stop_playing(self, params: Params, note: Note) -> Self
+    pub fn with_stop(self, params: Params, note: Note) -> Self
         ensures { λ r. ⌜ r ≡ stopPlayingOf params note self ⌝ }
     {
         let found = self.find(note);
@@ -373,7 +422,7 @@ impl Channel {
     }
 
     // Every voice with that note, finished or not.
-    pub fn set_note_speed(mut self, note: Note, speed: f32) -> Self
+    pub fn with_note_speed(mut self, note: Note, speed: f32) -> Self
         ensures { λ r. ⌜ r ≡ setNoteSpeedOf note speed self ⌝ }
     {
         let n = places(self.count);
@@ -386,25 +435,25 @@ impl Channel {
         self
     }
 
-    pub fn start_recording(mut self) -> Self
-        ensures { λ r. ⌜ r ≡ startRecordingOf self ⌝ }
+    // A change that touches no voice.
+    fn head_changed(mut self, change: HeadChange) -> Self
+        ensures { λ r. ⌜ r ≡ withHead (headChangedOf change (self .head)) self ⌝ }
     {
         let head = self.head;
-        let recorder = head.recorder;
-        self.head = head.with_recorded(Recorded {
-            recorder: recorder.start(),
-            data_len: head.data_len,
-        });
+        self.head = head.changed(change);
         self
     }
 
-    pub fn stop_recording(mut self) -> Self
+    pub fn start_recording(self) -> Self
+        ensures { λ r. ⌜ r ≡ startRecordingOf self ⌝ }
+    {
+        self.head_changed(HeadChange::StartRecording)
+    }
+
+    pub fn stop_recording(self) -> Self
         ensures { λ r. ⌜ r ≡ stopRecordingOf self ⌝ }
     {
-        let head = self.head;
-        let recorder = head.recorder;
-        self.head = head.with_recorded(recorder.stop(head.data_len));
-        self
+        self.head_changed(HeadChange::StopRecording)
     }
 
     // The channel once the sample has been recorded.
@@ -455,7 +504,7 @@ impl Channel {
         self.play(Tick::new(params, head.now, head.data_len), data)
     }
 
-    pub fn process_sample(self, params: Params, input: f32, data: &mut [u32]) -> Played
+    pub fn with_sample(self, params: Params, input: f32, data: &mut [u32]) -> Played
         ensures { λ r. ⌜ r ≡ processSampleOf params input self (now («data» .entry)) ⌝ }
         ensures { λ r. ⌜ now («data» .exit) ≡ memoryOf input self (now («data» .entry)) ⌝ }
     {
@@ -478,11 +527,10 @@ impl Channel {
                 position,
                 note,
                 velocity,
-            } => self.start_playing(params, position, note, velocity),
-            Change::Stop { params, note } => self.stop_playing(params, note),
-            Change::Speed { note, speed } => self.set_note_speed(note, speed),
-            Change::StartRecording => self.start_recording(),
-            Change::StopRecording => self.stop_recording(),
+            } => self.with_start(params, position, note, velocity),
+            Change::Stop { params, note } => self.with_stop(params, note),
+            Change::Speed { note, speed } => self.with_note_speed(note, speed),
+            Change::Head(change) => self.head_changed(change),
             Change::Reset => self.reset(),
         }
     }

@@ -8,9 +8,10 @@ use lib.Dec.{T, leb, leb→le, le→leb}
 use lib.Ieee.{Float, lt, le}
 use lib.Ieee.Fits.{and-i, and-l, and-r}
 use lib.Ieee.Bits.{is-true}
-use Rattle.clip.specs.Positions.{zero32, clipOffsetAt, offsetAt}
+use Rattle.binary32.specs.Leaves.{zero32}
+use Rattle.clip.specs.Positions.{clipOffsetAt, offsetAt}
 use Rattle.clip.specs.Updates.{atSpeed, atMode, atLength, backOf, foundAt}
-use Rattle.clip.specs.Refusals.{goodLength, goodClip, refusedAt, dataToClipOf}
+use Rattle.clip.specs.Refusals.{goodLength, goodClip, clipRefusedAt, dataToClipOf}
 use Rattle.clip.specs.Bounds.{Sound, Within}
 use Rattle.clip.specs.declared.Mode.{Mode}
 use Rattle.clip.specs.declared.Clip.{Clip}
@@ -21,16 +22,16 @@ use Rattle.clip.proofs.WayBack.{never-missing}
 use Rattle.clip.proofs.Kept.{at-length-good}
 
 -- ---- refused exactly where document 01 says
-pub answers : (c : Clip) (now : ℕ) → T (goodClip c) → c .since ≤ now → now ≤ 2 ^ 48 → refusedAt c now ≡ false
-unfolding refusedAt
+pub answers : (c : Clip) (now : ℕ) → T (goodClip c) → c .since ≤ now → now ≤ 2 ^ 48 → clipRefusedAt c now ≡ false
+unfolding clipRefusedAt
 answers c now g a b =
     let p : Bool = goodClip c in
     let q : Bool = leb (c .since) now in
     let r : Bool = leb now (2 ^ 48) in
     ap not (is-true (p && q && r) (and-i (p && q) r (and-i p q g (le→leb (c .since) now a)) (le→leb now (2 ^ 48) b)))
 
-pub answered : (c : Clip) (now : ℕ) → refusedAt c now ≡ false → T (goodClip c) × (c .since ≤ now) × (now ≤ 2 ^ 48)
-unfolding refusedAt
+pub answered : (c : Clip) (now : ℕ) → clipRefusedAt c now ≡ false → T (goodClip c) × (c .since ≤ now) × (now ≤ 2 ^ 48)
+unfolding clipRefusedAt
 answered c now h =
     let p : Bool = goodClip c in
     let q : Bool = leb (c .since) now in

@@ -11,14 +11,14 @@ use lib.Pow.{pow-pos}
 use lib.Ieee.{Float, binary32, add, sub, mul, rem, lt, le, fits, isNan}
 use lib.Ieee.Fits.{cond-fits, add-fits, sub-fits, rem-fits}
 use lib.Ieee.Exact.{HasValue}
-use Rattle.binary32.specs.Leaves.{minOf, maxOf, absOf, signOf}
+use Rattle.binary32.specs.Leaves.{minOf, maxOf, absOf, signOf, zero32, one32}
 use Rattle.binary32.proofs.Truth.{yes-or-no, cond-split}
 use Rattle.binary32.proofs.Values.{finite-not-nan, value-sign}
 use Rattle.binary32.proofs.Units.{units-finite, units-above-value, on-grid, zero-units}
 use Rattle.binary32.proofs.Sums.{add-back-units}
 use Rattle.binary32.proofs.Between.{lt-not-nan, total, le-lt-trans}
 use Rattle.binary32.proofs.Remainders.{rem-exact, rem-operands, rem-sign}
-use Rattle.clip.specs.Positions.{zero32, one32, two32, loopedOf, roundTripOf, mirroredOf, bouncedOf, wrappedOf, placedOf}
+use Rattle.clip.specs.Positions.{two32, loopedOf, roundTripOf, mirroredOf, bouncedOf, wrappedOf, placedOf}
 use Rattle.clip.specs.Refusals.{goodLength}
 use Rattle.clip.specs.Bounds.{Inside}
 use Rattle.clip.specs.declared.Mode.{Mode}

@@ -5,8 +5,9 @@ use mathlib.Core.Bool.{Bool, true, false, cond}
 use lib.Dec.{T}
 use lib.Ieee.{Float, binary32, add, sub, lt, le, eq, fits}
 use lib.Ieee.Fits.{cond-fits, sub-fits}
+use Rattle.binary32.specs.Leaves.{zero32}
 use Rattle.binary32.proofs.Truth.{cond-split}
-use Rattle.clip.specs.Positions.{zero32, mirroredOf, offsetAt}
+use Rattle.clip.specs.Positions.{mirroredOf, offsetAt}
 use Rattle.clip.specs.Updates.{madeOf, atSpeed, atMode, atLength, atDataLength, resumed, backOf, foundAt, reversingAt, shiftFor, settledOf, sameMode, withSpeed, withMode, withLength, withDataLength}
 use Rattle.clip.specs.Refusals.{most32, goodLength, goodClip}
 use Rattle.clip.specs.Bounds.{Sound}

@@ -10,12 +10,11 @@ use lib.Ieee.{Float, binary32, sub, lt, le, fits, ofInt}
 use lib.Ieee.Fits.{and-i, and-l, and-r}
 use lib.Ieee.Exact.{HasValue}
 use lib.Ieee.Back.{round-whole}
-use Rattle.binary32.specs.Leaves.{asFloat}
+use Rattle.binary32.specs.Leaves.{asFloat, zero32, one32}
 use Rattle.binary32.proofs.Values.{lt-value}
 use Rattle.binary32.proofs.Units.{Units, lt-units, le-units, units-above-value, zero-units, one-units, power-units, whole-units}
 use Rattle.binary32.proofs.Sums.{less-one}
 use Rattle.binary32.proofs.Between.{Whole, whole}
-use Rattle.clip.specs.Positions.{zero32, one32}
 use Rattle.clip.specs.Refusals.{most32, goodLength, goodClip}
 use Rattle.clip.specs.declared.Clip.{Clip}
 

@@ -1,7 +1,7 @@
 -- What the theorems say of a clip and of its positions. Definitions only. Assumes nothing.
 use lib.Dec.{T}
 use lib.Ieee.{Float, binary32, sub, lt, le, fits}
-use Rattle.clip.specs.Positions.{zero32, one32}
+use Rattle.binary32.specs.Leaves.{zero32, one32}
 use Rattle.clip.specs.Refusals.{goodClip}
 use Rattle.clip.specs.declared.Clip.{Clip}
 

@@ -1,19 +1,13 @@
--- Where a clip is at a time (document 01, module 4). Floats are binary32, and operations go in the Rust's order. Each definition takes every clip and every time.
--- Definitions only. Assumes nothing.
+-- Where a clip is at a time (document 01, module 4). Floats are binary32, and operations go in the Rust's order. Each
+-- definition takes every clip and every time. Definitions only. Assumes nothing.
 use Prim.Native.Nat.{ℕ, _-_}
 use mathlib.Core.Bool.{false, cond}
 use lib.IntN.{pos}
 use lib.Ieee.{Float, fin, binary32, add, sub, mul, rem, lt, le}
-use Rattle.binary32.specs.Leaves.{asFloat, asWhole, floorOf, minOf, maxOf, absOf}
+use Rattle.binary32.specs.Leaves.{zero32, one32, asFloat, asWhole, floorOf, minOf, maxOf, absOf}
 use Rattle.clip.specs.declared.Mode.{Mode}
 use Rattle.clip.specs.declared.Mode.the-variants.{Loop, PingPong}
 use Rattle.clip.specs.declared.Clip.{Clip}
-
-abbrev pub zero32 : Float
-zero32 = fin false 0 (pos 0)
-
-abbrev pub one32 : Float
-one32 = fin false 1 (pos 0)
 
 abbrev pub two32 : Float
 two32 = fin false 1 (pos 1)

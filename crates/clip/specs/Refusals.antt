@@ -1,11 +1,12 @@
--- Document 01's number 7 for a clip, and each call under the Rust's name: refused, or what the definitions of Positions and Updates say.
--- Definitions only. Assumes nothing.
+-- Document 01's number 7 for a clip, and each call under the Rust's name: refused, or what the definitions of Positions
+-- and Updates say. Definitions only. Assumes nothing.
 use Prim.Native.Nat.{ℕ, _^_}
 use mathlib.Core.Bool.{Bool, false, not, _&&_, _||_, cond}
 use lib.Dec.{leb}
 use lib.IntN.{pos}
 use lib.Ieee.{Float, fin, le, lt}
-use Rattle.clip.specs.Positions.{zero32, one32, elapsedAt, clipOffsetAt, offsetAt}
+use Rattle.binary32.specs.Leaves.{zero32, one32}
+use Rattle.clip.specs.Positions.{elapsedAt, clipOffsetAt, offsetAt}
 use Rattle.clip.specs.Updates.{madeOf, foundAt, reversingAt, withSpeed, withMode, withLength, withDataLength}
 use Rattle.clip.specs.declared.Mode.{Mode}
 use Rattle.clip.specs.declared.Clip.{Clip}
@@ -33,44 +34,47 @@ unfoldable pub goodClip : Clip → Bool
 goodClip c = goodLength (c .length) && goodLength (c .«data_length») && (le zero32 (c .start) && le (c .start) most32)
 
 -- a bad clip, or a time before `since` or above 2 ^ 48
-unfoldable pub refusedAt : Clip → ℕ → Bool
-refusedAt c now = not (goodClip c && leb (c .since) now && leb now (2 ^ 48))
+unfoldable pub clipRefusedAt : Clip → ℕ → Bool
+clipRefusedAt c now = not (goodClip c && leb (c .since) now && leb now (2 ^ 48))
 
 -- ---- the calls
 
 -- a clip made above 2 ^ 48 would be refused at every time
-unfoldable pub newOf : ℕ → Float → Float → Float → Float → Mode → ClipAnswer
-newOf since start speed length data-length mode =
+unfoldable pub newClipOf : ℕ → Float → Float → Float → Float → Mode → ClipAnswer
+newClipOf since start speed length data-length mode =
     let c = madeOf since start speed length data-length mode in
-    cond (refusedAt c since) clip.Refused (clip.Done c)
+    cond (clipRefusedAt c since) clip.Refused (clip.Done c)
 
 -- the place has to be in 0 to below the data length
 unfoldable pub dataToClipOf : Clip → Float → FoundAnswer
-dataToClipOf c x = cond (goodClip c && (le zero32 x && lt x (c .«data_length»))) (found.Done (foundAt c x)) found.Refused
+dataToClipOf c x = cond (goodClip c && (le zero32 x && lt x (c .«data_length»))) (found.Done (foundAt c x))
+    found.Refused
 
 unfoldable pub isPingpongReversingOf : Clip → ℕ → ReversingAnswer
-isPingpongReversingOf c now = cond (refusedAt c now) reversing.Refused (reversing.Done (reversingAt c now))
+isPingpongReversingOf c now = cond (clipRefusedAt c now) reversing.Refused (reversing.Done (reversingAt c now))
 
 unfoldable pub elapsedOf : Clip → ℕ → ElapsedAnswer
-elapsedOf c now = cond (refusedAt c now) elapsed.Refused (elapsed.Done (elapsedAt c now))
+elapsedOf c now = cond (clipRefusedAt c now) elapsed.Refused (elapsed.Done (elapsedAt c now))
 
 unfoldable pub clipOffsetOf : Clip → ℕ → PositionAnswer
-clipOffsetOf c now = cond (refusedAt c now) position.Refused (position.Done (clipOffsetAt c now))
+clipOffsetOf c now = cond (clipRefusedAt c now) position.Refused (position.Done (clipOffsetAt c now))
 
 unfoldable pub offsetOf : Clip → ℕ → PositionAnswer
-offsetOf c now = cond (refusedAt c now) position.Refused (position.Done (offsetAt c now))
+offsetOf c now = cond (clipRefusedAt c now) position.Refused (position.Done (offsetAt c now))
 
 unfoldable pub updateSpeedOf : Clip → ℕ → Float → ClipAnswer
-updateSpeedOf c now speed = cond (refusedAt c now) clip.Refused (clip.Done (withSpeed c now speed))
+updateSpeedOf c now speed = cond (clipRefusedAt c now) clip.Refused (clip.Done (withSpeed c now speed))
 
 unfoldable pub updateModeOf : Clip → ℕ → Mode → ClipAnswer
-updateModeOf c now mode = cond (refusedAt c now) clip.Refused (clip.Done (withMode c now mode))
+updateModeOf c now mode = cond (clipRefusedAt c now) clip.Refused (clip.Done (withMode c now mode))
 
 unfoldable pub updateLengthOf : Clip → ℕ → Float → ClipAnswer
-updateLengthOf c now length = cond (refusedAt c now || not (goodLength length)) clip.Refused (clip.Done (withLength c now length))
+updateLengthOf c now length = cond (clipRefusedAt c now || not (goodLength length)) clip.Refused
+    (clip.Done (withLength c now length))
 
 unfoldable pub updateDataLengthOf : Clip → ℕ → Float → ClipAnswer
-updateDataLengthOf c now length = cond (refusedAt c now || not (goodLength length)) clip.Refused (clip.Done (withDataLength c now length))
+updateDataLengthOf c now length = cond (clipRefusedAt c now || not (goodLength length)) clip.Refused
+    (clip.Done (withDataLength c now length))
 
 -- ---- document 01's number for each answer
 abbrev pub clipNumber : ClipAnswer → ℕ

@@ -1,10 +1,11 @@
--- How a clip is made and changes (document 01, module 4): an equal value changes nothing; otherwise the old offset is read first, then the field set, then the shift found,
--- the reversing test still using the old `since` and shift, and `since` last. Each definition takes every clip and every value.
--- Definitions only. Assumes nothing.
+-- How a clip is made and changes (document 01, module 4): an equal value changes nothing; otherwise the old offset is
+-- read first, then the field set, then the shift found, the reversing test still using the old `since` and shift, and
+-- `since` last. Each definition takes every clip and every value. Definitions only. Assumes nothing.
 use Prim.Native.Nat.{ℕ}
 use mathlib.Core.Bool.{Bool, true, false, cond}
 use lib.Ieee.{Float, binary32, add, sub, lt, le, eq}
-use Rattle.clip.specs.Positions.{zero32, travelAt, roundTripOf, mirroredOf, offsetAt}
+use Rattle.binary32.specs.Leaves.{zero32}
+use Rattle.clip.specs.Positions.{travelAt, roundTripOf, mirroredOf, offsetAt}
 use Rattle.clip.specs.declared.Mode.{Mode}
 use Rattle.clip.specs.declared.Mode.the-variants.{Loop, PingPong}
 use Rattle.clip.specs.declared.Clip.{Clip}
@@ -12,30 +13,85 @@ use Rattle.clip.specs.declared.Found.{Found}
 use Rattle.clip.specs.declared.Found.the-variants.{At, Nothing}
 
 unfoldable pub madeOf : ℕ → Float → Float → Float → Float → Mode → Clip
-madeOf since start speed length data-length mode = record { since = since; start = start; speed = speed; length = length; «data_length» = data-length; shift = zero32; mode = mode }
+madeOf since start speed length data-length
+    mode = record {
+      since = since;
+      start = start;
+      speed = speed;
+      length = length;
+      «data_length» = data-length;
+      shift = zero32;
+      mode = mode;
+    }
 
 -- ---- one field changed
 abbrev pub atSpeed : Clip → Float → Clip
-atSpeed c speed = record { since = c .since; start = c .start; speed = speed; length = c .length; «data_length» = c .«data_length»; shift = c .shift; mode = c .mode }
+atSpeed c speed =
+    record {
+      since = c .since;
+      start = c .start;
+      speed = speed;
+      length = c .length;
+      «data_length» = c .«data_length»;
+      shift = c .shift;
+      mode = c .mode;
+    }
 
 abbrev pub atMode : Clip → Mode → Clip
-atMode c mode = record { since = c .since; start = c .start; speed = c .speed; length = c .length; «data_length» = c .«data_length»; shift = c .shift; mode = mode }
+atMode c mode =
+    record {
+      since = c .since;
+      start = c .start;
+      speed = c .speed;
+      length = c .length;
+      «data_length» = c .«data_length»;
+      shift = c .shift;
+      mode = mode;
+    }
 
 abbrev pub atLength : Clip → Float → Clip
-atLength c length = record { since = c .since; start = c .start; speed = c .speed; length = length; «data_length» = c .«data_length»; shift = c .shift; mode = c .mode }
+atLength c length =
+    record {
+      since = c .since;
+      start = c .start;
+      speed = c .speed;
+      length = length;
+      «data_length» = c .«data_length»;
+      shift = c .shift;
+      mode = c .mode;
+    }
 
 abbrev pub atDataLength : Clip → Float → Clip
-atDataLength c length = record { since = c .since; start = c .start; speed = c .speed; length = c .length; «data_length» = length; shift = c .shift; mode = c .mode }
+atDataLength c
+    length = record {
+      since = c .since;
+      start = c .start;
+      speed = c .speed;
+      length = c .length;
+      «data_length» = length;
+      shift = c .shift;
+      mode = c .mode;
+    }
 
 -- the clip as it goes on from a place at a time
 abbrev pub resumed : Clip → Float → ℕ → Clip
-resumed c shift now = record { since = now; start = c .start; speed = c .speed; length = c .length; «data_length» = c .«data_length»; shift = shift; mode = c .mode }
+resumed c shift
+    now = record {
+      since = now;
+      start = c .start;
+      speed = c .speed;
+      length = c .length;
+      «data_length» = c .«data_length»;
+      shift = shift;
+      mode = c .mode;
+    }
 
 -- ---- the shift after a change
 
 -- how far behind the start a place in the data lies, round its end where it lies before the start
 unfoldable pub backOf : Clip → Float → Float
-backOf c x = cond (le (c .start) x) (sub binary32 x (c .start)) (sub binary32 (add binary32 x (c .«data_length»)) (c .start))
+backOf c x = cond (le (c .start) x) (sub binary32 x (c .start))
+    (sub binary32 (add binary32 x (c .«data_length»)) (c .start))
 
 -- the place in the clip of a place in the data, if it is below the length
 unfoldable pub foundAt : Clip → Float → Found
@@ -43,7 +99,8 @@ foundAt c x = cond (lt (backOf c x) (c .length)) (At (backOf c x)) Nothing
 
 -- whether a ping-pong clip is on its way back
 unfoldable pub reversingAt : Clip → ℕ → Bool
-reversingAt c now = elim (c .mode) [ Loop ↦ false | PingPong ↦ le (c .length) (roundTripOf (travelAt c now) (c .length)) ]
+reversingAt c now = elim
+    (c .mode) [ Loop ↦ false | PingPong ↦ le (c .length) (roundTripOf (travelAt c now) (c .length)) ]
 
 unfoldable pub shiftFor : Clip → Found → ℕ → Float
 shiftFor c (At y) now = cond (reversingAt c now) (mirroredOf y (c .length)) y

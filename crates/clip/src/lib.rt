@@ -1,10 +1,54 @@
-// A clip: which part of a recording a voice plays, and where it is at a time. Each function equals a definition in specs/.
-// `made`, `good`, the functions that end in `_at` and those that begin with `with_` take every clip and every time: they are for clips that
-// are known to be good. Those under the Rust's names first refuse bad arguments (number 7 of document 01), and then answer the same.
+// A clip: which part of a recording a voice plays, and where it is at a time. Each function equals a definition in
+// specs/. `made`, `good`, the functions that end in `_at` and those that begin with `with_` take every clip and every
+// time: they are for clips that are known to be good. Those under the Rust's names first refuse bad arguments (number 7
+// of document 01), and then answer the same.
 ghost use mathlib.Core.Path.{_≡_};
-ghost use Rattle.clip.specs.Positions.{elapsedAt, leadOf, travelAt, loopedOf, roundTripOf, mirroredOf, bouncedOf, wrappedOf, placedOf, clipOffsetAt, clipToDataOf, offsetAt, indexAt};
-ghost use Rattle.clip.specs.Updates.{madeOf, backOf, foundAt, reversingAt, shiftFor, settledOf, sameMode, withSpeed, withMode, withLength, withDataLength};
-ghost use Rattle.clip.specs.Refusals.{goodLength, goodClip, refusedAt, newOf, dataToClipOf, isPingpongReversingOf, elapsedOf, clipOffsetOf, offsetOf, updateSpeedOf, updateModeOf, updateLengthOf, updateDataLengthOf};
+ghost use Rattle.clip.specs.Positions.{
+  elapsedAt,
+  leadOf,
+  travelAt,
+  loopedOf,
+  roundTripOf,
+  mirroredOf,
+  bouncedOf,
+  wrappedOf,
+  placedOf,
+  clipOffsetAt,
+  clipToDataOf,
+  offsetAt,
+  indexAt,
+};
+ghost use Rattle.clip.specs.Updates.{
+  madeOf,
+  backOf,
+  foundAt,
+  reversingAt,
+  shiftFor,
+  settledOf,
+  sameMode,
+  withSpeed,
+  withMode,
+  withLength,
+  withDataLength,
+};
+ghost use Rattle.clip.specs.Refusals.{
+  goodLength,
+  goodClip,
+  clipRefusedAt,
+  newClipOf,
+  dataToClipOf,
+  isPingpongReversingOf,
+  elapsedOf,
+  clipOffsetOf,
+  offsetOf,
+  updateSpeedOf,
+  updateModeOf,
+  updateLengthOf,
+  updateDataLengthOf,
+};
+
+// A place or a length in samples.
+pub type T = f32;
 
 pub enum Mode {
     Loop,
@@ -13,11 +57,11 @@ pub enum Mode {
 
 pub struct Clip {
     pub since: usize,
-    pub start: f32,
+    pub start: T,
     pub speed: f32,
-    pub length: f32,
-    pub data_length: f32,
-    pub shift: f32,
+    pub length: T,
+    pub data_length: T,
+    pub shift: T,
     pub mode: Mode,
 }
 
@@ -139,7 +183,7 @@ impl Clip {
 
     // Whether number 7 refuses this clip at this time.
     fn refused_at(self, now: usize) -> bool
-        ensures { λ r. ⌜ r ≡ refusedAt self now ⌝ }
+        ensures { λ r. ⌜ r ≡ clipRefusedAt self now ⌝ }
     {
         !(self.good() & (self.since <= now) & (now <= LAST_TIME))
     }
@@ -327,7 +371,7 @@ impl Clip {
         data_length: f32,
         mode: Mode,
     ) -> ClipAnswer
-        ensures { λ r. ⌜ r ≡ newOf since start speed length «data_length» mode ⌝ }
+        ensures { λ r. ⌜ r ≡ newClipOf since start speed length «data_length» mode ⌝ }
     {
         let clip = Clip::made(since, start, speed, length, data_length, mode);
         if clip.refused_at(since) {

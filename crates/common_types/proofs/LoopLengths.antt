@@ -22,7 +22,7 @@ use Rattle.common_types.specs.declared.Params.{Params}
 use Rattle.common_types.specs.declared.time_value.TimeValue.the-variants.{QuarterNotes, Samples, Seconds, Bars}
 use Rattle.common_types.specs.declared.time_value.TimeOrRatio.{TimeOrRatio}
 use Rattle.common_types.specs.declared.time_value.TimeOrRatio.the-variants.{Time, Ratio}
-use Rattle.common_types.specs.Settings.{timeLengthOf, lengthOf, loopLengthOf, lengthBeyond, beyondLimits}
+use Rattle.common_types.specs.Settings.{carried, timeLengthOf, lengthOf, loopLengthOf, lengthBeyond, beyondLimits}
 use Rattle.common_types.proofs.Limits.{within}
 use Rattle.binary32.proofs.Extremes.{max-reaches, max-under, max-fits}
 
@@ -94,14 +94,6 @@ loop-length-to-most p n b h =
     max-under (lengthOf (p .«loop_length») (p .transport) n) one most (length-under (p .«loop_length») (p .transport) n h (within p b .length)) (unfold le in tt)
 
 -- ---- in binary32
-
--- the float that a length carries
-abbrev pub carried : TimeOrRatio → Float
-carried (Time (QuarterNotes x)) = x
-carried (Time (Samples x)) = x
-carried (Time (Seconds x)) = x
-carried (Time (Bars x)) = x
-carried (Ratio x) = x
 
 length-fits : (l : TimeOrRatio) (t : Transport) (n : ℕ) → T (fits binary32 (carried l)) → T (fits binary32 (lengthOf l t n))
 unfolding lengthOf timeLengthOf

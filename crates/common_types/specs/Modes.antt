@@ -1,4 +1,5 @@
--- The two modes, each by its index and by the float from 0 to 1 that a host's dial gives (document 01, module 1). Definitions only. Assumes nothing.
+-- The two modes, each by its index and by the float from 0 to 1 that a host's dial gives (document 01, module 1).
+-- Definitions only. Assumes nothing.
 use Prim.Native.Nat.{ℕ, zero, suc}
 use mathlib.Core.Bool.{false}
 use lib.IntN.{negsuc}
@@ -27,7 +28,8 @@ unfoldable pub indexToF32Of : ℕ → ℕ → Float
 indexToF32Of index length =
     let i = asFloat index in
     let l = asFloat length in
-    mul binary32 (add binary32 (div binary32 i l) (div binary32 (add binary32 i (asFloat 1)) l)) (fin false 1 (negsuc 0))
+    mul binary32 (add binary32 (div binary32 i l) (div binary32 (add binary32 i (asFloat 1)) l))
+    (fin false 1 (negsuc 0))
 
 -- floor(x * length) as a whole number: 0 where that is NaN or below 0
 unfoldable pub indexFromF32Of : Float → ℕ → ℕ
@@ -40,7 +42,8 @@ loopModeToIndexOf Loop = 1
 loopModeToIndexOf PingPong = 2
 
 abbrev pub loopModeFromIndexOf : ℕ → LoopModeAnswer
-loopModeFromIndexOf index = byIndex (loop-mode.Done PlayOnce) (loop-mode.Done Loop) (loop-mode.Done PingPong) loop-mode.Refused index
+loopModeFromIndexOf index = byIndex (loop-mode.Done PlayOnce) (loop-mode.Done Loop) (loop-mode.Done PingPong)
+    loop-mode.Refused index
 
 abbrev pub loopModeToF32Of : LoopMode → Float
 loopModeToF32Of mode = indexToF32Of (loopModeToIndexOf mode) 3
@@ -61,7 +64,8 @@ noteOffToIndexOf DecayAndZeroCrossing = 2
 
 abbrev pub noteOffFromIndexOf : ℕ → NoteOffBehaviourAnswer
 noteOffFromIndexOf index =
-    byIndex (note-off.Done Decay) (note-off.Done ZeroCrossing) (note-off.Done DecayAndZeroCrossing) note-off.Refused index
+    byIndex (note-off.Done Decay) (note-off.Done ZeroCrossing) (note-off.Done DecayAndZeroCrossing) note-off.Refused
+    index
 
 abbrev pub noteOffToF32Of : NoteOffBehaviour → Float
 noteOffToF32Of behaviour = indexToF32Of (noteOffToIndexOf behaviour) 3

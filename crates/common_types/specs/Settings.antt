@@ -1,4 +1,5 @@
--- The parameters of a call: what speed and loop length they come to, and row 4 of document 01's table. Definitions only. Assumes nothing.
+-- The parameters of a call: what speed and loop length they come to, and row 4 of document 01's table. Definitions
+-- only. Assumes nothing.
 use Prim.Native.Nat.{ℕ}
 use mathlib.Core.Bool.{Bool, true, false, _||_}
 use lib.Dec.{ltb}
@@ -50,7 +51,16 @@ timeLengthOf (Seconds x) t = mul binary32 x (t .«sample_rate»)
 timeLengthOf (QuarterNotes x) t = mul binary32 x (samplesPerQuarterNoteOf t)
 timeLengthOf (Bars x) t =
     mul binary32 x
-    (div binary32 (mul binary32 (samplesPerQuarterNoteOf t) (asFloat (t .«time_sig_numerator»))) (asFloat (t .«time_sig_denominator»)))
+    (div binary32 (mul binary32 (samplesPerQuarterNoteOf t) (asFloat (t .«time_sig_numerator»)))
+    (asFloat (t .«time_sig_denominator»)))
+
+-- the float that a length carries
+abbrev pub carried : TimeOrRatio → Float
+carried (Time (QuarterNotes x)) = x
+carried (Time (Samples x)) = x
+carried (Time (Seconds x)) = x
+carried (Time (Bars x)) = x
+carried (Ratio x) = x
 
 -- a ratio is of the data length n
 unfoldable pub lengthOf : TimeOrRatio → Transport → ℕ → Float
@@ -61,11 +71,13 @@ lengthOf (Ratio r) t n = mul binary32 (asFloat n) r
 unfoldable pub loopLengthOf : Params → ℕ → Float
 loopLengthOf p n = maxOf (lengthOf (p .«loop_length») (p .transport) n) (fin false 1 (pos 0))
 
--- ---- row 4: attack or decay above its limit, ratio above 1, or a time length worked out above 2 ^ 22. NaN is not above.
+-- ---- row 4: attack or decay above its limit, ratio above 1, or a time length worked out above 2 ^ 22. NaN is not
+-- above.
 unfoldable pub lengthBeyond : TimeOrRatio → Transport → Bool
 lengthBeyond (Time v) t = lt (fin false 1 (pos 22)) (timeLengthOf v t)
 lengthBeyond (Ratio r) t = lt (fin false 1 (pos 0)) r
 
 unfoldable pub beyondLimits : Params → Bool
 beyondLimits p =
-    ltb 16777216 (p .«attack_samples») || ltb 16777216 (p .«decay_samples») || lengthBeyond (p .«loop_length») (p .transport)
+    ltb 16777216 (p .«attack_samples») || ltb 16777216 (p .«decay_samples»)
+    || lengthBeyond (p .«loop_length») (p .transport)

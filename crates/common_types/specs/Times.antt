@@ -1,5 +1,5 @@
--- Lengths of time in samples (document 01, module 2). Every operation is binary32's, rounded, in the order in which it is written here.
--- Definitions only. Assumes nothing.
+-- Lengths of time in samples (document 01, module 2). Every operation is binary32's, rounded, in the order in which it
+-- is written here. Definitions only. Assumes nothing.
 use lib.Ieee.{Float, binary32, mul, div}
 use Rattle.binary32.specs.Leaves.{asFloat}
 use Rattle.common_types.specs.declared.Transport.{Transport}

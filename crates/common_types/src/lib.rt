@@ -1,9 +1,30 @@
-// The settings of the engine: notes, modes, transport and parameters. `time_value` is a module of this crate, since each of the two uses the other.
-// Each public function equals a definition in specs/, for every value of its arguments.
+// The settings of the engine: notes, modes, transport and parameters. `time_value` is a module of this crate, since
+// each of the two uses the other. Each public function equals a definition in specs/, for every value of its arguments.
 ghost use mathlib.Core.Path.{_≡_};
-ghost use Rattle.common_types.specs.Notes.{noteOf, intoU64Of, fromU64Of};
-ghost use Rattle.common_types.specs.Modes.{indexToF32Of, indexFromF32Of, loopModeToIndexOf, loopModeFromIndexOf, loopModeToF32Of, loopModeFromF32Of, noteOffToIndexOf, noteOffFromIndexOf, noteOffToF32Of, noteOffFromF32Of};
-ghost use Rattle.common_types.specs.Settings.{defaultTransport, defaultParams, defaultInitParams, speedOf, timeLengthOf, lengthOf, loopLengthOf, lengthBeyond, beyondLimits};
+ghost use Rattle.common_types.specs.Notes.{noteOf, defaultNote, intoU64Of, fromU64Of};
+ghost use Rattle.common_types.specs.Modes.{
+  indexToF32Of,
+  indexFromF32Of,
+  loopModeToIndexOf,
+  loopModeFromIndexOf,
+  loopModeToF32Of,
+  loopModeFromF32Of,
+  noteOffToIndexOf,
+  noteOffFromIndexOf,
+  noteOffToF32Of,
+  noteOffFromF32Of,
+};
+ghost use Rattle.common_types.specs.Settings.{
+  defaultTransport,
+  defaultParams,
+  defaultInitParams,
+  speedOf,
+  timeLengthOf,
+  lengthOf,
+  loopLengthOf,
+  lengthBeyond,
+  beyondLimits,
+};
 
 pub mod time_value;
 
@@ -21,6 +42,12 @@ impl Note {
         ensures { λ r. ⌜ r ≡ noteOf note channel ⌝ }
     {
         Self { note, channel }
+    }
+
+    pub fn default() -> Self
+        ensures { λ r. ⌜ r ≡ defaultNote ⌝ }
+    {
+        Note::new(0, 0)
     }
 
     pub fn into_u64(self) -> u64

@@ -1,6 +1,12 @@
 // A length of time by its unit, and what it comes to in samples.
 ghost use mathlib.Core.Path.{_≡_};
-ghost use Rattle.common_types.specs.Times.{fromUnitValueOf, quarterNotesPerBarOf, samplesPerQuarterNoteOf, samplesPerBarOf, asSamplesOf};
+ghost use Rattle.common_types.specs.Times.{
+  fromUnitValueOf,
+  quarterNotesPerBarOf,
+  samplesPerQuarterNoteOf,
+  samplesPerBarOf,
+  asSamplesOf,
+};
 use crate::Transport;
 
 pub enum TimeUnit {

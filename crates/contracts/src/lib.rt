@@ -1,4 +1,6 @@
-// Each public call of the engine once more, with its contract in the words of promises/specs/Outcomes.antt: what the theorems take a contract to allow is what the contract says. Nothing calls these functions.
+// Each public call of the engine by value once more, with its contract in the words of promises/specs/Outcomes.antt:
+// what the theorems take a contract to allow is what the contract says. Nothing calls these functions. The calls on a
+// record that is lent are in specs/Lent.antt.
 ghost use mathlib.Core.List.{List};
 ghost use Prim.Native.Nat.{ℕ};
 ghost use Rattle.promises.specs.Runs.{
@@ -9,6 +11,7 @@ ghost use Rattle.promises.specs.Runs.{
   printErrorInfo,
   iterActiveNotes,
   getVoiceInfo,
+  change as changeCall,
   start,
   stop,
   speed as speedCall,
@@ -20,6 +23,7 @@ ghost use Rattle.promises.specs.Runs.{
   asks,
 };
 ghost use Rattle.promises.specs.Outcomes.{new as setUpCall, on, Allows};
+use channel::Change;
 use common_types::InitParams;
 use common_types::Note;
 use common_types::Params;
@@ -37,8 +41,15 @@ pub fn new(count: usize, params: InitParams, memory: &[u32]) -> Answer
     Sampler::new(count, params, memory)
 }
 
+pub fn changed(s: Sampler, change: Change) -> Answer
+    ensures { λ r. ⌜ ((m : List ℕ) → Allows (on (record { sampler = s; memory = m }) (changeCall change)) r) ⌝ }
+{
+    s.changed(change)
+}
+
 pub fn start_playing(s: Sampler, position: f32, note: Note, velocity: f32, params: Params) -> Answer
-    ensures { λ r. ⌜ ((m : List ℕ) → Allows (on (record { sampler = s; memory = m }) (start position note velocity params)) r) ⌝ }
+    ensures { λ r. ⌜ ((m : List ℕ)
+        → Allows (on (record { sampler = s; memory = m }) (start position note velocity params)) r) ⌝ }
 {
     s.start_playing(position, note, velocity, params)
 }
@@ -80,19 +91,23 @@ pub fn process_sample(
     params: Params,
     memory: &mut [u32],
 ) -> SampleAnswer
-    ensures { λ r. ⌜ Allows (on (record { sampler = s; memory = now (memory .entry) }) (sample channel input params)) (record { answer = r; memory = now (memory .exit) }) ⌝ }
+    ensures { λ r. ⌜ Allows (on (record { sampler = s; memory = now (memory .entry) }) (sample channel input params))
+        (record { answer = r; memory = now (memory .exit) }) ⌝ }
 {
     s.process_sample(channel, input, params, memory)
 }
 
 pub fn process_frame(s: Sampler, frame: &mut [f32], params: Params, memory: &mut [u32]) -> Answer
-    ensures { λ r. ⌜ Allows (on (record { sampler = s; memory = now (memory .entry) }) (frameCall (now (frame .entry)) params)) (record { answer = r; frame = now (frame .exit); memory = now (memory .exit) }) ⌝ }
+    ensures { λ r. ⌜ Allows
+        (on (record { sampler = s; memory = now (memory .entry) }) (frameCall (now (frame .entry)) params))
+        (record { answer = r; frame = now (frame .exit); memory = now (memory .exit) }) ⌝ }
 {
     s.process_frame(frame, params, memory)
 }
 
 pub fn get_frames_processed(s: Sampler, channel: usize) -> Counted
-    ensures { λ r. ⌜ ((m : List ℕ) → Allows (on (record { sampler = s; memory = m }) (asks (getFramesProcessed channel))) r) ⌝ }
+    ensures { λ r. ⌜ ((m : List ℕ)
+        → Allows (on (record { sampler = s; memory = m }) (asks (getFramesProcessed channel))) r) ⌝ }
 {
     questions::get_frames_processed(s, channel)
 }
@@ -104,31 +119,38 @@ pub fn get_data_len(s: Sampler, channel: usize) -> Counted
 }
 
 pub fn is_recording(s: Sampler, channel: usize) -> Told
-    ensures { λ r. ⌜ ((m : List ℕ) → Allows (on (record { sampler = s; memory = m }) (asks (isRecording channel))) r) ⌝ }
+    ensures { λ r. ⌜ ((m : List ℕ)
+        → Allows (on (record { sampler = s; memory = m }) (asks (isRecording channel))) r) ⌝ }
 {
     questions::is_recording(s, channel)
 }
 
 pub fn get_last_recorded_offset(s: Sampler, channel: usize) -> OffsetAnswer
-    ensures { λ r. ⌜ ((m : List ℕ) → Allows (on (record { sampler = s; memory = m }) (asks (getLastRecordedOffset channel))) r) ⌝ }
+    ensures { λ r. ⌜ ((m : List ℕ)
+        → Allows (on (record { sampler = s; memory = m }) (asks (getLastRecordedOffset channel))) r) ⌝ }
 {
     questions::get_last_recorded_offset(s, channel)
 }
 
 pub fn print_error_info(s: Sampler, channel: usize, text: &mut [u8]) -> Counted
-    ensures { λ r. ⌜ ((m : List ℕ) → Allows (on (record { sampler = s; memory = m }) (asks (printErrorInfo channel (now (text .entry))))) (record { answer = r; lent = now (text .exit) })) ⌝ }
+    ensures { λ r. ⌜ ((m : List ℕ)
+        → Allows (on (record { sampler = s; memory = m }) (asks (printErrorInfo channel (now (text .entry)))))
+        (record { answer = r; lent = now (text .exit) })) ⌝ }
 {
     questions::print_error_info(s, channel, text)
 }
 
 pub fn iter_active_notes(s: Sampler, channel: usize, notes: &mut [u64]) -> Counted
-    ensures { λ r. ⌜ ((m : List ℕ) → Allows (on (record { sampler = s; memory = m }) (asks (iterActiveNotes channel (now (notes .entry))))) (record { answer = r; lent = now (notes .exit) })) ⌝ }
+    ensures { λ r. ⌜ ((m : List ℕ)
+        → Allows (on (record { sampler = s; memory = m }) (asks (iterActiveNotes channel (now (notes .entry)))))
+        (record { answer = r; lent = now (notes .exit) })) ⌝ }
 {
     questions::iter_active_notes(s, channel, notes)
 }
 
 pub fn get_voice_info(s: Sampler, channel: usize, params: Params, room: usize) -> VoiceInfos
-    ensures { λ r. ⌜ ((m : List ℕ) → Allows (on (record { sampler = s; memory = m }) (asks (getVoiceInfo channel params room))) r) ⌝ }
+    ensures { λ r. ⌜ ((m : List ℕ)
+        → Allows (on (record { sampler = s; memory = m }) (asks (getVoiceInfo channel params room))) r) ⌝ }
 {
     questions::get_voice_info(s, channel, params, room)
 }

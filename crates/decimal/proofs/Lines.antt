@@ -7,8 +7,8 @@ use native.Mathlib.Omega.{arith}
 use borrow.Author.Tests.{le-leb, lt-leb}
 use lib.ListN.{length, take, drop, replicate, length-append, length-take}
 use lib.Seq.{sets, take-append-seam}
-use Rattle.walks.proofs.Loops.{take-most}
-use Rattle.walks.proofs.Runs.{run-append, run-front}
+use Rattle.walks.proofs.Lists.Loops.{take-most}
+use Rattle.walks.proofs.Lists.Runs.{run-append, run-front}
 use Rattle.decimal.specs.declared.Line.{Line}
 use Rattle.decimal.specs.Lines.{lineOf, withOf, textOf, printedOf}
 

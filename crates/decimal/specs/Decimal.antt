@@ -8,7 +8,8 @@ use lib.Dec.{ltb, leb}
 abbrev pub digit : ℕ → ℕ
 digit d = 48 + d
 
--- the last k digits of n, or fewer where n has fewer: below 10 its one digit, otherwise the digits of n / 10 and then n % 10
+-- the last k digits of n, or fewer where n has fewer: below 10 its one digit, otherwise the digits of n / 10 and then n
+-- % 10
 unfoldable pub digits : ℕ → ℕ → List ℕ
 digits zero n = []
 digits (suc k) n = elim (ltb n 10) [ true ↦ digit n ∷ [] | false ↦ digits k (n / 10) ++ (digit (n % 10) ∷ []) ]

@@ -20,13 +20,15 @@ lineOf text = record { bytes = sets (replicate 64 0) 0 text; length = length tex
 
 -- one more text after what a line has; where there is no room for all of it, none
 unfoldable pub withOf : Line → List ℕ → Line
-withOf l text = cond (leb (l .length + length text) 64) (record { bytes = sets (l .bytes) (l .length) text; length = l .length + length text }) l
+withOf l text = cond (leb (l .length + length text) 64)
+    (record { bytes = sets (l .bytes) (l .length) text; length = l .length + length text }) l
 
 -- the text of a line
 unfoldable pub textOf : Line → List ℕ
 textOf l = take (l .length) (l .bytes)
 
--- whether a text fits in a lent list, and that list afterwards: it keeps what stood past the text, or all if it is too short
+-- whether a text fits in a lent list, and that list afterwards: it keeps what stood past the text, or all if it is too
+-- short
 abbrev pub fitsIn : List ℕ → List ℕ → Bool
 fitsIn text lent = leb (length text) (length lent)
 

@@ -1,5 +1,5 @@
-// A line of text of at most 64 bytes, built from its left end by value, with numbers in decimal. Each public function equals a definition in
-// specs/, for every value of its arguments.
+// A line of text of at most 64 bytes, built from its left end by value, with numbers in decimal. Each public function
+// equals a definition in specs/, for every value of its arguments.
 mod writing;
 
 use writing::decimal_length;

@@ -24,14 +24,12 @@ use Rattle.channel.specs.Channels.{
   finishedAtOf,
   stopPlayingOf,
   setNoteSpeedOf,
-  startRecordingOf,
-  stopRecordingOf,
   takenOf,
 }
-use Rattle.channel.proofs.Heads.{passthru-now, next-later, next-one, closed-now}
+use Rattle.channel.proofs.Heads.{head-change-now, passthru-now, next-later, next-one, closed-now}
 use Rattle.fates.specs.Engine.{begunOf, stepOf}
 use Rattle.fates.specs.Events.{Event, idle, changes, sounds, act, acts, isReset, isSample}
-use Rattle.fates.proofs.Cases.{neither, either}
+use Rattle.walks.proofs.Tests.{neither, either}
 
 handled-clock : (p : Params) (c : Channel) → handledOf p c .head .now ≡ c .head .now
 unfolding handledOf
@@ -57,13 +55,12 @@ sounded-clock p x m c = closed-now p _ (takenOf m c .head)
 
 -- ---- one event
 pub clock-still : (e : Event) (c : Channel) → isReset e ≡ false → isSample e ≡ false → act e c .head .now ≡ c .head .now
-unfolding act isReset isSample stopPlayingOf setNoteSpeedOf startRecordingOf stopRecordingOf
+unfolding act isReset isSample stopPlayingOf setNoteSpeedOf
 clock-still idle c r q = refl
 clock-still (changes (change.Start p position note velocity)) c r q = started-clock p position note velocity c
 clock-still (changes (change.Stop p note)) c r q = finished-clock p c (findOf note c)
 clock-still (changes (change.Speed note speed)) c r q = refl
-clock-still (changes change.StartRecording) c r q = refl
-clock-still (changes change.StopRecording) c r q = refl
+clock-still (changes (change.Head d)) c r q = head-change-now d (c .head)
 clock-still (changes change.Reset) c r q = absurd (true≢false r)
 clock-still (sounds p x m) c r q = absurd (true≢false q)
 

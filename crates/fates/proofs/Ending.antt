@@ -8,8 +8,8 @@ use native.Mathlib.Omega.{arith}
 use borrow.Author.Tests.{leb-true, leb-false, le-leb, not-true}
 use lib.Dec.{eqb, leb}
 use lib.Ieee.{Float, le, eq}
-use Rattle.walks.proofs.Every.{both}
-use Rattle.binary32.specs.Leaves.{absOf}
+use Rattle.walks.proofs.Lists.Every.{both}
+use Rattle.binary32.specs.Leaves.{absOf, zero32}
 use Rattle.common_types.specs.declared.NoteOffBehaviour.{NoteOffBehaviour}
 use Rattle.common_types.specs.declared.NoteOffBehaviour.the-variants as off
 use Rattle.common_types.specs.declared.Note.{Note}
@@ -17,13 +17,12 @@ use Rattle.volume.specs.declared.Volume.{Volume}
 use Rattle.volume.specs.declared.Volume.the-variants.{Static, Linear}
 use Rattle.volume.specs.Levels.{isStaticAndMuteOf, levelOf, laterOf, towardOf, steppedOf}
 use Rattle.volume.proofs.Ends.{stepped-static, stepped-before, stepped-end, faded}
-use Rattle.clip.specs.Positions.{zero32}
 use Rattle.voice.specs.declared.Voice.{Voice}
 use Rattle.voice.specs.declared.Tick.{Tick}
 use Rattle.voice.specs.Voices.{lateOf, soundedOf, playedOutOf, endedOf, finishOf, volumeStepped, atSpeedOf}
 use Rattle.channel.specs.Channels.{sameNote, spedOf}
 use Rattle.fates.specs.Engine.{passesOver, turnedOf, letsGo, leavesOf}
-use Rattle.fates.proofs.Cases.{joined}
+use Rattle.walks.proofs.Tests.{joined}
 use Rattle.fates.proofs.Stays.{unfinished-sounds}
 
 -- at 0, or on the way there by r + d

@@ -7,7 +7,7 @@ use mathlib.Core.Option.{Option, some}
 use Prim.Native.Nat.{ℕ, _+_, _≤_, max}
 use borrow.Author.Tests.{eqb-true, not-true}
 use lib.Ieee.{Float}
-use Rattle.walks.proofs.Every.{both}
+use Rattle.walks.proofs.Lists.Every.{both}
 use Rattle.common_types.specs.declared.Params.{Params}
 use Rattle.common_types.specs.declared.Note.{Note}
 use Rattle.voice.specs.declared.Voice.{Voice}
@@ -20,18 +20,18 @@ use Rattle.channel.specs.declared.Found.the-variants.{At, Nothing}
 use Rattle.channel.specs.Channels.{sameNote, unfinishedOf, wantedOf, findOf, memoryOf}
 use Rattle.fates.specs.Engine.{turnedOf}
 use Rattle.fates.specs.Events.{Event, idle, changes, sounds, act, emptyAt, tickAt, Sampled, decayOf, lastOf, beforeLast}
-use Rattle.fates.specs.Places.{Housed, voiceAt, Place, at, gone, fateOf, follow, foundAt, becomes, stops, outOf, playsOut, finishes, onward, followAll}
+use Rattle.fates.specs.Places.{Housed, voiceAt, Place, at, gone, fateOf, follow, findsAt, becomes, stops, outOf, playsOut, finishes, onward, followAll}
 use Rattle.fates.proofs.Housing.{housed}
 use Rattle.fates.proofs.Stops.{found}
 use Rattle.fates.proofs.Tracks.{tracks}
 use Rattle.fates.proofs.Ending.{Ending, Turns, finish-ending, ending-turns, ending-sped, out-turns, turns-ending, turns-over}
 
 -- ---- a stop finds no finished voice
-stop-unfinished : (note : Note) (c : Channel) (n : ℕ) (v : Voice) → voiceAt c n ≡ some v → foundAt (findOf note c) n ≡ true → v .finished ≡ false
+stop-unfinished : (note : Note) (c : Channel) (n : ℕ) (v : Voice) → voiceAt c n ≡ some v → findsAt (findOf note c) n ≡ true → v .finished ≡ false
 unfolding wantedOf
 stop-unfinished note c n v s f = go (findOf note c) refl f
   where
-    go : (g : Found) → findOf note c ≡ g → foundAt g n ≡ true → v .finished ≡ false
+    go : (g : Found) → findOf note c ≡ g → findsAt g n ≡ true → v .finished ≡ false
     go Nothing e f = absurd (true≢false (sym f))
     go (At i) e f =
         let z : i ≡ n = eqb-true i n f in
@@ -44,14 +44,13 @@ ending-on : (e : Event) (c : Channel) (n : ℕ) (v : Voice) (r d : ℕ) → voic
 unfolding becomes
 ending-on idle c n v r d s h = h
 ending-on (changes (change.Start p position note velocity)) c n v r d s h = h
-ending-on (changes (change.Stop p note)) c n v r d s h = go (foundAt (findOf note c) n) refl
+ending-on (changes (change.Stop p note)) c n v r d s h = go (findsAt (findOf note c) n) refl
   where
-    go : (b : Bool) → foundAt (findOf note c) n ≡ b → Ending r d (cond b (finishOf (c .head .now) (p .«decay_samples») v) v)
+    go : (b : Bool) → findsAt (findOf note c) n ≡ b → Ending r d (cond b (finishOf (c .head .now) (p .«decay_samples») v) v)
     go true e = absurd (true≢false (sym (h .done) ∙ stop-unfinished note c n v s e))
     go false e = h
 ending-on (changes (change.Speed note speed)) c n v r d s h = ending-sped note speed r d v h
-ending-on (changes change.StartRecording) c n v r d s h = h
-ending-on (changes change.StopRecording) c n v r d s h = h
+ending-on (changes (change.Head x)) c n v r d s h = h
 ending-on (changes change.Reset) c n v r d s h = h
 ending-on (sounds p x m) c n v r d s h = go (emptyAt m c)
   where
@@ -69,14 +68,13 @@ finished-ending : (e : Event) (c : Channel) (n : ℕ) (v : Voice) → voiceAt c 
 unfolding stops playsOut becomes decayOf tickOf
 finished-ending idle c n v s f = absurd (true≢false (sym f))
 finished-ending (changes (change.Start p position note velocity)) c n v s f = absurd (true≢false (sym f))
-finished-ending (changes (change.Stop p note)) c n v s f = go (foundAt (findOf note c) n) f
+finished-ending (changes (change.Stop p note)) c n v s f = go (findsAt (findOf note c) n) f
   where
     go : (b : Bool) → (b || false) ≡ true → Ending (c .head .now) (p .«decay_samples») (cond b (finishOf (c .head .now) (p .«decay_samples») v) v)
     go true e = finish-ending (c .head .now) (p .«decay_samples») v
     go false e = absurd (true≢false (sym e))
 finished-ending (changes (change.Speed note speed)) c n v s f = absurd (true≢false (sym f))
-finished-ending (changes change.StartRecording) c n v s f = absurd (true≢false (sym f))
-finished-ending (changes change.StopRecording) c n v s f = absurd (true≢false (sym f))
+finished-ending (changes (change.Head d)) c n v s f = absurd (true≢false (sym f))
 finished-ending (changes change.Reset) c n v s f = absurd (true≢false (sym f))
 finished-ending (sounds p x m) c n v s f =
     let t : Tick = tickAt p m c in

@@ -12,7 +12,7 @@ use lib.Ieee.{Float}
 use Rattle.common_types.specs.declared.InitParams.{InitParams}
 use Rattle.common_types.specs.declared.Params.{Params}
 use Rattle.common_types.specs.declared.Note.{Note}
-use Rattle.clip.specs.Positions.{zero32}
+use Rattle.binary32.specs.Leaves.{zero32}
 use Rattle.voice.specs.declared.Voice.{Voice}
 use Rattle.voice.specs.declared.Tick.{Tick}
 use Rattle.voice.specs.Voices.{finishOf, blankVoice}
@@ -21,8 +21,10 @@ use Rattle.channel.specs.declared.Played.{Played}
 use Rattle.channel.specs.declared.Change.the-variants as change
 use Rattle.channel.specs.declared.Found.{Found}
 use Rattle.channel.specs.declared.Found.the-variants.{At, Nothing}
+use Rattle.channel.specs.Heads.{headChangedOf}
 use Rattle.channel.specs.Channels.{
   live,
+  withHead,
   withVoices,
   channelOf,
   resetOf,
@@ -33,8 +35,6 @@ use Rattle.channel.specs.Channels.{
   stopPlayingOf,
   spedOf,
   setNoteSpeedOf,
-  startRecordingOf,
-  stopRecordingOf,
   takenOf,
   memoryOf,
 }
@@ -110,12 +110,11 @@ housed-sounded p x m c h = go (emptyAt m c)
         record { places = s .places; room = s .room }
 
 pub housed : (e : Event) (c : Channel) → Housed c → Housed (act e c)
-unfolding act stopPlayingOf setNoteSpeedOf startRecordingOf stopRecordingOf resetOf
+unfolding act stopPlayingOf setNoteSpeedOf resetOf
 housed idle c h = h
 housed (changes (change.Start p position note velocity)) c h = housed-started p position note velocity c h
 housed (changes (change.Stop p note)) c h = housed-finished p c (findOf note c) h
 housed (changes (change.Speed note speed)) c h = headless (setNoteSpeedOf note speed c) c (length-sets (c .voices) 0 (map (spedOf note speed) (live c))) refl h
-housed (changes change.StartRecording) c h = headless (startRecordingOf c) c refl refl h
-housed (changes change.StopRecording) c h = headless (stopRecordingOf c) c refl refl h
+housed (changes (change.Head d)) c h = headless (withHead (headChangedOf d (c .head)) c) c refl refl h
 housed (changes change.Reset) c h = record { places = h .places; room = omega arith }
 housed (sounds p x m) c h = housed-sounded p x m c h

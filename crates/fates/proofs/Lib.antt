@@ -1,5 +1,3 @@
-pub mod Cases
-pub mod Looks
 pub mod Lives
 pub mod Stops
 pub mod Housing

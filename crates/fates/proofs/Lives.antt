@@ -10,10 +10,10 @@ use lib.Dec.{eqb, ltb}
 use lib.ListN.{length, set, length-map}
 use lib.Seq.{take-suc-set, length-take-le}
 use lib.Ieee.{Float}
-use Rattle.walks.proofs.Each.{fewer, front-sets, front-map}
+use Rattle.walks.proofs.Lists.Each.{fewer, front-sets, front-map}
 use Rattle.common_types.specs.declared.Params.{Params}
 use Rattle.common_types.specs.declared.Note.{Note}
-use Rattle.clip.specs.Positions.{zero32}
+use Rattle.binary32.specs.Leaves.{zero32}
 use Rattle.voice.specs.declared.Voice.{Voice}
 use Rattle.voice.specs.declared.Tick.{Tick}
 use Rattle.channel.specs.declared.Channel.{Channel}
@@ -31,15 +31,15 @@ use Rattle.channel.specs.Channels.{
 use Rattle.channel.specs.declared.Change.the-variants as change
 use Rattle.fates.specs.Engine.{bornOf, begunOf, turnedOf, leavesOf, leftOf, turnsOf, stepOf}
 use Rattle.fates.specs.Events.{changes, emptyAt, tickAt}
-use Rattle.fates.specs.Places.{Housed, newOf}
+use Rattle.fates.specs.Places.{Housed, addedBy}
 
 pub live-length : (c : Channel) → Housed c → length (live c) ≡ c .count
 live-length c h = length-take-le (c .count) (c .voices) (omega (arith, h .places, h .room))
 
 -- ---- a start
 pub live-started : (p : Params) (position : Float) (note : Note) (velocity : Float) (c : Channel) → Housed c
-    → live (begunOf p position note velocity c) ≡ live c ++ newOf (changes (change.Start p position note velocity)) c
-unfolding begunOf handledOf pushedOf newOf
+    → live (begunOf p position note velocity c) ≡ live c ++ addedBy (changes (change.Start p position note velocity)) c
+unfolding begunOf handledOf pushedOf addedBy
 live-started p position note velocity c h = go (eqb (c .head .«data_len») 0) (ltb (c .count) 32) refl
   where
     v : Voice

@@ -19,10 +19,10 @@ use Rattle.channel.specs.declared.Change.the-variants as change
 use Rattle.channel.specs.Channels.{live, sameNote, spedOf}
 use Rattle.fates.specs.Engine.{bornOf}
 use Rattle.fates.specs.Events.{Event, idle, changes, sounds, act, acts, isReset, isSample, emptyAt}
-use Rattle.fates.specs.Places.{Housed, voiceAt, Place, at, follow, becomes, newOf, stops, onward, followAll, somewhere, stoppedIn}
+use Rattle.fates.specs.Places.{Housed, voiceAt, Place, at, follow, becomes, addedBy, stops, onward, followAll, somewhere, stoppedIn}
 use Rattle.fates.specs.Sounding.{First}
-use Rattle.fates.proofs.Cases.{neither}
-use Rattle.fates.proofs.Looks.{look-last}
+use Rattle.walks.proofs.Tests.{neither}
+use Rattle.walks.proofs.Lists.Looks.{look-last}
 use Rattle.fates.proofs.Lives.{live-started}
 use Rattle.fates.proofs.Housing.{housed}
 use Rattle.fates.proofs.Tracks.{tracks}
@@ -61,8 +61,7 @@ wait-same (changes (change.Start p position note velocity)) c n v q f = itself v
 wait-same (changes (change.Stop p note)) c n v q f =
     subst (λ (b : Bool). cond b (finishOf (c .head .now) (p .«decay_samples») v) v ≡ atSpeedOf (cond b (finishOf (c .head .now) (p .«decay_samples») v) v .speed) v) (sym f) (itself v)
 wait-same (changes (change.Speed note speed)) c n v q f = sped-same note speed v
-wait-same (changes change.StartRecording) c n v q f = itself v
-wait-same (changes change.StopRecording) c n v q f = itself v
+wait-same (changes (change.Head d)) c n v q f = itself v
 wait-same (changes change.Reset) c n v q f = itself v
 wait-same (sounds p x m) c n v q f = absurd (true≢false q)
 
@@ -96,7 +95,7 @@ module _ (p₀ : Params) (position : Float) (note : Note) (velocity : Float) whe
   module _ (c : Channel) (h : Housed c) (e : eqb (c .head .«data_len») 0 ≡ false) (k : c .count < 32) where
     -- it takes the place at the end
     pub taken : live (act begin c) ≡ live c ++ (bornOf p₀ position note velocity c ∷ [])
-    unfolding act newOf
+    unfolding act addedBy
     taken = live-started p₀ position note velocity c h ∙ rw (e, lt-ltb (c .count) 32 k)
 
     pub stands : voiceAt (act begin c) (length (live c)) ≡ some (bornOf p₀ position note velocity c)

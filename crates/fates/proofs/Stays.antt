@@ -25,7 +25,7 @@ use Rattle.fates.specs.Places.{
   gone,
   fateOf,
   follow,
-  foundAt,
+  findsAt,
   becomes,
   stops,
   outOf,
@@ -36,7 +36,7 @@ use Rattle.fates.specs.Places.{
   somewhere,
   finishedIn,
 }
-use Rattle.fates.proofs.Cases.{neither, either}
+use Rattle.walks.proofs.Tests.{neither, either}
 use Rattle.fates.proofs.Housing.{housed}
 use Rattle.fates.proofs.Tracks.{gone-never, tracks}
 
@@ -69,10 +69,9 @@ pub stays-one : (e : Event) (c : Channel) → isReset e ≡ false → (n : ℕ) 
 unfolding follow becomes stops playsOut isReset fateOf outOf
 stays-one idle c r n v s u f = record { place = n; follows = refl; unfinished = u }
 stays-one (changes (change.Start p position note velocity)) c r n v s u f = record { place = n; follows = refl; unfinished = u }
-stays-one (changes (change.Stop p note)) c r n v s u f = record { place = n; follows = refl; unfinished = rw (neither (foundAt (findOf note c) n) false f .0) u }
+stays-one (changes (change.Stop p note)) c r n v s u f = record { place = n; follows = refl; unfinished = rw (neither (findsAt (findOf note c) n) false f .0) u }
 stays-one (changes (change.Speed note speed)) c r n v s u f = record { place = n; follows = refl; unfinished = sped-finished note speed v ∙ u }
-stays-one (changes change.StartRecording) c r n v s u f = record { place = n; follows = refl; unfinished = u }
-stays-one (changes change.StopRecording) c r n v s u f = record { place = n; follows = refl; unfinished = u }
+stays-one (changes (change.Head d)) c r n v s u f = record { place = n; follows = refl; unfinished = u }
 stays-one (changes change.Reset) c r n v s u f = absurd (true≢false r)
 stays-one (sounds p x m) c r n v s u f = go (emptyAt m c) refl f
   where

@@ -17,7 +17,7 @@ use Rattle.channel.specs.declared.Channel.{Channel}
 use Rattle.channel.specs.declared.Found.the-variants.{At, Nothing}
 use Rattle.channel.specs.Channels.{live, handledOf, wantedOf, findOf, finishedAtOf, stopPlayingOf}
 use Rattle.fates.specs.Places.{Housed, voiceAt}
-use Rattle.fates.proofs.Looks.{look-below, look-value}
+use Rattle.walks.proofs.Lists.Looks.{look-below, look-value}
 use Rattle.fates.proofs.Lives.{live-length}
 
 module _ {A : Type 0} (p : A → Bool) where

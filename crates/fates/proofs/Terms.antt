@@ -8,7 +8,7 @@ use lib.ListN.{take, drop, getElem?}
 use lib.Ieee.{Float, binary32, add, mul}
 use Rattle.walks.specs.Walks.{any, fold}
 use Rattle.common_types.specs.declared.Params.{Params}
-use Rattle.clip.specs.Positions.{zero32}
+use Rattle.binary32.specs.Leaves.{zero32}
 use Rattle.volume.specs.Levels.{levelOf}
 use Rattle.voice.specs.declared.Voice.{Voice}
 use Rattle.voice.specs.declared.Tick.{Tick}
@@ -19,7 +19,7 @@ use Rattle.fates.specs.Engine.{passesOver, heardBy, turnsOf, stepOf}
 use Rattle.fates.specs.Events.{Event, acts, isReset, emptyAt, tickAt}
 use Rattle.fates.specs.Places.{Housed, voiceAt, at, followAll, finishedIn}
 use Rattle.fates.specs.Sounding.{termsOf, totalOf, Sounds}
-use Rattle.fates.proofs.Looks.{never}
+use Rattle.walks.proofs.Lists.Looks.{never}
 use Rattle.fates.proofs.Stays.{unfinished-sounds, stays-all}
 
 module _ (t : Tick) (m : List ℕ) where

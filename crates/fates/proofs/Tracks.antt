@@ -23,14 +23,12 @@ use Rattle.channel.specs.Channels.{
   findOf,
   stopPlayingOf,
   spedOf,
-  startRecordingOf,
-  stopRecordingOf,
   memoryOf,
 }
 use Rattle.fates.specs.Engine.{begunOf, turnedOf, leavesOf, leftOf}
 use Rattle.fates.specs.Events.{Event, idle, changes, sounds, act, isReset, emptyAt, tickAt}
-use Rattle.fates.specs.Places.{Housed, voiceAt, at, gone, fateOf, follow, foundAt, becomes}
-use Rattle.fates.proofs.Looks.{look-front, look-map, look-set-same, look-set-other, take-map, keep-look}
+use Rattle.fates.specs.Places.{Housed, voiceAt, at, gone, fateOf, follow, findsAt, becomes}
+use Rattle.walks.proofs.Lists.Looks.{look-front, look-map, look-set-same, look-set-other, take-map, keep-look}
 use Rattle.fates.proofs.Lives.{live-started, live-sped, live-sounded}
 use Rattle.fates.proofs.Stops.{found, stopped-none, live-stopped}
 
@@ -49,7 +47,7 @@ look-started p position note velocity c h n v k =
 
 -- ---- a stop
 pub look-stopped : (p : Params) (note : Note) (c : Channel) → Housed c → (n : ℕ) (v : Voice) → voiceAt c n ≡ some v
-    → voiceAt (stopPlayingOf p note c) n ≡ some (cond (foundAt (findOf note c) n) (finishOf (c .head .now) (p .«decay_samples») v) v)
+    → voiceAt (stopPlayingOf p note c) n ≡ some (cond (findsAt (findOf note c) n) (finishOf (c .head .now) (p .«decay_samples») v) v)
 look-stopped p note c h n v k = go (findOf note c) refl
   where
     w : Voice
@@ -65,7 +63,7 @@ look-stopped p note c h n v k = go (findOf note c) refl
         subst (λ (l : List Voice). getElem? l n ≡ some v) (sym (live-stopped p note c h i (f .voice) e (f .stands)))
         (look-set-other (live c) i n _ (eqb-false i n q) ∙ k)
 
-    go : (f : Found) → findOf note c ≡ f → voiceAt (stopPlayingOf p note c) n ≡ some (cond (foundAt f n) w v)
+    go : (f : Found) → findOf note c ≡ f → voiceAt (stopPlayingOf p note c) n ≡ some (cond (findsAt f n) w v)
     go Nothing e = subst (λ (d : Channel). voiceAt d n ≡ some v) (sym (stopped-none p note c e)) k
     go (At i) e = placed i e (eqb i n) refl
 
@@ -88,15 +86,14 @@ left-look t m vs n k v h f = go (leavesOf t (turnedOf t m v)) refl f
 -- ---- every event
 pub tracks : (e : Event) (c : Channel) → Housed c → (n k : ℕ) (v : Voice) → voiceAt c n ≡ some v → follow e c n ≡ at k
     → voiceAt (act e c) k ≡ some (becomes e c n v)
-unfolding act follow isReset becomes startRecordingOf stopRecordingOf
+unfolding act follow isReset becomes
 tracks idle c h n k v s f = rw (← at-same n k f) s
 tracks (changes (change.Start p position note velocity)) c h n k v s f = rw (← at-same n k f) (look-started p position note velocity c h n v s)
 tracks (changes (change.Stop p note)) c h n k v s f = rw (← at-same n k f) (look-stopped p note c h n v s)
 tracks (changes (change.Speed note speed)) c h n k v s f =
     rw (← at-same n k f)
     (subst (λ (l : List Voice). getElem? l n ≡ some (spedOf note speed v)) (sym (live-sped note speed c h)) (look-map (spedOf note speed) (live c) n v s))
-tracks (changes change.StartRecording) c h n k v s f = rw (← at-same n k f) s
-tracks (changes change.StopRecording) c h n k v s f = rw (← at-same n k f) s
+tracks (changes (change.Head d)) c h n k v s f = rw (← at-same n k f) s
 tracks (changes change.Reset) c h n k v s f = absurd (gone-never k f)
 tracks (sounds p x m) c h n k v s f = subst (λ (l : List Voice). getElem? l k ≡ some (becomes (sounds p x m) c n v)) (sym (live-sounded p x m c h)) (go (emptyAt m c) f)
   where

@@ -1,5 +1,7 @@
--- One channel's engine in parts: the voice that a start makes, the voices that a sample passes over, and those that leave after it. Put together, the parts are what the contracts cite: promises/proofs/Engine shows it,
--- and the fields `does` and `hears` of Demand3 say it of every call. Taken apart, an engine with one wrong part can be tried against the promises (must-fail/). Definitions only. Assumes nothing.
+-- One channel's engine in parts: the voice that a start makes, the voices that a sample passes over, and those that
+-- leave after it. Put together, the parts are what the contracts cite: promises/proofs/Engine shows it, and the fields
+-- `does` and `hears` of Demand3 say it of every call. Taken apart, an engine with one wrong part can be tried against
+-- the promises (must-fail/). Definitions only. Assumes nothing.
 use Prim.Native.Nat.{ℕ}
 use mathlib.Core.Bool.{Bool, _&&_, _||_, cond}
 use mathlib.Core.List.{List, map}
@@ -13,14 +15,24 @@ use Rattle.common_types.specs.declared.Note.{Note}
 use Rattle.common_types.specs.declared.NoteOffBehaviour.{NoteOffBehaviour}
 use Rattle.common_types.specs.declared.NoteOffBehaviour.the-variants as off
 use Rattle.volume.specs.Levels.{isStaticAndMuteOf, levelOf}
-use Rattle.clip.specs.Positions.{zero32}
+use Rattle.binary32.specs.Leaves.{zero32}
 use Rattle.voice.specs.declared.Voice.{Voice}
 use Rattle.voice.specs.declared.Tick.{Tick}
 use Rattle.voice.specs.Voices.{tickOf, lateOf, shouldRemoveOf, productOf, soundedOf, endedOf, volumeStepped, freshOf}
 use Rattle.channel.specs.declared.Channel.{Channel}
 use Rattle.channel.specs.declared.Played.{Played}
 use Rattle.channel.specs.Heads.{closedOf}
-use Rattle.channel.specs.Channels.{live, withHead, withVoices, anyUnfinishedOf, handledOf, pushedOf, addedOf, takenOf, memoryOf}
+use Rattle.channel.specs.Channels.{
+  live,
+  withHead,
+  withVoices,
+  anyUnfinishedOf,
+  handledOf,
+  pushedOf,
+  addedOf,
+  takenOf,
+  memoryOf,
+}
 
 -- ---- a start
 
@@ -30,7 +42,8 @@ bornOf p position note velocity c = freshOf p position note velocity (c .head .n
 
 -- an empty recording takes none
 unfoldable pub begunOf : Params → Float → Note → Float → Channel → Channel
-begunOf p position note velocity c = cond (eqb (c .head .«data_len») 0) c (handledOf p (pushedOf (bornOf p position note velocity c) c))
+begunOf p position note velocity c = cond (eqb (c .head .«data_len») 0) c
+    (handledOf p (pushedOf (bornOf p position note velocity c) c))
 
 -- ---- a sample
 
@@ -68,8 +81,10 @@ turnsOf t m c = record {
 unfoldable pub stepOf : Params → Float → Channel → List ℕ → Played
 stepOf p x c m =
     let d = takenOf m c in
-    let r = cond {A = Played} (eqb (d .head .«data_len») 0) (record { channel = d; output = zero32 }) (turnsOf (tickOf p (d .head .now) (d .head .«data_len»)) (memoryOf x c m) d) in
+    let r = cond {A = Played} (eqb (d .head .«data_len») 0) (record { channel = d; output = zero32 })
+    (turnsOf (tickOf p (d .head .now) (d .head .«data_len»)) (memoryOf x c m) d) in
     record {
       channel = withHead (closedOf p (anyUnfinishedOf (r .channel)) (d .head)) (r .channel);
-      output = add binary32 (add binary32 zero32 (r .output)) (mul binary32 x (levelOf (d .head .«passthru_volume») (d .head .now)));
+      output = add binary32 (add binary32 zero32 (r .output))
+          (mul binary32 x (levelOf (d .head .«passthru_volume») (d .head .now)));
     }

@@ -1,5 +1,6 @@
--- What one call does to one channel: nothing, a change, or a sample with the channel's part of the memory. A start and a sample are put together of their parts (Engine); the other changes are as the contracts cite them.
--- Definitions only. Assumes nothing.
+-- What one call does to one channel: nothing, a change, or a sample with the channel's part of the memory. A start and
+-- a sample are put together of their parts (Engine); the other changes are as the contracts cite them. Definitions
+-- only. Assumes nothing.
 use mathlib.Core.Path.{_≡_}
 use Prim.Native.Nat.{ℕ}
 use mathlib.Core.Bool.{Bool, true, false}
@@ -12,7 +13,8 @@ use Rattle.voice.specs.Voices.{tickOf}
 use Rattle.channel.specs.declared.Channel.{Channel}
 use Rattle.channel.specs.declared.Change.{Change}
 use Rattle.channel.specs.declared.Change.the-variants as change
-use Rattle.channel.specs.Channels.{resetOf, stopPlayingOf, setNoteSpeedOf, startRecordingOf, stopRecordingOf, takenOf}
+use Rattle.channel.specs.Heads.{headChangedOf}
+use Rattle.channel.specs.Channels.{withHead, resetOf, stopPlayingOf, setNoteSpeedOf, takenOf}
 use Rattle.fates.specs.Engine.{begunOf, stepOf}
 
 pub data Event : Type 0 where
@@ -25,8 +27,7 @@ act idle c = c
 act (changes (change.Start p position note velocity)) c = begunOf p position note velocity c
 act (changes (change.Stop p note)) c = stopPlayingOf p note c
 act (changes (change.Speed note speed)) c = setNoteSpeedOf note speed c
-act (changes change.StartRecording) c = startRecordingOf c
-act (changes change.StopRecording) c = stopRecordingOf c
+act (changes (change.Head d)) c = withHead (headChangedOf d (c .head)) c
 act (changes change.Reset) c = resetOf c
 act (sounds p x m) c = stepOf p x c m .channel
 
@@ -61,8 +62,7 @@ isReset idle = false
 isReset (changes (change.Start p position note velocity)) = false
 isReset (changes (change.Stop p note)) = false
 isReset (changes (change.Speed note speed)) = false
-isReset (changes change.StartRecording) = false
-isReset (changes change.StopRecording) = false
+isReset (changes (change.Head d)) = false
 isReset (changes change.Reset) = true
 isReset (sounds p x m) = false
 
@@ -77,8 +77,7 @@ decayOf idle = 0
 decayOf (changes (change.Start p position note velocity)) = p .«decay_samples»
 decayOf (changes (change.Stop p note)) = p .«decay_samples»
 decayOf (changes (change.Speed note speed)) = 0
-decayOf (changes change.StartRecording) = 0
-decayOf (changes change.StopRecording) = 0
+decayOf (changes (change.Head d)) = 0
 decayOf (changes change.Reset) = 0
 decayOf (sounds p x m) = p .«decay_samples»
 

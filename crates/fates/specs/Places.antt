@@ -1,5 +1,5 @@
--- How a voice of one channel is followed through events. A voice is told by its place among those that there are: a sample moves it up by as many as leave before it,
--- and nothing else moves it. Definitions only. Assumes nothing.
+-- How a voice of one channel is followed through events. A voice is told by its place among those that there are: a
+-- sample moves it up by as many as leave before it, and nothing else moves it. Definitions only. Assumes nothing.
 use mathlib.Core.Path.{_≡_}
 use Prim.Native.Nat.{ℕ, _≤_}
 use mathlib.Core.Bool.{Bool, false, not, _&&_, _||_, cond}
@@ -33,7 +33,8 @@ pub data Place : Type 0 where
 
 -- ---- where it is afterwards
 
--- after a sample in which the voices play: one that leaves after its turn is gone, and any other stands behind those that are left before it
+-- after a sample in which the voices play: one that leaves after its turn is gone, and any other stands behind those
+-- that are left before it
 unfoldable pub fateOf : Tick → List ℕ → List Voice → ℕ → Option Voice → Place
 fateOf t m vs n none = gone
 fateOf t m vs n (some v) = cond (leavesOf t (turnedOf t m v)) gone (at (length (leftOf t m (take n vs))))
@@ -46,42 +47,40 @@ follow idle c n = at n
 
 -- ---- what the event makes of it
 
-abbrev pub foundAt : Found → ℕ → Bool
-foundAt (At i) n = eqb i n
-foundAt Nothing n = false
+abbrev pub findsAt : Found → ℕ → Bool
+findsAt (At i) n = eqb i n
+findsAt Nothing n = false
 
 -- a stop finds that voice: it is the first unfinished one with the note
 unfoldable pub stops : Event → Channel → ℕ → Bool
 stops idle c n = false
 stops (changes (change.Start p position note velocity)) c n = false
-stops (changes (change.Stop p note)) c n = foundAt (findOf note c) n
+stops (changes (change.Stop p note)) c n = findsAt (findOf note c) n
 stops (changes (change.Speed note speed)) c n = false
-stops (changes change.StartRecording) c n = false
-stops (changes change.StopRecording) c n = false
+stops (changes (change.Head d)) c n = false
 stops (changes change.Reset) c n = false
 stops (sounds p x m) c n = false
 
 unfoldable pub becomes : Event → Channel → ℕ → Voice → Voice
 becomes idle c n v = v
 becomes (changes (change.Start p position note velocity)) c n v = v
-becomes (changes (change.Stop p note)) c n v = cond (foundAt (findOf note c) n) (finishOf (c .head .now) (p .«decay_samples») v) v
+becomes (changes (change.Stop p note)) c n v = cond (findsAt (findOf note c) n)
+    (finishOf (c .head .now) (p .«decay_samples») v) v
 becomes (changes (change.Speed note speed)) c n v = spedOf note speed v
-becomes (changes change.StartRecording) c n v = v
-becomes (changes change.StopRecording) c n v = v
+becomes (changes (change.Head d)) c n v = v
 becomes (changes change.Reset) c n v = v
 becomes (sounds p x m) c n v = cond (emptyAt m c) v (turnedOf (tickAt p m c) (memoryOf x c m) v)
 
 -- the voice that the event adds, at the end: a start's own, unless the recording is empty
-unfoldable pub newOf : Event → Channel → List Voice
-newOf idle c = []
-newOf (changes (change.Start p position note velocity)) c =
+unfoldable pub addedBy : Event → Channel → List Voice
+addedBy idle c = []
+addedBy (changes (change.Start p position note velocity)) c =
     cond (eqb (c .head .«data_len») 0 || not (ltb (c .count) 32)) [] (bornOf p position note velocity c ∷ [])
-newOf (changes (change.Stop p note)) c = []
-newOf (changes (change.Speed note speed)) c = []
-newOf (changes change.StartRecording) c = []
-newOf (changes change.StopRecording) c = []
-newOf (changes change.Reset) c = []
-newOf (sounds p x m) c = []
+addedBy (changes (change.Stop p note)) c = []
+addedBy (changes (change.Speed note speed)) c = []
+addedBy (changes (change.Head d)) c = []
+addedBy (changes change.Reset) c = []
+addedBy (sounds p x m) c = []
 
 -- ---- whether the event finishes it
 

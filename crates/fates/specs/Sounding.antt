@@ -1,4 +1,5 @@
--- What it means that a voice sounds in a sample: its product is one of the terms whose sum is the output. Definitions only. Assumes nothing.
+-- What it means that a voice sounds in a sample: its product is one of the terms whose sum is the output. Definitions
+-- only. Assumes nothing.
 use mathlib.Core.Path.{_≡_}
 use Prim.Native.Nat.{ℕ, suc}
 use mathlib.Core.Bool.{false, cond}
@@ -9,7 +10,7 @@ use lib.Ieee.{Float, binary32, add, mul}
 use Rattle.walks.specs.Walks.{fold}
 use Rattle.common_types.specs.declared.Params.{Params}
 use Rattle.volume.specs.Levels.{levelOf}
-use Rattle.clip.specs.Positions.{zero32}
+use Rattle.binary32.specs.Leaves.{zero32}
 use Rattle.voice.specs.declared.Voice.{Voice}
 use Rattle.voice.specs.declared.Tick.{Tick}
 use Rattle.voice.specs.Voices.{productOf, atSpeedOf}
@@ -28,8 +29,9 @@ termsOf t m (v ∷ vs) = cond (passesOver t v) (termsOf t m vs) (productOf t m v
 unfoldable pub totalOf : List Float → Float
 totalOf xs = fold (add binary32) zero32 xs
 
--- The voice v at place n sounds in the sample x, on the memory m with the parameters p: `productOf` of it, its recorded value times its level, is an operand of the sum, behind those of the voices before it.
--- That the number can be read off the output is not said: a float sum may absorb it.
+-- The voice v at place n sounds in the sample x, on the memory m with the parameters p: `productOf` of it, its recorded
+-- value times its level, is an operand of the sum, behind those of the voices before it. That the number can be read
+-- off the output is not said: a float sum may absorb it.
 pub record Sounds (p : Params) (x : Float) (m : List ℕ) (c : Channel) (n : ℕ) (v : Voice) : Type 0 where
   pub stands : voiceAt c n ≡ some v
   pub unfinished : v .finished ≡ false
@@ -38,10 +40,12 @@ pub record Sounds (p : Params) (x : Float) (m : List ℕ) (c : Channel) (n : ℕ
       (add binary32 zero32
       (totalOf
       (termsOf (tickAt p m c) (memoryOf x c m) (take n (live c))
-      ++ (productOf (tickAt p m c) (memoryOf x c m) v ∷ termsOf (tickAt p m c) (memoryOf x c m) (drop (suc n) (live c))))))
+      ++ (productOf (tickAt p m c) (memoryOf x c m) v
+      ∷ termsOf (tickAt p m c) (memoryOf x c m) (drop (suc n) (live c))))))
       (mul binary32 x (levelOf (c .head .«passthru_volume») (c .head .now)))
 
--- The voice at place n, which a start made as `fresh`, sounds in its first sample: it is as the start made it, but for a speed that was set for its note meanwhile, and its clip began at the count of this sample.
+-- The voice at place n, which a start made as `fresh`, sounds in its first sample: it is as the start made it, but for
+-- a speed that was set for its note meanwhile, and its clip began at the count of this sample.
 pub record First (p : Params) (x : Float) (m : List ℕ) (c : Channel) (n : ℕ) (fresh : Voice) : Type 0 where
   pub voice : Voice
   pub as-started : voice ≡ atSpeedOf (voice .speed) fresh

@@ -2,3 +2,4 @@ pub mod Outputs
 pub mod Frames
 pub mod Printed
 pub mod Examples
+pub mod Faultless

@@ -2,3 +2,4 @@ pub mod Records
 pub mod Lines
 pub mod Steps
 pub mod Whole
+pub mod Faults

@@ -1,5 +1,5 @@
--- Document 01's event listing as bytes: which header and which record is good, and what call a good record is. A record is the list of its bytes
--- from its two-byte length on, or as many of them as there are. Definitions only.
+-- Document 01's event listing as bytes: which header and which record is good, and what call a good record is. A record
+-- is the list of its bytes from its two-byte length on, or as many of them as there are. Definitions only.
 use Prim.Native.Nat.{ℕ, _+_, _*_}
 use mathlib.Core.Bool.{Bool, not, cond, _&&_, _||_}
 use mathlib.Core.List.{List, [], _∷_}
@@ -25,7 +25,17 @@ use Rattle.listing.specs.declared.records.Header.{Header}
 use Rattle.listing.specs.declared.records.Opening.{Opening}
 use Rattle.listing.specs.declared.records.Opening.the-variants as opening
 use Rattle.listing.specs.declared.records.Call.{Call}
-use Rattle.listing.specs.declared.records.Call.the-variants.{Parameters, Start, Stop, Speed, StartRecording, StopRecording, Mono, Stereo, Reset}
+use Rattle.listing.specs.declared.records.Call.the-variants.{
+  Parameters,
+  Start,
+  Stop,
+  Speed,
+  StartRecording,
+  StopRecording,
+  Mono,
+  Stereo,
+  Reset,
+}
 use Rattle.listing.specs.declared.records.Reading.{Reading}
 use Rattle.listing.specs.declared.records.Reading.the-variants as reading
 
@@ -47,10 +57,12 @@ abbrev pub channelCount : Header → ℕ
 channelCount h = cond (h .stereo) 2 1
 
 unfoldable pub goodHeader : List ℕ → Bool
-goodHeader b = eqb (length b) 3 && eqb (byteAt b 0) 1 && (eqb (byteAt b 1) 1 || eqb (byteAt b 1) 2) && leb (byteAt b 2) 1
+goodHeader b = eqb (length b) 3 && eqb (byteAt b 0) 1 && (eqb (byteAt b 1) 1 || eqb (byteAt b 1) 2)
+    && leb (byteAt b 2) 1
 
 unfoldable pub headerOf : List ℕ → Opening
-headerOf b = cond (goodHeader b) (opening.Good (record { stereo = eqb (byteAt b 1) 2; «auto_passthru» = eqb (byteAt b 2) 1 })) opening.Bad
+headerOf b = cond (goodHeader b)
+    (opening.Good (record { stereo = eqb (byteAt b 1) 2; «auto_passthru» = eqb (byteAt b 2) 1 })) opening.Bad
 
 -- ---- a record's kind stands after its length
 abbrev pub kindOf : List ℕ → ℕ
@@ -75,7 +87,8 @@ goodSettings r = leb (byteAt r 11) 1 && leb (byteAt r 12) 2 && leb (byteAt r 13)
 -- all the bytes are there, they are as many as the kind has, and each mode is one that there is
 unfoldable pub goodRecord : Header → List ℕ → Bool
 goodRecord h r =
-    eqb (length r) (halfAt r 0 + 2) && eqb (halfAt r 0) (lengthOf h (kindOf r)) && (not (eqb (kindOf r) 0) || goodSettings r)
+    eqb (length r) (halfAt r 0 + 2) && eqb (halfAt r 0) (lengthOf h (kindOf r))
+    && (not (eqb (kindOf r) 0) || goodSettings r)
 
 -- ---- the call of a good record
 abbrev pub noteAt : List ℕ → Note
@@ -86,7 +99,8 @@ unfoldable pub loopModeOf : ℕ → LoopMode
 loopModeOf index = elim (loopModeFromIndexOf index) [ loop-mode.Done mode ↦ mode | loop-mode.Refused ↦ PingPong ]
 
 unfoldable pub noteOffOf : ℕ → NoteOffBehaviour
-noteOffOf index = elim (noteOffFromIndexOf index) [ note-off.Done behaviour ↦ behaviour | note-off.Refused ↦ DecayAndZeroCrossing ]
+noteOffOf index = elim
+    (noteOffFromIndexOf index) [ note-off.Done behaviour ↦ behaviour | note-off.Refused ↦ DecayAndZeroCrossing ]
 
 -- length kinds 0 to 3; 4 is the ratio
 abbrev pub times : Float → List TimeOrRatio

@@ -1,5 +1,5 @@
--- What a good record does to the engine and which line it prints, and what opens, goes on with and ends a listing (document 01, "The event
--- listing"). Definitions only.
+-- What a good record does to the engine and which line it prints, and what opens, goes on with and ends a listing
+-- (document 01, "The event listing"). Definitions only.
 use Prim.Native.Nat.{ℕ, _+_, _-_, _*_, _^_, min}
 use mathlib.Core.Bool.{true, false, cond}
 use mathlib.Core.List.{List, [], _∷_}
@@ -13,14 +13,34 @@ use Rattle.decimal.specs.Lines.{lineOf}
 use Rattle.sampler.specs.declared.Sampler.{Sampler}
 use Rattle.sampler.specs.declared.Answer.{Answer}
 use Rattle.sampler.specs.Refusals.{channelAt, row, frameNumber}
-use Rattle.sampler.specs.Samplers.{setUpOf, startPlayingOf, stopPlayingOf, setNoteSpeedOf, startRecordingOf, stopRecordingOf, resetOf, Framed, framedOf}
+use Rattle.sampler.specs.Samplers.{
+  setUpOf,
+  startPlayingOf,
+  stopPlayingOf,
+  setNoteSpeedOf,
+  startRecordingOf,
+  stopRecordingOf,
+  resetOf,
+  Framed,
+  framedOf,
+}
 use Rattle.listing.specs.Lines.{answerLine, frameLine, badLine}
 use Rattle.listing.specs.Records.{channelCount, headerOf, recordOf}
 use Rattle.listing.specs.declared.records.Header.{Header}
 use Rattle.listing.specs.declared.records.Opening.{Opening}
 use Rattle.listing.specs.declared.records.Opening.the-variants as opening
 use Rattle.listing.specs.declared.records.Call.{Call}
-use Rattle.listing.specs.declared.records.Call.the-variants.{Parameters, Start, Stop, Speed, StartRecording, StopRecording, Mono, Stereo, Reset}
+use Rattle.listing.specs.declared.records.Call.the-variants.{
+  Parameters,
+  Start,
+  Stop,
+  Speed,
+  StartRecording,
+  StopRecording,
+  Mono,
+  Stereo,
+  Reset,
+}
 use Rattle.listing.specs.declared.records.Reading.the-variants as reading
 use Rattle.listing.specs.declared.player.Player.{Player}
 use Rattle.listing.specs.declared.player.Played.{Played}
@@ -38,12 +58,14 @@ voicesOf s = channelAt s 0 .count
 
 -- a call of the engine that answers a number
 unfoldable pub answeredOf : ℕ → Params → Answer → Played
-answeredOf kind p a = record { player = record { sampler = a .sampler; params = p }; line = lineOf (answerLine kind (a .number)) }
+answeredOf kind p
+    a = record { player = record { sampler = a .sampler; params = p }; line = lineOf (answerLine kind (a .number)) }
 
 -- parameters that row 4 refuses leave the old ones
 unfoldable pub settingsOf : Player → Params → Played
 settingsOf y p =
-    answeredOf 0 (cond (beyondLimits p) (y .params) p) (record { sampler = y .sampler; number = row (beyondLimits p) 4 0 })
+    answeredOf 0 (cond (beyondLimits p) (y .params) p)
+    (record { sampler = y .sampler; number = row (beyondLimits p) 4 0 })
 
 abbrev pub framedBy : Player → List Float → List ℕ → Framed
 framedBy y inputs m = framedOf (y .sampler) inputs (y .params) m
@@ -55,12 +77,15 @@ frameOf y inputs m =
     let number = frameNumber (y .sampler) (length inputs) (y .params) (length m) in
     record {
       player = record { sampler = f .sampler; params = y .params };
-      line = lineOf (cond (eqb number 0) (frameLine (clockOf (y .sampler)) (f .frame) (voicesOf (f .sampler))) (answerLine 6 number));
+      line = lineOf
+          (cond (eqb number 0) (frameLine (clockOf (y .sampler)) (f .frame) (voicesOf (f .sampler)))
+          (answerLine 6 number));
     }
 
 unfoldable pub playedOf : Player → Call → List ℕ → Played
 playedOf y (Parameters p) m = settingsOf y p
-playedOf y (Start note position velocity) m = answeredOf 1 (y .params) (startPlayingOf (y .sampler) position note velocity (y .params))
+playedOf y (Start note position velocity) m = answeredOf 1 (y .params)
+    (startPlayingOf (y .sampler) position note velocity (y .params))
 playedOf y (Stop note) m = answeredOf 2 (y .params) (stopPlayingOf (y .sampler) note (y .params))
 playedOf y (Speed note speed) m = answeredOf 3 (y .params) (setNoteSpeedOf (y .sampler) note speed)
 playedOf y StartRecording m = answeredOf 4 (y .params) (startRecordingOf (y .sampler))
@@ -86,7 +111,8 @@ memoryAfter y Reset m = m
 -- set up with 4,096 samples a channel, and the Rust's default parameters
 unfoldable pub playerOf : Header → ℕ → Player
 playerOf h size = record {
-  sampler = setUpOf (channelCount h) (record { «auto_passthru» = h .«auto_passthru» }) (min size (channelCount h * 4096)) .sampler;
+  sampler = setUpOf (channelCount h) (record { «auto_passthru» = h .«auto_passthru» })
+      (min size (channelCount h * 4096)) .sampler;
   params = defaultParams;
 }
 
@@ -100,7 +126,8 @@ noHeader = record { stereo = false; «auto_passthru» = false }
 
 -- after a good header a listing is on; a bad one is answered and ends it. `size` is the length of the lent memory
 unfoldable pub openedOf : Opening → ℕ → Step
-openedOf (opening.Good h) size = record { listing = record { header = h; player = playerOf h size; offset = 3; on = true }; line = lineOf [] }
+openedOf (opening.Good h)
+    size = record { listing = record { header = h; player = playerOf h size; offset = 3; on = true }; line = lineOf [] }
 openedOf opening.Bad size = record {
   listing = record { header = noHeader; player = playerOf noHeader size; offset = 0; on = false };
   line = lineOf (badLine 0);
@@ -111,14 +138,19 @@ openOf b size = openedOf (headerOf b) size
 
 -- over, with a last line
 abbrev pub endedOf : Listing → Line → Step
-endedOf l line = record { listing = record { header = l .header; player = l .player; offset = l .offset; on = false }; line = line }
+endedOf l line =
+    record { listing = record { header = l .header; player = l .player; offset = l .offset; on = false }; line = line }
 
 -- the next record; where there is none, the end
 unfoldable pub stepOf : Listing → List ℕ → List ℕ → Step
 stepOf l r m = cond (eqb (length r) 0) (endedOf l (lineOf [])) (elim (recordOf (l .header) r) [
   | reading.Good call ↦
       let played = playedOf (l .player) call m in
-      record { listing = record { header = l .header; player = played .player; offset = laterBy (length r) (l .offset); on = true }; line = played .line }
+      record {
+        listing =
+            record { header = l .header; player = played .player; offset = laterBy (length r) (l .offset); on = true };
+        line = played .line;
+      }
   | reading.Bad ↦ endedOf l (lineOf (badLine (l .offset)))
 ])
 

@@ -1,5 +1,6 @@
-// Document 01's event listing: what each header and each record of it means, what it does to the engine, and the line that it prints. Each
-// public function equals a definition in specs/, for every value of its arguments.
+// Document 01's event listing: what each header and each record of it means, what it does to the engine, and the line
+// that it prints. Each public function equals a definition in specs/, for every value of its arguments.
+pub mod faults;
 mod fields;
 pub mod player;
 pub mod records;

@@ -1,7 +1,16 @@
 // What each call of a listing does to the engine, and the line that it prints.
 ghost use mathlib.Core.Path.{_≡_};
 ghost use mathlib.Core.List.{[], _∷_};
-ghost use Rattle.listing.specs.Steps.{clockOf, voicesOf, answeredOf, settingsOf, framedBy, frameOf, playedOf, memoryAfter};
+ghost use Rattle.listing.specs.Steps.{
+  clockOf,
+  voicesOf,
+  answeredOf,
+  settingsOf,
+  framedBy,
+  frameOf,
+  playedOf,
+  memoryAfter,
+};
 use crate::records::Call;
 use crate::texts::answer_line;
 use crate::texts::mono_line;

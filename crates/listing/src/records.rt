@@ -1,7 +1,24 @@
 // Which header and which record of a listing is good, and what call a good record is.
 ghost use mathlib.Core.Path.{_≡_};
 ghost use Prim.Native.Nat.{_+_, _*_, _≤_};
-ghost use Rattle.listing.specs.Records.{channelCount, goodHeader, headerOf, lengthOf, restOf, goodSettings, goodRecord, noteAt, loopModeOf, noteOffOf, loopLengthOf, transportOf, paramsOf, frameCallOf, callOf, recordOf};
+ghost use Rattle.listing.specs.Records.{
+  channelCount,
+  goodHeader,
+  headerOf,
+  lengthOf,
+  restOf,
+  goodSettings,
+  goodRecord,
+  noteAt,
+  loopModeOf,
+  noteOffOf,
+  loopLengthOf,
+  transportOf,
+  paramsOf,
+  frameCallOf,
+  callOf,
+  recordOf,
+};
 use crate::fields::byte_at;
 use crate::fields::float_at;
 use crate::fields::half_at;
@@ -82,7 +99,8 @@ pub fn read_header(bytes: &[u8]) -> Opening
     }
 }
 
-// How many bytes to read after the two of a record's length. One above 45, which no kind has, is answered 0: such a record is bad as it stands.
+// How many bytes to read after the two of a record's length. One above 45, which no kind has, is answered 0: such a
+// record is bad as it stands.
 pub fn rest(bytes: &[u8]) -> usize
     ensures { λ r. ⌜ r ≡ restOf (now (bytes .entry)) ⌝ }
     ensures { λ r. ⌜ r ≤ 45 ⌝ }
@@ -100,7 +118,7 @@ fn frame_length(h: Header) -> usize
     if h.stereo { 9 } else { 5 }
 }
 
-fn length_of(h: Header, kind: u8) -> usize
+pub fn length_of(h: Header, kind: u8) -> usize
     ensures { λ r. ⌜ r ≡ lengthOf h kind ⌝ }
 {
     let lengths = [45, 11, 3, 7, 1, 1, frame_length(h), 1];

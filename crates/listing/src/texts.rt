@@ -4,7 +4,16 @@ ghost use mathlib.Core.List.{[], _∷_};
 ghost use Prim.Native.Nat.{_%_};
 ghost use Rattle.decimal.specs.Decimal.{decimal};
 ghost use Rattle.decimal.specs.Lines.{bytes, lineOf, withOf};
-ghost use Rattle.listing.specs.Lines.{hexDigit, hexDigits, outputOf, space, newline, answerLine, frameLine, badLine};
+ghost use Rattle.listing.specs.Lines.{
+  hexDigit,
+  hexDigits,
+  outputOf,
+  space,
+  newline,
+  answerLine,
+  frameLine,
+  badLine,
+};
 use decimal::Line;
 
 fn hex_digit(n: u32) -> u8
@@ -55,7 +64,8 @@ pub fn bad_line(offset: u64) -> Line
 }
 
 fn begun(clock: usize, first: f32) -> Line
-    ensures { λ r. ⌜ r ≡ withOf (withOf (withOf (withOf (lineOf []) (bytes "F ")) (decimal clock)) space) (outputOf first) ⌝ }
+    ensures { λ r. ⌜ r
+        ≡ withOf (withOf (withOf (withOf (lineOf []) (bytes "F ")) (decimal clock)) space) (outputOf first) ⌝ }
 {
     let clocked = Line::new().with(b"F ").with_decimal(clock as u64);
     with_output(clocked, first)

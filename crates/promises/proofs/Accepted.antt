@@ -14,7 +14,7 @@ use Rattle.walks.specs.Walks.{any}
 use Rattle.common_types.specs.declared.Params.{Params}
 use Rattle.common_types.specs.declared.Note.{Note}
 use Rattle.common_types.specs.Settings.{beyondLimits}
-use Rattle.clip.specs.Positions.{zero32}
+use Rattle.binary32.specs.Leaves.{zero32}
 use Rattle.voice.specs.Soundness.{FittingParams}
 use Rattle.channel.specs.declared.Channel.{Channel}
 use Rattle.channel.specs.declared.Change.{Change}
@@ -27,8 +27,8 @@ use Rattle.sampler.specs.Samplers.{partOf, playedAt, outputOf, processSampleOf,
 use Rattle.sampler.proofs.Rows.{passed, frame-steps}
 use Rattle.sampler.proofs.Entries.{sample-reaches, frame-reaches}
 use Rattle.fates.specs.Events.{idle, changes, sounds}
-use Rattle.promises.specs.Runs.{World, Call, start, stop, speed, startRecording, stopRecording, reset, sample, frame, asks, code, chan, doneTo, event, output, FittingCall}
-use Rattle.fates.proofs.Cases.{neither}
+use Rattle.promises.specs.Runs.{World, Call, change, start, sample, frame, asks, code, chan, doneTo, event, output, FittingCall}
+use Rattle.walks.proofs.Tests.{neither}
 use Rattle.promises.proofs.Apart.{frame-output}
 use Rattle.promises.proofs.Calls.{Standing}
 
@@ -170,19 +170,14 @@ module _ (w : World) (st : Standing w) (j : ℕ) (k : j < w .sampler .count) (p 
             floats = subst FittingParams (z .params);
             part = sym (z .memory);
             output = ap (λ (b : Bool). getD (cond b (entriesOf q (length xs) 0 (framed s xs mem)) (framed s xs mem) .frame) j zero32) e
-                ∙ frame-output s xs q mem g (st .two) j (omega (arith, st .few))
+                ∙ frame-output s xs q mem g j
                 ∙ ap (λ (b : Bool). cond b (mul binary32 (q .volume) (channelSampleOf q (getD xs j zero32) (channelAt s j) (partOf s j mem) .output)) (getD xs j zero32)) f
                 ∙ same-output q p (getD xs j zero32) x (partOf s j mem) m (channelAt s j) (channelAt s j) z refl;
           }
 
   pub heard : (c : Call) → event w c j ≡ sounds p x m → Heard w c j p x m
   unfolding doneTo
-  heard (start position note velocity q) h = absurd (not-change p x m _ (done p x m w (start position note velocity q) j h))
-  heard (stop note q) h = absurd (not-change p x m _ (done p x m w (stop note q) j h))
-  heard (speed note y) h = absurd (not-change p x m _ (done p x m w (speed note y) j h))
-  heard startRecording h = absurd (not-change p x m _ (done p x m w startRecording j h))
-  heard stopRecording h = absurd (not-change p x m _ (done p x m w stopRecording j h))
-  heard reset h = absurd (not-change p x m _ (done p x m w reset j h))
+  heard (change d) h = absurd (not-change p x m _ (done p x m w (change d) j h))
   heard (sample i y q) h = sample-heard i y q h
   heard (frame xs q) h = frame-heard xs q h
   heard (asks y) h = absurd (not-idle p x m (done p x m w (asks y) j h))

@@ -9,10 +9,10 @@ use native.Mathlib.Omega.{arith}
 use borrow.Author.Tests.{ltb-true, ltb-false, eqb-true, eqb-false}
 use lib.Dec.{ltb, eqb}
 use lib.ListN.{length, take, drop, getD, length-set, length-append}
-use lib.Seq.{length-take-le, take-append-le, take-take, drop-append-add, drop-drop, getD-set-same, getD-set-other}
+use lib.Seq.{length-take-le, take-append-le, take-take, drop-append-add, drop-drop, drop-at, take-at, getD-set-same, getD-set-other}
 use lib.Ieee.{Float, binary32, mul}
 use Rattle.common_types.specs.declared.Params.{Params}
-use Rattle.clip.specs.Positions.{zero32}
+use Rattle.binary32.specs.Leaves.{zero32}
 use Rattle.channel.specs.declared.Channel.{Channel}
 use Rattle.channel.specs.declared.Played.{Played}
 use Rattle.channel.specs.Channels.{memoryOf}
@@ -20,7 +20,7 @@ use Rattle.channel.specs.Channels.{processSampleOf as channelSampleOf}
 use Rattle.channel.proofs.Samples.{memory-kept}
 use Rattle.sampler.specs.declared.Sampler.{Sampler}
 use Rattle.sampler.specs.Refusals.{channelAt}
-use Rattle.sampler.specs.Samplers.{Steps, framed, partOf, playedAt, steppedOf, outputOf, memoryAt, Framed, entryOf, entriesOf}
+use Rattle.sampler.specs.Samplers.{Steps, framed, partOf, playedAt, channelSteppedOf, outputOf, memoryAt, Framed, entryOf, entriesOf}
 use Rattle.sampler.proofs.Entries.{part-length, memory-at-length}
 
 -- ---- parts of a list
@@ -70,120 +70,140 @@ module _ (s : Sampler) (i : ℕ) (m : List ℕ) (h : i * s .capacity + s .capaci
         go true k = part-later j (ltb-true i j k)
         go false k = ⊎-elim (λ q. absurd (e q)) (λ q. part-earlier j q) (eq-or-lt-of-le (ltb-false i j k))
 
+    pub part-own : partOf s i (memoryAt s i x m) ≡ memoryOf x (channelAt s i) (partOf s i m)
+    unfolding partOf memoryAt written
+    part-own =
+        ap (take (s .capacity)) (drop-at (take (i * s .capacity) m) (written ++ drop (i * s .capacity + s .capacity) m) (i * s .capacity) (length-take-le (i * s .capacity) m (omega arith)))
+        ∙ take-at written (drop (i * s .capacity + s .capacity) m) (s .capacity) written-length
+
 module _ (s : Sampler) (i : ℕ) (p : Params) (x : Float) (m : List ℕ) where
-  pub channel-apart : (j : ℕ) → j ≢ i → channelAt (steppedOf s i p x m) j ≡ channelAt s j
-  unfolding steppedOf
+  pub channel-apart : (j : ℕ) → j ≢ i → channelAt (channelSteppedOf s i p x m) j ≡ channelAt s j
+  unfolding channelSteppedOf
   channel-apart j e = getD-set-other (s .channels) i j (playedAt s i p x m .channel) _ e
 
-  pub channel-own : i < length (s .channels) → channelAt (steppedOf s i p x m) i ≡ channelSampleOf p x (channelAt s i) (partOf s i m) .channel
-  unfolding steppedOf playedAt
+  pub channel-own : i < length (s .channels) → channelAt (channelSteppedOf s i p x m) i ≡ channelSampleOf p x (channelAt s i) (partOf s i m) .channel
+  unfolding channelSteppedOf playedAt
   channel-own h = getD-set-same (s .channels) i (playedAt s i p x m .channel) _ h
+
+  pub stepped-length : length (channelSteppedOf s i p x m .channels) ≡ length (s .channels)
+  unfolding channelSteppedOf
+  stepped-length = length-set (s .channels) i (playedAt s i p x m .channel)
 
 -- ---- a frame
 
--- channel j's sample in it, on its part of the memory
-abbrev sampleIn : Params → Framed → ℕ → Played
-sampleIn p f j = channelSampleOf p (getD (f .frame) j zero32) (channelAt (f .sampler) j) (partOf (f .sampler) j (f .memory))
+-- channel i's part lies in the memory
+abbrev Held : ℕ → Framed → Type 0
+Held i f = i * f .sampler .capacity + f .sampler .capacity ≤ length (f .memory)
 
--- what the entry of another channel leaves as it was
-entry-apart : (p : Params) (i : ℕ) (f : Framed) (j : ℕ) → j ≢ i → i * f .sampler .capacity + f .sampler .capacity ≤ length (f .memory) → sampleIn p (entryOf p i f) j ≡ sampleIn p f j
-unfolding entryOf steppedOf partOf
-entry-apart p i f j q room =
+-- what channel j's entry reads
+record Reads : Type 0 where
+  input : Float
+  channel : Channel
+  part : List ℕ
+
+abbrev readIn : Framed → ℕ → Reads
+readIn f j = record { input = getD (f .frame) j zero32; channel = channelAt (f .sampler) j; part = partOf (f .sampler) j (f .memory) }
+
+abbrev playedBy : Params → Reads → Played
+playedBy p r = channelSampleOf p (r .input) (r .channel) (r .part)
+
+-- the entry of another channel leaves it as it was
+entry-apart : (p : Params) (i : ℕ) (f : Framed) (j : ℕ) → j ≢ i → Held i f → readIn (entryOf p i f) j ≡ readIn f j
+unfolding entryOf channelSteppedOf partOf
+entry-apart p i f j q held =
     let s : Sampler = f .sampler in
     let x : Float = getD (f .frame) i zero32 in
-    ap (λ (z : Float). channelSampleOf p z (channelAt (steppedOf s i p x (f .memory)) j) (partOf s j (memoryAt s i x (f .memory))))
-    (getD-set-other (f .frame) i j (outputOf s i p x (f .memory)) zero32 q)
-    ∙ ap (λ (z : Channel). channelSampleOf p (getD (f .frame) j zero32) z (partOf s j (memoryAt s i x (f .memory)))) (channel-apart s i p x (f .memory) j q)
-    ∙ ap (λ (z : List ℕ). channelSampleOf p (getD (f .frame) j zero32) (channelAt s j) z) (part-apart s i (f .memory) room x j q)
+    λ t. record {
+      input = getD-set-other (f .frame) i j (outputOf s i p x (f .memory)) zero32 q t;
+      channel = channel-apart s i p x (f .memory) j q t;
+      part = part-apart s i (f .memory) held x j q t;
+    }
 
--- n entries from i on, the j-th among them
-record Entries (j n i : ℕ) (f : Framed) : Type 0 where
-  from : i ≤ j
-  upto : j < i + n
-  channels : j < length (f .sampler .channels)
-  frame : j < length (f .frame)
-  parts : (i + n) * f .sampler .capacity ≤ length (f .memory)
+-- n entries from i on, whose parts lie in the memory
+abbrev Room : ℕ → ℕ → Framed → Type 0
+Room n i f = (i + n) * f .sampler .capacity ≤ length (f .memory)
 
-entries-room : (j n i : ℕ) (f : Framed) → Entries j (suc n) i f → i * f .sampler .capacity + f .sampler .capacity ≤ length (f .memory)
-entries-room j n i f h = le-trans (le-of-eq (sym (suc-mul i (f .sampler .capacity)))) (le-trans (mul-le-mul-right (f .sampler .capacity) ahead) (h .parts))
+room-here : (n i : ℕ) (f : Framed) → Room (suc n) i f → Held i f
+room-here n i f h = le-trans (le-of-eq (sym (suc-mul i (f .sampler .capacity)))) (le-trans (mul-le-mul-right (f .sampler .capacity) ahead) h)
   where
     ahead : suc i ≤ i + suc n
     ahead = omega arith
 
-entries-on : (p : Params) (j n i : ℕ) (f : Framed) → Entries j (suc n) i f → i < j → Entries j n (i + 1) (entryOf p i f)
-unfolding entryOf steppedOf
-entries-on p j n i f h o =
+room-on : (p : Params) (n i : ℕ) (f : Framed) → Room (suc n) i f → Room n (i + 1) (entryOf p i f)
+unfolding entryOf channelSteppedOf
+room-on p n i f h =
     let s : Sampler = f .sampler in
-    let x : Float = getD (f .frame) i zero32 in
-    record {
-      from = omega arith;
-      upto = omega (arith, h .upto);
-      channels = omega (arith, h .channels, length-set (s .channels) i (playedAt s i p x (f .memory) .channel));
-      frame = omega (arith, h .frame, length-set (f .frame) i (outputOf s i p x (f .memory)));
-      parts = le-trans (le-of-eq (ap (λ (z : ℕ). z * s .capacity) shift)) (le-trans (h .parts) (le-of-eq (sym (memory-at-length s i (f .memory) (entries-room j n i f h) x))));
-    }
+    le-trans (le-of-eq (ap (λ (z : ℕ). z * s .capacity) shift)) (le-trans h (le-of-eq (sym (memory-at-length s i (f .memory) (room-here n i f h) (getD (f .frame) i zero32)))))
   where
     shift : i + 1 + n ≡ i + suc n
     shift = omega arith
 
--- Whatever only channel j's own entry changes is, after the frame, what that entry makes of it; past the last entry it is as it was.
-module _ {X : Type 0} (p : Params) (j : ℕ) (look : Framed → X) (other : (i : ℕ) (f : Framed) → j ≢ i → look (entryOf p i f) ≡ look f) where
-  entries-before : (n i : ℕ) (f : Framed) → j < i → look (entriesOf p n i f) ≡ look f
+-- What only channel j's own entry changes (`look`) is, after the frame, what that entry makes of what it reads (`goal`); past the last entry it is as it was. `Fits` is what the entry asks beside its part and its place in the frame.
+module _ {X : Type 0} (p : Params) (j : ℕ) (look : Framed → X) (other : (i : ℕ) (f : Framed) → j ≢ i → Held i f → look (entryOf p i f) ≡ look f) where
+  entries-before : (n i : ℕ) (f : Framed) → Room n i f → j < i → look (entriesOf p n i f) ≡ look f
   unfolding entriesOf
-  entries-before zero i f h = refl
-  entries-before (suc n) i f h = entries-before n (i + 1) (entryOf p i f) (omega arith) ∙ other i f (λ e. omega arith)
+  entries-before zero i f r h = refl
+  entries-before (suc n) i f r h = entries-before n (i + 1) (entryOf p i f) (room-on p n i f r) (omega arith) ∙ other i f (λ e. omega arith) (room-here n i f r)
 
-  entries-past : (n i : ℕ) (f : Framed) → i + n ≤ j → look (entriesOf p n i f) ≡ look f
+  entries-past : (n i : ℕ) (f : Framed) → Room n i f → i + n ≤ j → look (entriesOf p n i f) ≡ look f
   unfolding entriesOf
-  entries-past zero i f h = refl
-  entries-past (suc n) i f h = entries-past n (i + 1) (entryOf p i f) (omega arith) ∙ other i f (λ e. omega arith)
+  entries-past zero i f r h = refl
+  entries-past (suc n) i f r h = entries-past n (i + 1) (entryOf p i f) (room-on p n i f r) (omega arith) ∙ other i f (λ e. omega arith) (room-here n i f r)
 
-  module _ (goal : Played → X) (own : (f : Framed) → j < length (f .sampler .channels) → j < length (f .frame) → look (entryOf p j f) ≡ goal (sampleIn p f j)) where
-    entries-own : (n i : ℕ) (f : Framed) → Entries j n i f → look (entriesOf p n i f) ≡ goal (sampleIn p f j)
-    unfolding entriesOf
-    entries-own zero i f h = absurd (omega (arith, h .from, h .upto))
-    entries-own (suc n) i f h = go (eqb i j) refl (entries-own n (i + 1) (entryOf p i f))
+  module _ (Fits : Framed → Type 0) (fits-on : (i : ℕ) (f : Framed) → Fits f → Fits (entryOf p i f)) (goal : Reads → X)
+      (own : (f : Framed) → Fits f → Held j f → j < length (f .frame) → look (entryOf p j f) ≡ goal (readIn f j)) where
+    entries-own : (n i : ℕ) (f : Framed) → Room n i f → Fits f → i ≤ j → j < i + n → j < length (f .frame) → look (entriesOf p n i f) ≡ goal (readIn f j)
+    unfolding entriesOf entryOf
+    entries-own zero i f r h a b c = absurd (omega arith)
+    entries-own (suc n) i f r h a b c = go (eqb i j) refl (entries-own n (i + 1) (entryOf p i f) (room-on p n i f r) (fits-on i f h))
       where
-        go : (b : Bool) → eqb i j ≡ b → (Entries j n (i + 1) (entryOf p i f) → look (entriesOf p n (i + 1) (entryOf p i f)) ≡ goal (sampleIn p (entryOf p i f) j))
-            → look (entriesOf p n (i + 1) (entryOf p i f)) ≡ goal (sampleIn p f j)
+        go : (z : Bool) → eqb i j ≡ z
+            → (i + 1 ≤ j → j < i + 1 + n → j < length (entryOf p i f .frame) → look (entriesOf p n (i + 1) (entryOf p i f)) ≡ goal (readIn (entryOf p i f) j))
+            → look (entriesOf p n (i + 1) (entryOf p i f)) ≡ goal (readIn f j)
         go true e later =
             let q : i ≡ j = eqb-true i j e in
-            entries-before n (i + 1) (entryOf p i f) (omega arith)
-            ∙ subst (λ (y : ℕ). look (entryOf p y f) ≡ goal (sampleIn p f j)) (sym q) (own f (h .channels) (h .frame))
+            entries-before n (i + 1) (entryOf p i f) (room-on p n i f r) (omega arith)
+            ∙ subst (λ (y : ℕ). look (entryOf p y f) ≡ goal (readIn f j)) (sym q) (own f h (subst (λ (y : ℕ). Held y f) q (room-here n i f r)) c)
         go false e later =
-            let q : j ≢ i = λ r. eqb-false i j e (sym r) in
-            let o : i < j = ⊎-elim (λ r. absurd (q (sym r))) (λ r. r) (eq-or-lt-of-le (h .from)) in
-            later (entries-on p j n i f h o) ∙ ap goal (entry-apart p i f j q (entries-room j n i f h))
+            let q : j ≢ i = λ u. eqb-false i j e (sym u) in
+            let o : i < j = ⊎-elim (λ u. absurd (q (sym u))) (λ u. u) (eq-or-lt-of-le a) in
+            later (omega arith) (omega arith) (omega (arith, length-set (f .frame) i (outputOf (f .sampler) i p (getD (f .frame) i zero32) (f .memory))))
+            ∙ ap goal (entry-apart p i f j q (room-here n i f r))
 
-    entries-frame : (f : Framed) → Steps (f .sampler) (length (f .frame)) (length (f .memory)) → j < length (f .sampler .channels)
-        → look (entriesOf p (length (f .frame)) 0 f) ≡ cond (ltb j (length (f .frame))) (goal (sampleIn p f j)) (look f)
+    entries-frame : (f : Framed) → Fits f → Steps (f .sampler) (length (f .frame)) (length (f .memory))
+        → look (entriesOf p (length (f .frame)) 0 f) ≡ cond (ltb j (length (f .frame))) (goal (readIn f j)) (look f)
     entries-frame f h k = go (ltb j (length (f .frame))) refl
       where
-        go : (b : Bool) → ltb j (length (f .frame)) ≡ b → look (entriesOf p (length (f .frame)) 0 f) ≡ cond b (goal (sampleIn p f j)) (look f)
+        room : Room (length (f .frame)) 0 f
+        room = le-trans (le-of-eq (ap (λ (z : ℕ). z * f .sampler .capacity) (zero-add (length (f .frame))))) (k .parts)
+
+        go : (b : Bool) → ltb j (length (f .frame)) ≡ b → look (entriesOf p (length (f .frame)) 0 f) ≡ cond b (goal (readIn f j)) (look f)
         go true e =
             let o : j < length (f .frame) = ltb-true j (length (f .frame)) e in
-            entries-own (length (f .frame)) 0 f
-            (record {
-              from = omega arith;
-              upto = omega arith;
-              channels = k;
-              frame = o;
-              parts = le-trans (le-of-eq (ap (λ (z : ℕ). z * f .sampler .capacity) (zero-add (length (f .frame))))) (h .parts);
-            })
-        go false e = entries-past (length (f .frame)) 0 f (omega (arith, ltb-false j (length (f .frame)) e))
+            entries-own (length (f .frame)) 0 f room h (omega arith) (omega arith) o
+        go false e = entries-past (length (f .frame)) 0 f room (omega (arith, ltb-false j (length (f .frame)) e))
 
--- the channel, and the output, that a frame leaves
-module _ (s : Sampler) (xs : List Float) (p : Params) (m : List ℕ) (h : Steps s (length xs) (length m)) (two : length (s .channels) ≡ 2) (j : ℕ) (k : j < 2) where
-  pub frame-channel : channelAt (entriesOf p (length xs) 0 (framed s xs m) .sampler) j
-      ≡ cond (ltb j (length xs)) (channelSampleOf p (getD xs j zero32) (channelAt s j) (partOf s j m) .channel) (channelAt s j)
+-- the channel, the output and the part of the memory that a frame leaves
+module _ (s : Sampler) (xs : List Float) (p : Params) (m : List ℕ) (h : Steps s (length xs) (length m)) (j : ℕ) where
+  abbrev reads : Reads
+  reads = readIn (framed s xs m) j
+
+  pub frame-channel : j < length (s .channels) → channelAt (entriesOf p (length xs) 0 (framed s xs m) .sampler) j ≡ cond (ltb j (length xs)) (playedBy p reads .channel) (channelAt s j)
   unfolding entryOf
-  frame-channel =
-      entries-frame p j (λ (f : Framed). channelAt (f .sampler) j) (λ i f q. channel-apart (f .sampler) i p (getD (f .frame) i zero32) (f .memory) j q) (λ (r : Played). r .channel)
-      (λ f a b. channel-own (f .sampler) j p (getD (f .frame) j zero32) (f .memory) a) (framed s xs m) h (omega arith)
+  frame-channel k =
+      entries-frame p j (λ (f : Framed). channelAt (f .sampler) j) (λ i f q r. channel-apart (f .sampler) i p (getD (f .frame) i zero32) (f .memory) j q)
+      (λ (f : Framed). j < length (f .sampler .channels)) (λ i f k. omega (arith, stepped-length (f .sampler) i p (getD (f .frame) i zero32) (f .memory)))
+      (λ (r : Reads). playedBy p r .channel) (λ f k a b. channel-own (f .sampler) j p (getD (f .frame) j zero32) (f .memory) k) (framed s xs m) k h
 
-  pub frame-output : getD (entriesOf p (length xs) 0 (framed s xs m) .frame) j zero32
-      ≡ cond (ltb j (length xs)) (mul binary32 (p .volume) (channelSampleOf p (getD xs j zero32) (channelAt s j) (partOf s j m) .output)) (getD xs j zero32)
+  pub frame-output : getD (entriesOf p (length xs) 0 (framed s xs m) .frame) j zero32 ≡ cond (ltb j (length xs)) (mul binary32 (p .volume) (playedBy p reads .output)) (getD xs j zero32)
   unfolding entryOf outputOf playedAt
   frame-output =
-      entries-frame p j (λ (f : Framed). getD (f .frame) j zero32) (λ i f q. getD-set-other (f .frame) i j _ zero32 q) (λ (r : Played). mul binary32 (p .volume) (r .output))
-      (λ f a b. getD-set-same (f .frame) j _ zero32 b) (framed s xs m) h (omega arith)
+      entries-frame p j (λ (f : Framed). getD (f .frame) j zero32) (λ i f q r. getD-set-other (f .frame) i j _ zero32 q) (λ (f : Framed). Unit {0}) (λ i f u. tt)
+      (λ (r : Reads). mul binary32 (p .volume) (playedBy p r .output)) (λ f u a b. getD-set-same (f .frame) j _ zero32 b) (framed s xs m) tt h
+
+  pub frame-part : partOf (entriesOf p (length xs) 0 (framed s xs m) .sampler) j (entriesOf p (length xs) 0 (framed s xs m) .memory)
+      ≡ cond (ltb j (length xs)) (memoryOf (getD xs j zero32) (channelAt s j) (partOf s j m)) (partOf s j m)
+  unfolding entryOf channelSteppedOf partOf
+  frame-part =
+      entries-frame p j (λ (f : Framed). partOf (f .sampler) j (f .memory)) (λ i f q r. part-apart (f .sampler) i (f .memory) r (getD (f .frame) i zero32) j q) (λ (f : Framed). Unit {0}) (λ i f u. tt)
+      (λ (r : Reads). memoryOf (r .input) (r .channel) (r .part)) (λ f u a b. part-own (f .sampler) j (f .memory) a (getD (f .frame) j zero32)) (framed s xs m) tt h

@@ -4,27 +4,27 @@ use mathlib.Core.Bool.{Bool, true, false, not, cond}
 use mathlib.Core.List.{List, [], _∷_, map}
 use Prim.Native.Nat.{ℕ, zero, suc, _+_, _≤_, _<_}
 use native.Mathlib.Omega.{arith}
-use borrow.Author.Tests.{eqb-true, eqb-false}
+use borrow.Author.Tests.{eqb-true, eqb-false, eq-eqb}
 use lib.Dec.{eqb, ltb}
 use lib.ListN.{length, drop, getD, length-set, length-map, List·getD-append, List·getD-map}
 use lib.Seq.{length-sets, length-take-le, getD-take}
 use lib.Ieee.{Float}
-use Rattle.walks.proofs.Loops.{getD-any}
-use Rattle.walks.proofs.Runs.{run-front}
+use Rattle.walks.proofs.Lists.Loops.{getD-any}
+use Rattle.walks.proofs.Lists.Runs.{run-front}
 use Rattle.common_types.specs.declared.InitParams.{InitParams}
 use Rattle.common_types.specs.declared.Params.{Params}
-use Rattle.clip.specs.Positions.{zero32}
+use Rattle.binary32.specs.Leaves.{zero32}
 use Rattle.channel.specs.declared.Channel.{Channel}
 use Rattle.channel.specs.declared.Change.{Change}
 use Rattle.channel.specs.Channels.{channelOf, changedOf}
 use Rattle.channel.specs.Channels.{processSampleOf as channelSampleOf}
 use Rattle.sampler.specs.declared.Sampler.{Sampler}
 use Rattle.sampler.specs.Refusals.{present, channelAt, goodSizes, capacityOf, setUpNumber, sampleNumber, frameNumber}
-use Rattle.sampler.specs.Samplers.{samplerOf, setUpOf, eachOf, answerOf, partOf, playedAt, steppedOf, processSampleOf, Framed, framed, entryOf, entriesOf, framedOf}
+use Rattle.sampler.specs.Samplers.{samplerOf, setUpOf, eachOf, answerOf, partOf, playedAt, channelSteppedOf, processSampleOf, Framed, framed, entryOf, entriesOf, framedOf}
 use Rattle.sampler.proofs.Rows.{sizes-count, frame-steps}
 use Rattle.fates.specs.Events.{idle, changes, sounds, act, acts}
 use Rattle.fates.specs.Places.{Housed}
-use Rattle.promises.specs.Runs.{World, setUp, Call, start, stop, speed, startRecording, stopRecording, reset, sample, frame, asks, questionNumber, code, after, run, chan, doneTo, event, events}
+use Rattle.promises.specs.Runs.{World, setUp, Call, change, sample, frame, asks, questionNumber, code, after, run, chan, doneTo, event, events}
 use Rattle.promises.proofs.Engine.{changes-same, sounds-same}
 use Rattle.fates.proofs.Housing.{housed, housed-new}
 use Rattle.promises.proofs.Apart.{channel-apart, channel-own, frame-channel}
@@ -70,14 +70,14 @@ module _ (w : World) (two : length (w .sampler .channels) ≡ 2) (few : w .sampl
       m : List ℕ
       m = w .memory
 
-      which : (b : Bool) → eqb i j ≡ b → channelAt (steppedOf s i p x m) j ≡ act (cond b (sounds p x (partOf s j m)) idle) (channelAt s j)
+      which : (b : Bool) → eqb i j ≡ b → channelAt (channelSteppedOf s i p x m) j ≡ act (cond b (sounds p x (partOf s j m)) idle) (channelAt s j)
       which true e =
-          subst (λ (y : ℕ). channelAt (steppedOf s y p x m) j ≡ channelSampleOf p x (channelAt s j) (partOf s j m) .channel) (sym (eqb-true i j e)) (channel-own s j p x m (omega arith))
+          subst (λ (y : ℕ). channelAt (channelSteppedOf s y p x m) j ≡ channelSampleOf p x (channelAt s j) (partOf s j m) .channel) (sym (eqb-true i j e)) (channel-own s j p x m (omega arith))
           ∙ sounds-same p x (channelAt s j) (partOf s j m)
       which false e = channel-apart s i p x m j (λ q. eqb-false i j e (sym q))
 
       go : (b : Bool) → eqb (sampleNumber s i p (length m)) 0 ≡ b
-          → channelAt (cond b (steppedOf s i p x m) s) j ≡ act (cond b (cond (eqb i j) (sounds p x (partOf s j m)) idle) idle) (channelAt s j)
+          → channelAt (cond b (channelSteppedOf s i p x m) s) j ≡ act (cond b (cond (eqb i j) (sounds p x (partOf s j m)) idle) idle) (channelAt s j)
       go true e = which (eqb i j) refl
       go false e = refl
 
@@ -99,7 +99,7 @@ module _ (w : World) (two : length (w .sampler .channels) ≡ 2) (few : w .sampl
       go : (b : Bool) → eqb (frameNumber s (length xs) p (length m)) 0 ≡ b
           → channelAt (cond b (entriesOf p (length xs) 0 (framed s xs m)) (framed s xs m) .sampler) j
           ≡ act (cond b (cond (ltb j (length xs)) (sounds p (getD xs j zero32) (partOf s j m)) idle) idle) (channelAt s j)
-      go true e = which (ltb j (length xs)) (frame-channel s xs p m (frame-steps s (length xs) p (length m) (eqb-true _ 0 e)) two j (omega arith))
+      go true e = which (ltb j (length xs)) (frame-channel s xs p m (frame-steps s (length xs) p (length m) (eqb-true _ 0 e)) j (omega arith))
       go false e = refl
 
   nothing : (b : Bool) → chan w j ≡ act (cond b idle idle) (chan w j)
@@ -109,15 +109,10 @@ module _ (w : World) (two : length (w .sampler .channels) ≡ 2) (few : w .sampl
 
   pub chan-after : (c : Call) → chan (after w c) j ≡ act (event w c j) (chan w j)
   unfolding after event code doneTo act
-  chan-after (start position note velocity p) = answer-channel _ _ (w .sampler) two few j h
-  chan-after (stop note p) = answer-channel _ _ (w .sampler) two few j h
-  chan-after (speed note s) = answer-channel _ _ (w .sampler) two few j h
-  chan-after startRecording = answer-channel _ _ (w .sampler) two few j h
-  chan-after stopRecording = answer-channel _ _ (w .sampler) two few j h
-  chan-after reset = answer-channel _ _ (w .sampler) two few j h
+  chan-after (change d) = answer-channel _ _ (w .sampler) two few j h
   chan-after (sample i x p) = sample-channel i x p
   chan-after (frame xs p) = frame-channels xs p
-  chan-after (asks q) = nothing (eqb (questionNumber (w .sampler) q) 0)
+  chan-after (asks q) = nothing (eqb (questionNumber w q) 0)
 
 -- ---- what no call changes
 pub record Kept (s r : Sampler) : Type 0 where
@@ -140,8 +135,8 @@ unfolding answerOf eachOf
 kept-answer number d s =
     kept-if s (eachOf d s) s (eqb number 0) (record { channels = length-sets (s .channels) 0 (map (changedOf d) (present s)); count = refl; capacity = refl }) (kept-refl s)
 
-kept-step : (s : Sampler) (j : ℕ) (p : Params) (x : Float) (m : List ℕ) → Kept s (steppedOf s j p x m)
-unfolding steppedOf
+kept-step : (s : Sampler) (j : ℕ) (p : Params) (x : Float) (m : List ℕ) → Kept s (channelSteppedOf s j p x m)
+unfolding channelSteppedOf
 kept-step s j p x m = record { channels = length-set (s .channels) j (playedAt s j p x m .channel); count = refl; capacity = refl }
 
 kept-entries : (p : Params) (n j : ℕ) (f : Framed) → Kept (f .sampler) (entriesOf p n j f .sampler)
@@ -152,12 +147,7 @@ kept-entries p (suc n) j f =
 
 pub kept : (w : World) (c : Call) → Kept (w .sampler) (after w c .sampler)
 unfolding after processSampleOf framedOf
-kept w (start position note velocity p) = kept-answer _ _ (w .sampler)
-kept w (stop note p) = kept-answer _ _ (w .sampler)
-kept w (speed note s) = kept-answer _ _ (w .sampler)
-kept w startRecording = kept-answer _ _ (w .sampler)
-kept w stopRecording = kept-answer _ _ (w .sampler)
-kept w reset = kept-answer _ _ (w .sampler)
+kept w (change d) = kept-answer _ _ (w .sampler)
 kept w (sample j x p) = kept-if (w .sampler) _ _ (eqb (sampleNumber (w .sampler) j p (length (w .memory))) 0) (kept-step (w .sampler) j p x (w .memory)) (kept-refl (w .sampler))
 kept w (frame xs p) = go (eqb (frameNumber (w .sampler) (length xs) p (length (w .memory))) 0)
   where
@@ -210,7 +200,19 @@ chan-run w s j h (c ∷ cs) =
     chan-run (after w c) (standing-after w c s) j (omega (arith, kept w c .count)) cs
     ∙ ap (acts (events (after w c) cs j)) (chan-after w (s .two) (s .few) j h c)
 
-pub count-run : (w : World) (cs : List Call) → run w cs .sampler .count ≡ w .sampler .count
+pub kept-run : (w : World) (cs : List Call) → Kept (w .sampler) (run w cs .sampler)
 unfolding run
-count-run w [] = refl
-count-run w (c ∷ cs) = count-run (after w c) cs ∙ kept w c .count
+kept-run w [] = kept-refl (w .sampler)
+kept-run w (c ∷ cs) = kept-trans (w .sampler) (after w c .sampler) (run (after w c) cs .sampler) (kept w c) (kept-run (after w c) cs)
+
+-- an accepted set-up makes what it was asked for
+module _ (count : ℕ) (p : InitParams) (m : List ℕ) (ok : setUpNumber count (length m) ≡ 0) where
+  made : setUp count p m .sampler ≡ samplerOf count p (capacityOf count (length m))
+  unfolding setUp setUpOf
+  made = rw (eq-eqb _ 0 ok)
+
+  pub count-kept : (cs : List Call) → run (setUp count p m) cs .sampler .count ≡ count
+  count-kept cs = kept-run (setUp count p m) cs .count ∙ ap (λ (s : Sampler). s .count) made
+
+  pub capacity-kept : (cs : List Call) → run (setUp count p m) cs .sampler .capacity ≡ capacityOf count (length m)
+  capacity-kept cs = kept-run (setUp count p m) cs .capacity ∙ ap (λ (s : Sampler). s .capacity) made

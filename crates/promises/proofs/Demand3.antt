@@ -20,13 +20,14 @@ use Rattle.channel.specs.declared.Channel.{Channel}
 use Rattle.channel.specs.declared.Played.{Played}
 use Rattle.channel.specs.Heads.{lastTime}
 use Rattle.channel.specs.Channels.{live, fullOf}
-use Rattle.fates.specs.Engine.{bornOf}
+use Rattle.sampler.specs.Refusals.{setUpNumber}
+use Rattle.fates.specs.Engine.{bornOf, stepOf}
 use Rattle.fates.specs.Events.{Event, idle, sounds, act, acts, isReset, isSample, emptyAt, decayOf, lastOf, beforeLast}
-use Rattle.fates.specs.Places.{Housed, voiceAt, Place, at, gone, follow, becomes, newOf, onward, followAll, stoppedIn, finishes}
+use Rattle.fates.specs.Places.{Housed, voiceAt, Place, at, gone, follow, becomes, addedBy, onward, followAll, stoppedIn, finishes}
 use Rattle.fates.specs.Sounding.{Sounds, First}
-use Rattle.promises.specs.Runs.{World, setUp, Call, start, stop, speed, startRecording, stopRecording, reset, sample, frame, asks, code, after, run, chan, doneTo, event, events, isResetCall, output, final, before}
-use Rattle.promises.specs.Demands.{isEmpty, Leaves, Demand3}
-use Rattle.fates.proofs.Cases.{neither, either}
+use Rattle.promises.specs.Runs.{World, setUp, Call, change, start, sample, frame, asks, code, after, run, chan, doneTo, event, events, isResetCall, output, final, before}
+use Rattle.promises.specs.Demands.{isEmpty, Leaves, SoundsIn, FirstIn, Demand3}
+use Rattle.walks.proofs.Tests.{neither, either}
 use Rattle.fates.proofs.Tracks.{gone-never, tracks}
 use Rattle.fates.proofs.Order.{Came, ordered, covered, fewer}
 use Rattle.fates.proofs.Terms.{sounds-later}
@@ -35,7 +36,7 @@ use Rattle.fates.proofs.Goes.{goes}
 use Rattle.fates.proofs.Clocks.{clock-stands, clock-moves, no-sample}
 use Rattle.fates.proofs.OnTime.{begin, taken, on-time}
 use Rattle.promises.proofs.Engine.{step-same}
-use Rattle.promises.proofs.Calls.{Standing, chan-after, chan-run, kept, count-run, standing-after, standing-run, standing-new}
+use Rattle.promises.proofs.Calls.{Standing, chan-after, chan-run, kept, kept-run, count-kept, standing-after, standing-run, standing-new}
 use Rattle.promises.proofs.Accepted.{heard, start-room}
 
 and-false : (b : Bool) → (b && false) ≡ false
@@ -49,12 +50,7 @@ quiet b e h = either isReset b e idle false h refl
 
 event-reset : (w : World) (c : Call) (j : ℕ) → isResetCall c ≡ false → isReset (event w c j) ≡ false
 unfolding event doneTo isReset isResetCall
-event-reset w (start position note velocity p) j h = quiet (eqb (code w (start position note velocity p)) 0) _ refl
-event-reset w (stop note p) j h = quiet (eqb (code w (stop note p)) 0) _ refl
-event-reset w (speed note s) j h = quiet (eqb (code w (speed note s)) 0) _ refl
-event-reset w startRecording j h = quiet (eqb (code w startRecording) 0) _ refl
-event-reset w stopRecording j h = quiet (eqb (code w stopRecording) 0) _ refl
-event-reset w reset j h = absurd (true≢false h)
+event-reset w (change d) j h = quiet (eqb (code w (change d)) 0) _ h
 event-reset w (sample i x p) j h = quiet (eqb (code w (sample i x p)) 0) _ (quiet (eqb i j) _ refl)
 event-reset w (frame xs p) j h = quiet (eqb (code w (frame xs p)) 0) _ (quiet (ltb j (length xs)) _ refl)
 event-reset w (asks q) j h = quiet (eqb (code w (asks q)) 0) idle refl
@@ -65,6 +61,14 @@ events-reset w [] j h = refl
 events-reset w (c ∷ cs) j h =
     let a = neither (isResetCall c) (any isResetCall cs) h in
     rw (event-reset w c j (a .0)) (events-reset (after w c) cs j (a .1))
+
+-- ---- what is heard
+module _ (w : World) (st : Standing w) (j : ℕ) (k : j < w .sampler .count) where
+  hears : (s : Call) (p : Params) (x : Float) (m : List ℕ) → event w s j ≡ sounds p x m → output w s j ≡ mul binary32 (p .volume) (stepOf p x (chan w j) m .output)
+  hears s p x m h = heard w st j k p x m s h .output ∙ ap (λ (r : Played). mul binary32 (p .volume) (r .output)) (sym (step-same p x (chan w j) m))
+
+  sounds-in : (s : Call) (p : Params) (x : Float) (m : List ℕ) → event w s j ≡ sounds p x m → (n : ℕ) (v : Voice) → Sounds p x m (chan w j) n v → SoundsIn w s j p x m n v
+  sounds-in s p x m h n v y = record { stands = y .stands; unfinished = y .unfinished; output = hears s p x m h ∙ ap (mul binary32 (p .volume)) (y .output) }
 
 module _ (w : World) (st : Standing w) (j : ℕ) (k : j < w .sampler .count) where
   house : Housed (chan w j)
@@ -122,17 +126,21 @@ module _ (w : World) (st : Standing w) (j : ℕ) (k : j < w .sampler .count) whe
           → chan (run w (start position note velocity p₀ ∷ cs)) j .head .now ≡ chan w j .head .now
           → stoppedIn (events (after w (start position note velocity p₀)) cs j) (chan (after w (start position note velocity p₀)) j) (length (live (chan w j))) ≡ false
           → emptyAt m (chan (run w (start position note velocity p₀ ∷ cs)) j) ≡ false
-          → First p x m (chan (run w (start position note velocity p₀ ∷ cs)) j) (length (live (chan w j)))
+          → FirstIn (run w (start position note velocity p₀ ∷ cs)) s j p x m (length (live (chan w j)))
           (freshOf p₀ position note velocity (chan w j .head .now) (chan w j .head .«data_len»))
       unfolding es
       sooner s p x m h same free full =
           let cs' : List Call = start position note velocity p₀ ∷ cs in
           let v : World = run w cs' in
           let n : ℕ = length (live (chan w j)) in
-          let early = heard v (standing-run w cs' st) j (omega (arith, count-run w cs')) p x m s h .early in
-          subst (λ (c : Channel). First p x m c n (bornOf p₀ position note velocity (chan w j))) (sym ran)
+          let st' : Standing v = standing-run w cs' st in
+          let k' : j < v .sampler .count = omega (arith, kept-run w cs' .count) in
+          let early = heard v st' j k' p x m s h .early in
+          let f : First p x m (chan v j) n (bornOf p₀ position note velocity (chan w j))
+          = subst (λ (c : Channel). First p x m c n (bornOf p₀ position note velocity (chan w j))) (sym ran)
           (first p x m (omega arith) (ap (λ (c : Channel). c .head .now) (sym ran) ∙ same) (subst (λ (c : Channel). stoppedIn es c n ≡ false) made free)
-          (subst (λ (c : Channel). emptyAt m c ≡ false) ran full))
+          (subst (λ (c : Channel). emptyAt m c ≡ false) ran full)) in
+          record { voice = f .voice; as-started = f .as-started; since = f .since; sounds = sounds-in v st' j k' s p x m h n (f .voice) (f .sounds) }
 
   -- ---- a voice that leaves
   leaves : (c : Call) (n : ℕ) (v : Voice) → voiceAt (chan w j) n ≡ some v → isResetCall c ≡ false → follow (event w c j) (chan w j) n ≡ gone
@@ -144,8 +152,8 @@ module _ (w : World) (st : Standing w) (j : ℕ) (k : j < w .sampler .count) whe
       = subst (λ (d : Channel). d .count < chan w j .count) (sym e) (fewer (event w c j) (chan w j) house (event-reset w c j r) n v s g) in
       (less, rw (lt-leb 32 (chan (after w c) j .count) (omega (arith, house .room))) (and-false (not (isEmpty (chan (after w c) j)))))
 
-  came : (c : Call) (u : Voice) (i : ℕ) → Came (event w c j) (chan w j) i ⊎ ((i ≡ length (live (chan w j))) × (newOf (event w c j) (chan w j) ≡ u ∷ []))
-      → ((n : ℕ) × (v : Voice) × (voiceAt (chan w j) n ≡ some v) × (follow (event w c j) (chan w j) n ≡ at i)) ⊎ ((i ≡ length (live (chan w j))) × (newOf (event w c j) (chan w j) ≡ u ∷ []))
+  came : (c : Call) (u : Voice) (i : ℕ) → Came (event w c j) (chan w j) i ⊎ ((i ≡ length (live (chan w j))) × (addedBy (event w c j) (chan w j) ≡ u ∷ []))
+      → ((n : ℕ) × (v : Voice) × (voiceAt (chan w j) n ≡ some v) × (follow (event w c j) (chan w j) n ≡ at i)) ⊎ ((i ≡ length (live (chan w j))) × (addedBy (event w c j) (chan w j) ≡ u ∷ []))
   came c u i (inl r) = inl (r .place, r .voice, r .stood, r .follows)
   came c u i (inr r) = inr r
 
@@ -217,12 +225,17 @@ standing-demand3 w st j k = record {
   counts = counts w st j k;
   stands = λ cs r q. ap (λ (c : Channel). c .head .now) (chan-run w st j k cs) ∙ clock-stands (events w cs j) (chan w j) (events-reset w cs j r) q;
   does = next w st j k;
-  hears = λ s p x m h. heard w st j k p x m s h .output ∙ ap (λ (r : Played). mul binary32 (p .volume) (r .output)) (sym (step-same p x (chan w j) m));
+  hears = hears w st j k;
   on-time = λ position note velocity p₀ ok data₀ cs r s p x m h same free full. sooner w st j k position note velocity p₀ ok data₀ cs r s p x m h same free full;
   sounds-on = λ n v a u cs r f s p x m h e.
       let q = chan-run w st j k cs in
-      let l = sounds-later (events w cs j) (chan w j) (house w st j k) (events-reset w cs j r) n v a u f p x m (subst (λ (d : Channel). emptyAt m d ≡ false) q e) in
-      (l .place, l .voice, l .follows, subst (λ (d : Channel). Sounds p x m d (l .place) (l .voice)) (sym q) (l .sounds));
+      let l = sounds-later (events w cs j) (chan w j) (house w st j k) (events-reset w cs j r) n v a u f p x m (subst (λ (d : Channel). emptyAt m d ≡ false) q e) in (
+        l .place,
+        l .voice,
+        l .follows,
+        sounds-in (run w cs) (standing-run w cs st) j (omega (arith, kept-run w cs .count)) s p x m h (l .place) (l .voice)
+            (subst (λ (d : Channel). Sounds p x m d (l .place) (l .voice)) (sym q) (l .sounds)),
+      );
   stays = λ n v a u cs r g. stays (events w cs j) (chan w j) (house w st j k) (events-reset w cs j r) n v a u g;
   follows = λ c n i v s f. subst (λ (d : Channel). voiceAt d i ≡ some (becomes (event w c j) (chan w j) n v)) (sym (next w st j k c)) (tracks (event w c j) (chan w j) (house w st j k) n i v s f);
   in-order = λ c i n a b u v o s r f g. ordered (event w c j) (chan w j) i n a b u v o s r f g;
@@ -233,5 +246,6 @@ standing-demand3 w st j k = record {
   taken = λ position note velocity p ok data₀. takes w st j k position note velocity p ok data₀;
 }
 
-pub demand3 : (count : ℕ) (p : InitParams) (m : List ℕ) (cs : List Call) (j : ℕ) → j < run (setUp count p m) cs .sampler .count → Demand3 (run (setUp count p m) cs) j
-demand3 count p m cs j k = standing-demand3 (run (setUp count p m) cs) (standing-run (setUp count p m) cs (standing-new count p m)) j k
+pub demand3 : (count : ℕ) (p : InitParams) (m : List ℕ) → setUpNumber count (length m) ≡ 0 → (cs : List Call) (j : ℕ) → j < count → Demand3 (run (setUp count p m) cs) j
+demand3 count p m ok cs j k =
+    standing-demand3 (run (setUp count p m) cs) (standing-run (setUp count p m) cs (standing-new count p m)) j (omega (arith, count-kept count p m ok cs))

@@ -23,11 +23,11 @@ use Rattle.channel.specs.Channels.{live}
 use Rattle.sampler.specs.declared.Sampler.{Sampler}
 use Rattle.sampler.specs.declared.Answer.{Answer}
 use Rattle.sampler.specs.Refusals.{channelAt, goodSizes, goodSampler, capacityOf, goodWith, noChannel, row, setUpNumber, startNumber, stopNumber, speedNumber, plainNumber, sampleNumber, frameNumber, channelNumber}
-use Rattle.sampler.specs.Samplers.{samplerOf, setUpOf, partOf, eachOf, answerOf, processSampleOf, sampleMemory, steppedOf, memoryAt, Framed, framed, entriesOf, framedOf}
-use Rattle.sampler.proofs.Rows.{sample-ready}
+use Rattle.sampler.specs.Samplers.{samplerOf, setUpOf, eachOf, answerOf, processSampleOf, sampleMemory, channelSteppedOf, memoryAt, Framed, framed, entriesOf, framedOf}
 use Rattle.questions.specs.Questions.{recorderAt, notesOf, inFront, listNumber, listAfter, infoNumber, answered, noInfos, infosWith, getVoiceInfoOf}
 use Rattle.questions.specs.declared.VoiceInfos.{VoiceInfos}
-use Rattle.lent.specs.Lists.{listedOf}
+use Rattle.lent_sampler.specs.Lists.{listedOf}
+use Rattle.channel.specs.declared.Change.the-variants.{Start, Stop, Speed, Head, Reset}
 use Rattle.promises.specs.Runs.{
   World,
   setUp,
@@ -42,6 +42,7 @@ use Rattle.promises.specs.Runs.{
   fillVoiceInfo,
   questionNumber,
   Call,
+  change,
   start,
   stop,
   speed,
@@ -53,12 +54,18 @@ use Rattle.promises.specs.Runs.{
   asks,
   code,
   after,
+  ownPart,
 }
 use Rattle.promises.specs.Outcomes.{on, Outcome, Allows, Untouched}
 use Rattle.promises.specs.Demands.{Demand1, Demand2, Demands}
-use Rattle.promises.proofs.Apart.{part-apart}
-use Rattle.promises.proofs.Outcomes.{settled, one-outcome, number-code, left-after, chain-run, run-chain}
+use Rattle.promises.proofs.Calls.{count-kept, capacity-kept}
+use Rattle.promises.proofs.Memory.{part-unwritten, part-written}
+use Rattle.promises.proofs.Outcomes.{settled, one-outcome, number-code, left-after, output-answered, chain-run, run-chain}
+use Rattle.promises.proofs.Infos.{infos-given, infos-counted, infos-listed}
 use Rattle.promises.proofs.Table.{table-holds}
+use Rattle.promises.proofs.Broken.{row-nine}
+use Rattle.promises.proofs.Rows.{row-tests}
+use Rattle.promises.proofs.SmallParts.{row-seven}
 use Rattle.promises.proofs.Demand3.{demand3}
 use Rattle.promises.proofs.Whole.{memory-after, no-panic, whole}
 
@@ -79,17 +86,17 @@ answer-held : (w : World) (n : ℕ) (d : Change) → n ≢ 0 → record { sample
 unfolding answerOf
 answer-held w n d h = λ t. record { sampler = other n (eachOf d (w .sampler)) (w .sampler) h t; memory = w .memory }
 
-after-held : (w : World) (c : Call) → code w c ≢ 0 → after w c ≡ w
-unfolding after code processSampleOf sampleMemory framedOf
-after-held w (start position note velocity p) h = answer-held w _ _ h
-after-held w (stop note p) h = answer-held w _ _ h
-after-held w (speed note s) h = answer-held w _ _ h
-after-held w startRecording h = answer-held w _ _ h
-after-held w stopRecording h = answer-held w _ _ h
-after-held w reset h = answer-held w _ _ h
-after-held w (sample j x p) h =
+sample-held : (w : World) (j : ℕ) (x y : Float) (p : Params) → sampleNumber (w .sampler) j p (length (w .memory)) ≢ 0
+    → record { sampler = processSampleOf (w .sampler) j x p (w .memory) .sampler; memory = sampleMemory (w .sampler) j y p (w .memory) } ≡ w
+unfolding processSampleOf sampleMemory
+sample-held w j x y p h =
     let n = sampleNumber (w .sampler) j p (length (w .memory)) in
-    λ t. record { sampler = other n (steppedOf (w .sampler) j p x (w .memory)) (w .sampler) h t; memory = other n (memoryAt (w .sampler) j x (w .memory)) (w .memory) h t }
+    λ t. record { sampler = other n (channelSteppedOf (w .sampler) j p x (w .memory)) (w .sampler) h t; memory = other n (memoryAt (w .sampler) j y (w .memory)) (w .memory) h t }
+
+after-held : (w : World) (c : Call) → code w c ≢ 0 → after w c ≡ w
+unfolding after code framedOf
+after-held w (change d) h = answer-held w _ _ h
+after-held w (sample j x p) h = sample-held w j x _ p h
 after-held w (frame xs p) h =
     let f = framed (w .sampler) xs (w .memory) in
     let e = other (frameNumber (w .sampler) (length xs) p (length (w .memory))) (entriesOf p (length xs) 0 f) f h in
@@ -98,12 +105,7 @@ after-held w (asks q) h = refl
 
 untouched : (w : World) (c : Call) (r : Outcome (on w c)) → Allows (on w c) r → code w c ≢ 0 → Untouched w c r
 unfolding Untouched code questionNumber framedOf listAfter getVoiceInfoOf answered listedOf
-untouched w (start position note velocity p) r h n = tt
-untouched w (stop note p) r h n = tt
-untouched w (speed note s) r h n = tt
-untouched w startRecording r h n = tt
-untouched w stopRecording r h n = tt
-untouched w reset r h n = tt
+untouched w (change d) r h n = tt
 untouched w (sample j x p) r h n = tt
 untouched w (frame xs p) r h n =
     let f = framed (w .sampler) xs (w .memory) in
@@ -125,12 +127,11 @@ untouched w (asks (fillVoiceInfo j p list)) r h n =
 -- ---- a refused set-up
 empty-record : (p : InitParams) (m : List ℕ) (c : Call) → code (record { sampler = samplerOf 0 p 0; memory = m }) c ≡ 9
 unfolding code questionNumber startNumber stopNumber speedNumber plainNumber sampleNumber frameNumber channelNumber listNumber infoNumber goodWith goodSampler goodSizes
-empty-record p m (start position note velocity q) = refl
-empty-record p m (stop note q) = refl
-empty-record p m (speed note s) = refl
-empty-record p m startRecording = refl
-empty-record p m stopRecording = refl
-empty-record p m reset = refl
+empty-record p m (change (Start q position note velocity)) = refl
+empty-record p m (change (Stop q note)) = refl
+empty-record p m (change (Speed note s)) = refl
+empty-record p m (change (Head d)) = refl
+empty-record p m (change Reset) = refl
 empty-record p m (sample j x q) = refl
 empty-record p m (frame xs q) = refl
 empty-record p m (asks (getFramesProcessed j)) = refl
@@ -147,21 +148,6 @@ unfolding setUp setUpOf
 unmade count p m h c =
     ap (λ (s : Sampler). code (record { sampler = s; memory = m }) c) (other (setUpNumber count (length m)) (samplerOf count p (capacityOf count (length m))) (samplerOf 0 p 0) h)
     ∙ empty-record p m c
-
--- ---- the parts of the memory
-part-held : (w : World) (i : ℕ) (x : Float) (p : Params) (j : ℕ) → j ≢ i → partOf (w .sampler) j (sampleMemory (w .sampler) i x p (w .memory)) ≡ partOf (w .sampler) j (w .memory)
-unfolding sampleMemory
-part-held w i x p j e = go (eqb (sampleNumber s i p (length m)) 0) refl
-  where
-    s : Sampler
-    s = w .sampler
-
-    m : List ℕ
-    m = w .memory
-
-    go : (b : Bool) → eqb (sampleNumber s i p (length m)) 0 ≡ b → partOf s j (cond b (memoryAt s i x m) m) ≡ partOf s j m
-    go true q = part-apart s i m (sample-ready s i p (length m) (eqb-true _ 0 q) .part) x j e
-    go false q = refl
 
 -- ---- rows
 query-rows : (w : World) (j : ℕ) (q : Question) → (q ≡ getFramesProcessed j) ⊎ ((q ≡ getDataLen j) ⊎ ((q ≡ isRecording j) ⊎ (q ≡ getLastRecordedOffset j)))
@@ -183,7 +169,10 @@ unfolding setUpOf setUpNumber code questionNumber startNumber stopNumber speedNu
 demand1 = record {
   takes = settled;
   one = one-outcome;
-  apart = λ w i x p r h j e. ap (partOf (w .sampler) j) (h .1) ∙ part-held w i x p j e;
+  unwritten = λ w c r h j n. ap (λ (v : World). ownPart v j) (left-after w c r h) ∙ part-unwritten w j c n;
+  written = λ w c r h j p x m e. ap (λ (v : World). ownPart v j) (left-after w c r h) ∙ part-written w j c p x m e;
+  filled = λ w j p list r h n q. (h .0 ∙ infos-counted w j p (length list) n q, h .1 ∙ infos-listed w j p (length list) n q list);
+  informed = λ w j p room r h n q. infos-given w j p room n q r h;
   unmade = unmade;
   sized = λ w c r h. ap (λ (v : World). length (v .memory)) (left-after w c r h) ∙ memory-after w c;
   numbered = number-code;
@@ -200,6 +189,9 @@ demand1 = record {
   plain-rows = plain-rows;
   set-up-rows = λ count p m r h. ap (λ (a : Answer). a .number) h;
   held = λ w c r h n. (left-after w c r h ∙ after-held w c n, untouched w c r h n);
+  tests = row-tests;
+  small-parts = row-seven;
+  broken = row-nine;
 }
 
 -- ---- demand 2
@@ -231,4 +223,16 @@ demand2 = record {
 }
 
 pub demands : Demands
-demands = record { first = demand1; no-panic = no-panic; second = demand2; third = demand3; whole = whole; runs = run-chain; no-other = λ w u cs h. chain-run h }
+unfolding capacityOf
+demands = record {
+  first = demand1;
+  no-panic = no-panic;
+  second = demand2;
+  third = demand3;
+  count-stays = count-kept;
+  capacity-stays = capacity-kept;
+  whole = whole;
+  answers = output-answered;
+  runs = run-chain;
+  no-other = λ w u cs h. chain-run h;
+}

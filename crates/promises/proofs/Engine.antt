@@ -26,8 +26,7 @@ unfolding act changedOf begunOf startPlayingOf
 changes-same (change.Start p position note velocity) c = refl
 changes-same (change.Stop p note) c = refl
 changes-same (change.Speed note speed) c = refl
-changes-same change.StartRecording c = refl
-changes-same change.StopRecording c = refl
+changes-same (change.Head d) c = refl
 changes-same change.Reset c = refl
 
 lets-same : (mode : NoteOffBehaviour) (t : Tick) (u : Voice) → letsGo mode t u ≡ overOf mode (isStaticAndMuteOf (u .volume)) (lateOf t u)

@@ -18,8 +18,7 @@ use Rattle.common_types.specs.declared.NoteOffBehaviour.{NoteOffBehaviour}
 use Rattle.common_types.specs.declared.NoteOffBehaviour.the-variants as off
 use Rattle.common_types.specs.declared.time_value.TimeOrRatio.the-variants.{Ratio}
 use Rattle.common_types.specs.Settings.{defaultTransport}
-use Rattle.clip.specs.Positions.{zero32, one32}
-use Rattle.binary32.specs.Leaves.{floorOf, minOf, maxOf, crossingOf}
+use Rattle.binary32.specs.Leaves.{floorOf, minOf, maxOf, crossingOf, zero32, one32}
 use Rattle.walks.specs.Walks.{any, every, without, fold, seek}
 use Rattle.common_types.specs.Settings.{speedOf, timeLengthOf, lengthOf, loopLengthOf, lengthBeyond, beyondLimits}
 use Rattle.volume.specs.Levels.{progressOf, levelOf, towardOf, steppedOf, goodRamp, goodVolume}
@@ -31,37 +30,40 @@ use Rattle.walks.specs.Each.{Each}
 use Rattle.voice.specs.declared.Voice.{Voice}
 use Rattle.voice.specs.Voices.{tickOf, lateOf, overOf, shouldRemoveOf, movedOf, productOf, soundedOf, finishOf, playedOutOf, endedOf, volumeStepped, turnOf, freshOf, blankVoice, atSpeedOf, goodVoice}
 use Rattle.channel.specs.declared.Head.{Head}
-use Rattle.channel.specs.Heads.{nextTime, headOf, rampOf, passthruOf, closedOf, goodHead}
-use Rattle.channel.specs.Channels.{live, withHead, channelOf, resetOf, anyUnfinishedOf, handledOf, pushedOf, startPlayingOf, wantedOf, findOf, finishedAtOf, stopPlayingOf, spedOf, setNoteSpeedOf, startRecordingOf, stopRecordingOf, keptOf, addedOf, heardOf, playedOf, playedIfOf, takenOf, memoryOf, processSampleOf, changedOf, fullOf, goodVoicesOf, goodChannel}
+use Rattle.channel.specs.Soundness.{FittingChange}
+use Rattle.channel.specs.Heads.{headChangedOf, nextTime, headOf, rampOf, passthruOf, closedOf, goodHead}
+use Rattle.channel.specs.Channels.{live, withHead, channelOf, resetOf, anyUnfinishedOf, handledOf, pushedOf, startPlayingOf, wantedOf, findOf, finishedAtOf, stopPlayingOf, spedOf, setNoteSpeedOf, keptOf, addedOf, heardOf, playedOf, playedIfOf, takenOf, memoryOf, processSampleOf, changedOf, fullOf, goodVoicesOf, goodChannel}
 use Rattle.sampler.specs.Refusals.{goodSizes, goodSampler, capacityOf, goodWith, setUpNumber, startNumber, stopNumber, speedNumber, plainNumber, sampleNumber, frameNumber, channelNumber}
-use Rattle.questions.specs.Questions.{notesOf, listNumber}
-use Rattle.sampler.specs.Samplers.{withChannels, setUpOf, eachOf, answerOf, partOf, playedAt, steppedOf as sampledOf, outputOf, memoryAt, processSampleOf as sampleOf, sampleMemory, entryOf, entriesOf, framedOf}
+use Rattle.questions.specs.declared.VoiceInfo.{VoiceInfo}
+use Rattle.questions.specs.declared.Counted.the-variants as counted
+use Rattle.questions.specs.Questions.{notesOf, listNumber, voiceInfoOf, infoNumber}
+use Rattle.sampler.specs.Samplers.{withChannels, setUpOf, eachOf, answerOf, partOf, playedAt, channelSteppedOf as sampledOf, outputOf, memoryAt, processSampleOf as sampleOf, sampleMemory, entryOf, entriesOf, framedOf}
 use Rattle.fates.specs.Engine.{begunOf, passesOver, heardBy, turnedOf, letsGo, leavesOf, leftOf, turnsOf, stepOf}
 use Rattle.fates.specs.Events.{tickAt, act, isReset, isSample, decayOf}
-use Rattle.fates.specs.Places.{voiceAt, at, gone, fateOf, follow, stops, becomes, newOf, outOf, playsOut, followAll, stoppedIn, finishedIn}
-use Rattle.promises.specs.Runs.{World, Call, start, stop, speed, startRecording, stopRecording, sample, frame, getDataLen, iterActiveNotes, asks, FittingCall, chan, setUp, questionNumber, code, after, run, doneTo, event, events, isResetCall, output, before}
+use Rattle.fates.specs.Sounding.{termsOf}
+use Rattle.fates.specs.Places.{voiceAt, at, gone, fateOf, follow, stops, becomes, addedBy, outOf, playsOut, followAll, stoppedIn, finishedIn}
+use Rattle.promises.specs.Runs.{World, Call, start, stop, speed, startRecording, stopRecording, sample, frame, getDataLen, iterActiveNotes, fillVoiceInfo, asks, FittingCall, chan, ownPart, setUp, questionNumber, code, after, run, doneTo, event, events, isResetCall, output, before}
 use lib.Ieee.{Float, nan, fin, binary32, fits, add, sub, mul, div, rem, neg, lt, le, eq, ofInt, toUnsigned, isNan, ofBits, toBits, nanBits, ofFields}
-use Rattle.fates.specs.Sounding.{Sounds, First}
 use Rattle.promises.specs.Outcomes.{on, leftBy}
-use Rattle.promises.specs.Demands.{Plays, Asked, Leaves, Demand3}
+use Rattle.promises.specs.Demands.{Plays, Asked, AllPlaced, Leaves, SoundsIn, FirstIn, termsWith, Demand3}
 use Rattle.promises.proofs.Outcomes.{settled}
 use Rattle.promises.proofs.Whole.{no-panic, whole}
 use Rattle.promises.proofs.Demands.{demands}
 use Rattle.promises.proofs.Demand3.{demand3}
 
 -- whatever a run computes by
-computing : Unit {0}
-unfolding floorOf minOf maxOf crossingOf any every without fold seek speedOf timeLengthOf lengthOf loopLengthOf lengthBeyond beyondLimits progressOf levelOf towardOf steppedOf goodRamp goodVolume raised inState misusedOf skippedOf startOf stopOf recordedOf dataAfter goodRecorder leadOf travelAt loopedOf roundTripOf mirroredOf bouncedOf wrappedOf placedOf clipOffsetAt clipToDataOf offsetAt indexAt madeOf backOf foundAt reversingAt shiftFor settledOf withSpeed withMode withLength withDataLength goodLength goodClip tickOf lateOf overOf shouldRemoveOf movedOf productOf soundedOf finishOf playedOutOf endedOf volumeStepped turnOf freshOf blankVoice atSpeedOf goodVoice nextTime headOf rampOf passthruOf closedOf goodHead channelOf resetOf anyUnfinishedOf handledOf pushedOf startPlayingOf wantedOf findOf finishedAtOf stopPlayingOf spedOf setNoteSpeedOf startRecordingOf stopRecordingOf keptOf addedOf heardOf playedOf playedIfOf takenOf begunOf passesOver heardBy turnedOf letsGo leavesOf leftOf turnsOf stepOf memoryOf processSampleOf changedOf fullOf goodVoicesOf goodChannel goodSizes goodSampler capacityOf goodWith setUpNumber startNumber stopNumber speedNumber plainNumber sampleNumber frameNumber channelNumber notesOf listNumber setUpOf eachOf answerOf partOf playedAt sampledOf outputOf memoryAt sampleOf sampleMemory entryOf entriesOf framedOf act isReset isSample decayOf fateOf follow stops becomes newOf outOf playsOut followAll stoppedIn finishedIn setUp questionNumber code after run doneTo event events isResetCall output before add sub mul div rem neg lt le eq ofInt toUnsigned isNan ofBits toBits nanBits ofFields
+unfoldable pub computing : Unit {0}
+unfolding floorOf minOf maxOf crossingOf any every without fold seek speedOf timeLengthOf lengthOf loopLengthOf lengthBeyond beyondLimits progressOf levelOf towardOf steppedOf goodRamp goodVolume raised inState misusedOf skippedOf startOf stopOf recordedOf dataAfter goodRecorder leadOf travelAt loopedOf roundTripOf mirroredOf bouncedOf wrappedOf placedOf clipOffsetAt clipToDataOf offsetAt indexAt madeOf backOf foundAt reversingAt shiftFor settledOf withSpeed withMode withLength withDataLength goodLength goodClip tickOf lateOf overOf shouldRemoveOf movedOf productOf soundedOf finishOf playedOutOf endedOf volumeStepped turnOf freshOf blankVoice atSpeedOf goodVoice nextTime headOf rampOf passthruOf closedOf goodHead channelOf resetOf anyUnfinishedOf handledOf pushedOf startPlayingOf wantedOf findOf finishedAtOf stopPlayingOf spedOf setNoteSpeedOf headChangedOf keptOf addedOf heardOf playedOf playedIfOf takenOf begunOf passesOver heardBy turnedOf letsGo leavesOf leftOf turnsOf stepOf memoryOf processSampleOf changedOf fullOf goodVoicesOf goodChannel goodSizes goodSampler capacityOf goodWith setUpNumber startNumber stopNumber speedNumber plainNumber sampleNumber frameNumber channelNumber notesOf listNumber setUpOf eachOf answerOf partOf playedAt sampledOf outputOf memoryAt sampleOf sampleMemory entryOf entriesOf framedOf act isReset isSample decayOf fateOf follow stops becomes addedBy outOf playsOut followAll stoppedIn finishedIn setUp questionNumber code after run doneTo event events isResetCall output before add sub mul div rem neg lt le eq ofInt toUnsigned isNan ofBits toBits nanBits ofFields
 computing = tt
 
 -- ---- parameters, keys, calls
-abbrev half : Float
+abbrev pub half : Float
 half = fin false 1 (negsuc 0)
 
-abbrev two : Float
+abbrev pub two : Float
 two = fin false 1 (pos 1)
 
-abbrev with : ℕ → LoopMode → NoteOffBehaviour → Params
+abbrev pub with : ℕ → LoopMode → NoteOffBehaviour → Params
 with decay mode behaviour = record {
   «attack_samples» = 0;
   «decay_samples» = decay;
@@ -75,36 +77,36 @@ with decay mode behaviour = record {
   «note_off_behavior» = behaviour;
 }
 
-abbrev plain : Params
+abbrev pub plain : Params
 plain = with 0 loop.Loop off.Decay
 
-abbrev once : Params
+abbrev pub once : Params
 once = with 0 loop.PlayOnce off.Decay
 
-abbrev fading : NoteOffBehaviour → Params
+abbrev pub fading : NoteOffBehaviour → Params
 fading behaviour = with 2 loop.Loop behaviour
 
-abbrev key : ℕ → Note
+abbrev pub key : ℕ → Note
 key n = record { note = n; channel = 0 }
 
-abbrev press : ℕ → Call
+abbrev pub press : ℕ → Call
 press n = start zero32 (key n) one32 plain
 
 -- both channels, no input
-abbrev quiet : Params → Call
+abbrev pub quiet : Params → Call
 quiet p = frame (zero32 ∷ zero32 ∷ []) p
 
 -- ---- set-up of 2 channels on 4 cells, and a recording of 2 samples on each: 0.5, 1 and 1, 0.5
-abbrev init : InitParams
+abbrev pub init : InitParams
 init = record { «auto_passthru» = false }
 
-abbrev cells : List ℕ
+abbrev pub cells : List ℕ
 cells = 0 ∷ 0 ∷ 0 ∷ 0 ∷ []
 
-abbrev recorded : List Call
+abbrev pub recorded : List Call
 recorded = startRecording ∷ frame (half ∷ one32 ∷ []) plain ∷ frame (one32 ∷ half ∷ []) plain ∷ stopRecording ∷ []
 
-abbrev since : List Call → World
+abbrev pub since : List Call → World
 since cs = run (setUp 2 init cells) (recorded ++ cs)
 
 -- channel 1's part of the memory then: 1 and 0.5 as patterns
@@ -122,16 +124,36 @@ between = speed (key 60) half ∷ asks (getDataLen 1) ∷ sample 0 zero32 plain 
 abbrev younger : World
 younger = run older (press 60 ∷ between)
 
+-- at half the volume
+abbrev soft : Params
+soft = record {
+  «attack_samples» = 0;
+  «decay_samples» = 0;
+  transport = defaultTransport;
+  «loop_length» = Ratio one32;
+  speed = one32;
+  «reverse_speed» = one32;
+  volume = half;
+  «auto_passthru» = false;
+  «loop_mode» = loop.Loop;
+  «note_off_behavior» = off.Decay;
+}
+
 promised : Demand3 older 1
 unfolding computing
-promised = demand3 2 init cells (recorded ++ (press 60 ∷ [])) 1 (lit< tt)
+promised = demand3 2 init cells refl (recorded ++ (press 60 ∷ [])) 1 (lit< tt)
 
-pub on-time-met : First plain zero32 part (chan younger 1) 1 (freshOf plain zero32 (key 60) one32 2 2)
+pub on-time-met : FirstIn younger (quiet soft) 1 soft zero32 part 1 (freshOf plain zero32 (key 60) one32 2 2)
 unfolding computing
-on-time-met = promised .on-time zero32 (key 60) one32 plain refl refl between refl (quiet plain) plain zero32 part refl refl refl refl
+on-time-met = promised .on-time zero32 (key 60) one32 plain refl refl between refl (quiet soft) soft zero32 part refl refl refl refl
 
--- the older voice, stopped with no decay, is silent; what channel 1 sounds is the younger one's first recorded value, 1
-pub on-time-heard : output younger (quiet plain) 1 ≡ one32
+-- the older voice, stopped with no decay, has no term; that of the younger one, at its note's speed 0.5, is its first recorded value, 1
+pub on-time-terms : termsWith soft zero32 part (chan younger 1) 1 (atSpeedOf half (freshOf plain zero32 (key 60) one32 2 2)) ≡ one32 ∷ []
+unfolding computing termsOf
+on-time-terms = refl
+
+-- and channel 1 sounds it at the volume 0.5
+pub on-time-heard : output younger (quiet soft) 1 ≡ half
 unfolding computing
 on-time-heard = refl
 
@@ -158,9 +180,14 @@ hears-met = promised .hears (sample 1 half plain) plain half part refl
 abbrev again : List Call
 again = quiet plain ∷ press 60 ∷ []
 
-pub sounds-on-met : (k : ℕ) × (u : Voice) × (followAll (events older again 1) (chan older 1) 0 ≡ at k) × Sounds plain zero32 part (chan (run older again) 1) k u
+pub sounds-on-met : (k : ℕ) × (u : Voice) × (followAll (events older again 1) (chan older 1) 0 ≡ at k) × SoundsIn (run older again) (sample 1 zero32 plain) 1 plain zero32 part k u
 unfolding computing
 sounds-on-met = promised .sounds-on 0 (freshOf plain zero32 (key 60) one32 2 2) refl refl again refl refl (sample 1 zero32 plain) plain zero32 part refl refl
+
+-- it has come to 0.5, and the second one begins at 1
+pub sounds-on-terms : termsWith plain zero32 part (chan (run older again) 1) 0 (getD (live (chan (run older again) 1)) 0 blankVoice) ≡ half ∷ one32 ∷ []
+unfolding computing termsOf
+sounds-on-terms = refl
 
 -- ---- stays: play-once finishes the voice in its second sample, and with no decay it leaves in that sample
 pub stays-met : finishedIn (events older (quiet once ∷ quiet once ∷ []) 1) (chan older 1) 0 ≡ true
@@ -181,7 +208,7 @@ voice w n = getD (live (chan w 1)) n blankVoice
 
 trio-promised : Demand3 trio 1
 unfolding computing
-trio-promised = demand3 2 init cells (recorded ++ (press 60 ∷ press 61 ∷ press 62 ∷ stop (key 60) plain ∷ [])) 1 (lit< tt)
+trio-promised = demand3 2 init cells refl (recorded ++ (press 60 ∷ press 61 ∷ press 62 ∷ stop (key 60) plain ∷ [])) 1 (lit< tt)
 
 pub first-leaves : follow (event trio (quiet plain) 1) (chan trio 1) 0 ≡ gone
 unfolding computing
@@ -205,13 +232,13 @@ unfolding computing
 none-else-met = came (trio-promised .none-else (quiet plain) 1 (voice (after trio (quiet plain)) 1) refl)
   where
     came : ((n : ℕ) × (v : Voice) × (voiceAt (chan trio 1) n ≡ some v) × (follow (event trio (quiet plain) 1) (chan trio 1) n ≡ at 1))
-        ⊎ ((1 ≡ length (live (chan trio 1))) × (newOf (event trio (quiet plain) 1) (chan trio 1) ≡ voice (after trio (quiet plain)) 1 ∷ []))
+        ⊎ ((1 ≡ length (live (chan trio 1))) × (addedBy (event trio (quiet plain) 1) (chan trio 1) ≡ voice (after trio (quiet plain)) 1 ∷ []))
         → (n : ℕ) × (follow (event trio (quiet plain) 1) (chan trio 1) n ≡ at 1)
     came (inl r) = (r .0, r .3)
     came (inr r) = let z : _≡_ {A = ℕ} 0 1 = ap length (r .1) in absurd (omega arith)
 
 -- a start's own, at the end
-pub none-else-new : newOf (event older (press 61) 1) (chan older 1) ≡ voice (after older (press 61)) 1 ∷ []
+pub none-else-new : addedBy (event older (press 61) 1) (chan older 1) ≡ voice (after older (press 61)) 1 ∷ []
 unfolding computing
 none-else-new = refl
 
@@ -243,7 +270,7 @@ larger-needed = refl
 pub goes-at-once : followAll (events (run older (quiet once ∷ [])) (quiet once ∷ []) 1) (chan (run older (quiet once ∷ [])) 1) 0 ≡ gone
 unfolding computing
 goes-at-once =
-    demand3 2 init cells (recorded ++ (press 60 ∷ quiet once ∷ [])) 1 (lit< tt) .goes (quiet once) 0 (getD (live (chan (run older (quiet once ∷ [])) 1)) 0 blankVoice) refl refl [] once zero32 part refl refl (lit≤ tt)
+    demand3 2 init cells refl (recorded ++ (press 60 ∷ quiet once ∷ [])) 1 (lit< tt) .goes (quiet once) 0 (getD (live (chan (run older (quiet once ∷ [])) 1)) 0 blankVoice) refl refl [] once zero32 part refl refl (lit≤ tt)
 
 -- a recording that is empty keeps a finished voice, however late
 pub empty-keeps : followAll (events older (stop (key 60) plain ∷ startRecording ∷ stopRecording ∷ quiet plain ∷ quiet plain ∷ []) 1) (chan older 1) 0 ≡ at 0
@@ -270,7 +297,7 @@ no-place = refl
 
 pub free-met : (chan (after stopped (quiet plain)) 1 .count < chan stopped 1 .count) × (fullOf (chan (after stopped (quiet plain)) 1) ≡ false)
 unfolding computing
-free-met = demand3 2 init cells (recorded ++ (replicate 32 (press 60) ++ (stop (key 60) plain ∷ []))) 1 (lit< tt) .free (quiet plain) 0 (finishOf 2 0 (freshOf plain zero32 (key 60) one32 2 2)) refl refl refl
+free-met = demand3 2 init cells refl (recorded ++ (replicate 32 (press 60) ++ (stop (key 60) plain ∷ []))) 1 (lit< tt) .free (quiet plain) 0 (finishOf 2 0 (freshOf plain zero32 (key 60) one32 2 2)) refl refl refl
 
 pub place-again : code (after stopped (quiet plain)) (press 60) ≡ 0
 unfolding computing
@@ -295,22 +322,27 @@ leaving = recorded ++ (replicate 32 (press 60) ++ gone-by)
 abbrev left : World
 left = run (setUp 2 init cells) leaving
 
+-- two channels on 5 cells have 2 each, after those calls as before them
+pub sizes-met : (run (setUp 2 init (0 ∷ cells)) leaving .sampler .count ≡ 2) × (run (setUp 2 init (0 ∷ cells)) leaving .sampler .capacity ≡ 2)
+unfolding computing
+sizes-met = (demands .count-stays 2 init (0 ∷ cells) refl leaving, demands .capacity-stays 2 init (0 ∷ cells) refl leaving)
+
 fitting-joined : (cs ds : List Call) → Each FittingCall cs → Each FittingCall ds → Each FittingCall (cs ++ ds)
 unfolding Each
 fitting-joined [] ds f g = g
 fitting-joined (c ∷ cs) ds f g = (f .0, fitting-joined cs ds (f .1) g)
 
 fitting-presses : (n : ℕ) → Each FittingCall (replicate n (press 60))
-unfolding Each FittingCall fits
+unfolding Each FittingCall FittingChange fits
 fitting-presses zero = tt
 fitting-presses (suc n) = ((tt, tt, tt), fitting-presses n)
 
 fitting-recorded : Each FittingCall recorded
-unfolding Each FittingCall fits
+unfolding Each FittingCall FittingChange fits
 fitting-recorded = (tt, (tt, (tt, (tt, tt))))
 
 fitting-leaving : Each FittingCall leaving
-unfolding Each FittingCall fits
+unfolding Each FittingCall FittingChange fits
 fitting-leaving = fitting-joined recorded (replicate 32 (press 60) ++ gone-by) fitting-recorded (fitting-joined (replicate 32 (press 60)) gone-by (fitting-presses 32) (tt, (tt, tt)))
 
 none-full : (j : ℕ) → j < 2 → fullOf (chan left j) ≡ false
@@ -335,6 +367,80 @@ fitting-older = fitting-joined recorded (press 60 ∷ []) fitting-recorded (fitt
 pub asked-met : Asked (tickAt plain part (chan older 1)) (freshOf plain zero32 (key 60) one32 2 2)
 unfolding computing
 asked-met = no-panic 2 init cells refl (recorded ++ (press 60 ∷ [])) fitting-older .asked 1 0 _ (quiet plain) plain zero32 part plays
+
+-- one whose note has the speed NaN: each update finds it inside, and with the loop's length 2 it stands at 1
+abbrev astray : World
+astray = since (press 60 ∷ speed (key 60) nan ∷ [])
+
+abbrev strayed : Voice
+strayed = atSpeedOf nan (freshOf plain zero32 (key 60) one32 2 2)
+
+strays : Plays astray 1 0 strayed (quiet plain) plain zero32 part
+unfolding computing FittingCall fits
+strays = record { present = lit< tt; stands = refl; floats = tt; sample = refl; finds = refl }
+
+fitting-astray : Each FittingCall (recorded ++ (press 60 ∷ speed (key 60) nan ∷ []))
+unfolding Each FittingCall FittingChange fits
+fitting-astray = fitting-joined recorded (press 60 ∷ speed (key 60) nan ∷ []) fitting-recorded ((tt, tt, tt), (tt, tt))
+
+pub placed-met : AllPlaced (tickAt plain part (chan astray 1)) strayed
+unfolding computing
+placed-met = no-panic 2 init cells refl (recorded ++ (press 60 ∷ speed (key 60) nan ∷ [])) fitting-astray .placed 1 0 strayed (quiet plain) plain zero32 part strays
+
+pub placed-at : clipOffsetAt (movedOf (tickAt plain part (chan astray 1)) strayed) (chan astray 1 .head .now) ≡ one32
+unfolding computing
+placed-at = refl
+
+-- ---- the memory: while recording, a frame of one entry writes 0.5 to channel 0's part, and leaves channel 1's part and the cell that no channel has
+abbrev taking : World
+taking = run (setUp 2 init (0 ∷ 0 ∷ 0 ∷ 0 ∷ 7 ∷ [])) (startRecording ∷ [])
+
+abbrev one-entry : Call
+one-entry = frame (half ∷ []) plain
+
+abbrev taken-up : World
+taken-up = leftBy taking one-entry (settled (on taking one-entry) .outcome)
+
+pub written-met : ownPart taken-up 0 ≡ 0x3f00_0000 ∷ 0 ∷ []
+unfolding computing
+written-met = let r = settled (on taking one-entry) in demands .first .written taking one-entry (r .outcome) (r .allowed) 0 plain half (0 ∷ 0 ∷ []) refl
+
+pub unwritten-met : (ownPart taken-up 1 ≡ 0 ∷ 0 ∷ []) × (ownPart taken-up 2 ≡ 7 ∷ [])
+unfolding computing
+unwritten-met =
+    let r = settled (on taking one-entry) in
+    (demands .first .unwritten taking one-entry (r .outcome) (r .allowed) 1 refl, demands .first .unwritten taking one-entry (r .outcome) (r .allowed) 2 refl)
+
+-- ---- voice info in a lent list of two: channel 1's voice began at 1/4, its loop of half the recording ends at 3/4, and it has come to sample 1 of 2; the rest of the list is kept
+abbrev quarter : Float
+quarter = fin false 1 (negsuc 1)
+
+abbrev halved : Params
+halved = record {
+  «attack_samples» = 0;
+  «decay_samples» = 0;
+  transport = defaultTransport;
+  «loop_length» = Ratio half;
+  speed = one32;
+  «reverse_speed» = one32;
+  volume = one32;
+  «auto_passthru» = false;
+  «loop_mode» = loop.Loop;
+  «note_off_behavior» = off.Decay;
+}
+
+abbrev shown : World
+shown = since (start quarter (key 60) one32 plain ∷ quiet plain ∷ quiet plain ∷ [])
+
+abbrev rest : VoiceInfo
+rest = record { start = two; end = two; pos = two }
+
+pub filled-met : (settled (on shown (asks (fillVoiceInfo 1 halved (rest ∷ rest ∷ [])))) .outcome .answer ≡ counted.Done 1)
+    × (settled (on shown (asks (fillVoiceInfo 1 halved (rest ∷ rest ∷ [])))) .outcome .lent ≡ record { start = quarter; end = fin false 3 (negsuc 1); pos = half } ∷ rest ∷ [])
+unfolding computing voiceInfoOf infoNumber
+filled-met =
+    let r = settled (on shown (asks (fillVoiceInfo 1 halved (rest ∷ rest ∷ [])))) in
+    demands .first .filled shown 1 halved (rest ∷ rest ∷ []) (r .outcome) (r .allowed) refl refl
 
 -- ---- each number of the table, given
 abbrev far : Head → Head

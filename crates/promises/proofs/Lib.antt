@@ -1,10 +1,17 @@
 pub mod Engine
 pub mod Apart
 pub mod Calls
+pub mod Memory
 pub mod Accepted
 pub mod Demand3
 pub mod Whole
 pub mod Outcomes
+pub mod Infos
 pub mod Table
+pub mod Broken
+pub mod Rows
+pub mod SmallParts
 pub mod Demands
 pub mod Examples
+pub mod Edges
+pub mod Rules

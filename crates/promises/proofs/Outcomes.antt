@@ -2,9 +2,12 @@
 use mathlib.Core.Path.{_≡_, refl, sym, ap, _∙_, subst}
 use mathlib.Core.Bool.{Bool, true, false, cond}
 use mathlib.Core.List.{List, [], _∷_}
+use Prim.Native.Nat.{ℕ}
 use borrow.Author.Tests.{eqb-true}
 use lib.Dec.{eqb}
-use lib.ListN.{length}
+use lib.ListN.{length, getD}
+use lib.Ieee.{Float}
+use Rattle.binary32.specs.Leaves.{zero32}
 use Rattle.recorder.specs.ErrorText.{errorText}
 use Rattle.channel.specs.Channels.{live}
 use Rattle.sampler.specs.declared.Answer.{Answer}
@@ -13,7 +16,7 @@ use Rattle.sampler.specs.Refusals.{channelAt, frameNumber}
 use Rattle.sampler.specs.Samplers.{answerOf, processSampleOf, sampleMemory, framedOf}
 use Rattle.questions.specs.declared.VoiceInfos.{VoiceInfos}
 use Rattle.questions.specs.declared.Counted.the-variants as counted
-use Rattle.lent.specs.Lists.{countedOf, voiceInfoCounted, voiceInfoAfter}
+use Rattle.lent_sampler.specs.Lists.{countedOf, voiceInfoCounted, voiceInfoAfter}
 use Rattle.questions.specs.Questions.{countedNumber, toldNumber, offsetNumber, recorderAt, notesOf, answered, printErrorInfoOf, errorTextAfter, iterActiveNotesOf, activeNotesAfter, getVoiceInfoOf}
 use Rattle.questions.proofs.Numbers.{frames-number, data-len-number, recording-number, offset-number, list-number, info-number}
 use Rattle.promises.specs.Runs.{
@@ -28,32 +31,23 @@ use Rattle.promises.specs.Runs.{
   fillVoiceInfo,
   questionNumber,
   Call,
-  start,
-  stop,
-  speed,
-  startRecording,
-  stopRecording,
-  reset,
+  change,
   sample,
   frame,
   asks,
   code,
   after,
   run,
+  output,
 }
-use Rattle.promises.specs.Outcomes.{Given, new, on, Outcome, Allows, Settled, numberIn, leftBy, Chain, ended, called}
+use Rattle.promises.specs.Outcomes.{Given, new, on, Outcome, Allows, Settled, numberIn, leftBy, outputIn, Chain, ended, called}
 
 -- ---- one outcome
 pub settled : (g : Given) → Settled g
 settled (new count p m) = record { outcome = _; allowed = refl; only = λ r h. h }
-settled (on w (start position note velocity p)) = record { outcome = _; allowed = refl; only = λ r h. h }
-settled (on w (stop note p)) = record { outcome = _; allowed = refl; only = λ r h. h }
-settled (on w (speed note s)) = record { outcome = _; allowed = refl; only = λ r h. h }
-settled (on w startRecording) = record { outcome = _; allowed = refl; only = λ r h. h }
-settled (on w stopRecording) = record { outcome = _; allowed = refl; only = λ r h. h }
-settled (on w reset) = record { outcome = _; allowed = refl; only = λ r h. h }
+settled (on w (change d)) = record { outcome = _; allowed = refl; only = λ r h. h }
 settled (on w (sample j x p)) = record {
-  outcome = record { answer = processSampleOf (w .sampler) j x p (w .memory); memory = sampleMemory (w .sampler) j x p (w .memory) };
+  outcome = record { answer = _; memory = _ };
   allowed = (refl, refl);
   only = λ r h t. record { answer = (h .0) t; memory = (h .1) t };
 }
@@ -103,12 +97,7 @@ counted-number v = go (eqb (v .number) 0) refl
 
 pub number-code : (w : World) (c : Call) (r : Outcome (on w c)) → Allows (on w c) r → numberIn (on w c) r ≡ code w c
 unfolding code questionNumber answerOf processSampleOf
-number-code w (start position note velocity p) r h = ap (λ (a : Answer). a .number) h
-number-code w (stop note p) r h = ap (λ (a : Answer). a .number) h
-number-code w (speed note s) r h = ap (λ (a : Answer). a .number) h
-number-code w startRecording r h = ap (λ (a : Answer). a .number) h
-number-code w stopRecording r h = ap (λ (a : Answer). a .number) h
-number-code w reset r h = ap (λ (a : Answer). a .number) h
+number-code w (change d) r h = ap (λ (a : Answer). a .number) h
 number-code w (sample j x p) r h = ap (λ (a : SampleAnswer). a .number) (h .0)
 number-code w (frame xs p) r h = h .0
 number-code w (asks (getFramesProcessed j)) r h = ap countedNumber h ∙ frames-number (w .sampler) j
@@ -124,15 +113,18 @@ number-code w (asks (fillVoiceInfo j p list)) r h =
 -- ---- the record and the memory afterwards
 pub left-after : (w : World) (c : Call) (r : Outcome (on w c)) → Allows (on w c) r → leftBy w c r ≡ after w c
 unfolding after
-left-after w (start position note velocity p) r h = λ t. record { sampler = h t .sampler; memory = w .memory }
-left-after w (stop note p) r h = λ t. record { sampler = h t .sampler; memory = w .memory }
-left-after w (speed note s) r h = λ t. record { sampler = h t .sampler; memory = w .memory }
-left-after w startRecording r h = λ t. record { sampler = h t .sampler; memory = w .memory }
-left-after w stopRecording r h = λ t. record { sampler = h t .sampler; memory = w .memory }
-left-after w reset r h = λ t. record { sampler = h t .sampler; memory = w .memory }
+left-after w (change d) r h = ap (leftBy w (change d)) h
 left-after w (sample j x p) r h = λ t. record { sampler = (h .0) t .sampler; memory = (h .1) t }
 left-after w (frame xs p) r h = λ t. record { sampler = (h .1 .sampler) t; memory = (h .1 .memory) t }
 left-after w (asks q) r h = refl
+
+-- ---- the output
+pub output-answered : (w : World) (c : Call) (r : Outcome (on w c)) → Allows (on w c) r → (j : ℕ) → outputIn w c r j ≡ output w c j
+unfolding output
+output-answered w (change d) r h j = refl
+output-answered w (sample i x p) r h j = ap (λ (a : SampleAnswer). a .output) (h .0)
+output-answered w (frame xs p) r h j = λ t. outputIn w (frame xs p) (record { answer = r .answer; frame = (h .1 .frame) t; memory = r .memory }) j
+output-answered w (asks q) r h j = refl
 
 -- the contracts leave no other record and memory than `run` gives
 pub chain-run : {w u : World} {cs : List Call} → Chain w cs u → u ≡ run w cs

@@ -22,16 +22,15 @@ use Rattle.common_types.proofs.LoopLengths.{loop-length-fits}
 use Rattle.recorder.specs.ErrorText.{errorText}
 use Rattle.clip.specs.Positions.{indexAt}
 use Rattle.voice.specs.declared.Voice.{Voice}
-use Rattle.clip.specs.Updates.{withSpeed}
 use Rattle.clip.specs.Bounds.{Sound}
 use Rattle.clip.proofs.Lengths.{float-length}
+use Rattle.clip.proofs.Offsets.{clip-offset-inside}
 use Rattle.clip.proofs.Kept.{with-speed-sound, with-length-sound, with-data-length-sound}
 use Rattle.clip.proofs.Answers.{speed-found, mode-found, length-asked}
 use Rattle.voice.specs.Voices.{clipModeOf, tickOf, movedOf, blankVoice}
 use Rattle.voice.specs.Soundness.{SoundParams, SoundVoice}
-use Rattle.voice.proofs.Moves.{loop-length-good}
+use Rattle.voice.proofs.Moves.{loop-length-good, moved-sound}
 use Rattle.voice.proofs.Kept.{clip-sound}
-use Rattle.channel.specs.declared.Change.the-variants as change
 use Rattle.channel.specs.Channels.{live, takenOf, memoryOf}
 use Rattle.channel.specs.Soundness.{FittingChange, SoundChannel}
 use Rattle.channel.proofs.Parts.{data-within, voice-at}
@@ -44,9 +43,9 @@ use Rattle.sampler.proofs.Kept.{small, channel-sound}
 use Rattle.sampler.proofs.Reach.{passes, another, none, reached-sound, reached-unbroken}
 use Rattle.fates.specs.Events.{lengthAt, tickAt}
 use Rattle.questions.specs.Questions.{recorderAt, notesOf, listNumber, infoNumber}
-use Rattle.promises.specs.Runs.{World, setUp, Question, getFramesProcessed, getDataLen, isRecording, getLastRecordedOffset, printErrorInfo, iterActiveNotes, getVoiceInfo, fillVoiceInfo, questionNumber, Call, start, stop, speed, startRecording, stopRecording, reset, sample, frame, asks, code, after, run, chan, FittingCall}
-use Rattle.promises.specs.Demands.{lengthened, toldLength, Asked, Plays, NoPanic, Whole}
-use Rattle.fates.proofs.Looks.{look-below, look-value}
+use Rattle.promises.specs.Runs.{World, setUp, Question, getFramesProcessed, getDataLen, isRecording, getLastRecordedOffset, printErrorInfo, iterActiveNotes, getVoiceInfo, fillVoiceInfo, questionNumber, Call, change, sample, frame, asks, code, after, run, chan, FittingCall}
+use Rattle.promises.specs.Demands.{lengthened, sped, toldLength, Asked, AllPlaced, Plays, NoPanic, Whole}
+use Rattle.walks.proofs.Lists.Looks.{look-below, look-value}
 use Rattle.fates.proofs.Lives.{live-length}
 use Rattle.promises.proofs.Calls.{Standing, standing-run, standing-new}
 use Rattle.promises.proofs.Accepted.{Heard, heard, start-opens}
@@ -54,25 +53,15 @@ use Rattle.promises.proofs.Accepted.{Heard, heard, start-opens}
 -- ---- the records of a run are reached, and its memory keeps its length
 reached-after : (size : ℕ) (w : World) (c : Call) → FittingCall c → Reached size (w .sampler) → Reached size (after w c .sampler)
 unfolding after FittingCall FittingChange
-reached-after size w (start position note velocity p) f r = Reached.changed (w .sampler) (change.Start p position note velocity) r f
-reached-after size w (stop note p) f r = Reached.changed (w .sampler) (change.Stop p note) r f
-reached-after size w (speed note s) f r = Reached.changed (w .sampler) (change.Speed note s) r f
-reached-after size w startRecording f r = Reached.changed (w .sampler) change.StartRecording r f
-reached-after size w stopRecording f r = Reached.changed (w .sampler) change.StopRecording r f
-reached-after size w reset f r = Reached.changed (w .sampler) change.Reset r f
+reached-after size w (change d) f r = Reached.changed (w .sampler) d r f
 reached-after size w (sample j x p) f r = Reached.sampled (w .sampler) j x p (w .memory) r f
 reached-after size w (frame xs p) f r = Reached.framed (w .sampler) xs p (w .memory) r f
 reached-after size w (asks q) f r = r
 
 pub memory-after : (w : World) (c : Call) → length (after w c .memory) ≡ length (w .memory)
 unfolding after
-memory-after w (start position note velocity p) = refl
-memory-after w (stop note p) = refl
-memory-after w (speed note s) = refl
-memory-after w startRecording = refl
-memory-after w stopRecording = refl
-memory-after w reset = refl
-memory-after w (sample j x p) = sample-memory-length (w .sampler) j x p (w .memory)
+memory-after w (change d) = refl
+memory-after w (sample j x p) = sample-memory-length (w .sampler) j _ p (w .memory)
 memory-after w (frame xs p) = frame-memory-length (w .sampler) xs p (w .memory)
 memory-after w (asks q) = refl
 
@@ -87,30 +76,25 @@ memory-run w [] = refl
 memory-run w (c ∷ cs) = memory-run (after w c) cs ∙ memory-after w c
 
 -- ---- row 9
-asked-nine : (s : Sampler) → goodSampler s ≡ true → (q : Question) → questionNumber s q ≢ 9
+asked-nine : (w : World) → goodSampler (w .sampler) ≡ true → (q : Question) → questionNumber w q ≢ 9
 unfolding questionNumber channelNumber listNumber infoNumber
-asked-nine s g (getFramesProcessed j) = passes (goodSampler s) _ g (another (noChannel s j) 1 0 tt none)
-asked-nine s g (getDataLen j) = passes (goodSampler s) _ g (another (noChannel s j) 1 0 tt none)
-asked-nine s g (isRecording j) = passes (goodSampler s) _ g (another (noChannel s j) 1 0 tt none)
-asked-nine s g (getLastRecordedOffset j) = passes (goodSampler s) _ g (another (noChannel s j) 1 0 tt none)
-asked-nine s g (printErrorInfo j text) = passes (goodSampler s) _ g (another (noChannel s j) 1 _ tt (another (ltb (length text) (length (errorText (recorderAt s j)))) 8 0 tt none))
-asked-nine s g (iterActiveNotes j notes) = passes (goodSampler s) _ g (another (noChannel s j) 1 _ tt (another (ltb (length notes) (length (notesOf (live (channelAt s j))))) 8 0 tt none))
-asked-nine s g (getVoiceInfo j p room) =
-    passes (goodSampler s) _ g (another (noChannel s j) 1 _ tt (another (beyondLimits p) 4 _ tt (another (ltb room (channelAt s j .count)) 8 0 tt none)))
-asked-nine s g (fillVoiceInfo j p list) =
-    passes (goodSampler s) _ g (another (noChannel s j) 1 _ tt (another (beyondLimits p) 4 _ tt (another (ltb (length list) (channelAt s j .count)) 8 0 tt none)))
+asked-nine w g (getFramesProcessed j) = passes (goodSampler (w .sampler)) _ g (another (noChannel (w .sampler) j) 1 0 tt none)
+asked-nine w g (getDataLen j) = passes (goodSampler (w .sampler)) _ g (another (noChannel (w .sampler) j) 1 0 tt none)
+asked-nine w g (isRecording j) = passes (goodSampler (w .sampler)) _ g (another (noChannel (w .sampler) j) 1 0 tt none)
+asked-nine w g (getLastRecordedOffset j) = passes (goodSampler (w .sampler)) _ g (another (noChannel (w .sampler) j) 1 0 tt none)
+asked-nine w g (printErrorInfo j text) = passes (goodSampler (w .sampler)) _ g (another (noChannel (w .sampler) j) 1 _ tt (another (ltb (length text) (length (errorText (recorderAt (w .sampler) j)))) 8 0 tt none))
+asked-nine w g (iterActiveNotes j notes) = passes (goodSampler (w .sampler)) _ g (another (noChannel (w .sampler) j) 1 _ tt (another (ltb (length notes) (length (notesOf (live (channelAt (w .sampler) j))))) 8 0 tt none))
+asked-nine w g (getVoiceInfo j p room) =
+    passes (goodSampler (w .sampler)) _ g (another (noChannel (w .sampler) j) 1 _ tt (another (beyondLimits p) 4 _ tt (another (ltb room (channelAt (w .sampler) j .count)) 8 0 tt none)))
+asked-nine w g (fillVoiceInfo j p list) =
+    passes (goodSampler (w .sampler)) _ g (another (noChannel (w .sampler) j) 1 _ tt (another (beyondLimits p) 4 _ tt (another (ltb (length list) (channelAt (w .sampler) j .count)) 8 0 tt none)))
 
 no-nine : (w : World) → SoundSampler (w .sampler) → Unbroken (w .sampler) (length (w .memory)) → (c : Call) → code w c ≢ 9
 unfolding code
-no-nine w h u (start position note velocity p) = u .change (change.Start p position note velocity)
-no-nine w h u (stop note p) = u .change (change.Stop p note)
-no-nine w h u (speed note s) = u .change (change.Speed note s)
-no-nine w h u startRecording = u .change change.StartRecording
-no-nine w h u stopRecording = u .change change.StopRecording
-no-nine w h u reset = u .change change.Reset
+no-nine w h u (change d) = u .change d
 no-nine w h u (sample j x p) = u .sample j p
 no-nine w h u (frame xs p) = u .frame (length xs) p
-no-nine w h u (asks q) = asked-nine (w .sampler) (h .good) q
+no-nine w h u (asks q) = asked-nine w (h .good) q
 
 -- ---- what a voice sounds by
 module _ (w : World) (st : Standing w) (h : SoundSampler (w .sampler)) (j n : ℕ) (v : Voice) (c : Call) (p : Params) (x : Float) (m : List ℕ) (y : Plays w j n v c p x m) where
@@ -160,15 +144,29 @@ module _ (w : World) (st : Standing w) (h : SoundSampler (w .sampler)) (j n : �
       let l = lengthAt m (chan w j) in
       with-length-sound (v .clip2) (chan w j .head .now) (loopLengthOf p l) (loop-length-fits p l (sound-params .fitting)) (loop-length-good p l sound-params short) voice-sound
 
+  sped-sound : Sound (sped (tickAt p m (chan w j)) v)
+  unfolding tickOf
+  sped-sound =
+      with-speed-sound (lengthened (tickAt p m (chan w j)) v) (chan w j .head .now) (mul binary32 (v .speed) (speedOf p)) (mul-fits binary32 (v .speed) (speedOf p)) lengthened-sound
+
   told-sound : Sound (toldLength (tickAt p m (chan w j)) v)
   unfolding tickOf
   told-sound =
       let l = lengthAt m (chan w j) in
+      with-data-length-sound (sped (tickAt p m (chan w j)) v) (chan w j .head .now) (asFloat l) (ofInt-fits binary32 (pos l)) (float-length l some-data short) sped-sound
+
+  all-placed : AllPlaced (tickAt p m (chan w j)) v
+  unfolding tickOf
+  all-placed =
+      let t = tickAt p m (chan w j) in
       let now = chan w j .head .now in
-      let s = mul binary32 (v .speed) (speedOf p) in
-      let c = lengthened (tickAt p m (chan w j)) v in
-      with-data-length-sound (withSpeed c now s) now (asFloat l) (ofInt-fits binary32 (pos l)) (float-length l some-data short)
-      (with-speed-sound c now s (mul-fits binary32 (v .speed) (speedOf p)) lengthened-sound)
+      record {
+        before-length = clip-offset-inside (v .clip2) now voice-sound;
+        before-speed = clip-offset-inside (lengthened t v) now lengthened-sound;
+        before-data-length = clip-offset-inside (sped t v) now sped-sound;
+        before-mode = clip-offset-inside (toldLength t v) now told-sound;
+        sounding = clip-offset-inside (movedOf t v) now (moved-sound p now (lengthAt m (chan w j)) sound-params some-data short v voice-sound);
+      }
 
   updates-asked : Asked (tickAt p m (chan w j)) v
   unfolding tickOf
@@ -190,6 +188,7 @@ no-panic count q m z cs f =
     record {
       good = h .good;
       asked = λ j n v c p x l y. updates-asked w st h j n v c p x l y;
+      placed = λ j n v c p x l y. all-placed w st h j n v c p x l y;
       inside = λ j n v c p x l y. (index-inside w st h j n v c p x l y, data-inside w st h j n v c p x l y);
     }
 

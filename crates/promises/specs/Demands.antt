@@ -1,25 +1,27 @@
--- The client's demands, sentence by sentence: the words, then what is proved of them. `proofs/Demands: demands` proves the record `Demands` at the end of this file. A reader needs beside it only the definitions that
--- it names: docs/READING.md says where each is and which rule of document 01 it says. Definitions only. Assumes nothing.
+-- The client's demands, sentence by sentence: the words, then what is proved of them. `proofs/Demands: demands` proves
+-- the record `Demands` at the end of this file. A reader needs beside it only the definitions that it names:
+-- docs/READING.md says where each is and which rule of document 01 it says. Definitions only. Assumes nothing.
 use mathlib.Core.Path.{_≡_}
 use mathlib.Core.Bool.{Bool, true, false, not}
 use mathlib.Core.Logic.{_⊎_, _≢_}
-use mathlib.Core.List.{List, [], _∷_, _++_}
+use mathlib.Core.List.{List, [], _∷_, _++_, map}
 use mathlib.Core.Option.{some}
-use Prim.Native.Nat.{ℕ, _+_, _-_, _*_, _/_, _%_, _^_, _≤_, _<_, min, max}
+use Prim.Native.Nat.{ℕ, suc, _+_, _-_, _*_, _/_, _%_, _^_, _≤_, _<_, min, max}
 use lib.Dec.{T, eqb, ltb}
-use lib.ListN.{length, take}
+use lib.ListN.{length, take, drop}
 use lib.IntN.{ℤ}
-use lib.Ieee.{Float, nan, fin, binary32, up, down, mul, isNan, fits}
+use lib.Ieee.{Float, nan, fin, binary32, up, down, add, mul, isNan, fits}
 use lib.Ieee.Exact.{HasValue}
 use Rattle.walks.specs.Walks.{any}
 use Rattle.walks.specs.Each.{Each}
-use Rattle.binary32.specs.Leaves.{asFloat, asWhole, floorOf, minOf, maxOf, bitsOf, floatOf}
+use Rattle.binary32.specs.Leaves.{asFloat, asWhole, floorOf, minOf, maxOf, bitsOf, floatOf, zero32}
 use Rattle.common_types.specs.declared.InitParams.{InitParams}
 use Rattle.common_types.specs.declared.Params.{Params}
 use Rattle.common_types.specs.declared.Note.{Note}
 use Rattle.common_types.specs.Notes.{intoU64Of, fromU64Of}
-use Rattle.common_types.specs.Settings.{beyondLimits}
+use Rattle.common_types.specs.Settings.{beyondLimits, loopLengthOf}
 use Rattle.recorder.specs.ErrorText.{errorText}
+use Rattle.volume.specs.Levels.{levelOf}
 use Rattle.clip.specs.declared.Clip.{Clip}
 use Rattle.clip.specs.declared.Found.the-variants.{At}
 use Rattle.clip.specs.declared.FoundAnswer.the-variants.{Done}
@@ -29,18 +31,32 @@ use Rattle.clip.specs.Refusals.{dataToClipOf}
 use Rattle.clip.specs.Bounds.{Sound, Inside, Within}
 use Rattle.voice.specs.declared.Voice.{Voice}
 use Rattle.voice.specs.declared.Tick.{Tick}
-use Rattle.voice.specs.Voices.{movedOf, freshOf}
+use Rattle.voice.specs.Voices.{movedOf, productOf, freshOf, atSpeedOf}
 use Rattle.channel.specs.declared.Channel.{Channel}
 use Rattle.channel.specs.Channels.{live, fullOf, memoryOf}
 use Rattle.sampler.specs.declared.Answer.{Answer}
-use Rattle.sampler.specs.Refusals.{channelAt, goodSizes, goodSampler, capacityOf, goodWith, noChannel, badNote, badPosition, anyFull, atEnd, row, setUpNumber}
-use Rattle.sampler.specs.Samplers.{partOf}
+use Rattle.sampler.specs.Refusals.{
+  channelAt,
+  goodSizes,
+  goodSampler,
+  capacityOf,
+  goodWith,
+  noChannel,
+  badNote,
+  badPosition,
+  anyFull,
+  atEnd,
+  row,
+  setUpNumber,
+}
 use Rattle.questions.specs.declared.VoiceInfo.{VoiceInfo}
-use Rattle.questions.specs.Questions.{recorderAt, notesOf}
+use Rattle.questions.specs.declared.VoiceInfos.{VoiceInfos}
+use Rattle.questions.specs.declared.Counted.the-variants as Counted
+use Rattle.questions.specs.Questions.{recorderAt, notesOf, voiceInfoOf}
 use Rattle.fates.specs.Engine.{stepOf}
 use Rattle.fates.specs.Events.{act, sounds, lengthAt, isSample, emptyAt, tickAt, decayOf}
-use Rattle.fates.specs.Places.{voiceAt, at, gone, follow, becomes, followAll, newOf, finishes, stoppedIn, finishedIn}
-use Rattle.fates.specs.Sounding.{Sounds, First}
+use Rattle.fates.specs.Places.{voiceAt, at, gone, follow, becomes, followAll, addedBy, finishes, stoppedIn, finishedIn}
+use Rattle.fates.specs.Sounding.{termsOf, totalOf}
 use Rattle.promises.specs.Runs.{
   World,
   setUp,
@@ -67,6 +83,7 @@ use Rattle.promises.specs.Runs.{
   after,
   run,
   chan,
+  ownPart,
   event,
   events,
   isResetCall,
@@ -75,73 +92,161 @@ use Rattle.promises.specs.Runs.{
   before,
   FittingCall,
 }
-use Rattle.promises.specs.Outcomes.{Given, new, on, Outcome, Allows, Settled, numberIn, leftBy, Untouched, Chain}
+use Rattle.promises.specs.Outcomes.{
+  Given,
+  new,
+  on,
+  InfoOutcome,
+  Outcome,
+  Allows,
+  Settled,
+  numberIn,
+  leftBy,
+  outputIn,
+  Untouched,
+  Chain,
+}
 use Rattle.promises.specs.Table.{TableHolds}
+use Rattle.promises.specs.Broken.{RowNine}
+use Rattle.promises.specs.Rows.{RowTests}
+use Rattle.promises.specs.SmallParts.{RowSeven}
 
--- Names. A World is the record and the memory lent with it. `code w c` is the number of the call c on it, `after w c` what the call leaves, `run w cs` what several leave, `chan w j` channel j, and `event w c j` what the call
--- does to channel j: nothing where it is refused, a change, or `sounds p x m`, a sample with the parameters p, the input x and the channel's part m of the memory. `live c` are a channel's voices, `voiceAt c n` is the one at
--- place n, and `follow` says where it is after an event: `at` a place, or `gone`.
+-- Names. A World is the record and the memory lent with it. `code w c` is the number of the call c on it, `after w c`
+-- what the call leaves, `run w cs` what several leave, `chan w j` channel j, and `event w c j` what the call does to
+-- channel j: nothing where it is refused, a change, or `sounds p x m`, a sample with the parameters p, the input x and
+-- the channel's part m of the memory. `live c` are a channel's voices, `voiceAt c n` is the one at place n, and
+-- `follow` says where it is after an event: `at` a place, or `gone`. `ownPart w j` is channel j's part of the memory.
 
 -- ==== Demand 1
 
+-- the figures of channel j's voices, in their order; "voice info takes its loop length from channel 0's data length,
+-- its other figures from the asked channel."
+abbrev pub figures : World → ℕ → Params → List VoiceInfo
+figures w j p =
+    map (voiceInfoOf (loopLengthOf p (chan w 0 .head .«data_len»)) (asFloat (chan w j .head .«data_len»)))
+    (live (chan w j))
+
 pub record Demand1 : Type 0 where
-  -- "Every public call takes every value of its arguments, NaN, infinities and an empty recording included, stays inside its memory and ends." No public function of the engine has a `requires`, and the check proves each
-  -- of them safe and ending. Whatever is given, the contract allows one outcome and no other,
+  -- "Every public call takes every value of its arguments, NaN, infinities and an empty recording included, stays
+  -- inside its memory and ends." No public function of the engine has a `requires`, and the check proves each of them
+  -- safe and ending. Whatever is given, the contract allows one outcome and no other,
   pub takes : (g : Given) → Settled g
   pub one : (g : Given) (r s : Outcome g) → Allows g r → Allows g s → r ≡ s
-  -- and lent memory keeps its size; a sample changes no other channel's part of it.
-  pub sized : (w : World) (c : Call) (r : Outcome (on w c)) → Allows (on w c) r → length (leftBy w c r .memory) ≡ length (w .memory)
-  pub apart : (w : World) (i : ℕ) (x : Float) (p : Params) (r : Outcome (on w (sample i x p))) → Allows (on w (sample i x p)) r
-      → (j : ℕ) → j ≢ i → partOf (w .sampler) j (r .memory) ≡ partOf (w .sampler) j (w .memory)
+  -- and lent memory keeps its size. "Channel j owns the j-th part of that size. Only a sample that records writes
+  -- sample memory, at its write place in its channel's part." So a call that is no sample of channel j leaves its part
+  -- as it was, for every j, past the last channel too; a sample x of it, alone or in a frame, leaves `memoryOf x` of
+  -- it.
+  pub sized : (w : World) (c : Call) (r : Outcome (on w c)) → Allows (on w c) r
+      → length (leftBy w c r .memory) ≡ length (w .memory)
+  pub unwritten : (w : World) (c : Call) (r : Outcome (on w c)) → Allows (on w c) r
+      → (j : ℕ) → isSample (event w c j) ≡ false → ownPart (leftBy w c r) j ≡ ownPart w j
+  pub written : (w : World) (c : Call) (r : Outcome (on w c)) → Allows (on w c) r
+      → (j : ℕ) (p : Params) (x : Float) (m : List ℕ) → event w c j ≡ sounds p x m
+      → ownPart (leftBy w c r) j ≡ memoryOf x (chan w j) m
+  -- "voice info fills a lent list of `VoiceInfo` records", and "a lent list longer than the answer keeps its rest." The
+  -- answer is how many voices there are of the 32 places that a channel has by its type. By value the figures stand in
+  -- front of 32.
+  pub filled : (w : World) (j : ℕ) (p : Params) (list : List VoiceInfo) (r : InfoOutcome)
+      → Allows (on w (asks (fillVoiceInfo j p list))) r → code w (asks (fillVoiceInfo j p list)) ≡ 0
+      → length (chan w j .voices) ≡ 32
+      → (r .answer ≡ Counted.Done (chan w j .count)) × (r .lent ≡ figures w j p ++ drop (chan w j .count) list)
+  pub informed : (w : World) (j : ℕ) (p : Params) (room : ℕ) (r : VoiceInfos)
+      → Allows (on w (asks (getVoiceInfo j p room))) r → code w (asks (getVoiceInfo j p room)) ≡ 0
+      → length (chan w j .voices) ≡ 32
+      → (r .count ≡ chan w j .count) × (take (r .count) (r .infos) ≡ figures w j p)
   -- "A bad call is answered with a number from document 01," An outcome has the call's number,
   pub numbered : (w : World) (c : Call) (r : Outcome (on w c)) → Allows (on w c) r → numberIn (on w c) r ≡ code w c
-  -- which is that of the first of the table's rows that holds, in the table's order, and 0 where none does. "Order: 9 first. Start: 2, 3, 4, 5.
-  pub start-rows : (w : World) (position : Float) (note : Note) (velocity : Float) (p : Params) → code w (start position note velocity p)
-      ≡ row (not (goodSampler (w .sampler))) 9 (row (badNote note) 2 (row (badPosition position) 3 (row (beyondLimits p) 4 (row (anyFull (w .sampler)) 5 0))))
+  -- which is that of the first of the table's rows that holds, in the table's order, and 0 where none does. "Order: 9
+  -- first. Start: 2, 3, 4, 5.
+  pub start-rows : (w : World) (position : Float) (note : Note) (velocity : Float) (p : Params)
+      → code w (start position note velocity p)
+      ≡ row (not (goodSampler (w .sampler))) 9
+      (row (badNote note) 2 (row (badPosition position) 3 (row (beyondLimits p) 4 (row (anyFull (w .sampler)) 5 0))))
   -- Stop: 2, 4.
-  pub stop-rows : (w : World) (note : Note) (p : Params) → code w (stop note p) ≡ row (not (goodSampler (w .sampler))) 9 (row (badNote note) 2 (row (beyondLimits p) 4 0))
+  pub stop-rows : (w : World) (note : Note) (p : Params)
+      → code w (stop note p) ≡ row (not (goodSampler (w .sampler))) 9 (row (badNote note) 2 (row (beyondLimits p) 4 0))
   -- Note speed: 2.
-  pub speed-rows : (w : World) (note : Note) (s : Float) → code w (speed note s) ≡ row (not (goodSampler (w .sampler))) 9 (row (badNote note) 2 0)
+  pub speed-rows : (w : World) (note : Note) (s : Float)
+      → code w (speed note s) ≡ row (not (goodSampler (w .sampler))) 9 (row (badNote note) 2 0)
   -- Sample and frame: 1, 4, 6.
   pub sample-rows : (w : World) (j : ℕ) (x : Float) (p : Params) → code w (sample j x p)
-      ≡ row (not (goodWith (w .sampler) (length (w .memory)))) 9 (row (noChannel (w .sampler) j) 1 (row (beyondLimits p) 4 (row (atEnd (channelAt (w .sampler) j)) 6 0)))
+      ≡ row (not (goodWith (w .sampler) (length (w .memory)))) 9
+      (row (noChannel (w .sampler) j) 1 (row (beyondLimits p) 4 (row (atEnd (channelAt (w .sampler) j)) 6 0)))
   pub frame-rows : (w : World) (xs : List Float) (p : Params) → code w (frame xs p)
       ≡ row (not (goodWith (w .sampler) (length (w .memory)))) 9
-      (row (ltb (w .sampler .count) (length xs)) 1 (row (beyondLimits p) 4 (row (any atEnd (take (length xs) (w .sampler .channels))) 6 0)))
+      (row (ltb (w .sampler .count) (length xs)) 1
+      (row (beyondLimits p) 4 (row (any atEnd (take (length xs) (w .sampler .channels))) 6 0)))
   -- Voice info: 1, 4, 8.
   pub info-rows : (w : World) (j : ℕ) (p : Params) (room : ℕ) → code w (asks (getVoiceInfo j p room))
-      ≡ row (not (goodSampler (w .sampler))) 9 (row (noChannel (w .sampler) j) 1 (row (beyondLimits p) 4 (row (ltb room (channelAt (w .sampler) j .count)) 8 0)))
-  pub fill-rows : (w : World) (j : ℕ) (p : Params) (list : List VoiceInfo) → code w (asks (fillVoiceInfo j p list)) ≡ code w (asks (getVoiceInfo j p (length list)))
+      ≡ row (not (goodSampler (w .sampler))) 9
+      (row (noChannel (w .sampler) j) 1 (row (beyondLimits p) 4 (row (ltb room (channelAt (w .sampler) j .count)) 8 0)))
+  pub fill-rows : (w : World) (j : ℕ) (p : Params) (list : List VoiceInfo)
+      → code w (asks (fillVoiceInfo j p list)) ≡ code w (asks (getVoiceInfo j p (length list)))
   -- Active notes and error text: 1, 8.
   pub notes-rows : (w : World) (j : ℕ) (notes : List ℕ) → code w (asks (iterActiveNotes j notes))
-      ≡ row (not (goodSampler (w .sampler))) 9 (row (noChannel (w .sampler) j) 1 (row (ltb (length notes) (length (notesOf (live (channelAt (w .sampler) j))))) 8 0))
+      ≡ row (not (goodSampler (w .sampler))) 9
+      (row (noChannel (w .sampler) j) 1
+      (row (ltb (length notes) (length (notesOf (live (channelAt (w .sampler) j))))) 8 0))
   pub text-rows : (w : World) (j : ℕ) (text : List ℕ) → code w (asks (printErrorInfo j text))
-      ≡ row (not (goodSampler (w .sampler))) 9 (row (noChannel (w .sampler) j) 1 (row (ltb (length text) (length (errorText (recorderAt (w .sampler) j)))) 8 0))
+      ≡ row (not (goodSampler (w .sampler))) 9
+      (row (noChannel (w .sampler) j) 1 (row (ltb (length text) (length (errorText (recorderAt (w .sampler) j)))) 8 0))
   -- Other queries, each of one channel: 1.
-  pub query-rows : (w : World) (j : ℕ) (q : Question) → (q ≡ getFramesProcessed j) ⊎ ((q ≡ getDataLen j) ⊎ ((q ≡ isRecording j) ⊎ (q ≡ getLastRecordedOffset j)))
+  pub query-rows : (w : World) (j : ℕ) (q : Question)
+      → (q ≡ getFramesProcessed j) ⊎ ((q ≡ getDataLen j) ⊎ ((q ≡ isRecording j) ⊎ (q ≡ getLastRecordedOffset j)))
       → code w (asks q) ≡ row (not (goodSampler (w .sampler))) 9 (row (noChannel (w .sampler) j) 1 0)
   -- Start and stop of recording, reset: none but 9."
-  pub plain-rows : (w : World) (c : Call) → (c ≡ startRecording) ⊎ ((c ≡ stopRecording) ⊎ (c ≡ reset)) → code w c ≡ row (not (goodSampler (w .sampler))) 9 0
-  pub set-up-rows : (count : ℕ) (p : InitParams) (m : List ℕ) (r : Answer) → Allows (new count p m) r → r .number ≡ row (not (goodSizes count (capacityOf count (length m)))) 9 0
+  pub plain-rows : (w : World) (c : Call) → (c ≡ startRecording) ⊎ ((c ≡ stopRecording) ⊎ (c ≡ reset))
+      → code w c ≡ row (not (goodSampler (w .sampler))) 9 0
+  pub set-up-rows : (count : ℕ) (p : InitParams) (m : List ℕ) (r : Answer) → Allows (new count p m) r
+      → r .number ≡ row (not (goodSizes count (capacityOf count (length m)))) 9 0
   -- A set-up that is refused leaves a record that every call answers with 9.
-  pub unmade : (count : ℕ) (p : InitParams) (m : List ℕ) → setUpNumber count (length m) ≢ 0 → (c : Call) → code (setUp count p m) c ≡ 9
+  pub unmade : (count : ℕ) (p : InitParams) (m : List ℕ) → setUpNumber count (length m) ≢ 0 → (c : Call)
+      → code (setUp count p m) c ≡ 9
   -- "and state, sample memory and frame hold what they held." So do lent lists.
-  pub held : (w : World) (c : Call) (r : Outcome (on w c)) → Allows (on w c) r → code w c ≢ 0 → (leftBy w c r ≡ w) × Untouched w c r
+  pub held : (w : World) (c : Call) (r : Outcome (on w c)) → Allows (on w c) r → code w c ≢ 0
+      → (leftBy w c r ≡ w) × Untouched w c r
+  -- The tests of rows 1 to 6, "given exactly when", in document 01's words; row 7, of the small parts; and row 9, with
+  -- what a broken record is.
+  pub tests : RowTests
+  pub small-parts : RowSeven
+  pub broken : RowNine
 
--- "No accepted call reaches a panic of the Rust." docs/READING.md has each place of it that can panic. Those that arguments reach are refused by the rows above; the others are shut out in every record that set-up and calls leave.
+-- "No accepted call reaches a panic of the Rust." docs/READING.md has each place of it that can panic. Those that
+-- arguments reach are refused by the rows above; the others are shut out in every record that set-up and calls leave.
 
--- a voice's clip in a sample, after its length's update, and before its mode's
+-- a voice's clip in a sample, after the updates of its length, speed and data length; after that of its mode it is
+-- `movedOf`
 abbrev pub lengthened : Tick → Voice → Clip
 lengthened t v = withLength (v .clip2) (t .now) (t .length)
 
-abbrev pub toldLength : Tick → Voice → Clip
-toldLength t v = withDataLength (withSpeed (lengthened t v) (t .now) (mul binary32 (v .speed) (t .speed))) (t .now) (t .«data_length»)
+abbrev pub sped : Tick → Voice → Clip
+sped t v = withSpeed (lengthened t v) (t .now) (mul binary32 (v .speed) (t .speed))
 
--- the updates ask where the old offset lies in the clip as it is to be: it is in the data, and after another speed or mode it is found
+abbrev pub toldLength : Tick → Voice → Clip
+toldLength t v = withDataLength (sped t v) (t .now) (t .«data_length»)
+
+-- the updates ask where the old offset lies in the clip as it is to be: it is in the data, and after another speed or
+-- mode it is found
 pub record Asked (t : Tick) (v : Voice) : Type 0 where
-  pub length : dataToClipOf (atLength (v .clip2) (t .length)) (offsetAt (v .clip2) (t .now)) ≡ Done (foundAt (atLength (v .clip2) (t .length)) (offsetAt (v .clip2) (t .now)))
-  pub speed : dataToClipOf (atSpeed (lengthened t v) (mul binary32 (v .speed) (t .speed))) (offsetAt (lengthened t v) (t .now)) ≡ Done (At (backOf (lengthened t v) (offsetAt (lengthened t v) (t .now))))
-  pub mode : dataToClipOf (atMode (toldLength t v) (t .mode)) (offsetAt (toldLength t v) (t .now)) ≡ Done (At (backOf (toldLength t v) (offsetAt (toldLength t v) (t .now))))
+  pub length : dataToClipOf (atLength (v .clip2) (t .length)) (offsetAt (v .clip2) (t .now))
+      ≡ Done (foundAt (atLength (v .clip2) (t .length)) (offsetAt (v .clip2) (t .now)))
+  pub speed : dataToClipOf (atSpeed (lengthened t v) (mul binary32 (v .speed) (t .speed)))
+      (offsetAt (lengthened t v) (t .now)) ≡ Done (At (backOf (lengthened t v) (offsetAt (lengthened t v) (t .now))))
+  pub mode : dataToClipOf (atMode (toldLength t v) (t .mode)) (offsetAt (toldLength t v) (t .now))
+      ≡ Done (At (backOf (toldLength t v) (offsetAt (toldLength t v) (t .now))))
+
+-- the place of a clip at a time lies from 0 to below its length, as the Rust's `clip_offset` asserts
+abbrev pub Placed : Clip → ℕ → Type 0
+Placed c now = Inside (clipOffsetAt c now) (c .length)
+
+-- a turn asks for the place of five clips: each update for that of the clip as it finds it, and the sound for that
+-- after the last
+pub record AllPlaced (t : Tick) (v : Voice) : Type 0 where
+  pub before-length : Placed (v .clip2) (t .now)
+  pub before-speed : Placed (lengthened t v) (t .now)
+  pub before-data-length : Placed (sped t v) (t .now)
+  pub before-mode : Placed (toldLength t v) (t .now)
+  pub sounding : Placed (movedOf t v) (t .now)
 
 -- a voice of channel j that has its turn in the sample s: at place n it is v, and the recording isn't empty
 pub record Plays (w : World) (j n : ℕ) (v : Voice) (s : Call) (p : Params) (x : Float) (m : List ℕ) : Type 0 where
@@ -152,35 +257,49 @@ pub record Plays (w : World) (j n : ℕ) (v : Voice) (s : Call) (p : Params) (x 
   pub finds : emptyAt m (chan w j) ≡ false
 
 pub record NoPanic (w : World) : Type 0 where
-  -- The record is good by row 9's own tests: no time lies after the clock, no write place past the data, no ramp is empty, and no clip is bad.
+  -- The record is good by row 9's own tests: no time lies after the clock, no write place past the data, no ramp is
+  -- empty, and no clip is bad.
   pub good : goodSampler (w .sampler) ≡ true
-  pub asked : (j n : ℕ) (v : Voice) (s : Call) (p : Params) (x : Float) (m : List ℕ) → Plays w j n v s p x m → Asked (tickAt p m (chan w j)) v
-  -- The index that a voice sounds by lies inside the recording, and the recording inside the channel's memory: so "its recorded value", in demand 3, is no default.
+  pub asked : (j n : ℕ) (v : Voice) (s : Call) (p : Params) (x : Float) (m : List ℕ) → Plays w j n v s p x m
+      → Asked (tickAt p m (chan w j)) v
+  -- "Bit-exact f32 loop position, with bound 0 to below length proved for every shift and speed". A place that is NaN
+  -- is not inside.
+  pub placed : (j n : ℕ) (v : Voice) (s : Call) (p : Params) (x : Float) (m : List ℕ) → Plays w j n v s p x m
+      → AllPlaced (tickAt p m (chan w j)) v
+  -- The index that a voice sounds by lies inside the recording, and the recording inside the channel's memory: so "its
+  -- recorded value", in demand 3, is no default.
   pub inside : (j n : ℕ) (v : Voice) (s : Call) (p : Params) (x : Float) (m : List ℕ) → Plays w j n v s p x m
-      → (indexAt (movedOf (tickAt p m (chan w j)) v) (chan w j .head .now) < lengthAt m (chan w j)) × (lengthAt m (chan w j) ≤ length (memoryOf x (chan w j) m))
+      → (indexAt (movedOf (tickAt p m (chan w j)) v) (chan w j .head .now) < lengthAt m (chan w j))
+      × (lengthAt m (chan w j) ≤ length (memoryOf x (chan w j) m))
 
 -- ==== Demand 2
 
 pub record Demand2 : Type 0 where
-  -- "On document 01's domain the port equals the Rust release build: output bits (one NaN counts as any other), recordings, voice lists, counts. Differential runs show it." oracle/README.md says which. No theorem can speak
-  -- of the Rust: what each call does is a definition of specs/, to which the contract equates the function.
-  -- "Conversions, floor, minimum, maximum and positions are proved against definitions from IEEE 754 and Rust's public documents;" The definitions are binary32/specs/Leaves.antt and clip/specs/Positions.antt, and each
-  -- function's contract is its definition. What they are worth: a whole number up to 2 ^ 24 is converted to itself;
+  -- "On document 01's domain the port equals the Rust release build: output bits (one NaN counts as any other),
+  -- recordings, voice lists, counts. Differential runs show it." oracle/README.md says which. No theorem can speak of
+  -- the Rust: what each call does is a definition of specs/, to which the contract equates the function. "Conversions,
+  -- floor, minimum, maximum and positions are proved against definitions from IEEE 754 and Rust's public documents;"
+  -- The definitions are binary32/specs/Leaves.antt and clip/specs/Positions.antt, and each function's contract is its
+  -- definition. What they are worth: a whole number up to 2 ^ 24 is converted to itself;
   pub exact : (n : ℕ) → n ≤ 2 ^ 24 → HasValue (asFloat n) false n 1
   -- the cast to a narrower type is that to a wider one, held at its end, and a cast sees no fraction;
   pub narrow : (w v : ℕ) → w ≤ v → (x : Float) → asWhole w x ≡ min (asWhole v x) (2 ^ w - 1)
   pub whole-part : (w : ℕ) (x : Float) → T (fits binary32 x) → asWhole w (floorOf x) ≡ asWhole w x
   -- floor cuts the size down, and up for a negative value, with no rounding: m times 2 ^ e is m * up e / down e;
-  pub floors-down : (m : ℕ) (e : ℤ) → T (fits binary32 (fin false m e)) → HasValue (floorOf (fin false m e)) false (m * up e / down e) 1
-  pub floors-up : (m : ℕ) (e : ℤ) → T (fits binary32 (fin true m e)) → HasValue (floorOf (fin true m e)) true ((m * up e + (down e - 1)) / down e) 1
+  pub floors-down : (m : ℕ) (e : ℤ) → T (fits binary32 (fin false m e))
+      → HasValue (floorOf (fin false m e)) false (m * up e / down e) 1
+  pub floors-up : (m : ℕ) (e : ℤ) → T (fits binary32 (fin true m e))
+      → HasValue (floorOf (fin true m e)) true ((m * up e + (down e - 1)) / down e) 1
   -- minimum and maximum yield the other where one is NaN;
   pub smaller : (x : Float) → (minOf nan x ≡ x) × (minOf x nan ≡ x)
   pub larger : (x : Float) → (maxOf nan x ≡ x) × (maxOf x nan ≡ x)
   -- a float is its bit pattern, and a bit pattern that is no NaN's is its float.
   pub patterns : (x : Float) → T (fits binary32 x) → floatOf (bitsOf x) ≡ x
   pub values : (b : ℕ) → b < 2 ^ 32 → isNan (floatOf b) ≡ false → bitsOf (floatOf b) ≡ b
-  -- A clip's position is from 0 to below its length, and its offset from 0 to below the data length, for every shift and speed.
-  pub positions : (c : Clip) (now : ℕ) → Sound c → Inside (clipOffsetAt c now) (c .length) × Within (offsetAt c now) (c .«data_length»)
+  -- A clip's position is from 0 to below its length, and its offset from 0 to below the data length, for every shift
+  -- and speed.
+  pub positions : (c : Clip) (now : ℕ) → Sound c
+      → Inside (clipOffsetAt c now) (c .length) × Within (offsetAt c now) (c .«data_length»)
   -- "note packing both ways."
   pub packed : (n : Note) → n .note < 256 → n .channel < 256 → fromU64Of (intoU64Of n) ≡ n
   pub unpacked : (v : ℕ) → intoU64Of (fromU64Of v) ≡ v % 2 ^ 16
@@ -205,76 +324,143 @@ pub record Leaves (w : World) (j n : ℕ) (cs : List Call) : Type 0 where
   pub stands : voiceAt (chan (run w earlier) j) place ≡ some voice
   pub leaves : follow (event (run w earlier) call j) (chan (run w earlier) j) place ≡ gone
 
+-- the terms of channel c's sum in a sample x, with the parameters p and the memory m: the products of its voices in
+-- their order, that of v at place n among them. A product is the recorded value times the level; a voice that is to be
+-- removed has none
+abbrev pub termsWith : Params → Float → List ℕ → Channel → ℕ → Voice → List Float
+termsWith p x m c n v =
+    let t = tickAt p m c in
+    let r = memoryOf x c m in
+    termsOf t r (take n (live c)) ++ (productOf t r v ∷ termsOf t r (drop (suc n) (live c)))
+
+-- The voice v, at place n of channel j and unfinished, sounds in the sample s: the call's output for the channel is
+-- `volume` times the sum of those terms, from the left, and of the input at the pass-through's level. That the term can
+-- be heard is not said: a float sum may absorb it.
+pub record SoundsIn (w : World) (s : Call) (j : ℕ) (p : Params) (x : Float) (m : List ℕ) (n : ℕ) (v : Voice) : Type 0
+  where
+    pub stands : voiceAt (chan w j) n ≡ some v
+    pub unfinished : v .finished ≡ false
+    pub output : output w s j
+        ≡ mul binary32 (p .volume)
+        (add binary32 (add binary32 zero32 (totalOf (termsWith p x m (chan w j) n v)))
+        (mul binary32 x (levelOf (chan w j .head .«passthru_volume») (chan w j .head .now))))
+
+-- So does one that a start made as `fresh`, and this is its first: it is as the start made it, but for a speed that was
+-- set for its note meanwhile, and its clip began at the count of this sample.
+pub record FirstIn (w : World) (s : Call) (j : ℕ) (p : Params) (x : Float) (m : List ℕ) (n : ℕ) (fresh : Voice) : Type 0
+  where
+    pub voice : Voice
+    pub as-started : voice ≡ atSpeedOf (voice .speed) fresh
+    pub since : voice .clip2 .since ≡ chan w j .head .now
+    pub sounds : SoundsIn w s j p x m n voice
+
 pub record Demand3 (w : World) (j : ℕ) : Type 0 where
   -- What is done: each call does its event to the channel, and nothing else.
   pub does : (c : Call) → chan (after w c) j ≡ act (event w c j) (chan w j)
   -- What is counted: an accepted sample of the channel, alone or in a frame, moves its clock on by one,
-  pub counts : (s : Call) (p : Params) (x : Float) (m : List ℕ) → event w s j ≡ sounds p x m → chan (after w s) j .head .now ≡ chan w j .head .now + 1
+  pub counts : (s : Call) (p : Params) (x : Float) (m : List ℕ) → event w s j ≡ sounds p x m
+      → chan (after w s) j .head .now ≡ chan w j .head .now + 1
   -- and calls among which there is none leave it: so the next one after a start has the start's count.
-  pub stands : (cs : List Call) → any isResetCall cs ≡ false → any isSample (events w cs j) ≡ false → chan (run w cs) j .head .now ≡ chan w j .head .now
+  pub stands : (cs : List Call) → any isResetCall cs ≡ false → any isSample (events w cs j) ≡ false
+      → chan (run w cs) j .head .now ≡ chan w j .head .now
   -- What is heard: the call's output for the channel is `volume` times the channel's own.
-  pub hears : (s : Call) (p : Params) (x : Float) (m : List ℕ) → event w s j ≡ sounds p x m → output w s j ≡ mul binary32 (p .volume) (stepOf p x (chan w j) m .output)
-  -- ON TIME. "a start accepted at count n on a recording that isn't empty sounds in accepted sample n (its recorded value times its level is a term of the output), unless that voice is stopped first or the recording is
-  -- empty by then." Stopped means that a stop finds that very voice: with several of one note a stop goes to the oldest. The recording is judged once the sample has recorded.
-  pub on-time : (position : Float) (note : Note) (velocity : Float) (p₀ : Params) → code w (start position note velocity p₀) ≡ 0 → isEmpty (chan w j) ≡ false
+  pub hears : (s : Call) (p : Params) (x : Float) (m : List ℕ) → event w s j ≡ sounds p x m
+      → output w s j ≡ mul binary32 (p .volume) (stepOf p x (chan w j) m .output)
+  -- ON TIME. "a start accepted at count n on a recording that isn't empty sounds in accepted sample n (its recorded
+  -- value times its level is a term of the output), unless that voice is stopped first or the recording is empty by
+  -- then." Stopped means that a stop finds that very voice: with several of one note a stop goes to the oldest. The
+  -- recording is judged once the sample has recorded.
+  pub on-time : (position : Float) (note : Note) (velocity : Float) (p₀ : Params)
+      → code w (start position note velocity p₀) ≡ 0 → isEmpty (chan w j) ≡ false
       → (cs : List Call) → any isResetCall cs ≡ false
-      → (s : Call) (p : Params) (x : Float) (m : List ℕ) → event (run w (start position note velocity p₀ ∷ cs)) s j ≡ sounds p x m
+      → (s : Call) (p : Params) (x : Float) (m : List ℕ)
+      → event (run w (start position note velocity p₀ ∷ cs)) s j ≡ sounds p x m
       → chan (run w (start position note velocity p₀ ∷ cs)) j .head .now ≡ chan w j .head .now
-      → stoppedIn (events (after w (start position note velocity p₀)) cs j) (chan (after w (start position note velocity p₀)) j) (length (live (chan w j))) ≡ false
+      → stoppedIn (events (after w (start position note velocity p₀)) cs j)
+      (chan (after w (start position note velocity p₀)) j) (length (live (chan w j))) ≡ false
       → emptyAt m (chan (run w (start position note velocity p₀ ∷ cs)) j) ≡ false
-      → First p x m (chan (run w (start position note velocity p₀ ∷ cs)) j) (length (live (chan w j)))
+      → FirstIn (run w (start position note velocity p₀ ∷ cs)) s j p x m (length (live (chan w j)))
       (freshOf p₀ position note velocity (chan w j .head .now) (chan w j .head .«data_len»))
-  -- And until it is finished a voice sounds, where it then stands, in every accepted sample that finds the recording not empty.
+  -- And until it is finished a voice sounds, where it then stands, in every accepted sample that finds the recording
+  -- not empty.
   pub sounds-on : (n : ℕ) (v : Voice) → voiceAt (chan w j) n ≡ some v → v .finished ≡ false
       → (cs : List Call) → any isResetCall cs ≡ false → finishedIn (events w cs j) (chan w j) n ≡ false
-      → (s : Call) (p : Params) (x : Float) (m : List ℕ) → event (run w cs) s j ≡ sounds p x m → emptyAt m (chan (run w cs) j) ≡ false
-      → (k : ℕ) × (u : Voice) × (followAll (events w cs j) (chan w j) n ≡ at k) × Sounds p x m (chan (run w cs) j) k u
-  -- STAYS. "No voice leaves before a stop or play-once has finished it." The call that it leaves in may be the one that finishes it.
+      → (s : Call) (p : Params) (x : Float) (m : List ℕ) → event (run w cs) s j ≡ sounds p x m
+      → emptyAt m (chan (run w cs) j) ≡ false
+      → (k : ℕ) × (u : Voice) × (followAll (events w cs j) (chan w j) n ≡ at k) × SoundsIn (run w cs) s j p x m k u
+  -- STAYS. "No voice leaves before a stop or play-once has finished it." The call that it leaves in may be the one that
+  -- finishes it.
   pub stays : (n : ℕ) (v : Voice) → voiceAt (chan w j) n ≡ some v → v .finished ≡ false
-      → (cs : List Call) → any isResetCall cs ≡ false → followAll (events w cs j) (chan w j) n ≡ gone → finishedIn (events w cs j) (chan w j) n ≡ true
-  -- How a voice is followed: at the place that it is followed to stands what the call makes of that very voice. Voices keep their order,
-  pub follows : (c : Call) (n k : ℕ) (v : Voice) → voiceAt (chan w j) n ≡ some v → follow (event w c j) (chan w j) n ≡ at k
+      → (cs : List Call) → any isResetCall cs ≡ false → followAll (events w cs j) (chan w j) n ≡ gone
+      → finishedIn (events w cs j) (chan w j) n ≡ true
+  -- How a voice is followed: at the place that it is followed to stands what the call makes of that very voice. Voices
+  -- keep their order,
+  pub follows : (c : Call) (n k : ℕ) (v : Voice) → voiceAt (chan w j) n ≡ some v
+      → follow (event w c j) (chan w j) n ≡ at k
       → voiceAt (chan (after w c) j) k ≡ some (becomes (event w c j) (chan w j) n v)
-  pub in-order : (c : Call) (i n a b : ℕ) (u v : Voice) → i < n → voiceAt (chan w j) i ≡ some u → voiceAt (chan w j) n ≡ some v
+  pub in-order : (c : Call) (i n a b : ℕ) (u v : Voice) → i < n → voiceAt (chan w j) i ≡ some u
+      → voiceAt (chan w j) n ≡ some v
       → follow (event w c j) (chan w j) i ≡ at a → follow (event w c j) (chan w j) n ≡ at b → a < b
   -- and each that is there after a call was there before it, or is the start's own, at the end.
   pub none-else : (c : Call) (k : ℕ) (u : Voice) → voiceAt (chan (after w c) j) k ≡ some u
       → ((n : ℕ) × (v : Voice) × (voiceAt (chan w j) n ≡ some v) × (follow (event w c j) (chan w j) n ≡ at k))
-      ⊎ ((k ≡ length (live (chan w j))) × (newOf (event w c j) (chan w j) ≡ u ∷ []))
-  -- GOES. "A voice finished at count r is gone by the end of any accepted sample n that finds the recording not empty, if n is at least r plus the larger of the decay at finishing and the decay at n." The call c finishes it,
-  -- at the count of its channel then and with its own decay; the last of c ∷ cs, which may be c itself, is the sample. In between modes and decays may be anything.
+      ⊎ ((k ≡ length (live (chan w j))) × (addedBy (event w c j) (chan w j) ≡ u ∷ []))
+  -- GOES. "A voice finished at count r is gone by the end of any accepted sample n that finds the recording not empty,
+  -- if n is at least r plus the larger of the decay at finishing and the decay at n." The call c finishes it, at the
+  -- count of its channel then and with its own decay; the last of c ∷ cs, which may be c itself, is the sample. In
+  -- between modes and decays may be anything.
   pub goes : (c : Call) (n : ℕ) (v : Voice) → voiceAt (chan w j) n ≡ some v → finishes (event w c j) (chan w j) n ≡ true
-      → (cs : List Call) (p : Params) (x : Float) (m : List ℕ) → event (before w c cs) (final c cs) j ≡ sounds p x m → emptyAt m (chan (before w c cs) j) ≡ false
+      → (cs : List Call) (p : Params) (x : Float) (m : List ℕ) → event (before w c cs) (final c cs) j ≡ sounds p x m
+      → emptyAt m (chan (before w c cs) j) ≡ false
       → chan w j .head .now + max (decayOf (event w c j)) (p .«decay_samples») ≤ chan (before w c cs) j .head .now
       → followAll (events w (c ∷ cs) j) (chan w j) n ≡ gone
   -- One that is gone left in one of the calls, where `free` holds:
-  pub left-in : (n : ℕ) (v : Voice) → voiceAt (chan w j) n ≡ some v → (cs : List Call) → followAll (events w cs j) (chan w j) n ≡ gone → Leaves w j n cs
-  -- FREE. "Its place is then free: row 5 of document 01 no longer counts that voice, and an accepted start can take the place." The call in which a voice leaves lowers the count that row 5 asks, so that row 5 doesn't hold by this channel
-  -- (it may by the other one);
-  pub free : (c : Call) (n : ℕ) (v : Voice) → voiceAt (chan w j) n ≡ some v → isResetCall c ≡ false → follow (event w c j) (chan w j) n ≡ gone
+  pub left-in : (n : ℕ) (v : Voice) → voiceAt (chan w j) n ≡ some v → (cs : List Call)
+      → followAll (events w cs j) (chan w j) n ≡ gone → Leaves w j n cs
+  -- FREE. "Its place is then free: row 5 of document 01 no longer counts that voice, and an accepted start can take the
+  -- place." The call in which a voice leaves lowers the count that row 5 asks, so that row 5 doesn't hold by this
+  -- channel (it may by the other one);
+  pub free : (c : Call) (n : ℕ) (v : Voice) → voiceAt (chan w j) n ≡ some v → isResetCall c ≡ false
+      → follow (event w c j) (chan w j) n ≡ gone
       → (chan (after w c) j .count < chan w j .count) × (fullOf (chan (after w c) j) ≡ false)
   -- an accepted start on a recording that isn't empty takes a place at the end.
-  pub taken : (position : Float) (note : Note) (velocity : Float) (p : Params) → code w (start position note velocity p) ≡ 0 → isEmpty (chan w j) ≡ false
-      → live (chan (after w (start position note velocity p)) j) ≡ live (chan w j) ++ (freshOf p position note velocity (chan w j .head .now) (chan w j .head .«data_len») ∷ [])
+  pub taken : (position : Float) (note : Note) (velocity : Float) (p : Params)
+      → code w (start position note velocity p) ≡ 0 → isEmpty (chan w j) ≡ false
+      → live (chan (after w (start position note velocity p)) j) ≡ live (chan w j)
+      ++ (freshOf p position note velocity (chan w j .head .now) (chan w j .head .«data_len») ∷ [])
 
 -- What holds beside it
 pub record Whole (w : World) : Type 0 where
   -- Row 9 answers no call.
   pub unbroken : (c : Call) → code w c ≢ 9
-  -- "an accepted start can take the place": a start that rows 2 to 4 let through is accepted where no channel in use is full.
-  pub opens : (position : Float) (note : Note) (velocity : Float) (p : Params) → badNote note ≡ false → badPosition position ≡ false → beyondLimits p ≡ false
+  -- "an accepted start can take the place": a start that rows 2 to 4 let through is accepted where no channel in use is
+  -- full.
+  pub opens : (position : Float) (note : Note) (velocity : Float) (p : Params) → badNote note ≡ false
+      → badPosition position ≡ false → beyondLimits p ≡ false
       → ((j : ℕ) → j < w .sampler .count → fullOf (chan w j) ≡ false) → code w (start position note velocity p) ≡ 0
 
 -- ==== All of it
 
 pub record Demands : Type 0 where
   pub first : Demand1
-  pub no-panic : (count : ℕ) (p : InitParams) (m : List ℕ) → setUpNumber count (length m) ≡ 0 → (cs : List Call) → Each FittingCall cs → NoPanic (run (setUp count p m) cs)
+  pub no-panic : (count : ℕ) (p : InitParams) (m : List ℕ) → setUpNumber count (length m) ≡ 0 → (cs : List Call)
+      → Each FittingCall cs → NoPanic (run (setUp count p m) cs)
   pub second : Demand2
-  -- of every record and memory that set-up and any calls leave, for each channel
-  pub third : (count : ℕ) (p : InitParams) (m : List ℕ) (cs : List Call) (j : ℕ) → j < run (setUp count p m) cs .sampler .count → Demand3 (run (setUp count p m) cs) j
+  -- of every record and memory that set-up and any calls leave, for each channel of those that set-up was asked for
+  pub third : (count : ℕ) (p : InitParams) (m : List ℕ) → setUpNumber count (length m) ≡ 0
+      → (cs : List Call) (j : ℕ) → j < count → Demand3 (run (setUp count p m) cs) j
+  -- Their count stays, and so does the capacity: "the lent memory's length divided by the channel count, rounded down,
+  -- at most 2^22."
+  pub count-stays : (count : ℕ) (p : InitParams) (m : List ℕ) → setUpNumber count (length m) ≡ 0
+      → (cs : List Call) → run (setUp count p m) cs .sampler .count ≡ count
+  pub capacity-stays : (count : ℕ) (p : InitParams) (m : List ℕ) → setUpNumber count (length m) ≡ 0
+      → (cs : List Call) → run (setUp count p m) cs .sampler .capacity ≡ min (length m / count) (2 ^ 22)
   -- and that this isn't met by an engine whose records break
-  pub whole : (count : ℕ) (p : InitParams) (m : List ℕ) → setUpNumber count (length m) ≡ 0 → (cs : List Call) → Each FittingCall cs → Whole (run (setUp count p m) cs)
+  pub whole : (count : ℕ) (p : InitParams) (m : List ℕ) → setUpNumber count (length m) ≡ 0 → (cs : List Call)
+      → Each FittingCall cs → Whole (run (setUp count p m) cs)
+  -- The output that demand 3 speaks of is the one that the call answers.
+  pub answers : (w : World) (c : Call) (r : Outcome (on w c)) → Allows (on w c) r
+      → (j : ℕ) → outputIn w c r j ≡ output w c j
   -- What calls leave, one after the other, is what their contracts allow them to leave, and nothing else is.
   pub runs : (w : World) (cs : List Call) → Chain w cs (run w cs)
   pub no-other : (w u : World) (cs : List Call) → Chain w cs u → u ≡ run w cs

@@ -1,4 +1,7 @@
 pub mod Runs
 pub mod Outcomes
 pub mod Table
+pub mod Broken
+pub mod Rows
+pub mod SmallParts
 pub mod Demands

@@ -1,23 +1,21 @@
--- Every public call with all that it is given, and which outcomes its contract allows: the result, and what was lent to it as it is at the end. `Allows` says of each call what the `ensures` lines of its function say,
--- in the same definitions: sampler/src/lib.rt, questions/src/lib.rt and, for voice info in a lent list, lent/src/lib.rt. The crate `contracts` shows it of each function there. The
--- calls on a record that the host lends have the same definitions in their contracts, with the record in its place: lent/src/lib.rt. Definitions only. Assumes nothing.
+-- Every public call with all that it is given, and which outcomes its contract allows: the result, and what was lent to
+-- it as it is at the end. `Allows` says of each call what the `ensures` lines of its function say, in the same
+-- definitions. That it does is checked of each function in the crate `contracts`: of those by value
+-- (sampler/src/lib.rt, questions/src/lib.rt) by a twin whose `ensures` is `Allows`, and of those on a record that the
+-- host lends (lent_sampler/src/lib.rt) by the theorem `Lent` on the function itself. Definitions only. Assumes nothing.
 use mathlib.Core.Path.{_≡_}
 use Prim.Native.Nat.{ℕ}
 use mathlib.Core.List.{List, [], _∷_}
-use lib.ListN.{length}
+use lib.ListN.{length, getD}
 use lib.Ieee.{Float}
 use Rattle.common_types.specs.declared.InitParams.{InitParams}
+use Rattle.binary32.specs.Leaves.{zero32}
 use Rattle.sampler.specs.declared.Answer.{Answer}
 use Rattle.sampler.specs.declared.SampleAnswer.{SampleAnswer}
 use Rattle.sampler.specs.Refusals.{frameNumber}
 use Rattle.sampler.specs.Samplers.{
   setUpOf,
-  startPlayingOf,
-  stopPlayingOf,
-  setNoteSpeedOf,
-  startRecordingOf,
-  stopRecordingOf,
-  resetOf,
+  changeOf,
   processSampleOf,
   sampleMemory,
   Frames,
@@ -42,7 +40,7 @@ use Rattle.questions.specs.Questions.{
   activeNotesAfter,
   getVoiceInfoOf,
 }
-use Rattle.lent.specs.Lists.{voiceInfoCounted, voiceInfoAfter}
+use Rattle.lent_sampler.specs.Lists.{voiceInfoCounted, voiceInfoAfter}
 use Rattle.promises.specs.Runs.{
   World,
   getFramesProcessed,
@@ -54,12 +52,7 @@ use Rattle.promises.specs.Runs.{
   getVoiceInfo,
   fillVoiceInfo,
   Call,
-  start,
-  stop,
-  speed,
-  startRecording,
-  stopRecording,
-  reset,
+  change,
   sample,
   frame,
   asks,
@@ -92,12 +85,7 @@ pub record InfoOutcome : Type 0 where
 
 abbrev pub Outcome : Given → Type 0
 Outcome (new count p m) = Answer
-Outcome (on w (start position note velocity p)) = Answer
-Outcome (on w (stop note p)) = Answer
-Outcome (on w (speed note s)) = Answer
-Outcome (on w startRecording) = Answer
-Outcome (on w stopRecording) = Answer
-Outcome (on w reset) = Answer
+Outcome (on w (change d)) = Answer
 Outcome (on w (sample j x p)) = SampleOutcome
 Outcome (on w (frame xs p)) = FrameOutcome
 Outcome (on w (asks (getFramesProcessed j))) = Counted
@@ -112,13 +100,9 @@ Outcome (on w (asks (fillVoiceInfo j p list))) = InfoOutcome
 -- ---- what the contracts allow
 abbrev pub Allows : (g : Given) → Outcome g → Type 0
 Allows (new count p m) r = r ≡ setUpOf count p (length m)
-Allows (on w (start position note velocity p)) r = r ≡ startPlayingOf (w .sampler) position note velocity p
-Allows (on w (stop note p)) r = r ≡ stopPlayingOf (w .sampler) note p
-Allows (on w (speed note s)) r = r ≡ setNoteSpeedOf (w .sampler) note s
-Allows (on w startRecording) r = r ≡ startRecordingOf (w .sampler)
-Allows (on w stopRecording) r = r ≡ stopRecordingOf (w .sampler)
-Allows (on w reset) r = r ≡ resetOf (w .sampler)
-Allows (on w (sample j x p)) r = (r .answer ≡ processSampleOf (w .sampler) j x p (w .memory)) × (r .memory ≡ sampleMemory (w .sampler) j x p (w .memory))
+Allows (on w (change d)) r = r ≡ changeOf (w .sampler) d
+Allows (on w (sample j x p)) r = (r .answer ≡ processSampleOf (w .sampler) j x p (w .memory))
+    × (r .memory ≡ sampleMemory (w .sampler) j x p (w .memory))
 Allows (on w (frame xs p)) r =
     (r .answer .number ≡ frameNumber (w .sampler) (length xs) p (length (w .memory)))
     × Frames (framedOf (w .sampler) xs p (w .memory)) (r .answer .sampler) (r .frame) (r .memory)
@@ -126,10 +110,13 @@ Allows (on w (asks (getFramesProcessed j))) r = r ≡ getFramesProcessedOf (w .s
 Allows (on w (asks (getDataLen j))) r = r ≡ getDataLenOf (w .sampler) j
 Allows (on w (asks (isRecording j))) r = r ≡ isRecordingOf (w .sampler) j
 Allows (on w (asks (getLastRecordedOffset j))) r = r ≡ getLastRecordedOffsetOf (w .sampler) j
-Allows (on w (asks (printErrorInfo j text))) r = (r .answer ≡ printErrorInfoOf (w .sampler) j (length text)) × (r .lent ≡ errorTextAfter (w .sampler) j text)
-Allows (on w (asks (iterActiveNotes j notes))) r = (r .answer ≡ iterActiveNotesOf (w .sampler) j (length notes)) × (r .lent ≡ activeNotesAfter (w .sampler) j notes)
+Allows (on w (asks (printErrorInfo j text))) r = (r .answer ≡ printErrorInfoOf (w .sampler) j (length text))
+    × (r .lent ≡ errorTextAfter (w .sampler) j text)
+Allows (on w (asks (iterActiveNotes j notes))) r = (r .answer ≡ iterActiveNotesOf (w .sampler) j (length notes))
+    × (r .lent ≡ activeNotesAfter (w .sampler) j notes)
 Allows (on w (asks (getVoiceInfo j p room))) r = r ≡ getVoiceInfoOf (w .sampler) j p room
-Allows (on w (asks (fillVoiceInfo j p list))) r = (r .answer ≡ voiceInfoCounted (w .sampler) j p list) × (r .lent ≡ voiceInfoAfter (w .sampler) j p list)
+Allows (on w (asks (fillVoiceInfo j p list))) r = (r .answer ≡ voiceInfoCounted (w .sampler) j p list)
+    × (r .lent ≡ voiceInfoAfter (w .sampler) j p list)
 
 -- one outcome, and no other
 pub record Settled (g : Given) : Type 0 where
@@ -142,12 +129,7 @@ pub record Settled (g : Given) : Type 0 where
 -- document 01's number
 abbrev pub numberIn : (g : Given) → Outcome g → ℕ
 numberIn (new count p m) r = r .number
-numberIn (on w (start position note velocity p)) r = r .number
-numberIn (on w (stop note p)) r = r .number
-numberIn (on w (speed note s)) r = r .number
-numberIn (on w startRecording) r = r .number
-numberIn (on w stopRecording) r = r .number
-numberIn (on w reset) r = r .number
+numberIn (on w (change d)) r = r .number
 numberIn (on w (sample j x p)) r = r .answer .number
 numberIn (on w (frame xs p)) r = r .answer .number
 numberIn (on w (asks (getFramesProcessed j))) r = countedNumber r
@@ -161,24 +143,21 @@ numberIn (on w (asks (fillVoiceInfo j p list))) r = countedNumber (r .answer)
 
 -- the record and the memory for the next call
 abbrev pub leftBy : (w : World) (c : Call) → Outcome (on w c) → World
-leftBy w (start position note velocity p) r = withSampler (r .sampler) w
-leftBy w (stop note p) r = withSampler (r .sampler) w
-leftBy w (speed note s) r = withSampler (r .sampler) w
-leftBy w startRecording r = withSampler (r .sampler) w
-leftBy w stopRecording r = withSampler (r .sampler) w
-leftBy w reset r = withSampler (r .sampler) w
+leftBy w (change d) r = withSampler (r .sampler) w
 leftBy w (sample j x p) r = record { sampler = r .answer .sampler; memory = r .memory }
 leftBy w (frame xs p) r = record { sampler = r .answer .sampler; memory = r .memory }
 leftBy w (asks q) r = w
 
+-- the output for channel j, where the call is a sample of it
+abbrev pub outputIn : (w : World) (c : Call) → Outcome (on w c) → ℕ → Float
+outputIn w (change d) r j = zero32
+outputIn w (sample i x p) r j = r .answer .output
+outputIn w (frame xs p) r j = getD (r .frame) j zero32
+outputIn w (asks q) r j = zero32
+
 -- a frame or list that was lent holds what it held
 unfoldable pub Untouched : (w : World) (c : Call) → Outcome (on w c) → Type 0
-Untouched w (start position note velocity p) r = Unit {0}
-Untouched w (stop note p) r = Unit {0}
-Untouched w (speed note s) r = Unit {0}
-Untouched w startRecording r = Unit {0}
-Untouched w stopRecording r = Unit {0}
-Untouched w reset r = Unit {0}
+Untouched w (change d) r = Unit {0}
 Untouched w (sample j x p) r = Unit {0}
 Untouched w (frame xs p) r = r .frame ≡ xs
 Untouched w (asks (getFramesProcessed j)) r = Unit {0}
@@ -193,4 +172,5 @@ Untouched w (asks (fillVoiceInfo j p list)) r = r .lent ≡ list
 -- ---- runs by the contracts alone: each call leaves what some outcome that its contract allows leaves
 pub data Chain : World → List Call → World → Type 0 where
   ended : {w : World} → Chain w [] w
-  called : {w u : World} {c : Call} {cs : List Call} (r : Outcome (on w c)) → Allows (on w c) r → Chain (leftBy w c r) cs u → Chain w (c ∷ cs) u
+  called : {w u : World} {c : Call} {cs : List Call} (r : Outcome (on w c)) → Allows (on w c) r
+      → Chain (leftBy w c r) cs u → Chain w (c ∷ cs) u

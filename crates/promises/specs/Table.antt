@@ -1,4 +1,5 @@
--- Document 01's K1 to K10 as one table: a case, and what it gives. Floats are compared by all that they are, so -0 is not 0. Definitions only. Assumes nothing.
+-- Document 01's K1 to K10 as one table: a case, and what it gives. Floats are compared by all that they are, so -0 is
+-- not 0. Definitions only. Assumes nothing.
 use mathlib.Core.Path.{_≡_}
 use Prim.Native.Nat.{ℕ, _+_}
 use mathlib.Core.Bool.{false}
@@ -56,13 +57,13 @@ pub record Row : Type 0 where
   pub case : Case
   pub gives : Float
 
-abbrev pub row : Case → Float → Row
-row c x = record { case = c; gives = x }
+abbrev pub rowOf : Case → Float → Row
+rowOf c x = record { case = c; gives = x }
 
 -- a case of each time in turn
 abbrev pub from : (ℕ → Case) → ℕ → List Float → List Row
 from case now [] = []
-from case now (x ∷ xs) = row (case now) x ∷ from case (now + 1) xs
+from case now (x ∷ xs) = rowOf (case now) x ∷ from case (now + 1) xs
 
 -- ---- numbers
 abbrev pub half : Float
@@ -76,7 +77,8 @@ abbrev pub clipOf : Float → Float → Float → Mode → ℕ → Case
 clipOf start speed length mode now = offset (madeOf 0 start speed length (asFloat 10) mode) now
 
 abbrev pub K1 : List Row
-K1 = from (clipOf (asFloat 8) (asFloat 1) (asFloat 4) Loop) 0 (asFloat 8 ∷ asFloat 9 ∷ asFloat 0 ∷ asFloat 1 ∷ asFloat 8 ∷ [])
+K1 = from (clipOf (asFloat 8) (asFloat 1) (asFloat 4) Loop) 0
+    (asFloat 8 ∷ asFloat 9 ∷ asFloat 0 ∷ asFloat 1 ∷ asFloat 8 ∷ [])
 
 abbrev pub K2 : List Row
 K2 = from (clipOf (asFloat 8) minusOne (asFloat 4) Loop) 0 (asFloat 1 ∷ asFloat 0 ∷ [])
@@ -87,14 +89,15 @@ K3 =
     (asFloat 0 ∷ asFloat 1 ∷ asFloat 2 ∷ asFloat 3 ∷ asFloat 3 ∷ asFloat 2 ∷ asFloat 1 ∷ asFloat 0 ∷ asFloat 0 ∷ [])
 
 abbrev pub K4 : List Row
-K4 = row (clipOf (asFloat 0) nan (asFloat 4) Loop 0) (asFloat 3) ∷ row (clipOf (asFloat 0) nan (asFloat 4) PingPong 0) (asFloat 0) ∷ []
+K4 = rowOf (clipOf (asFloat 0) nan (asFloat 4) Loop 0) (asFloat 3)
+    ∷ rowOf (clipOf (asFloat 0) nan (asFloat 4) PingPong 0) (asFloat 0) ∷ []
 
 -- length 1.5
 abbrev pub K5 : List Row
-K5 = row (clipOf (asFloat 0) (asFloat 1) (fin false 3 (negsuc 0)) Loop 1) half ∷ []
+K5 = rowOf (clipOf (asFloat 0) (asFloat 1) (fin false 3 (negsuc 0)) Loop 1) half ∷ []
 
 abbrev pub K6 : List Row
-K6 = row (clipOf (asFloat 10) (asFloat 1) (asFloat 4) Loop 0) (asFloat 0) ∷ []
+K6 = rowOf (clipOf (asFloat 10) (asFloat 1) (asFloat 4) Loop 0) (asFloat 0) ∷ []
 
 -- ---- lengths, whatever the other parameters p and the data length n are
 abbrev pub timed : Params → Transport → TimeValue → Params
@@ -112,17 +115,18 @@ timed p t v = record {
 }
 
 abbrev pub K7 : Params → ℕ → List Row
-K7 p n = row (loopLength (timed p (p .transport) (Samples nan)) n) (asFloat 1) ∷ row (loopLength (timed p (p .transport) (Samples half)) n) (asFloat 1) ∷ []
+K7 p n = rowOf (loopLength (timed p (p .transport) (Samples nan)) n) (asFloat 1)
+    ∷ rowOf (loopLength (timed p (p .transport) (Samples half)) n) (asFloat 1) ∷ []
 
 abbrev pub K8 : Params → ℕ → List Row
 K8 p n =
-    row (loopLength (timed p defaultTransport (Bars (asFloat 1))) n) (asFloat 22050)
-    ∷ row (asSamples (Bars (asFloat 1)) defaultTransport) (asFloat 88200)
+    rowOf (loopLength (timed p defaultTransport (Bars (asFloat 1))) n) (asFloat 22050)
+    ∷ rowOf (asSamples (Bars (asFloat 1)) defaultTransport) (asFloat 88200)
     ∷ []
 
 -- ---- a whole number to a float: 2 ^ 24, and 4194305 times 4
 abbrev pub K9 : List Row
-K9 = row (toFloat 16777217) (fin false 1 (pos 24)) ∷ row (toFloat 16777219) (fin false 4194305 (pos 2)) ∷ []
+K9 = rowOf (toFloat 16777217) (fin false 1 (pos 24)) ∷ rowOf (toFloat 16777219) (fin false 4194305 (pos 2)) ∷ []
 
 -- ---- a ramp
 abbrev pub rise : Volume

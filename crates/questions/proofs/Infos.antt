@@ -7,7 +7,7 @@ use native.Mathlib.Omega.{arith}
 use lib.ListN.{length, set, length-map, length-take}
 use lib.Seq.{sets}
 use lib.Ieee.{Float}
-use Rattle.walks.proofs.Runs.{run-front}
+use Rattle.walks.proofs.Lists.Runs.{run-front}
 use Rattle.channel.specs.declared.Channel.{Channel}
 use Rattle.channel.specs.Channels.{live}
 use Rattle.voice.specs.declared.Voice.{Voice}

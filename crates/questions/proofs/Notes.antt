@@ -7,9 +7,9 @@ use native.Mathlib.Omega.{arith}
 use lib.ListN.{length, getD, length-append}
 use lib.Seq.{sets, slice}
 use Rattle.walks.specs.Walks.{without}
-use Rattle.walks.proofs.Loops.{Walk, next}
+use Rattle.walks.proofs.Lists.Loops.{Walk, next}
 use Rattle.common_types.specs.Notes.{intoU64Of}
-use Rattle.walks.proofs.Runs.{run-append}
+use Rattle.walks.proofs.Lists.Runs.{run-append}
 use Rattle.voice.specs.declared.Voice.{Voice}
 use Rattle.questions.specs.Questions.{notesOf}
 

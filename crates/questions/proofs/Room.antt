@@ -8,7 +8,7 @@ use lib.Dec.{eqb, leb, ltb}
 use lib.ListN.{length, length-take, List·getD-eq-default}
 use lib.Seq.{getD-take}
 use Rattle.walks.specs.Walks.{every}
-use Rattle.walks.proofs.Every.{both, every-at}
+use Rattle.walks.proofs.Lists.Every.{both, every-at}
 use Rattle.common_types.specs.declared.Params.{Params}
 use Rattle.common_types.specs.Settings.{beyondLimits}
 use Rattle.channel.specs.declared.Channel.{Channel}

@@ -1,13 +1,13 @@
--- What each question of the sampler answers (document 01, module 6), and its refusals in the table's order. Definitions only. Assumes nothing.
+-- What each question of the sampler answers (document 01, module 6), and its refusals in the table's order. Definitions
+-- only. Assumes nothing.
 use Prim.Native.Nat.{ℕ}
 use mathlib.Core.Bool.{not, cond}
 use mathlib.Core.List.{List, map, _++_}
 use lib.Dec.{eqb, ltb}
 use lib.ListN.{length, drop, replicate}
 use lib.Ieee.{Float, binary32, add, div, rem}
-use Rattle.binary32.specs.Leaves.{asFloat}
+use Rattle.binary32.specs.Leaves.{asFloat, zero32, one32}
 use Rattle.walks.specs.Walks.{without}
-use Rattle.clip.specs.Positions.{zero32, one32}
 use Rattle.common_types.specs.declared.Params.{Params}
 use Rattle.common_types.specs.Notes.{intoU64Of}
 use Rattle.common_types.specs.Settings.{beyondLimits, loopLengthOf}
@@ -64,9 +64,11 @@ abbrev pub isRecordingOf : Sampler → ℕ → Told
 isRecordingOf s j = answered (told.Done (recordsOf (recorderAt s j))) told.Refused (channelNumber s j)
 
 abbrev pub getLastRecordedOffsetOf : Sampler → ℕ → OffsetAnswer
-getLastRecordedOffsetOf s j = answered (offset.Done (lastRecordedOffsetOf (recorderAt s j))) offset.Refused (channelNumber s j)
+getLastRecordedOffsetOf s j = answered (offset.Done (lastRecordedOffsetOf (recorderAt s j))) offset.Refused
+    (channelNumber s j)
 
--- ---- questions whose answer is a list, to be written to a lent one with that much room: how long it is, and the lent list afterwards
+-- ---- questions whose answer is a list, to be written to a lent one with that much room: how long it is, and the lent
+-- list afterwards
 unfoldable pub listNumber : Sampler → ℕ → List ℕ → ℕ → ℕ
 listNumber s j answer room = row (not (goodSampler s)) 9 (row (noChannel s j) 1 (row (ltb room (length answer)) 8 0))
 
@@ -116,9 +118,11 @@ voiceInfosOf length c =
 
 unfoldable pub infoNumber : Sampler → ℕ → Params → ℕ → ℕ
 infoNumber s j p room =
-    row (not (goodSampler s)) 9 (row (noChannel s j) 1 (row (beyondLimits p) 4 (row (ltb room (channelAt s j .count)) 8 0)))
+    row (not (goodSampler s)) 9
+    (row (noChannel s j) 1 (row (beyondLimits p) 4 (row (ltb room (channelAt s j .count)) 8 0)))
 
 -- the loop length is worked out from channel 0's recording, the other figures from the asked channel's
 unfoldable pub getVoiceInfoOf : Sampler → ℕ → Params → ℕ → VoiceInfos
 getVoiceInfoOf s j p room =
-    answered (voiceInfosOf (loopLengthOf p (channelAt s 0 .head .«data_len»)) (channelAt s j)) (infosWith noInfos 0) (infoNumber s j p room)
+    answered (voiceInfosOf (loopLengthOf p (channelAt s 0 .head .«data_len»)) (channelAt s j)) (infosWith noInfos 0)
+    (infoNumber s j p room)

@@ -1,5 +1,5 @@
-// The questions of the sampler: what its host may ask of one channel, with the refusals of document 01's table. Each takes every value of its
-// arguments, and equals a definition in specs/. On a refusal a lent list holds what it held.
+// The questions of the sampler: what its host may ask of one channel, with the refusals of document 01's table. Each
+// takes every value of its arguments, and equals a definition in specs/. On a refusal a lent list holds what it held.
 ghost use mathlib.Core.Path.{_≡_};
 ghost use Prim.Native.Nat.{_+_, _≤_};
 ghost use mathlib.Core.Bool.{not};
@@ -20,6 +20,7 @@ ghost use Rattle.questions.specs.Questions.{
   iterActiveNotesOf,
   activeNotesAfter,
   voiceInfoOf,
+  noInfo,
   noInfos,
   infosWith,
   voiceInfosOf,
@@ -56,6 +57,18 @@ pub struct VoiceInfo {
     pub start: f32,
     pub end: f32,
     pub pos: f32,
+}
+
+impl VoiceInfo {
+    pub fn default() -> Self
+        ensures { λ r. ⌜ r ≡ noInfo ⌝ }
+    {
+        Self {
+            start: 0.0,
+            end: 0.0,
+            pos: 0.0,
+        }
+    }
 }
 
 // The infos are the first `count` of the 32.
@@ -227,11 +240,7 @@ fn voice_info(v: Voice, length: f32, data_length: f32) -> VoiceInfo
 fn no_infos(count: usize, number: u8) -> VoiceInfos
     ensures { λ r. ⌜ r ≡ infosWith noInfos count number ⌝ }
 {
-    let none = VoiceInfo {
-        start: 0.0,
-        end: 0.0,
-        pos: 0.0,
-    };
+    let none = VoiceInfo::default();
     VoiceInfos {
         infos: [none; 32],
         count,

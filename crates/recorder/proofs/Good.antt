@@ -8,7 +8,7 @@ use lib.Dec.{leb}
 use borrow.Author.Tests.{le-leb, leb-true}
 use Rattle.recorder.specs.declared.State.the-variants.{Triggered, Idle}
 use Rattle.recorder.specs.declared.Recorder.{Recorder}
-use Rattle.recorder.specs.Recording.{newOf, inState, misusedOf, skippedOf, startOf, stopOf, recordedOf, goodRecorder, goodRecorded}
+use Rattle.recorder.specs.Recording.{newRecorderOf, inState, misusedOf, skippedOf, startOf, stopOf, recordedOf, goodRecorder, goodRecorded}
 use Rattle.recorder.proofs.Cases.{by-state, by-room, start-idle, stop-idle, sample-idle, good-idle, start-again, stop-cuts, sample-next, sample-dropped, good-recording}
 
 idle-good : (r : Recorder) (len capacity : ℕ) → r .state ≡ Idle → len ≤ capacity → goodRecorder r len capacity ≡ true
@@ -26,8 +26,8 @@ skipped-good : (r : Recorder) (len capacity : ℕ) → goodRecorder (skippedOf r
 unfolding goodRecorder skippedOf
 skipped-good r len capacity = refl
 
-pub new-good : (capacity : ℕ) → goodRecorder newOf 0 capacity ≡ true
-new-good capacity = idle-good newOf 0 capacity refl (omega arith)
+pub new-good : (capacity : ℕ) → goodRecorder newRecorderOf 0 capacity ≡ true
+new-good capacity = idle-good newRecorderOf 0 capacity refl (omega arith)
 
 module _ (r : Recorder) (len capacity : ℕ) (good : goodRecorder r len capacity ≡ true) where
   -- what good says

@@ -13,7 +13,8 @@ use Rattle.recorder.specs.declared.Text.the-variants.{Written, Short}
 
 -- of a recorder without errors `skip: 0, neg: 0, inc: 0`
 unfoldable pub errorText : Recorder → List ℕ
-errorText r = bytes "skip: " ++ decimal (r .«skipped_samples») ++ bytes ", neg: 0, inc: " ++ decimal (r .«incorrect_state»)
+errorText r = bytes "skip: " ++ decimal (r .«skipped_samples») ++ bytes ", neg: 0, inc: "
+    ++ decimal (r .«incorrect_state»)
 
 -- how many bytes are written to a list of so many, or that it is too short
 unfoldable pub printErrorInfoOf : Recorder → ℕ → Text

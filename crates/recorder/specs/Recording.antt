@@ -1,5 +1,5 @@
--- What each call of the recorder does (document 01, module 5). `len` is the length of the data, `capacity` that of the lent memory.
--- Assumes nothing.
+-- What each call of the recorder does (document 01, module 5). `len` is the length of the data, `capacity` that of the
+-- lent memory. Assumes nothing.
 use mathlib.Core.Bool.{Bool, true, false, cond, _&&_}
 use mathlib.Core.List.{List}
 use Prim.Native.Nat.{ℕ, _+_, _≤_, max, min}
@@ -17,8 +17,8 @@ unfoldable pub raised : ℕ → ℕ
 raised n = cond (ltb n 4294967295) (n + 1) n
 
 -- idle, with no error counted
-abbrev pub newOf : Recorder
-newOf = record { state = Idle; «skipped_samples» = 0; «incorrect_state» = 0 }
+abbrev pub newRecorderOf : Recorder
+newRecorderOf = record { state = Idle; «skipped_samples» = 0; «incorrect_state» = 0 }
 
 -- the recorder in another state
 unfoldable pub inState : State → Recorder → Recorder
@@ -26,11 +26,21 @@ inState s r = record { state = s; «skipped_samples» = r .«skipped_samples»; 
 
 -- one more state error
 unfoldable pub misusedOf : Recorder → Recorder
-misusedOf r = record { state = r .state; «skipped_samples» = r .«skipped_samples»; «incorrect_state» = raised (r .«incorrect_state») }
+misusedOf r =
+    record {
+      state = r .state;
+      «skipped_samples» = r .«skipped_samples»;
+      «incorrect_state» = raised (r .«incorrect_state»);
+    }
 
 -- one more sample skipped
 unfoldable pub skippedOf : Recorder → Recorder
-skippedOf r = record { state = r .state; «skipped_samples» = raised (r .«skipped_samples»); «incorrect_state» = r .«incorrect_state» }
+skippedOf r =
+    record {
+      state = r .state;
+      «skipped_samples» = raised (r .«skipped_samples»);
+      «incorrect_state» = r .«incorrect_state»;
+    }
 
 -- recording begins at place 0; while recording it is an error
 unfoldable pub startOf : Recorder → Recorder

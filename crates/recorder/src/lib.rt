@@ -1,5 +1,6 @@
-// The recorder: writes incoming samples to the memory that its host lends, and counts what went wrong.
-// A sample is its 32-bit pattern. The memory's length is the capacity; data_len is the length of the recording in it.
+// The recorder: writes incoming samples to the memory that its host lends, and counts what went wrong. A sample is its
+// 32-bit pattern. The memory's length is the capacity; data_len is the length of the recording in it. `with_sample`
+// takes every write place, also one past the data, and is for recorders that are known to be good.
 use decimal::Line;
 ghost use mathlib.Core.Path.{_≡_};
 ghost use Prim.Native.Nat.{max, min};
@@ -9,7 +10,7 @@ ghost use Rattle.recorder.specs.ErrorText.{errorText, printErrorInfoOf, 
 ghost use Rattle.recorder.specs.Recording.{
   raised,
   misusedOf,
-  newOf,
+  newRecorderOf,
   startOf,
   stopOf,
   recordedOf,
@@ -79,7 +80,7 @@ fn smaller(a: usize, b: usize) -> usize
 
 impl Recorder {
     pub fn new() -> Recorder
-        ensures { λ r. ⌜ r ≡ newOf ⌝ }
+        ensures { λ r. ⌜ r ≡ newRecorderOf ⌝ }
     {
         Recorder {
             state: State::Idle,
@@ -134,7 +135,7 @@ impl Recorder {
         }
     }
 
-    pub fn process_sample(self, sample: u32, data: &mut [u32], data_len: usize) -> Recorded
+    pub fn with_sample(self, sample: u32, data: &mut [u32], data_len: usize) -> Recorded
         ensures { λ r. ⌜ r ≡ recordedOf self «data_len» (length (now («data» .entry))) ⌝ }
         ensures { λ r. ⌜ now («data» .exit) ≡ dataAfter self sample (now («data» .entry)) ⌝ }
     {

@@ -10,13 +10,13 @@ use lib.Dec.{T, ltb, eqb, eqb→eq}
 use lib.ListN.{length, take, drop, getD, length-append, length-take, length-drop}
 use lib.Ieee.{Float}
 use Rattle.binary32.proofs.Truth.{no, cond-split}
-use Rattle.clip.specs.Positions.{zero32}
+use Rattle.binary32.specs.Leaves.{zero32}
 use Rattle.common_types.specs.declared.Params.{Params}
 use Rattle.common_types.specs.Settings.{beyondLimits}
 use Rattle.channel.specs.Channels.{memoryOf}
 use Rattle.channel.proofs.Samples.{memory-kept}
 use Rattle.sampler.specs.Refusals.{channelAt, goodWith, noChannel, sampleNumber, frameNumber}
-use Rattle.sampler.specs.Samplers.{partOf, steppedOf, memoryAt, sampleMemory, Framed, framed, entryOf, entriesOf, framedOf}
+use Rattle.sampler.specs.Samplers.{partOf, channelSteppedOf, memoryAt, sampleMemory, Framed, framed, entryOf, entriesOf, framedOf}
 use Rattle.sampler.specs.declared.Sampler.{Sampler}
 use Rattle.sampler.proofs.Rows.{passed, is-true, sample-ready, frame-steps}
 
@@ -67,7 +67,7 @@ sample-memory-length s j x p m =
 -- ---- a frame
 module _ (P : Framed → Type 0) (p : Params) (keeps : T (not (beyondLimits p)) → (j : ℕ) (f : Framed) → Reaches (f .sampler) j (length (f .memory)) → P f → P (entryOf p j f)) where
   entries-keep : T (not (beyondLimits p)) → (n j : ℕ) (f : Framed) → j + n ≤ f .sampler .count → (j + n) * f .sampler .capacity ≤ length (f .memory) → P f → P (entriesOf p n j f)
-  unfolding entriesOf entryOf steppedOf
+  unfolding entriesOf entryOf channelSteppedOf
   entries-keep k zero j f a b h = h
   entries-keep k (suc n) j f a b h =
       let s = f .sampler in

@@ -8,11 +8,11 @@ use native.Mathlib.Omega.{arith}
 use borrow.Author.Tests.{eq-eqb, ne-eqb}
 use lib.ListN.{length, getD, set, length-set}
 use lib.Ieee.{Float, nan}
-use Rattle.clip.specs.Positions.{zero32}
+use Rattle.binary32.specs.Leaves.{zero32}
 use Rattle.common_types.specs.declared.Params.{Params}
-use Rattle.walks.proofs.Loops.{getD-any}
+use Rattle.walks.proofs.Lists.Loops.{getD-any}
 use Rattle.sampler.specs.Refusals.{frameNumber}
-use Rattle.sampler.specs.Samplers.{Ready, Steps, steppedOf, outputOf, memoryAt, Framed, framed, Frames, entryOf, entriesOf, framedOf}
+use Rattle.sampler.specs.Samplers.{Ready, Steps, channelSteppedOf, outputOf, memoryAt, Framed, framed, Frames, entryOf, entriesOf, framedOf}
 use Rattle.sampler.specs.declared.Sampler.{Sampler}
 
 pub record Framing (goal : Framed) (p : Params) (n size : ℕ) (s : Sampler) (io : List Float) (m : List ℕ) (j : ℕ) : Type 0 where
@@ -48,7 +48,7 @@ module _ {goal : Framed} {p : Params} {n size : ℕ} {s : Sampler} {io : List Fl
       none : n ≤ j → n - j ≡ 0
       none h = omega arith
 
-  module _ (h : j < n) (s' : Sampler) (y : Float) (m' : List ℕ) (stepped : s' ≡ steppedOf s j p (getD io j nan) m) (output : y ≡ outputOf s j p (getD io j nan) m)
+  module _ (h : j < n) (s' : Sampler) (y : Float) (m' : List ℕ) (stepped : s' ≡ channelSteppedOf s j p (getD io j nan) m) (output : y ≡ outputOf s j p (getD io j nan) m)
       (written : m' ≡ memoryAt s j (getD io j nan) m) (long : length m' ≡ length m) where
     one-less : n - j ≡ suc (n - (j + 1))
     one-less = omega arith
@@ -57,11 +57,11 @@ module _ {goal : Framed} {p : Params} {n size : ℕ} {s : Sampler} {io : List Fl
     unfolding entryOf
     entry =
         let e : getD io j zero32 ≡ getD io j nan = getD-any io j zero32 nan (omega (arith, f .entries)) in
-        ap (λ (x : Float). framed (steppedOf s j p x m) (set io j (outputOf s j p x m)) (memoryAt s j x m)) e
+        ap (λ (x : Float). framed (channelSteppedOf s j p x m) (set io j (outputOf s j p x m)) (memoryAt s j x m)) e
         ∙ sym (λ i. framed (stepped i) (set io j (output i)) (written i))
 
     pub framing-on : Framing goal p n size s' (set io j y) m' (j + 1)
-    unfolding entriesOf steppedOf
+    unfolding entriesOf channelSteppedOf
     framing-on = record {
       upto = omega arith;
       entries = length-set io j y ∙ f .entries;

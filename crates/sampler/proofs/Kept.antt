@@ -12,9 +12,9 @@ use lib.Ieee.{Float, le}
 use Rattle.binary32.proofs.Truth.{yes, no, cond-split}
 use Rattle.walks.specs.Walks.{every}
 use Rattle.walks.specs.Each.{Each}
-use Rattle.walks.proofs.Every.{both}
-use Rattle.walks.proofs.Each.{each-at, each-front, each-set, each-every, each-map, each-weaker, every-each, front-map}
-use Rattle.clip.specs.Positions.{zero32, one32}
+use Rattle.walks.proofs.Lists.Every.{both}
+use Rattle.walks.proofs.Lists.Each.{each-at, each-front, each-set, each-every, each-map, each-weaker, every-each, front-map}
+use Rattle.binary32.specs.Leaves.{zero32, one32}
 use Rattle.common_types.specs.declared.InitParams.{InitParams}
 use Rattle.common_types.specs.declared.Params.{Params}
 use Rattle.common_types.specs.Settings.{beyondLimits}
@@ -26,9 +26,9 @@ use Rattle.channel.specs.Channels.{channelOf, changedOf, goodChannel}
 use Rattle.channel.specs.Soundness.{FittingChannel, SoundChannel, FittingChange, SoundChange}
 use Rattle.channel.proofs.Kept.{new-channel-sound, change-sound}
 use Rattle.channel.proofs.Samples.{sample-sound}
-use Rattle.sampler.specs.Refusals.{present, channelAt, goodSizes, goodSampler, badNote, badPosition, startNumber, stopNumber, setUpNumber, sampleNumber, capacityOf}
-use Rattle.sampler.specs.Samplers.{withChannels, samplerOf, setUpOf, eachOf, answerOf, partOf, playedAt, steppedOf, processSampleOf, Framed, entryOf, framedOf}
-use Rattle.sampler.specs.Soundness.{SoundSampler, changeNumber}
+use Rattle.sampler.specs.Refusals.{present, channelAt, goodSizes, goodSampler, badNote, badPosition, startNumber, stopNumber, changeNumber, setUpNumber, sampleNumber, capacityOf}
+use Rattle.sampler.specs.Samplers.{withChannels, samplerOf, setUpOf, eachOf, answerOf, changeOf, partOf, playedAt, channelSteppedOf, processSampleOf, Framed, entryOf, framedOf}
+use Rattle.sampler.specs.Soundness.{SoundSampler}
 use Rattle.sampler.specs.declared.Sampler.{Sampler}
 use Rattle.sampler.proofs.Rows.{passed, is-true, sizes-count}
 use Rattle.sampler.proofs.Entries.{Reaches, sample-reaches, part-length, frame-keeps}
@@ -111,19 +111,18 @@ change-let-through s (change.Stop p note) h f =
     let a = passed (badNote note) 1 _ (passed (not (goodSampler s)) 8 _ h .1) in
     record { within = no (passed (beyondLimits p) 3 _ (a .1) .0); fitting = f }
 change-let-through s (change.Speed note speed) h f = f
-change-let-through s change.StartRecording h f = tt
-change-let-through s change.StopRecording h f = tt
+change-let-through s (change.Head d) h f = tt
 change-let-through s change.Reset h f = tt
 
-pub change-kept : (s : Sampler) → SoundSampler s → (x : Change) → FittingChange x → SoundSampler (answerOf (changeNumber s x) x s .sampler)
+pub change-kept : (s : Sampler) → SoundSampler s → (x : Change) → FittingChange x → SoundSampler (changeOf s x .sampler)
 unfolding answerOf
 change-kept s h x f =
     cond-split SoundSampler (eqb (changeNumber s x) 0) (eachOf x s) s
     (λ t. each-sound s h x (change-let-through s x (eqb→eq (changeNumber s x) 0 t) f)) (λ t. h)
 
 -- ---- a sample, and a frame
-step-kept : (p : Params) → SoundParams p → (s : Sampler) → SoundSampler s → (j : ℕ) (x : Float) (m : List ℕ) → Reaches s j (length m) → SoundSampler (steppedOf s j p x m)
-unfolding steppedOf playedAt
+step-kept : (p : Params) → SoundParams p → (s : Sampler) → SoundSampler s → (j : ℕ) (x : Float) (m : List ℕ) → Reaches s j (length m) → SoundSampler (channelSteppedOf s j p x m)
+unfolding channelSteppedOf playedAt
 step-kept p ok s h j x m r =
     let S = SoundChannel (s .capacity) in
     let c = playedAt s j p x m .channel in
@@ -134,7 +133,7 @@ pub sample-kept : (s : Sampler) → SoundSampler s → (j : ℕ) (x : Float) (p 
 unfolding processSampleOf
 sample-kept s h j x p m f =
     let n = sampleNumber s j p (length m) in
-    cond-split SoundSampler (eqb n 0) (steppedOf s j p x m) s
+    cond-split SoundSampler (eqb n 0) (channelSteppedOf s j p x m) s
     (λ t. let k = sample-reaches s p (length m) j (eqb→eq n 0 t) in
     step-kept p (record { within = k .1; fitting = f }) s h j x m (k .0))
     (λ t. h)

@@ -1,7 +1,8 @@
 -- A sample on channel j's part of the memory: what the call on the part leaves of the whole. Assumes nothing.
 use mathlib.Core.Path.{_≡_, ap, _∙_}
 use mathlib.Core.List.{List, _++_}
-use Prim.Native.Nat.{ℕ, _+_, _-_, _*_}
+use Prim.Native.Nat.{ℕ, _+_, _-_, _*_, _<_, min}
+use native.Mathlib.Omega.{arith}
 use native.Mathlib.Nat.{add-sub-cancel-left}
 use lib.ListN.{take, drop, set}
 use lib.Seq.{drop-drop}
@@ -12,8 +13,12 @@ use Rattle.channel.specs.declared.Played.{Played}
 use Rattle.channel.specs.Channels.{memoryOf}
 use Rattle.channel.specs.Channels.{processSampleOf as channelSampleOf}
 use Rattle.sampler.specs.Refusals.{channelAt}
-use Rattle.sampler.specs.Samplers.{withChannels, partOf, playedAt, steppedOf, outputOf, memoryAt}
+use Rattle.sampler.specs.Samplers.{withChannels, partOf, playedAt, channelSteppedOf, outputOf, memoryAt}
 use Rattle.sampler.specs.declared.Sampler.{Sampler}
+
+-- where `part_start` says that the part of one of the two channels begins
+pub starts-at : (j c a : ℕ) → j < 2 → a ≡ min j 1 * c → a ≡ j * c
+starts-at j c a low h = let e : min j 1 ≡ j = omega arith in h ∙ ap (λ (n : ℕ). n * c) e
 
 module _ (s : Sampler) (j a e : ℕ) (m : List ℕ) (starts : a ≡ j * s .capacity) (ends : e ≡ a + s .capacity) where
   size : e - a ≡ s .capacity
@@ -28,8 +33,8 @@ module _ (s : Sampler) (j a e : ℕ) (m : List ℕ) (starts : a ≡ j * s .capac
     unfolding playedAt
     played-is = plays ∙ ap (λ (d : Channel). channelSampleOf p x d (take (e - a) (drop a m))) is ∙ ap (channelSampleOf p x (channelAt s j)) part-is
 
-    pub stepped-is : withChannels (set (s .channels) j (r .channel)) s ≡ steppedOf s j p x m
-    unfolding steppedOf
+    pub stepped-is : withChannels (set (s .channels) j (r .channel)) s ≡ channelSteppedOf s j p x m
+    unfolding channelSteppedOf
     stepped-is = ap (λ (q : Played). withChannels (set (s .channels) j (q .channel)) s) played-is
 
     pub output-is : mul binary32 (p .volume) (r .output) ≡ outputOf s j p x m

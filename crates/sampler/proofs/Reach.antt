@@ -10,14 +10,14 @@ use lib.Dec.{T, leb, ltb, eqb, T-not}
 use lib.ListN.{length, take}
 use lib.Ieee.Fits.{eq→eqb}
 use Rattle.walks.specs.Walks.{any}
-use Rattle.walks.proofs.Every.{both}
+use Rattle.walks.proofs.Lists.Every.{both}
 use Rattle.binary32.proofs.Truth.{cond-split}
 use Rattle.common_types.specs.Settings.{beyondLimits}
 use Rattle.channel.specs.declared.Change.{Change}
 use Rattle.channel.specs.declared.Change.the-variants as change
-use Rattle.sampler.specs.Refusals.{row, capacityOf, goodSampler, goodWith, noChannel, badNote, badPosition, anyFull, atEnd, channelAt, startNumber, stopNumber, speedNumber, plainNumber, sampleNumber, frameNumber, channelNumber}
-use Rattle.sampler.specs.Samplers.{setUpOf, eachOf, answerOf, steppedOf, processSampleOf, Framed, framed, entryOf}
-use Rattle.sampler.specs.Soundness.{SoundSampler, changeNumber, Reached, Unbroken}
+use Rattle.sampler.specs.Refusals.{row, capacityOf, goodSampler, goodWith, noChannel, badNote, badPosition, anyFull, atEnd, channelAt, startNumber, stopNumber, speedNumber, plainNumber, changeNumber, sampleNumber, frameNumber, channelNumber}
+use Rattle.sampler.specs.Samplers.{setUpOf, eachOf, answerOf, channelSteppedOf, processSampleOf, Framed, framed, entryOf}
+use Rattle.sampler.specs.Soundness.{SoundSampler, Reached, Unbroken}
 use Rattle.sampler.specs.declared.Sampler.{Sampler}
 use Rattle.sampler.proofs.Rows.{quotient-test}
 use Rattle.sampler.proofs.Entries.{frame-keeps}
@@ -41,14 +41,14 @@ capacity-within (suc n) size =
     leb-true (suc n * c) size (sym (quotient-test (suc n) c size (λ e. omega arith)) ∙ le-leb c (size / suc n) (min-le-left (size / suc n) (2 ^ 22)))
 
 reached-within : (size : ℕ) (s : Sampler) → Reached size s → Within size s
-unfolding setUpOf answerOf eachOf processSampleOf steppedOf entryOf
+unfolding setUpOf answerOf eachOf processSampleOf channelSteppedOf entryOf
 reached-within size _ (Reached.new count p z) = rw z (capacity-within count size)
 reached-within size _ (Reached.changed s x r f) =
     let h = reached-within size s r in
     cond-split (Within size) (eqb (changeNumber s x) 0) (eachOf x s) s (λ t. h) (λ t. h)
 reached-within size _ (Reached.sampled s j x p m r f) =
     let h = reached-within size s r in
-    cond-split (Within size) (eqb (sampleNumber s j p (length m)) 0) (steppedOf s j p x m) s (λ t. h) (λ t. h)
+    cond-split (Within size) (eqb (sampleNumber s j p (length m)) 0) (channelSteppedOf s j p x m) s (λ t. h) (λ t. h)
 reached-within size _ (Reached.framed s frame p m r f) = frame-keeps (λ (g : Framed). Within size (g .sampler)) p (λ k j g i h. h) s frame m (reached-within size s r)
 
 -- ---- row 9
@@ -81,8 +81,7 @@ good-unbroken s size h =
         passes (goodSampler s) _ g (another (badNote note) 2 _ tt (another (badPosition position) 3 _ tt (another (beyondLimits p) 4 _ tt (another (anyFull s) 5 0 tt none))))
     of-change g (change.Stop p note) = passes (goodSampler s) _ g (another (badNote note) 2 _ tt (another (beyondLimits p) 4 0 tt none))
     of-change g (change.Speed note speed) = passes (goodSampler s) _ g (another (badNote note) 2 0 tt none)
-    of-change g change.StartRecording = passes (goodSampler s) 0 g none
-    of-change g change.StopRecording = passes (goodSampler s) 0 g none
+    of-change g (change.Head d) = passes (goodSampler s) 0 g none
     of-change g change.Reset = passes (goodSampler s) 0 g none
 
 -- with memory at least as long as set-up's

@@ -8,7 +8,7 @@ use borrow.Author.Tests.{leb-true, ltb-true, ltb-false, eqb-true}
 use lib.Dec.{leb, ltb, eqb, leb→le, le→leb}
 use Rattle.binary32.proofs.Truth.{same-test}
 use Rattle.common_types.specs.declared.Params.{Params}
-use Rattle.walks.proofs.Every.{both}
+use Rattle.walks.proofs.Lists.Every.{both}
 use Rattle.sampler.specs.Refusals.{row, goodSizes, goodSampler, goodWith, sampleNumber, frameNumber}
 use Rattle.sampler.specs.Samplers.{Ready, Steps}
 use Rattle.sampler.specs.declared.Sampler.{Sampler}

@@ -1,4 +1,5 @@
--- Document 01's table: which number each call answers, in the table's order, and 0 where none of its rows holds. Definitions only.
+-- Document 01's table: which number each call answers, in the table's order, and 0 where none of its rows holds.
+-- Definitions only.
 use Prim.Native.Nat.{ℕ, _*_, _/_, _^_, min}
 use mathlib.Core.Bool.{Bool, false, not, _&&_, _||_, cond}
 use mathlib.Core.List.{List}
@@ -6,10 +7,12 @@ use lib.Dec.{leb, ltb, eqb}
 use lib.ListN.{take, getD}
 use lib.Ieee.{Float, le}
 use Rattle.walks.specs.Walks.{any, every}
-use Rattle.clip.specs.Positions.{zero32, one32}
+use Rattle.binary32.specs.Leaves.{zero32, one32}
 use Rattle.common_types.specs.declared.Params.{Params}
 use Rattle.common_types.specs.declared.Note.{Note}
 use Rattle.common_types.specs.Settings.{beyondLimits}
+use Rattle.channel.specs.declared.Change.{Change}
+use Rattle.channel.specs.declared.Change.the-variants as change
 use Rattle.channel.specs.declared.Channel.{Channel}
 use Rattle.channel.specs.Heads.{lastTime}
 use Rattle.channel.specs.Channels.{channelOf, fullOf, goodChannel}
@@ -65,7 +68,8 @@ setUpNumber count size = row (not (goodSizes count (capacityOf count size))) 9 0
 
 unfoldable pub startNumber : Sampler → Float → Note → Params → ℕ
 startNumber s position note p =
-    row (not (goodSampler s)) 9 (row (badNote note) 2 (row (badPosition position) 3 (row (beyondLimits p) 4 (row (anyFull s) 5 0))))
+    row (not (goodSampler s)) 9
+    (row (badNote note) 2 (row (badPosition position) 3 (row (beyondLimits p) 4 (row (anyFull s) 5 0))))
 
 unfoldable pub stopNumber : Sampler → Note → Params → ℕ
 stopNumber s note p = row (not (goodSampler s)) 9 (row (badNote note) 2 (row (beyondLimits p) 4 0))
@@ -77,13 +81,23 @@ speedNumber s note = row (not (goodSampler s)) 9 (row (badNote note) 2 0)
 unfoldable pub plainNumber : Sampler → ℕ
 plainNumber s = row (not (goodSampler s)) 9 0
 
+-- a call that changes every channel, by its change
+abbrev pub changeNumber : Sampler → Change → ℕ
+changeNumber s (change.Start p position note velocity) = startNumber s position note p
+changeNumber s (change.Stop p note) = stopNumber s note p
+changeNumber s (change.Speed note speed) = speedNumber s note
+changeNumber s (change.Head d) = plainNumber s
+changeNumber s change.Reset = plainNumber s
+
 unfoldable pub sampleNumber : Sampler → ℕ → Params → ℕ → ℕ
-sampleNumber s j p size = row (not (goodWith s size)) 9 (row (noChannel s j) 1 (row (beyondLimits p) 4 (row (atEnd (channelAt s j)) 6 0)))
+sampleNumber s j p size = row (not (goodWith s size)) 9
+    (row (noChannel s j) 1 (row (beyondLimits p) 4 (row (atEnd (channelAt s j)) 6 0)))
 
 -- a frame of n entries
 unfoldable pub frameNumber : Sampler → ℕ → Params → ℕ → ℕ
 frameNumber s n p size =
-    row (not (goodWith s size)) 9 (row (ltb (s .count) n) 1 (row (beyondLimits p) 4 (row (any atEnd (take n (s .channels))) 6 0)))
+    row (not (goodWith s size)) 9
+    (row (ltb (s .count) n) 1 (row (beyondLimits p) 4 (row (any atEnd (take n (s .channels))) 6 0)))
 
 -- a question of one channel
 unfoldable pub channelNumber : Sampler → ℕ → ℕ

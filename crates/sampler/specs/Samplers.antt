@@ -1,4 +1,5 @@
--- What each call does to the record and the memory lent with it (document 01, module 6). On a refusal both hold what they held. Definitions only.
+-- What each call does to the record and the memory lent with it (document 01, module 6). On a refusal both hold what
+-- they held. Definitions only.
 use mathlib.Core.Path.{_≡_}
 use Prim.Native.Nat.{ℕ, zero, suc, _+_, _*_, _≤_, _<_}
 use mathlib.Core.Bool.{cond}
@@ -7,17 +8,26 @@ use lib.Dec.{eqb}
 use lib.ListN.{length, take, drop, getD, set}
 use lib.Seq.{sets}
 use lib.Ieee.{Float, binary32, mul}
-use Rattle.clip.specs.Positions.{zero32}
+use Rattle.binary32.specs.Leaves.{zero32}
 use Rattle.common_types.specs.declared.InitParams.{InitParams}
 use Rattle.common_types.specs.declared.Params.{Params}
 use Rattle.common_types.specs.declared.Note.{Note}
 use Rattle.channel.specs.declared.Change.{Change}
 use Rattle.channel.specs.declared.Change.the-variants as change
+use Rattle.channel.specs.declared.HeadChange.the-variants.{StartRecording, StopRecording}
 use Rattle.channel.specs.declared.Channel.{Channel}
 use Rattle.channel.specs.declared.Played.{Played}
 use Rattle.channel.specs.Channels.{channelOf, changedOf, memoryOf}
 use Rattle.channel.specs.Channels.{processSampleOf as channelSampleOf}
-use Rattle.sampler.specs.Refusals.{present, channelAt, capacityOf, setUpNumber, startNumber, stopNumber, speedNumber, plainNumber, sampleNumber, frameNumber}
+use Rattle.sampler.specs.Refusals.{
+  present,
+  channelAt,
+  capacityOf,
+  setUpNumber,
+  changeNumber,
+  sampleNumber,
+  frameNumber,
+}
 use Rattle.sampler.specs.declared.Sampler.{Sampler}
 use Rattle.sampler.specs.declared.Answer.{Answer}
 use Rattle.sampler.specs.declared.SampleAnswer.{SampleAnswer}
@@ -44,23 +54,27 @@ eachOf change s = withChannels (sets (s .channels) 0 (map (changedOf change) (pr
 unfoldable pub answerOf : ℕ → Change → Sampler → Answer
 answerOf number change s = record { sampler = cond (eqb number 0) (eachOf change s) s; number = number }
 
+-- the call that makes it, under whatever name
+abbrev pub changeOf : Sampler → Change → Answer
+changeOf s change = answerOf (changeNumber s change) change s
+
 abbrev pub startPlayingOf : Sampler → Float → Note → Float → Params → Answer
-startPlayingOf s position note velocity p = answerOf (startNumber s position note p) (change.Start p position note velocity) s
+startPlayingOf s position note velocity p = changeOf s (change.Start p position note velocity)
 
 abbrev pub stopPlayingOf : Sampler → Note → Params → Answer
-stopPlayingOf s note p = answerOf (stopNumber s note p) (change.Stop p note) s
+stopPlayingOf s note p = changeOf s (change.Stop p note)
 
 abbrev pub setNoteSpeedOf : Sampler → Note → Float → Answer
-setNoteSpeedOf s note speed = answerOf (speedNumber s note) (change.Speed note speed) s
+setNoteSpeedOf s note speed = changeOf s (change.Speed note speed)
 
 abbrev pub startRecordingOf : Sampler → Answer
-startRecordingOf s = answerOf (plainNumber s) change.StartRecording s
+startRecordingOf s = changeOf s (change.Head StartRecording)
 
 abbrev pub stopRecordingOf : Sampler → Answer
-stopRecordingOf s = answerOf (plainNumber s) change.StopRecording s
+stopRecordingOf s = changeOf s (change.Head StopRecording)
 
 abbrev pub resetOf : Sampler → Answer
-resetOf s = answerOf (plainNumber s) change.Reset s
+resetOf s = changeOf s change.Reset
 
 -- ---- a sample of one channel
 
@@ -81,21 +95,22 @@ partOf s j m = take (s .capacity) (drop (j * s .capacity) m)
 unfoldable pub playedAt : Sampler → ℕ → Params → Float → List ℕ → Played
 playedAt s j p x m = channelSampleOf p x (channelAt s j) (partOf s j m)
 
-unfoldable pub steppedOf : Sampler → ℕ → Params → Float → List ℕ → Sampler
-steppedOf s j p x m = withChannels (set (s .channels) j (playedAt s j p x m .channel)) s
+unfoldable pub channelSteppedOf : Sampler → ℕ → Params → Float → List ℕ → Sampler
+channelSteppedOf s j p x m = withChannels (set (s .channels) j (playedAt s j p x m .channel)) s
 
 unfoldable pub outputOf : Sampler → ℕ → Params → Float → List ℕ → Float
 outputOf s j p x m = mul binary32 (p .volume) (playedAt s j p x m .output)
 
 -- the memory with channel j's part as the sample leaves it
 unfoldable pub memoryAt : Sampler → ℕ → Float → List ℕ → List ℕ
-memoryAt s j x m = take (j * s .capacity) m ++ (memoryOf x (channelAt s j) (partOf s j m) ++ drop (j * s .capacity + s .capacity) m)
+memoryAt s j x m = take (j * s .capacity) m
+    ++ (memoryOf x (channelAt s j) (partOf s j m) ++ drop (j * s .capacity + s .capacity) m)
 
 unfoldable pub processSampleOf : Sampler → ℕ → Float → Params → List ℕ → SampleAnswer
 processSampleOf s j x p m =
     let number = sampleNumber s j p (length m) in
     record {
-      sampler = cond (eqb number 0) (steppedOf s j p x m) s;
+      sampler = cond (eqb number 0) (channelSteppedOf s j p x m) s;
       output = cond (eqb number 0) (outputOf s j p x m) zero32;
       number = number;
     }
@@ -120,7 +135,7 @@ pub record Frames (f : Framed) (s : Sampler) (entries : List Float) (m : List �
 
 unfoldable pub entryOf : Params → ℕ → Framed → Framed
 entryOf p j f = record {
-  sampler = steppedOf (f .sampler) j p (getD (f .frame) j zero32) (f .memory);
+  sampler = channelSteppedOf (f .sampler) j p (getD (f .frame) j zero32) (f .memory);
   frame = set (f .frame) j (outputOf (f .sampler) j p (getD (f .frame) j zero32) (f .memory));
   memory = memoryAt (f .sampler) j (getD (f .frame) j zero32) (f .memory);
 }

@@ -1,4 +1,5 @@
--- What the theorems call sound of a record, and the records that set-up and calls reach. Definitions only. Assumes nothing.
+-- What the theorems call sound of a record, and the records that set-up and calls reach. Definitions only. Assumes
+-- nothing.
 use mathlib.Core.Path.{_≡_}
 use mathlib.Core.Logic.{_≢_}
 use mathlib.Core.Bool.{true}
@@ -11,10 +12,17 @@ use Rattle.common_types.specs.declared.InitParams.{InitParams}
 use Rattle.common_types.specs.declared.Params.{Params}
 use Rattle.voice.specs.Soundness.{FittingParams}
 use Rattle.channel.specs.declared.Change.{Change}
-use Rattle.channel.specs.declared.Change.the-variants as change
 use Rattle.channel.specs.Soundness.{FittingChannel, FittingChange}
-use Rattle.sampler.specs.Refusals.{present, goodSampler, setUpNumber, startNumber, stopNumber, speedNumber, plainNumber, sampleNumber, frameNumber, channelNumber}
-use Rattle.sampler.specs.Samplers.{setUpOf, answerOf, processSampleOf, framedOf}
+use Rattle.sampler.specs.Refusals.{
+  present,
+  goodSampler,
+  setUpNumber,
+  changeNumber,
+  sampleNumber,
+  frameNumber,
+  channelNumber,
+}
+use Rattle.sampler.specs.Samplers.{setUpOf, changeOf, processSampleOf, framedOf}
 use Rattle.sampler.specs.declared.Sampler.{Sampler}
 
 -- two channels, as in every sampler of a program
@@ -27,23 +35,15 @@ pub record SoundSampler (s : Sampler) : Type 0 where
   pub good : goodSampler s ≡ true
   pub fitting : FittingSampler s
 
--- ---- the calls that change every channel, by their change
-
--- so `answerOf (changeNumber s x) x s` is, for each change x, the call of its name
-abbrev pub changeNumber : Sampler → Change → ℕ
-changeNumber s (change.Start p position note velocity) = startNumber s position note p
-changeNumber s (change.Stop p note) = stopNumber s note p
-changeNumber s (change.Speed note speed) = speedNumber s note
-changeNumber s change.StartRecording = plainNumber s
-changeNumber s change.StopRecording = plainNumber s
-changeNumber s change.Reset = plainNumber s
-
--- ---- what set-up with memory of that size, and then any calls, refused or not and with any memory lent to them, leave as the record
+-- ---- what set-up with memory of that size, and then any calls, refused or not and with any memory lent to them, leave
+-- as the record
 pub data Reached (size : ℕ) : Sampler → Type 0 where
   new : (count : ℕ) (p : InitParams) → setUpNumber count size ≡ 0 → Reached size (setUpOf count p size .sampler)
-  changed : (s : Sampler) (x : Change) → Reached size s → FittingChange x → Reached size (answerOf (changeNumber s x) x s .sampler)
-  sampled : (s : Sampler) (j : ℕ) (x : Float) (p : Params) (m : List ℕ) → Reached size s → FittingParams p → Reached size (processSampleOf s j x p m .sampler)
-  framed : (s : Sampler) (frame : List Float) (p : Params) (m : List ℕ) → Reached size s → FittingParams p → Reached size (framedOf s frame p m .sampler)
+  changed : (s : Sampler) (x : Change) → Reached size s → FittingChange x → Reached size (changeOf s x .sampler)
+  sampled : (s : Sampler) (j : ℕ) (x : Float) (p : Params) (m : List ℕ) → Reached size s → FittingParams p
+      → Reached size (processSampleOf s j x p m .sampler)
+  framed : (s : Sampler) (frame : List Float) (p : Params) (m : List ℕ) → Reached size s → FittingParams p
+      → Reached size (framedOf s frame p m .sampler)
 
 -- row 9 answers no call, with memory of that size
 pub record Unbroken (s : Sampler) (size : ℕ) : Type 0 where

@@ -1,12 +1,12 @@
-// The sampler by value: every public call, with the refusals of document 01's table. Each takes every value of its arguments, and equals a
-// definition in specs/. On a refusal the record and what is lent with it hold what they held.
+// The sampler by value: every public call, with the refusals of document 01's table. Each takes every value of its
+// arguments, and equals a definition in specs/. On a refusal the record and what is lent with it hold what they held.
 ghost use mathlib.Core.Path.{_≡_};
 ghost use Prim.Native.Nat.{_+_, _*_, _≤_, _<_, min};
 ghost use mathlib.Core.Bool.{_&&_};
 ghost use lib.Dec.{leb};
 ghost use lib.Ieee.{le};
 ghost use lib.ListN.{length, take};
-ghost use Rattle.clip.specs.Positions.{zero32, one32};
+ghost use Rattle.binary32.specs.Leaves.{zero32, one32};
 ghost use Rattle.walks.specs.Walks.{any, every};
 ghost use Rattle.channel.specs.Channels.{fullOf, goodChannel};
 ghost use Rattle.sampler.specs.Refusals.{
@@ -23,6 +23,7 @@ ghost use Rattle.sampler.specs.Refusals.{
   stopNumber,
   speedNumber,
   plainNumber,
+  changeNumber,
   sampleNumber,
   frameNumber,
   channelNumber,
@@ -31,13 +32,14 @@ ghost use Rattle.sampler.specs.Samplers.{
   setUpOf,
   eachOf,
   answerOf,
+  changeOf,
   startPlayingOf,
   stopPlayingOf,
   setNoteSpeedOf,
   startRecordingOf,
   stopRecordingOf,
   resetOf,
-  steppedOf,
+  channelSteppedOf,
   outputOf,
   memoryAt,
   processSampleOf,
@@ -51,7 +53,9 @@ ghost use Rattle.sampler.specs.Samplers.{
 };
 use channel::Change;
 use channel::Channel;
+use channel::HeadChange;
 use common_types::InitParams;
+pub use common_types::LoopMode;
 use common_types::Note;
 use common_types::Params;
 
@@ -113,10 +117,9 @@ fn capacity_of(count: usize, size: usize) -> usize
     }
 }
 
-// Where channel j's part of the memory begins.
-fn part_start(j: usize, capacity: usize) -> usize
-    requires { ⌜ j < 2 ⌝ }
-    ensures { λ r. ⌜ r ≡ j * capacity ⌝ }
+// Where channel j's part of the memory begins; the second's for every j above it.
+pub fn part_start(j: usize, capacity: usize) -> usize
+    ensures { λ r. ⌜ r ≡ min j 1 * capacity ⌝ }
 {
     if j == 0 { 0 } else { capacity }
 }
@@ -307,67 +310,84 @@ impl Sampler {
         )
     }
 
-    pub fn start_playing(self, position: f32, note: Note, velocity: f32, params: Params) -> Answer
-        ensures { λ r. ⌜ r ≡ startPlayingOf self position note velocity params ⌝ }
+    fn change_number(self, change: Change) -> u8
+        ensures { λ r. ⌜ r ≡ changeNumber self change ⌝ }
     {
-        let number = self.start_number(position, note, params);
-        self.answer(
-            number,
+        match change {
             Change::Start {
                 params,
                 position,
                 note,
-                velocity,
-            },
-        )
+                ..
+            } => self.start_number(position, note, params),
+            Change::Stop { params, note } => self.stop_number(note, params),
+            Change::Speed { note, .. } => self.speed_number(note),
+            Change::Head(_) => self.plain_number(),
+            Change::Reset => self.plain_number(),
+        }
+    }
+
+    // The call that makes a change of every channel, all or none. The six below are it under the Rust's names.
+    pub fn changed(self, change: Change) -> Answer
+        ensures { λ r. ⌜ r ≡ changeOf self change ⌝ }
+    {
+        let number = self.change_number(change);
+        self.answer(number, change)
+    }
+
+    pub fn start_playing(self, position: f32, note: Note, velocity: f32, params: Params) -> Answer
+        ensures { λ r. ⌜ r ≡ startPlayingOf self position note velocity params ⌝ }
+    {
+        self.changed(Change::Start {
+            params,
+            position,
+            note,
+            velocity,
+        })
     }
 
     pub fn stop_playing(self, note: Note, params: Params) -> Answer
         ensures { λ r. ⌜ r ≡ stopPlayingOf self note params ⌝ }
     {
-        let number = self.stop_number(note, params);
-        self.answer(number, Change::Stop { params, note })
+        self.changed(Change::Stop { params, note })
     }
 
     pub fn set_note_speed(self, note: Note, speed: f32) -> Answer
         ensures { λ r. ⌜ r ≡ setNoteSpeedOf self note speed ⌝ }
     {
-        let number = self.speed_number(note);
-        self.answer(number, Change::Speed { note, speed })
+        self.changed(Change::Speed { note, speed })
     }
 
     pub fn start_recording(self) -> Answer
         ensures { λ r. ⌜ r ≡ startRecordingOf self ⌝ }
     {
-        let number = self.plain_number();
-        self.answer(number, Change::StartRecording)
+        self.changed(Change::Head(HeadChange::StartRecording))
     }
 
     pub fn stop_recording(self) -> Answer
         ensures { λ r. ⌜ r ≡ stopRecordingOf self ⌝ }
     {
-        let number = self.plain_number();
-        self.answer(number, Change::StopRecording)
+        self.changed(Change::Head(HeadChange::StopRecording))
     }
 
     pub fn reset(self) -> Answer
         ensures { λ r. ⌜ r ≡ resetOf self ⌝ }
     {
-        let number = self.plain_number();
-        self.answer(number, Change::Reset)
+        self.changed(Change::Reset)
     }
 
     // A sample of channel j, on its part of the memory.
     fn step(mut self, j: usize, params: Params, input: f32, memory: &mut [u32]) -> Stepped
         requires { ⌜ Ready self j (length (now memory)) ⌝ }
-        ensures { λ r. ⌜ (r .sampler ≡ steppedOf self j params input (now (memory .entry))) × (r .output ≡ outputOf self j params input (now (memory .entry))) ⌝ }
+        ensures { λ r. ⌜ (r .sampler ≡ channelSteppedOf self j params input (now (memory .entry)))
+            × (r .output ≡ outputOf self j params input (now (memory .entry))) ⌝ }
         ensures { λ r. ⌜ now (memory .exit) ≡ memoryAt self j input (now (memory .entry)) ⌝ }
     {
         let c = self.channels[j];
         let capacity = self.capacity;
         let start = part_start(j, capacity);
         let end = start + capacity;
-        let played = c.process_sample(params, input, &mut memory[start..end]);
+        let played = c.with_sample(params, input, &mut memory[start..end]);
         let channel = played.channel;
         self.channels[j] = channel;
         Stepped {
@@ -406,7 +426,9 @@ impl Sampler {
     // A sample of each channel in turn, each entry of the frame replaced by its output.
     fn entries(mut self, frame: &mut [f32], params: Params, memory: &mut [u32]) -> Sampler
         requires { ⌜ Steps self (length (now frame)) (length (now memory)) ⌝ }
-        ensures { λ r. ⌜ Frames (entriesOf params (length (now (frame .entry))) 0 (framed self (now (frame .entry)) (now (memory .entry)))) r (now (frame .exit)) (now (memory .exit)) ⌝ }
+        ensures { λ r. ⌜ Frames
+            (entriesOf params (length (now (frame .entry))) 0 (framed self (now (frame .entry)) (now (memory .entry))))
+            r (now (frame .exit)) (now (memory .exit)) ⌝ }
     {
         let n = frame.len();
         let mut j = 0;
@@ -421,8 +443,10 @@ impl Sampler {
     }
 
     pub fn process_frame(self, frame: &mut [f32], params: Params, memory: &mut [u32]) -> Answer
-        ensures { λ r. ⌜ r .number ≡ frameNumber self (length (now (frame .entry))) params (length (now (memory .entry))) ⌝ }
-        ensures { λ r. ⌜ Frames (framedOf self (now (frame .entry)) params (now (memory .entry))) (r .sampler) (now (frame .exit)) (now (memory .exit)) ⌝ }
+        ensures { λ r. ⌜ r .number
+            ≡ frameNumber self (length (now (frame .entry))) params (length (now (memory .entry))) ⌝ }
+        ensures { λ r. ⌜ Frames (framedOf self (now (frame .entry)) params (now (memory .entry))) (r .sampler)
+            (now (frame .exit)) (now (memory .exit)) ⌝ }
     {
         let number = self.frame_number(frame.len(), params, memory.len());
         if number != 0 {

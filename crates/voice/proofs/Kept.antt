@@ -8,7 +8,7 @@ use lib.IntN.{pos}
 use lib.Ieee.{Float, binary32, fits, mul}
 use lib.Ieee.Bits.{is-true}
 use lib.Ieee.Fits.{and-i, and-l, and-r, add-fits, mul-fits, ofInt-fits}
-use Rattle.binary32.specs.Leaves.{asFloat}
+use Rattle.binary32.specs.Leaves.{asFloat, zero32}
 use Rattle.binary32.proofs.Truth.{yes, cond-split}
 use Rattle.common_types.specs.declared.Note.{Note}
 use Rattle.common_types.specs.declared.Params.{Params}
@@ -17,14 +17,14 @@ use Rattle.common_types.proofs.Limits.{within}
 use Rattle.common_types.proofs.LoopLengths.{loop-length-fits}
 use Rattle.volume.specs.declared.Volume.the-variants.{Static}
 use Rattle.volume.specs.Levels.{levelOf, goodVolume}
-use Rattle.clip.specs.Positions.{zero32, indexAt}
+use Rattle.clip.specs.Positions.{indexAt}
 use Rattle.clip.specs.Updates.{madeOf}
 use Rattle.clip.specs.Refusals.{goodClip}
 use Rattle.clip.specs.Bounds.{Sound}
 use Rattle.clip.proofs.Lengths.{float-length}
 use Rattle.clip.proofs.Kept.{made-sound}
 use Rattle.clip.proofs.Indices.{index-below}
-use Rattle.voice.specs.Voices.{clipModeOf, tickOf, shouldRemoveOf, movedOf, recordedOf, productOf, soundedOf, finishOf, playedOutOf, endedOf, volumeStepped, turnOf, freshOf, atSpeedOf, goodVoice}
+use Rattle.voice.specs.Voices.{clipModeOf, tickOf, shouldRemoveOf, movedOf, recordedValueOf, productOf, soundedOf, finishOf, playedOutOf, endedOf, volumeStepped, turnOf, freshOf, atSpeedOf, goodVoice}
 use Rattle.voice.specs.Soundness.{Fits, SoundParams, SoundPosition, SoundVolume, SoundVoice}
 use Rattle.voice.specs.declared.Voice.{Voice}
 use Rattle.voice.proofs.Volumes.{static-sound, volume-later, volume-stepped, volume-toward}
@@ -149,7 +149,7 @@ module _ (p : Params) (now n : ℕ) (ok : SoundParams p) (some : 1 ≤ n) (short
             ended = g .ended;
             volume = g .volume;
             clip = moved-sound p now n ok some short v (g .clip);
-            floats = (g .floats .0, add-fits binary32 (v .played) (mul binary32 (v .speed) (t .speed)), mul-fits binary32 (recordedOf m (indexAt (movedOf t v) now)) (levelOf (v .volume) now), g .floats .3);
+            floats = (g .floats .0, add-fits binary32 (v .played) (mul binary32 (v .speed) (t .speed)), mul-fits binary32 (recordedValueOf m (indexAt (movedOf t v) now)) (levelOf (v .volume) now), g .floats .3);
           })
 
       pub turn-sound : SoundVoice now (turnOf (tickOf p now n) m v)

@@ -8,7 +8,7 @@ use lib.Pow.{pow-pos}
 use lib.IntN.{pos}
 use lib.Ieee.{Float, binary32, mul, eq, le}
 use lib.Ieee.Fits.{and-i, mul-fits, ofInt-fits}
-use Rattle.binary32.specs.Leaves.{asFloat}
+use Rattle.binary32.specs.Leaves.{asFloat, zero32, one32}
 use Rattle.binary32.proofs.Truth.{cond-split}
 use Rattle.binary32.proofs.Units.{Units, eq-units, units-unique-above}
 use Rattle.common_types.specs.declared.Params.{Params}
@@ -16,7 +16,7 @@ use Rattle.common_types.specs.Settings.{loopLengthOf, speedOf}
 use Rattle.common_types.proofs.LoopLengths.{loop-length-from-one, loop-length-to-most, loop-length-fits}
 use Rattle.clip.specs.declared.Clip.{Clip}
 use Rattle.clip.specs.declared.Mode.{Mode}
-use Rattle.clip.specs.Positions.{zero32, one32, offsetAt}
+use Rattle.clip.specs.Positions.{offsetAt}
 use Rattle.clip.specs.Updates.{atMode, atDataLength, resumed, settledOf, sameMode, withSpeed, withMode, withLength, withDataLength}
 use Rattle.clip.specs.Refusals.{most32, goodLength}
 use Rattle.clip.specs.Bounds.{Sound}

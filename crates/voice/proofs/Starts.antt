@@ -6,13 +6,12 @@ use mathlib.Core.Bool.{Bool, true, false}
 use lib.Dec.{T, lit≤, lit<}
 use lib.Pow.{pow-pos}
 use lib.Ieee.{Float, binary32, round, mul, le, unlike}
-use Rattle.binary32.specs.Leaves.{asFloat}
+use Rattle.binary32.specs.Leaves.{asFloat, zero32}
 use Rattle.binary32.proofs.Values.{mul-value}
 use Rattle.binary32.proofs.Units.{Units, grid-multiple, zero-units, one-units, power-units}
 use Rattle.binary32.proofs.Rounding.{rd, rd-le, round-units}
 use Rattle.binary32.proofs.Halves.{ofInt-whole}
 use Rattle.binary32.proofs.Between.{Whole, whole}
-use Rattle.clip.specs.Positions.{zero32}
 use Rattle.clip.specs.Refusals.{most32}
 use Rattle.clip.proofs.Lengths.{units-le}
 use Rattle.voice.specs.Soundness.{SoundPosition}

@@ -1,17 +1,16 @@
--- What the theorems call sound: good, as document 01's rows have it, and with every float one of binary32, as every f32 of a program is.
--- Definitions only. Assumes nothing.
+-- What the theorems call sound: good, as document 01's rows have it, and with every float one of binary32, as every f32
+-- of a program is. Definitions only. Assumes nothing.
 use mathlib.Core.Path.{_≡_}
 use Prim.Native.Nat.{ℕ}
 use mathlib.Core.Bool.{true, not}
 use lib.Dec.{T}
 use lib.Ieee.{Float, binary32, le, fits}
 use Rattle.common_types.specs.declared.Params.{Params}
-use Rattle.common_types.specs.Settings.{beyondLimits}
-use Rattle.common_types.proofs.LoopLengths.{carried}
+use Rattle.common_types.specs.Settings.{carried, beyondLimits}
 use Rattle.volume.specs.declared.Volume.{Volume}
 use Rattle.volume.specs.declared.Volume.the-variants.{Static, Linear}
 use Rattle.volume.specs.Levels.{goodVolume}
-use Rattle.clip.specs.Positions.{zero32, one32}
+use Rattle.binary32.specs.Leaves.{zero32, one32}
 use Rattle.clip.specs.Bounds.{Fitting}
 use Rattle.voice.specs.Voices.{goodVoice}
 use Rattle.voice.specs.declared.Voice.{Voice}
@@ -19,7 +18,8 @@ use Rattle.voice.specs.declared.Voice.{Voice}
 abbrev pub Fits : Float → Type 0
 Fits x = T (fits binary32 x)
 
--- Of the floats of parameters only the loop length's comes into a record as it is: each other one goes through an operation, which rounds.
+-- Of the floats of parameters only the loop length's comes into a record as it is: each other one goes through an
+-- operation, which rounds.
 abbrev pub FittingParams : Params → Type 0
 FittingParams p = Fits (carried (p .«loop_length»))
 

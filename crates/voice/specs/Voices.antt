@@ -1,12 +1,13 @@
--- What one voice does in one sample (document 01, module 6, and the Rust's play_voices, should_remove_voice, finish_voice and start_playing).
--- No voice reads another, so the Rust's passes over all voices are, for each, one turn. Definitions only.
+-- What one voice does in one sample (document 01, module 6, and the Rust's play_voices, should_remove_voice,
+-- finish_voice and start_playing). No voice reads another, so the Rust's passes over all voices are, for each, one
+-- turn. Definitions only.
 use Prim.Native.Nat.{ℕ, _-_}
 use mathlib.Core.Bool.{Bool, true, false, not, _&&_, _||_, cond}
 use mathlib.Core.List.{List}
 use lib.Dec.{leb}
 use lib.ListN.{getD}
 use lib.Ieee.{Float, binary32, add, mul, le}
-use Rattle.binary32.specs.Leaves.{asFloat, floorOf, absOf, crossingOf, floatOf}
+use Rattle.binary32.specs.Leaves.{asFloat, floorOf, absOf, crossingOf, floatOf, zero32, one32}
 use Rattle.common_types.specs.declared.LoopMode.{LoopMode}
 use Rattle.common_types.specs.declared.LoopMode.the-variants as loop
 use Rattle.common_types.specs.declared.NoteOffBehaviour.{NoteOffBehaviour}
@@ -20,7 +21,7 @@ use Rattle.volume.specs.Levels.{isStaticAndMuteOf, levelOf, towardOf, steppedOf
 use Rattle.clip.specs.declared.Clip.{Clip}
 use Rattle.clip.specs.declared.Mode.{Mode}
 use Rattle.clip.specs.declared.Mode.the-variants as mode
-use Rattle.clip.specs.Positions.{zero32, one32, indexAt}
+use Rattle.clip.specs.Positions.{indexAt}
 use Rattle.clip.specs.Updates.{withLength, withSpeed, withDataLength, withMode}
 use Rattle.clip.specs.Refusals.{goodClip}
 use Rattle.voice.specs.declared.Voice.{Voice}
@@ -73,15 +74,17 @@ shouldRemoveOf t v = v .finished && overOf (t .«note_off_behavior») (isStaticA
 unfoldable pub movedOf : Tick → Voice → Clip
 movedOf t v =
     let now = t .now in
-    withMode (withDataLength (withSpeed (withLength (v .clip2) now (t .length)) now (mul binary32 (v .speed) (t .speed))) now (t .«data_length»)) now (t .mode)
+    withMode (withDataLength
+    (withSpeed (withLength (v .clip2) now (t .length)) now (mul binary32 (v .speed) (t .speed))) now (t .«data_length»))
+    now (t .mode)
 
 -- the value recorded at a place of the channel's memory
-abbrev pub recordedOf : List ℕ → ℕ → Float
-recordedOf m i = floatOf (getD m i 0)
+abbrev pub recordedValueOf : List ℕ → ℕ → Float
+recordedValueOf m i = floatOf (getD m i 0)
 
 -- the recorded value at the clip's index times the level now: the voice's term of the output
 unfoldable pub productOf : Tick → List ℕ → Voice → Float
-productOf t m v = mul binary32 (recordedOf m (indexAt (movedOf t v) (t .now))) (levelOf (v .volume) (t .now))
+productOf t m v = mul binary32 (recordedValueOf m (indexAt (movedOf t v) (t .now))) (levelOf (v .volume) (t .now))
 
 unfoldable pub soundedOf : Tick → List ℕ → Voice → Voice
 soundedOf t m v = record {
@@ -178,7 +181,15 @@ unfoldable pub blankVoice : Voice
 blankVoice = record {
   «finished_at» = 0;
   «last_sample_index» = 0;
-  clip2 = record { since = 0; start = zero32; speed = zero32; length = one32; «data_length» = one32; shift = zero32; mode = mode.Loop };
+  clip2 = record {
+    since = 0;
+    start = zero32;
+    speed = zero32;
+    length = one32;
+    «data_length» = one32;
+    shift = zero32;
+    mode = mode.Loop;
+  };
   volume = Static zero32;
   «loop_start_percent» = zero32;
   played = zero32;
@@ -205,6 +216,8 @@ atSpeedOf speed v = record {
   «is_at_zero_crossing» = v .«is_at_zero_crossing»;
 }
 
--- ---- a voice that may stand in a record whose clock is at `now`: no time of its lies after the clock, its ramp is good, and so is its clip
+-- ---- a voice that may stand in a record whose clock is at `now`: no time of its lies after the clock, its ramp is
+-- good, and so is its clip
 unfoldable pub goodVoice : ℕ → Voice → Bool
-goodVoice now v = leb (v .clip2 .since) now && leb (v .«finished_at») now && goodVolume now (v .volume) && goodClip (v .clip2)
+goodVoice now v = leb (v .clip2 .since) now && leb (v .«finished_at») now && goodVolume now (v .volume)
+    && goodClip (v .clip2)

@@ -1,8 +1,29 @@
-// One voice, and what it does in one sample. Each function takes every value of its arguments, and equals a definition in specs/Voices.antt.
+// One voice, and what it does in one sample. Each function takes every value of its arguments, and equals a definition
+// in specs/Voices.antt.
 ghost use mathlib.Core.Path.{_≡_};
 ghost use Prim.Native.Nat.{_-_};
 ghost use mathlib.Core.Bool.{cond};
-ghost use Rattle.voice.specs.Voices.{tickOf, clipModeOf, playsOnceOf, lateOf, overOf, shouldRemoveOf, recordedOf, movedOf, soundedOf, finishOf, playedOutOf, endedOf, volumeStepped, fadedOf, turnOf, freshOf, blankVoice, atSpeedOf, goodVoice};
+ghost use Rattle.voice.specs.Voices.{
+  tickOf,
+  clipModeOf,
+  playsOnceOf,
+  lateOf,
+  overOf,
+  shouldRemoveOf,
+  recordedValueOf,
+  movedOf,
+  soundedOf,
+  finishOf,
+  playedOutOf,
+  endedOf,
+  volumeStepped,
+  fadedOf,
+  turnOf,
+  freshOf,
+  blankVoice,
+  atSpeedOf,
+  goodVoice,
+};
 use clip::Clip;
 use clip::Mode;
 use common_types::LoopMode;
@@ -83,7 +104,7 @@ fn plays_once(mode: LoopMode) -> bool
 
 // The value recorded at a place of the channel's memory.
 fn recorded(data: &[u32], index: usize) -> f32
-    ensures { λ r. ⌜ r ≡ recordedOf (now («data» .entry)) index ⌝ }
+    ensures { λ r. ⌜ r ≡ recordedValueOf (now («data» .entry)) index ⌝ }
 {
     if index < data.len() {
         binary32::from_bits(data[index])
@@ -260,8 +281,8 @@ impl Voice {
         t.whole_length <= binary32::abs(self.played)
     }
 
-    // The end of its turn: play-once may finish it, and its level makes its step. It is `finish` and `volume_stepped` in one, so that the voice
-    // is written once.
+    // The end of its turn: play-once may finish it, and its level makes its step. It is `finish` and `volume_stepped`
+    // in one, so that the voice is written once.
     fn settled(self, t: Tick) -> Self
         ensures { λ r. ⌜ r ≡ volumeStepped (t .now) (endedOf t self) ⌝ }
     {

@@ -1,5 +1,6 @@
--- What a volume reads at a time, how it changes, and when its parts are refused (document 01, module 3 and number 7). A volume is steady, `Static level`,
--- or a ramp between two times and two levels, `Linear start end from target`. Definitions only. Assumes nothing.
+-- What a volume reads at a time, how it changes, and when its parts are refused (document 01, module 3 and number 7). A
+-- volume is steady, `Static level`, or a ramp between two times and two levels, `Linear start end from target`.
+-- Definitions only. Assumes nothing.
 use Prim.Native.Nat.{ℕ, _+_, _-_, _^_, min}
 use mathlib.Core.Bool.{Bool, true, false, not, _&&_, _||_, cond}
 use lib.Dec.{leb, ltb, eqb}
@@ -65,19 +66,19 @@ goodVolume now (Static x) = true
 goodVolume now (Linear a b x y) = goodRamp a b now
 
 -- Number 7: a time above 2 ^ 48, or a volume that is not good at it.
-unfoldable pub refusedAt : Volume → ℕ → Bool
-refusedAt v now = ltb (2 ^ 48) now || not (goodVolume now v)
+unfoldable pub levelRefusedAt : Volume → ℕ → Bool
+levelRefusedAt v now = ltb (2 ^ 48) now || not (goodVolume now v)
 
 unfoldable pub valueOf : Volume → ℕ → LevelAnswer
-valueOf v now = cond (refusedAt v now) level.Refused (level.Done (levelOf v now))
+valueOf v now = cond (levelRefusedAt v now) level.Refused (level.Done (levelOf v now))
 
 -- and a duration above 2 ^ 24
 unfoldable pub toOf : Volume → ℕ → ℕ → Float → VolumeAnswer
 toOf v now duration target =
-    cond (refusedAt v now || ltb (2 ^ 24) duration) volume.Refused (volume.Done (towardOf v now duration target))
+    cond (levelRefusedAt v now || ltb (2 ^ 24) duration) volume.Refused (volume.Done (towardOf v now duration target))
 
 unfoldable pub stepOf : Volume → ℕ → VolumeAnswer
-stepOf v now = cond (refusedAt v now) volume.Refused (volume.Done (steppedOf v now))
+stepOf v now = cond (levelRefusedAt v now) volume.Refused (volume.Done (steppedOf v now))
 
 -- document 01's number for each case
 abbrev pub levelNumber : LevelAnswer → ℕ

@@ -1,8 +1,24 @@
-// The level of a sound over time: steady, or a ramp. `level`, `toward`, `stepped` and `good` take every value of their arguments, and are for records
-// that are known to be good. `value`, `to` and `step`, the Rust's names, refuse a bad argument first (number 7 of document 01).
+// The level of a sound over time: steady, or a ramp. `level`, `toward`, `stepped` and `good` take every value of their
+// arguments, and are for records that are known to be good. `value`, `to` and `step`, the Rust's names, refuse a bad
+// argument first (number 7 of document 01).
 ghost use mathlib.Core.Path.{_≡_};
 ghost use Prim.Native.Nat.{_-_};
-ghost use Rattle.volume.specs.Levels.{defaultVolume, isStaticOf, isStaticAndMuteOf, progressOf, levelOf, laterOf, towardOf, steppedOf, goodRamp, goodVolume, refusedAt, valueOf, toOf, stepOf};
+ghost use Rattle.volume.specs.Levels.{
+  defaultVolume,
+  isStaticOf,
+  isStaticAndMuteOf,
+  progressOf,
+  levelOf,
+  laterOf,
+  towardOf,
+  steppedOf,
+  goodRamp,
+  goodVolume,
+  levelRefusedAt,
+  valueOf,
+  toOf,
+  stepOf,
+};
 
 pub enum Volume {
     Static(f32),
@@ -149,7 +165,8 @@ impl Volume {
         }
     }
 
-    // A copy made case by case. One of the whole would carry the gaps between its fields along, in pieces that a processor is slow to join again.
+    // A copy made case by case. One of the whole would carry the gaps between its fields along, in pieces that a
+    // processor is slow to join again.
     pub fn copied(self) -> Self
         ensures { λ r. ⌜ r ≡ self ⌝ }
     {
@@ -184,7 +201,7 @@ impl Volume {
     }
 
     fn refused_at(self, now: usize) -> bool
-        ensures { λ r. ⌜ r ≡ refusedAt self now ⌝ }
+        ensures { λ r. ⌜ r ≡ levelRefusedAt self now ⌝ }
     {
         if now > LAST_TIME {
             return true;

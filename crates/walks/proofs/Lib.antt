@@ -1,8 +1,3 @@
-pub mod Loops
-pub mod Every
-pub mod Each
-pub mod Inside
-pub mod Shared
-pub mod Again
-pub mod Runs
-pub mod Rounds
+pub mod Tests
+pub mod Lists
+pub mod Steps

@@ -1,5 +1,4 @@
--- `play` is safe and ends. The invariant: the text fits, and memory and text keep their lengths. The measure is the turns that are left.
--- Assumes nothing.
+-- `play` is safe and ends. The invariant: what waits fits, and the lists keep their lengths. The measure is the turns that are left. Assumes nothing.
 use Prim.Native.Nat.{_≤_}
 use mathlib.Core.Path.{_≡_}
 use lib.ListN.{length}
@@ -8,11 +7,11 @@ use Rattle.events.proofs.play.Statement.{statement}
 use Rattle.events.proofs.play.Tie as tie
 
 abbrev Inv-loop : tie.InvT-loop
-Inv-loop memory₀ out₀ run₀ turns₀ memory out run turns =
-    (run .at ≤ length out₀) × (length memory ≡ length memory₀) × (length out ≡ length out₀)
+Inv-loop memory₀ input₀ out₀ run₀ turns₀ memory input out run turns =
+    (run .have ≤ length input₀) × (length memory ≡ length memory₀) × (length input ≡ length input₀) × (length out ≡ length out₀)
 
 abbrev μ-loop : tie.MeasureT-loop
-μ-loop memory₀ out₀ run₀ turns₀ memory out run turns = turns
+μ-loop memory₀ input₀ out₀ run₀ turns₀ memory input out run turns = turns
 
 begun-requires : tie.Need-begun-requires Inv-loop μ-loop
 begun-requires c κs = search needs
@@ -32,17 +31,29 @@ loop-less c = search needs
 loop-again : tie.Need-loop-again Inv-loop μ-loop
 loop-again c = search needs
 
-write-requires : tie.Need-write-requires Inv-loop μ-loop
-write-requires c κs = search needs
-
 same-length : tie.Need-same-length Inv-loop μ-loop
 same-length c = search needs
 
 same-length-2 : tie.Need-same-length-2 Inv-loop μ-loop
 same-length-2 c = search needs
 
+same-length-3 : tie.Need-same-length-3 Inv-loop μ-loop
+same-length-3 c = search needs
+
 returns : tie.Need-returns Inv-loop μ-loop
 returns c = search needs
+
+same-length-4 : tie.Need-same-length-4 Inv-loop μ-loop
+same-length-4 c = search needs
+
+same-length-5 : tie.Need-same-length-5 Inv-loop μ-loop
+same-length-5 c = search needs
+
+same-length-6 : tie.Need-same-length-6 Inv-loop μ-loop
+same-length-6 c = search needs
+
+returns-2 : tie.Need-returns-2 Inv-loop μ-loop
+returns-2 c = search needs
 
 pub play-spec : {M : Type 1} → statement M
 play-spec =
@@ -56,7 +67,11 @@ play-spec =
     sub-turns
     loop-less
     loop-again
-    write-requires
     same-length
     same-length-2
-    returns)
+    same-length-3
+    returns
+    same-length-4
+    same-length-5
+    same-length-6
+    returns-2)

@@ -1,29 +1,20 @@
--- `turn` meets its contract: the part of the bytes that is handed on has the length asked for. Assumes nothing.
+-- `turn` meets its contract: the part that is handed on has the length asked for, by `front` of the kit's `io`. Assumes nothing.
 use Rattle.io.proofs.Counting.{front}
 use borrow.Author.Needs.{needs}
 use Rattle.events.proofs.turn.Statement.{statement}
 use Rattle.events.proofs.turn.Tie as tie
 
-slice-aggregate-read-record : tie.Need-slice-aggregate-read-record
-slice-aggregate-read-record c = search needs
+slice-reshare-prefix-feed : tie.Need-slice-reshare-prefix-feed
+slice-reshare-prefix-feed c = search needs
 
-read-record-requires : tie.Need-read-record-requires
-read-record-requires c κs = search needs
+slice-aggregate-feed : tie.Need-slice-aggregate-feed
+slice-aggregate-feed c = front _ _ (search needs)
 
-array-share-prefix-bytes : tie.Need-array-share-prefix-bytes
-array-share-prefix-bytes c = search needs
+feed-requires : tie.Need-feed-requires
+feed-requires c κs = search needs
 
-slice-aggregate-step : tie.Need-slice-aggregate-step
-slice-aggregate-step c = front _ _ (search needs)
-
-step-requires : tie.Need-step-requires
-step-requires c κs = search needs
-
-cleared-requires : tie.Need-cleared-requires
-cleared-requires c κs = search needs
-
-put-requires : tie.Need-put-requires
-put-requires c κs = search needs
+written-requires : tie.Need-written-requires
+written-requires c κs = search needs
 
 same-length : tie.Need-same-length
 same-length c = search needs
@@ -31,20 +22,41 @@ same-length c = search needs
 same-length-2 : tie.Need-same-length-2
 same-length-2 c = search needs
 
+same-length-3 : tie.Need-same-length-3
+same-length-3 c = search needs
+
 returns : tie.Need-returns
 returns c = search needs
+
+onward-requires : tie.Need-onward-requires
+onward-requires c κs = search needs
+
+same-length-4 : tie.Need-same-length-4
+same-length-4 c = search needs
+
+same-length-5 : tie.Need-same-length-5
+same-length-5 c = search needs
+
+same-length-6 : tie.Need-same-length-6
+same-length-6 c = search needs
+
+returns-2 : tie.Need-returns-2
+returns-2 c = search needs
 
 pub turn-spec : {M : Type 1} → statement M
 turn-spec =
     tie.close
     (tie.spec
-    slice-aggregate-read-record
-    read-record-requires
-    array-share-prefix-bytes
-    slice-aggregate-step
-    step-requires
-    cleared-requires
-    put-requires
+    slice-reshare-prefix-feed
+    slice-aggregate-feed
+    feed-requires
+    written-requires
     same-length
     same-length-2
-    returns)
+    same-length-3
+    returns
+    onward-requires
+    same-length-4
+    same-length-5
+    same-length-6
+    returns-2)

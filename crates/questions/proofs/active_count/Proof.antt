@@ -6,7 +6,7 @@ use native.Mathlib.Omega.{arith}
 use mathlib.Core.List.{List}
 use lib.ListN.{length}
 use Rattle.walks.specs.Walks.{without}
-use Rattle.walks.proofs.Loops.{Walk, turns, ends, long, begins}
+use Rattle.walks.proofs.Lists.Loops.{Walk, turns, ends, long, begins}
 use Rattle.voice.specs.declared.Voice.{Voice}
 use Rattle.channel.specs.Channels.{live}
 use Rattle.channel.proofs.Slots.{none}

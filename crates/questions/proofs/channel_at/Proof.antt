@@ -3,7 +3,7 @@ use mathlib.Core.Path.{sym, _∙_}
 use mathlib.Core.Bool.{false}
 use lib.ListN.{List·getD-eq-default}
 use Rattle.channel.specs.Channels.{channelOf}
-use Rattle.walks.proofs.Loops.{long, getD-any}
+use Rattle.walks.proofs.Lists.Loops.{long, getD-any}
 use Rattle.sampler.proofs.Seats.{none}
 use borrow.Author.Needs.{needs}
 use native.Mathlib.Omega.{arith}

@@ -2,7 +2,7 @@
 use mathlib.Core.Path.{ap, _∙_}
 use Rattle.channel.specs.Channels.{live}
 use Rattle.questions.specs.Questions.{notesOf}
-use Rattle.walks.proofs.Runs.{run-front}
+use Rattle.walks.proofs.Lists.Runs.{run-front}
 use Rattle.questions.specs.declared.Counted.the-variants.{Done}
 use Rattle.questions.proofs.Answers.{list-asked, list-refused, list-done, list-fits}
 use borrow.Author.Needs.{needs}

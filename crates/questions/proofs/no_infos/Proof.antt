@@ -1,12 +1,13 @@
 -- `no_infos` meets its contract. Assumes nothing.
-use lib.Ieee.{ofBits}
-use mathlib.Core.Path.{refl}
+use borrow.Author.Needs.{needs}
 use Rattle.questions.proofs.no_infos.Statement.{statement}
 use Rattle.questions.proofs.no_infos.Tie as tie
 
+default-requires : tie.Need-default-requires
+default-requires c κs = search needs
+
 returns : tie.Need-returns
-unfolding ofBits
-returns c = refl
+returns c = simp (c .default .ensures)
 
 pub no-infos-spec : {M : Type 1} → statement M
-no-infos-spec = tie.close (tie.spec returns)
+no-infos-spec = tie.close (tie.spec default-requires returns)

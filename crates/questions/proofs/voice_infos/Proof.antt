@@ -1,7 +1,7 @@
 -- `voice_infos` meets its contract, by the law of loops: each turn fills the place of its voice. Assumes nothing.
 use mathlib.Core.Path.{_∙_}
 use Prim.Native.Nat.{_-_}
-use Rattle.walks.proofs.Loops.{Walk, turns, ends, long, begins}
+use Rattle.walks.proofs.Lists.Loops.{Walk, turns, ends, long, begins}
 use Rattle.channel.specs.Channels.{live}
 use Rattle.channel.proofs.Slots.{none}
 use Rattle.questions.specs.Questions.{voiceInfosOf}

@@ -1,7 +1,7 @@
 -- `Channel::any_unfinished` meets its contract, by the law of loops. Assumes nothing.
 use Prim.Native.Nat.{_-_}
 use Rattle.walks.specs.Walks.{any}
-use Rattle.walks.proofs.Loops.{Walk, turns, stops, ends, long, begins}
+use Rattle.walks.proofs.Lists.Loops.{Walk, turns, stops, ends, long, begins}
 use Rattle.channel.specs.Channels.{live, unfinishedOf, anyUnfinishedOf}
 use Rattle.channel.proofs.Slots.{none}
 use borrow.Author.Needs.{needs}

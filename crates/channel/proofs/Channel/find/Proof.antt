@@ -4,7 +4,7 @@ use Prim.Native.Nat.{ℕ, _-_}
 use Rattle.common_types.specs.declared.Note.{Note}
 use Rattle.voice.specs.declared.Voice.{Voice}
 use Rattle.walks.specs.Walks.{seek}
-use Rattle.walks.proofs.Loops.{Walk, turns, stops, ends, long, begins}
+use Rattle.walks.proofs.Lists.Loops.{Walk, turns, stops, ends, long, begins}
 use Rattle.channel.specs.Channels.{live, wantedOf, findOf}
 use Rattle.channel.specs.declared.Found.{Found}
 use Rattle.channel.specs.declared.Found.the-variants.{At, Nothing}

@@ -1,7 +1,7 @@
 -- `Channel::finish_voice` meets its contract: its tests are those of `finishedAtOf`. Assumes nothing.
 use borrow.Author.Tests.{lt-ltb, le-ltb}
 use Rattle.voice.specs.Voices.{blankVoice}
-use Rattle.walks.proofs.Loops.{long, getD-any}
+use Rattle.walks.proofs.Lists.Loops.{long, getD-any}
 use Rattle.channel.specs.Channels.{finishedAtOf}
 use Rattle.channel.proofs.Slots.{none}
 use borrow.Author.Needs.{needs}

@@ -2,7 +2,7 @@
 use Prim.Native.Nat.{_-_}
 use borrow.Author.Tests.{not-true, not-false}
 use Rattle.walks.specs.Walks.{every}
-use Rattle.walks.proofs.Loops.{Walk, turns, stops, ends, long, begins}
+use Rattle.walks.proofs.Lists.Loops.{Walk, turns, stops, ends, long, begins}
 use Rattle.voice.specs.Voices.{goodVoice}
 use Rattle.channel.specs.Channels.{live, goodVoicesOf}
 use Rattle.channel.proofs.Slots.{none}

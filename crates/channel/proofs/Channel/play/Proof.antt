@@ -3,7 +3,7 @@ use mathlib.Core.Path.{sym, _∙_}
 use mathlib.Core.Logic.{⊎-elim}
 use Prim.Native.Nat.{_≤_, _-_}
 use lib.Ieee.{ofBits}
-use Rattle.walks.proofs.Loops.{Walk, turns, stores, ends, long, begins}
+use Rattle.walks.proofs.Lists.Loops.{Walk, turns, stores, ends, long, begins}
 use Rattle.channel.specs.Channels.{live}
 use Rattle.channel.proofs.Slots.{none}
 use Rattle.channel.proofs.Turns.{restOf, rest-start, rest-end, rest-keep, rest-gone}

@@ -1,6 +1,6 @@
--- `Clip::new` meets its contract: `refused_at` is the test of `newOf`. Assumes nothing.
+-- `Clip::new` meets its contract: `refused_at` is the test of `newClipOf`. Assumes nothing.
 use borrow.Author.Needs.{needs}
-use Rattle.clip.specs.Refusals.{newOf}
+use Rattle.clip.specs.Refusals.{newClipOf}
 use Rattle.clip.proofs.Clip.new.Statement.{statement}
 use Rattle.clip.proofs.Clip.new.Tie as tie
 
@@ -11,11 +11,11 @@ refused-at-requires : tie.Need-refused-at-requires
 refused-at-requires c κs = search needs
 
 returns : tie.Need-returns
-unfolding newOf
+unfolding newClipOf
 returns c = simp (← (c .before .before .made .ensures), ← (c .before .refused-at .ensures), c .if1 .taken)
 
 returns-2 : tie.Need-returns-2
-unfolding newOf
+unfolding newClipOf
 returns-2 c = simp (← (c .before .before .made .ensures), ← (c .before .refused-at .ensures), c .if1 .left)
 
 pub new-spec : {M : Type 1} → statement M

@@ -1,6 +1,6 @@
--- `Clip::refused_at` meets its contract: its tests are those of `refusedAt`. Assumes nothing.
+-- `Clip::refused_at` meets its contract: its tests are those of `clipRefusedAt`. Assumes nothing.
 use borrow.Author.Needs.{needs}
-use Rattle.clip.specs.Refusals.{refusedAt}
+use Rattle.clip.specs.Refusals.{clipRefusedAt}
 use Rattle.clip.proofs.Clip.refused_at.Statement.{statement}
 use Rattle.clip.proofs.Clip.refused_at.Tie as tie
 
@@ -8,7 +8,7 @@ good-requires : tie.Need-good-requires
 good-requires c κs = search needs
 
 returns : tie.Need-returns
-unfolding refusedAt
+unfolding clipRefusedAt
 returns c = simp (c .before .good2 .ensures)
 
 pub refused-at-spec : {M : Type 1} → statement M

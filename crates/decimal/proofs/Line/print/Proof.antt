@@ -5,8 +5,8 @@ use native.Mathlib.Omega.{arith}
 use borrow.Author.Tests.{le-leb, lt-leb}
 use lib.ListN.{length, take}
 use lib.Seq.{length-take-le}
-use Rattle.walks.proofs.Loops.{long}
-use Rattle.walks.proofs.Runs.{run-front}
+use Rattle.walks.proofs.Lists.Loops.{long}
+use Rattle.walks.proofs.Lists.Runs.{run-front}
 use Rattle.decimal.specs.Lines.{textOf}
 use Rattle.decimal.proofs.Lines.{prints, prints-none, text-length, text-front}
 use borrow.Author.Needs.{needs}

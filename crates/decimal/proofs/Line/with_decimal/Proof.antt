@@ -4,7 +4,7 @@ use Prim.Native.Nat.{_+_}
 use native.Mathlib.Omega.{arith}
 use borrow.Author.Tests.{leb-true, leb-false}
 use lib.ListN.{length}
-use Rattle.walks.proofs.Loops.{long}
+use Rattle.walks.proofs.Lists.Loops.{long}
 use Rattle.decimal.specs.Decimal.{decimal}
 use Rattle.decimal.proofs.Lines.{with-more, with-none}
 use borrow.Author.Needs.{needs}

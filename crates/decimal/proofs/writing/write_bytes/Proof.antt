@@ -5,7 +5,7 @@ use native.Mathlib.Nat.{add-zero}
 use lib.ListN.{length, drop}
 use lib.Seq.{sets}
 use borrow.Author.Needs.{needs}
-use Rattle.walks.proofs.Runs.{run-first, run-over}
+use Rattle.walks.proofs.Lists.Runs.{run-first, run-over}
 use Rattle.decimal.proofs.writing.write_bytes.Statement.{statement}
 use Rattle.decimal.proofs.writing.write_bytes.Tie as tie
 

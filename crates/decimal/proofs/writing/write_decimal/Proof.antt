@@ -8,7 +8,7 @@ use lib.Seq.{sets}
 use borrow.Author.Needs.{needs}
 use Rattle.decimal.specs.Decimal.{digit, decimal}
 use Rattle.decimal.proofs.Decimals.{decimal-one, decimal-more, decimal-length, decimal-some}
-use Rattle.walks.proofs.Runs.{run-last}
+use Rattle.walks.proofs.Lists.Runs.{run-last}
 use Rattle.decimal.proofs.writing.write_decimal.Statement.{statement}
 use Rattle.decimal.proofs.writing.write_decimal.Tie as tie
 

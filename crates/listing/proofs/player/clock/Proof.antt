@@ -4,7 +4,7 @@ use mathlib.Core.Bool.{false}
 use Rattle.channel.specs.Channels.{channelOf}
 use Rattle.sampler.proofs.Seats.{none}
 use native.Mathlib.Omega.{arith}
-use Rattle.walks.proofs.Loops.{long, getD-any}
+use Rattle.walks.proofs.Lists.Loops.{long, getD-any}
 use Rattle.channel.specs.declared.Channel.{Channel}
 use Rattle.listing.specs.Steps.{clockOf}
 use borrow.Author.Needs.{needs}

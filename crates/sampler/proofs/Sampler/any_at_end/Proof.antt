@@ -3,7 +3,7 @@ use Prim.Native.Nat.{_-_}
 use lib.ListN.{take}
 use borrow.Author.Tests.{le-leb, lt-leb}
 use Rattle.walks.specs.Walks.{any}
-use Rattle.walks.proofs.Loops.{Walk, turns, stops, ends, long, begins}
+use Rattle.walks.proofs.Lists.Loops.{Walk, turns, stops, ends, long, begins}
 use Rattle.sampler.specs.Refusals.{atEnd}
 use Rattle.sampler.proofs.Seats.{none}
 use borrow.Author.Needs.{needs}

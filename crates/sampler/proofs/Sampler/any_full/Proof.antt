@@ -1,7 +1,7 @@
 -- `Sampler::any_full` meets its contract, by the law of loops. Assumes nothing.
 use Prim.Native.Nat.{_-_}
 use Rattle.walks.specs.Walks.{any}
-use Rattle.walks.proofs.Loops.{Walk, turns, stops, ends, long, begins}
+use Rattle.walks.proofs.Lists.Loops.{Walk, turns, stops, ends, long, begins}
 use Rattle.channel.specs.Channels.{fullOf}
 use Rattle.sampler.specs.Refusals.{present}
 use Rattle.sampler.proofs.Seats.{none}

@@ -4,7 +4,7 @@ use mathlib.Core.Bool.{false}
 use lib.ListN.{List·getD-eq-default}
 use Rattle.channel.specs.Heads.{headOf}
 use Rattle.channel.specs.Channels.{channelOf}
-use Rattle.walks.proofs.Loops.{long, getD-any}
+use Rattle.walks.proofs.Lists.Loops.{long, getD-any}
 use Rattle.sampler.specs.Refusals.{atEnd}
 use Rattle.sampler.proofs.Seats.{none}
 use borrow.Author.Needs.{needs}

@@ -1,7 +1,7 @@
 -- `Sampler::each` meets its contract, by the law of loops that store. Assumes nothing.
 use Prim.Native.Nat.{_-_}
 use native.Mathlib.Nat.{le-refl}
-use Rattle.walks.proofs.Loops.{Walk, stores, ends, long, begins}
+use Rattle.walks.proofs.Lists.Loops.{Walk, stores, ends, long, begins}
 use Rattle.sampler.specs.Refusals.{present}
 use Rattle.sampler.specs.Samplers.{eachOf}
 use Rattle.sampler.proofs.Seats.{none, eachFrom, each-on}

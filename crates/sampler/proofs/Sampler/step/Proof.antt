@@ -2,9 +2,9 @@
 use mathlib.Core.Path.{refl}
 use mathlib.Core.Bool.{false}
 use Rattle.channel.specs.Channels.{channelOf}
-use Rattle.walks.proofs.Loops.{long, getD-any}
+use Rattle.walks.proofs.Lists.Loops.{long, getD-any}
 use Rattle.sampler.proofs.Seats.{none}
-use Rattle.sampler.proofs.Parts.{stepped-is, output-is, memory-is}
+use Rattle.sampler.proofs.Parts.{starts-at, stepped-is, output-is, memory-is}
 use borrow.Author.Needs.{needs}
 use native.Mathlib.Omega.{arith}
 use Rattle.sampler.proofs.Sampler.step.Statement.{statement}
@@ -20,22 +20,22 @@ part-start-requires : tie.Need-part-start-requires
 part-start-requires c κs = search needs
 
 add-end : tie.Need-add-end
-add-end c = search needs
+add-end c = let starts = starts-at _ _ _ (c .before .before .before .pre .below) (c .part-start .ensures) in search needs
 
-mul-process-sample : tie.Need-mul-process-sample
-mul-process-sample c = search needs
+mul-with-sample : tie.Need-mul-with-sample
+mul-with-sample c = let starts = starts-at _ _ _ (c .before .before .before .pre .below) (c .part-start .ensures) in search needs
 
-sub-process-sample : tie.Need-sub-process-sample
-sub-process-sample c = search needs
+sub-with-sample : tie.Need-sub-with-sample
+sub-with-sample c = search needs
 
-part-process-sample-start : tie.Need-part-process-sample-start
-part-process-sample-start c = search needs
+part-with-sample-start : tie.Need-part-with-sample-start
+part-with-sample-start c = search needs
 
-part-process-sample-end : tie.Need-part-process-sample-end
-part-process-sample-end c = search needs
+part-with-sample-end : tie.Need-part-with-sample-end
+part-with-sample-end c = let starts = starts-at _ _ _ (c .before .before .before .pre .below) (c .part-start .ensures) in search needs
 
-process-sample-requires : tie.Need-process-sample-requires
-process-sample-requires c κs = search needs
+with-sample-requires : tie.Need-with-sample-requires
+with-sample-requires c κs = search needs
 
 mul-channel : tie.Need-mul-channel
 mul-channel c = search needs
@@ -52,8 +52,8 @@ returns c =
     let s = b .args .t1 in
     let j = b .args .j in
     let is = getD-any (s .channels) j none (channelOf (record { «auto_passthru» = false })) (omega (arith, b .pre .below, long _ (b .args .t1 .channels) 2 (b .good .0 .1 .1 .0 .1 .0 .1))) in
-    let r = c .before .before .before .before .before .process-sample .ensures in
-    let a = c .before .before .before .before .before .before .before .part-start .ensures in (
+    let r = c .before .before .before .before .before .with-sample .ensures in
+    let a = starts-at j (s .capacity) _ (b .pre .below) (c .before .before .before .before .before .before .before .part-start .ensures) in (
       (stepped-is s j _ _ (b .args .memory .now) a refl (b .args .params) (b .args .input) _ is _ (r .0), output-is s j _ _ (b .args .memory .now) a refl (b .args .params) (b .args .input) _ is _ (r .0)),
       memory-is s j _ _ (b .args .memory .now) a refl (b .args .input) _ _ is (r .1),
     )
@@ -66,11 +66,11 @@ step-spec =
     element-copy-out-c
     part-start-requires
     add-end
-    mul-process-sample
-    sub-process-sample
-    part-process-sample-start
-    part-process-sample-end
-    process-sample-requires
+    mul-with-sample
+    sub-with-sample
+    part-with-sample-start
+    part-with-sample-end
+    with-sample-requires
     mul-channel
     element-set-from-channel
     same-length

@@ -1,4 +1,0 @@
-// What the records of the program `trace` do to the sampler, and the text of what they answer and leave.
-pub mod calls;
-pub mod recording;
-pub mod run;

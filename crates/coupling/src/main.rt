@@ -1,0 +1,79 @@
+// A host, as small as it can be: it sets the engine up, records a frame, presses a key, plays a frame, lets the key go,
+// and asks what sounds. `rt check coupling` proves it, runs it, and holds what it prints to the file `stdout`.
+ghost use mathlib.Core.Path.{_≡_};
+ghost use lib.ListN.{length};
+ghost use Rattle.sampler.specs.Samplers.{Frames, framedOf};
+ghost use Rattle.coupling.specs.Coupling.{silent, key, settings, recordedOf, pressedOf, toldOf};
+use common_types::InitParams;
+use common_types::Note;
+use common_types::Params;
+use libc::STDOUT_FILENO;
+use questions::VoiceInfos;
+use sampler::Sampler;
+
+// The Rust's defaults, but that a key sounds at its level at once and the input isn't passed on.
+fn params() -> Params
+    ensures { λ r. ⌜ r ≡ settings ⌝ }
+{
+    let mut params = Params::default();
+    params.attack_samples = 0;
+    params.auto_passthru = false;
+    params
+}
+
+// Set-up, and one frame recorded. The frame's entries become outputs.
+fn recorded(frame: &mut [f32], memory: &mut [u32]) -> Sampler
+    ensures { λ r. ⌜ Frames (recordedOf (now (frame .entry)) (now (memory .entry))) r (now (frame .exit))
+        (now (memory .exit)) ⌝ }
+{
+    let init = InitParams {
+        auto_passthru: false,
+    };
+    let s = Sampler::new(2, init, memory).sampler;
+    let s = s.start_recording().sampler;
+    sounded(s, frame, params(), memory)
+}
+
+// The recording ends, and a key is pressed.
+fn pressed(s: Sampler) -> Sampler
+    ensures { λ r. ⌜ r ≡ pressedOf s ⌝ }
+{
+    let s = s.stop_recording().sampler;
+    s.start_playing(0.0, Note::new(60, 0), 1.0, params())
+        .sampler
+}
+
+// One frame is played on the host's own record, which it lends for the call.
+fn sounded(mut s: Sampler, frame: &mut [f32], params: Params, memory: &mut [u32]) -> Sampler
+    ensures { λ r. ⌜ Frames (framedOf s (now (frame .entry)) params (now (memory .entry))) r (now (frame .exit))
+        (now (memory .exit)) ⌝ }
+{
+    lent_sampler::process_frame(&mut s, frame, params, memory);
+    s
+}
+
+// The key is let go. What sounds on channel 0?
+fn told(s: Sampler) -> VoiceInfos
+    ensures { λ r. ⌜ r ≡ toldOf s ⌝ }
+{
+    let s = s.stop_playing(Note::new(60, 0), params()).sampler;
+    questions::get_voice_info(s, 0, params(), 32)
+}
+
+fn print(output: f32) {
+    io::print_hex(STDOUT_FILENO, binary32::to_bits(output) as u64, 8);
+    io::write_all(STDOUT_FILENO, b"\n");
+}
+
+fn main() {
+    let mut memory = [0u32; 8192];
+    let mut input = [0.5, 0.25];
+    let s = recorded(&mut input, &mut memory);
+    let mut output = [0.0, 0.0];
+    let s = sounded(pressed(s), &mut output, params(), &mut memory);
+    print(output[0]);
+    print(output[1]);
+    let voices = told(s);
+    io::print_decimal(STDOUT_FILENO, voices.count as u64);
+    io::write_all(STDOUT_FILENO, b"\n");
+}

@@ -1,3 +1,0 @@
-pub mod Lists
-pub mod Places
-pub mod Turns

@@ -1,0 +1,25 @@
+-- How many bytes a voice and a channel take, and at which byte of a channel its count and its head stand, as the declared records are laid out. Assumes nothing.
+use Prim.Native.Nat.{ℕ}
+use mathlib.Core.Option.{Option, none, some}
+use mir.Syntax.{Ty}
+use prog.Memory.{size, fieldOf}
+use denote.Memory.{lone}
+use Rattle.voice.proofs.Voice as R
+use Rattle.channel.proofs.Channel as C
+
+-- where a field begins
+abbrev pub at : Option (Ty × ℕ) → ℕ
+at none = 0
+at (some f) = f .1
+
+abbrev pub voice-bytes : ℕ
+voice-bytes = size (lone (R.the-row .mir))
+
+abbrev pub channel-bytes : ℕ
+channel-bytes = size (lone (C.the-row .mir))
+
+abbrev pub count-at : ℕ
+count-at = at (fieldOf (lone (C.the-row .mir)) 1)
+
+abbrev pub head-at : ℕ
+head-at = at (fieldOf (lone (C.the-row .mir)) 2)

@@ -1,0 +1,109 @@
+-- Where the loop over the voices that take a turn begins, and what it has come to where it ends. Assumes nothing.
+use mathlib.Core.Path.{_≡_, refl, sym, _∙_, ap}
+use Prim.Native.Nat.{ℕ, _≤_, min, zero-le}
+use native.Mathlib.Omega.{arith}
+use mathlib.Core.Bool.{Bool, true, false, cond}
+use mathlib.Core.List.{List, [], _∷_}
+use lib.Dec.{eqb}
+use lib.ListN.{length, take}
+use lib.Ieee.{Float}
+use borrow.Author.Tests.{eqb-true}
+use Rattle.walks.proofs.Lists.Loops.{Walk, take-most}
+use Rattle.common_types.specs.declared.Params.{Params}
+use Rattle.binary32.specs.Leaves.{zero32}
+use Rattle.voice.specs.declared.Voice.{Voice}
+use Rattle.voice.specs.declared.Tick.{Tick}
+use Rattle.voice.specs.Voices.{tickOf}
+use Rattle.channel.specs.declared.Head.{Head}
+use Rattle.channel.specs.declared.Channel.{Channel}
+use Rattle.channel.specs.declared.Played.{Played}
+use Rattle.channel.specs.Heads.{mixedOf, closedOf}
+use Rattle.channel.specs.Channels.{withHead, withVoices, anyUnfinishedOf, playedOf, playedIfOf}
+use Rattle.channel.proofs.Turns.{restOf, rest-start, rest-end}
+use Rattle.lent_channel.specs.Turns.{unusedTick, turnCountOf, sharedOf, voicesLeftOf, playedBy}
+
+pub turns-few : (p : Params) (time len count : ℕ) → sharedOf p time len count .turns ≤ 32
+unfolding sharedOf turnCountOf
+turns-few p time len count = go (eqb len 0)
+  where
+    go : (z : Bool) → cond z 0 (min count 32) ≤ 32
+    go true = omega arith
+    go false = omega arith
+
+module _ (p : Params) (time len : ℕ) (ms : List ℕ) (h : Channel) (all : length (h .voices) ≡ 32) where
+  abbrev t : Tick
+  t = sharedOf p time len (h .count) .tick
+
+  abbrev n : ℕ
+  n = sharedOf p time len (h .count) .turns
+
+  pub begins-there : Walk (restOf t ms h 0 zero32 (take n (h .voices))) (restOf t ms (withVoices (h .voices) (h .count) h) 0 zero32) (h .voices) n 0
+  begins-there = record { upto = zero-le; within = omega (arith, turns-few p time len (h .count), all); same = refl }
+
+  -- what the loop leaves, with k voices kept and `out` heard
+  module _ (l : List Voice) (k : ℕ) (out : Float) where
+    abbrev left : ℕ → Played
+    left m = record { channel = withVoices l m h; output = out }
+
+    -- no turn
+    none-taken : (u : Tick) → left k ≡ restOf u ms h 0 zero32 [] → left k ≡ record { channel = withVoices (h .voices) 0 h; output = zero32 }
+    none-taken u e = e ∙ rest-end u ms h 0 zero32
+
+    count-stays : (u : Tick) → left k ≡ restOf u ms h 0 zero32 (take (min (h .count) 32) (h .voices)) → voicesLeftOf (min (h .count) 32) k (h .count) ≡ k
+    unfolding voicesLeftOf
+    count-stays u e = go (eqb (min (h .count) 32) 0) refl
+      where
+        go : (z : Bool) → eqb (min (h .count) 32) 0 ≡ z → cond z (h .count) k ≡ k
+        go false f = refl
+        go true f =
+            let m : min (h .count) 32 ≡ 0 = eqb-true (min (h .count) 32) 0 f in
+            let c : h .count ≡ 0 = omega (arith, m) in
+            c ∙ sym (ap (λ (r : Played). r .channel .count) (none-taken u (e ∙ ap (λ (j : ℕ). restOf u ms h 0 zero32 (take j (h .voices))) m)))
+
+    ended-at : (u : Tick) (z : Bool) → left k ≡ restOf u ms h 0 zero32 (take (cond z 0 (min (h .count) 32)) (h .voices))
+        → left (voicesLeftOf (cond z 0 (min (h .count) 32)) k (h .count)) ≡ cond z (record { channel = h; output = zero32 }) (playedOf u ms h)
+    unfolding voicesLeftOf
+    ended-at u true e = ap (λ (r : Played). record { channel = withVoices (r .channel .voices) (h .count) h; output = r .output }) (none-taken u e)
+    ended-at u false e = ap left (count-stays u e) ∙ e ∙ ap (restOf u ms h 0 zero32) (take-most (h .voices) (h .count) 32 all) ∙ rest-start u ms h
+
+    -- what no turn sees doesn't matter
+    rest-same : (u v : Tick) (m : ℕ) → m ≡ 0 → restOf u ms h 0 zero32 (take m (h .voices)) ≡ restOf v ms h 0 zero32 (take m (h .voices))
+    rest-same u v m e = ap (λ (j : ℕ). restOf u ms h 0 zero32 (take j (h .voices))) e ∙ rest-end u ms h 0 zero32 ∙ sym (rest-end v ms h 0 zero32) ∙ ap (λ (j : ℕ). restOf v ms h 0 zero32 (take j (h .voices))) (sym e)
+
+    by-tick : (u v : Tick) (m : ℕ) (z : Bool) → eqb m 0 ≡ z → restOf (cond z u v) ms h 0 zero32 (take m (h .voices)) ≡ restOf v ms h 0 zero32 (take m (h .voices))
+    by-tick u v m true f = rest-same u v m (eqb-true m 0 f)
+    by-tick u v m false f = refl
+
+    module _ (e : restOf t ms (withVoices l (h .count) h) k out [] ≡ restOf t ms h 0 zero32 (take n (h .voices))) where
+      ended : left (voicesLeftOf n k (h .count)) ≡ playedBy p time len ms h
+      unfolding playedBy sharedOf turnCountOf
+      ended =
+          let v = tickOf p time len in
+          ended-at v (eqb len 0) (sym (rest-end t ms (withVoices l (h .count) h) k out) ∙ e ∙ by-tick unusedTick v n (eqb n 0) refl)
+
+      pub ended-output : out ≡ playedBy p time len ms h .output
+      ended-output = ap (λ (r : Played). r .output) ended
+
+      pub ended-channel : withVoices l (voicesLeftOf n k (h .count)) h ≡ playedBy p time len ms h .channel
+      ended-channel = ap (λ (r : Played). r .channel) ended
+
+-- ---- a sample, once it is recorded: the voices play whatever head stands in the channel, which is overwritten at the end
+module _ (p : Params) (time len : ℕ) (m : List ℕ) (t : Head) (c : Channel) where
+  other-head : record { channel = withHead t (playedBy p time len m c .channel); output = playedBy p time len m c .output } ≡ playedBy p time len m (withHead t c)
+  unfolding playedBy playedOf
+  other-head = go (eqb len 0)
+    where
+      go : (z : Bool) → record {
+        channel = withHead t (cond z (record { channel = c; output = zero32 }) (playedOf (tickOf p time len) m c) .channel);
+        output = cond z (record { channel = c; output = zero32 }) (playedOf (tickOf p time len) m c) .output;
+      }
+          ≡ cond z (record { channel = withHead t c; output = zero32 }) (playedOf (tickOf p time len) m (withHead t c))
+      go true = refl
+      go false = refl
+
+abbrev closing : Params → Float → Head → Played → Played
+closing p x t r = record { channel = withHead (closedOf p (anyUnfinishedOf (r .channel)) t) (r .channel); output = mixedOf x (r .output) t }
+
+pub sample-by : (p : Params) (x : Float) (t : Head) (m : List ℕ) (c : Channel) → closing p x t (playedBy p (t .now) (t .«data_len») m c) ≡ closing p x t (playedIfOf p m (withHead t c))
+unfolding playedIfOf playedBy anyUnfinishedOf
+sample-by p x t m c = ap (closing p x t) (other-head p (t .now) (t .«data_len») m t c)

@@ -1,0 +1,54 @@
+-- What the steps around the loops over a lent channel work out. Definitions only.
+use Prim.Native.Nat.{ℕ, min}
+use mathlib.Core.Bool.{Bool, false, _&&_, cond}
+use mathlib.Core.List.{List}
+use lib.Dec.{leb, eqb}
+use Rattle.common_types.specs.declared.Params.{Params}
+use Rattle.common_types.specs.declared.NoteOffBehaviour.the-variants.{Decay}
+use Rattle.clip.specs.declared.Mode.the-variants.{Loop}
+use Rattle.binary32.specs.Leaves.{zero32}
+use Rattle.voice.specs.declared.Tick.{Tick}
+use Rattle.voice.specs.Voices.{tickOf}
+use Rattle.channel.specs.declared.Head.{Head}
+use Rattle.channel.specs.declared.Channel.{Channel}
+use Rattle.channel.specs.declared.Played.{Played}
+use Rattle.channel.specs.Heads.{goodHead}
+use Rattle.channel.specs.Channels.{playedOf}
+use Rattle.lent_channel.specs.declared.Start.{Start}
+
+-- how many voices take a turn: none if the recording is empty, otherwise as many as there are, and never more than
+-- there are places
+unfoldable pub turnCountOf : ℕ → ℕ → ℕ
+turnCountOf len count = cond (eqb len 0) 0 (min count 32)
+
+-- what stands where no voice takes a turn; no voice sees it
+unfoldable pub unusedTick : Tick
+unusedTick = record {
+  now = 0;
+  «decay_samples» = 0;
+  length = zero32;
+  «whole_length» = zero32;
+  «data_length» = zero32;
+  speed = zero32;
+  mode = Loop;
+  once = false;
+  «note_off_behavior» = Decay;
+}
+
+unfoldable pub sharedOf : Params → ℕ → ℕ → ℕ → Start
+sharedOf p time len count =
+    let n = turnCountOf len count in
+    record { tick = cond (eqb n 0) unusedTick (tickOf p time len); turns = n }
+
+-- how many voices there are after the turns: where there was none, as many as before
+unfoldable pub voicesLeftOf : ℕ → ℕ → ℕ → ℕ
+voicesLeftOf turns kept count = cond (eqb turns 0) count kept
+
+-- the voices play if the recording isn't empty: a channel's `playedIfOf`, at a clock and with a recording's length that
+-- its head doesn't have yet
+unfoldable pub playedBy : Params → ℕ → ℕ → List ℕ → Channel → Played
+playedBy p time len m c = cond (eqb len 0) (record { channel = c; output = zero32 }) (playedOf (tickOf p time len) m c)
+
+-- what of a good channel isn't said of its voices
+unfoldable pub headGoodOf : ℕ → Head → ℕ → Bool
+headGoodOf capacity h count = leb count 32 && goodHead capacity h

@@ -1,0 +1,147 @@
+// One channel's sample in place: the channel is lent, and its voices are moved one at a time, so that no channel is
+// copied. Each function equals the same definition as that of crate `channel` by value. Those that take a channel lent
+// are proved by hand.
+ghost use mathlib.Core.Path.{_≡_};
+ghost use Rattle.channel.specs.Channels.{anyUnfinishedOf, memoryOf, processSampleOf, goodChannel};
+ghost use Rattle.lent_channel.specs.Turns.{unusedTick, turnCountOf, sharedOf, voicesLeftOf, playedBy, headGoodOf};
+use channel::Channel;
+use channel::Head;
+use clip::Mode;
+use common_types::NoteOffBehaviour;
+use common_types::Params;
+use voice::Tick;
+
+// How many voices take a turn, and what they share.
+pub struct Start {
+    pub tick: Tick,
+    pub turns: usize,
+}
+
+// What stands where no voice takes a turn: no voice sees it, and nothing is worked out for it.
+fn unused() -> Tick
+    ensures { λ r. ⌜ r ≡ unusedTick ⌝ }
+{
+    Tick {
+        now: 0,
+        decay_samples: 0,
+        length: 0.0,
+        whole_length: 0.0,
+        data_length: 0.0,
+        speed: 0.0,
+        mode: Mode::Loop,
+        once: false,
+        note_off_behavior: NoteOffBehaviour::Decay,
+    }
+}
+
+// With an empty recording no voice takes a turn.
+fn turns_of(data_len: usize, count: usize) -> usize
+    ensures { λ r. ⌜ r ≡ turnCountOf «data_len» count ⌝ }
+{
+    if data_len == 0 {
+        return 0;
+    }
+    channel::places(count)
+}
+
+fn begun(time: usize, data_len: usize, count: usize, params: Params) -> Start
+    ensures { λ r. ⌜ r ≡ sharedOf params time «data_len» count ⌝ }
+{
+    let turns = turns_of(data_len, count);
+    if turns == 0 {
+        return Start {
+            tick: unused(),
+            turns,
+        };
+    }
+    Start {
+        tick: Tick::new(params, time, data_len),
+        turns,
+    }
+}
+
+// How many voices there are once `turns` took their turn and `kept` of them stayed.
+fn counted(turns: usize, kept: usize, count: usize) -> usize
+    ensures { λ r. ⌜ r ≡ voicesLeftOf turns kept count ⌝ }
+{
+    if turns == 0 { count } else { kept }
+}
+
+// What the voices don't say of whether a channel may stand in a record of that capacity.
+fn head_good(head: Head, count: usize, capacity: usize) -> bool
+    ensures { λ r. ⌜ r ≡ headGoodOf capacity head count ⌝ }
+{
+    if 32 < count {
+        return false;
+    }
+    head.good(capacity)
+}
+
+// Whether the channel may stand in a record of that capacity.
+pub fn good(c: &Channel, capacity: usize) -> bool
+    ensures { λ r. ⌜ r ≡ goodChannel capacity (now (c .entry)) ⌝ }
+{
+    let mut ok = head_good(c.head, c.count, capacity);
+    let time = c.head.now;
+    let n = channel::places(c.count);
+    let mut i: usize = 0;
+    while i < n {
+        ok = ok & c.voices[i].good(time);
+        i = i + 1;
+    }
+    ok
+}
+
+pub fn any_unfinished(c: &Channel) -> bool
+    ensures { λ r. ⌜ r ≡ anyUnfinishedOf (now (c .entry)) ⌝ }
+{
+    let n = channel::places(c.count);
+    let mut found = false;
+    let mut i: usize = 0;
+    while i < n {
+        found = found | !c.voices[i].finished;
+        i = i + 1;
+    }
+    found
+}
+
+// Each voice takes its turn if the recording isn't empty; those that are then to be removed leave, and the others move
+// up in order. The clock and the recording's length are those that the head will have: it is stored once, at the
+// sample's end.
+fn play(c: &mut Channel, time: usize, data_len: usize, params: Params, data: &[u32]) -> f32
+    ensures { λ r. ⌜ (r ≡ playedBy params time «data_len» (now («data» .entry)) (now (c .entry)) .output)
+        × (now (c .exit) ≡ playedBy params time «data_len» (now («data» .entry)) (now (c .entry)) .channel) ⌝ }
+{
+    let b = begun(time, data_len, c.count, params);
+    let t = b.tick;
+    let n = b.turns;
+    let mut output = 0.0;
+    let mut k: usize = 0;
+    let mut i: usize = 0;
+    while i < n {
+        let v = c.voices[i];
+        let w = v.turn(t, data);
+        output = channel::sound(output, v, w, t);
+        let gone = w.should_remove(t);
+        if !gone {
+            c.voices[k] = w;
+            k = k + 1;
+        }
+        i = i + 1;
+    }
+    c.count = counted(n, k, c.count);
+    output
+}
+
+pub fn with_sample(c: &mut Channel, params: Params, input: f32, data: &mut [u32]) -> f32
+    ensures { λ r. ⌜ (r ≡ processSampleOf params input (now (c .entry)) (now («data» .entry)) .output)
+        × (now (c .exit) ≡ processSampleOf params input (now (c .entry)) (now («data» .entry)) .channel)
+        × (now («data» .exit) ≡ memoryOf input (now (c .entry)) (now («data» .entry))) ⌝ }
+{
+    let head = c.head;
+    let recorded = head.recorded(input, data);
+    let played = play(c, recorded.now, recorded.data_len, params, data);
+    let unfinished = any_unfinished(c);
+    c.head = recorded.closed(params, unfinished);
+    recorded.mixed(input, played)
+}

@@ -1,0 +1,99 @@
+-- The sampler and what its calls answer, as rows of `Rows.antt`.
+use mathlib.Core.Path.{_≡_, refl, ap}
+use Prim.Native.Nat.{ℕ}
+use mir.Syntax.{w8}
+use denote.Steps.{only}
+use denote.Struct.Laws as LL
+use Rattle.sampler.proofs.Sampler as T
+use Rattle.sampler.proofs.Sampler.Laws as T′
+use Rattle.sampler.proofs.Answer as S
+use Rattle.sampler.proofs.Answer.Laws as S′
+use Rattle.lent_sampler.proofs.Sampled as Y
+use Rattle.lent_sampler.proofs.Sampled.Laws as Y′
+use Rattle.lent_sampler.proofs.Sampling as Z
+use Rattle.lent_sampler.proofs.Sampling.Laws as Z′
+use Rattle.channel.proofs.Channel as K
+use Rattle.channel.proofs.Channel.Laws as K′
+use Rattle.channel.proofs.Change as X
+use Rattle.channel.proofs.Change.Laws as X′
+use Rattle.common_types.proofs.Note as N
+use Rattle.common_types.proofs.Note.Laws as N′
+use Rattle.common_types.proofs.Params as P
+use Rattle.common_types.proofs.Params.Laws as P′
+use Rattle.questions.proofs.Counted as C
+use Rattle.questions.proofs.Counted.Laws as C′
+use Rattle.questions.proofs.Told as B
+use Rattle.questions.proofs.Told.Laws as B′
+use Rattle.questions.proofs.OffsetAnswer as O
+use Rattle.questions.proofs.OffsetAnswer.Laws as O′
+use Rattle.questions.proofs.VoiceInfo as I
+use Rattle.questions.proofs.VoiceInfo.Laws as I′
+use Rattle.questions.proofs.VoiceInfos as L
+use Rattle.questions.proofs.VoiceInfos.Laws as L′
+use Rattle.channel.specs.declared.Change.{Change}
+use Rattle.sampler.specs.declared.Sampler.{Sampler}
+use Rattle.sampler.specs.Samplers.{changeOf}
+use Rattle.lent_sampler.proofs.Rows.{Datum, struct, enum, word, Answering}
+
+abbrev pub sampler : Datum
+sampler = struct T.the-type T′.the-laws T′.the-plain
+
+abbrev pub channel : Datum
+channel = struct K.the-type K′.the-laws K′.the-plain
+
+abbrev pub change : Datum
+change = enum X.the-type X′.the-laws X′.the-plain tt
+
+abbrev pub note : Datum
+note = struct N.the-type N′.the-laws N′.the-plain
+
+abbrev pub params : Datum
+params = struct P.the-type P′.the-laws P′.the-plain
+
+abbrev pub counted : Datum
+counted = enum C.the-type C′.the-laws C′.the-plain tt
+
+abbrev pub told : Datum
+told = enum B.the-type B′.the-laws B′.the-plain tt
+
+abbrev pub offset : Datum
+offset = enum O.the-type O′.the-laws O′.the-plain tt
+
+abbrev pub info : Datum
+info = struct I.the-type I′.the-laws I′.the-plain
+
+abbrev pub infos : Datum
+infos = struct L.the-type L′.the-laws L′.the-plain
+
+abbrev pub answer : Answering sampler (word w8)
+answer = record {
+  like = S.the-row;
+  name = S.struct .name;
+  record-of = λ r. r .sampler;
+  answer-of = λ r. r .number;
+  make = λ s n. record { sampler = s; number = n };
+  eta = λ r. refl;
+  tells = λ r v is. ap only (LL.tells S.the-type S′.the-laws r _ is);
+  owed = λ r v is. (LL.owed S.the-type S′.the-laws r _ is .0, LL.owed S.the-type S′.the-laws r _ is .1 .0);
+  typed = λ 𝓤 H A W r v is. LL.lawful S.the-type S′.the-laws 𝓤 H A W .typed r _ is .0;
+}
+
+abbrev pub sampled : Datum
+sampled = struct Y.the-type Y′.the-laws Y′.the-plain
+
+abbrev pub sampling : Answering sampler sampled
+sampling = record {
+  like = Z.the-row;
+  name = Z.struct .name;
+  record-of = λ r. r .sampler;
+  answer-of = λ r. r .sampled;
+  make = λ s y. record { sampler = s; sampled = y };
+  eta = λ r. refl;
+  tells = λ r v is. ap only (LL.tells Z.the-type Z′.the-laws r _ is);
+  owed = λ r v is. (LL.owed Z.the-type Z′.the-laws r _ is .0, LL.owed Z.the-type Z′.the-laws r _ is .1 .0);
+  typed = λ 𝓤 H A W r v is. LL.lawful Z.the-type Z′.the-laws 𝓤 H A W .typed r _ is .0;
+}
+
+-- what `change` ensures: the record at entry, the change, the number and the record at exit
+abbrev pub changes : Sampler → Change → ℕ → Sampler → Type 0
+changes h x r h′ = record { sampler = h′; number = r } ≡ changeOf h x

@@ -1,0 +1,15 @@
+pub mod Rows
+pub mod Arguments
+pub mod Lent
+pub mod Thin
+pub mod Named
+pub mod Copied
+pub mod Peek
+pub mod PeekFill
+pub mod Numbers
+pub mod Middle
+pub mod Bytes
+pub mod Seats
+pub mod Judging
+pub mod Turned
+pub mod Stepping

@@ -1,0 +1,28 @@
+-- `lent_sampler::get_frames_processed` meets its contract: `Peek.antt`'s walk, over `questions::get_frames_processed`.
+use contract.Running.{givenOf, tables, tablesOf}
+use denote.Triple.Spec.{tripleOf}
+use denote.Triple.Table.{entered, cited}
+use mathlib.Core.Path.{_≡_}
+use mathlib.Core.List.{[], _∷_}
+use mir.Syntax.{w64}
+use Rattle.questions.specs.Questions.{getFramesProcessedOf}
+use Rattle.questions.proofs.get_frames_processed as g
+use Rattle.questions.proofs.get_frames_processed.Symbol as g-def
+use Rattle.questions.proofs.get_frames_processed.Symbol.{name as #g}
+use Rattle.questions.proofs.get_frames_processed.Met as g-thm
+use Rattle.lent_sampler.proofs.Rows.{word}
+use Rattle.lent_sampler.proofs.Lent.{sampler, counted}
+use Rattle.lent_sampler.proofs.Arguments.{value, once}
+use Rattle.lent_sampler.proofs.Peek.{peek}
+use Rattle.lent_sampler.proofs.get_frames_processed.Key.{name as #f}
+use Rattle.lent_sampler.proofs.get_frames_processed as f
+use Rattle.lent_sampler.proofs.get_frames_processed.Statement as stated
+use Rattle.lent_sampler.proofs.get_frames_processed.Code as code
+
+pub get-frames-processed-spec : {M : Type 1} → stated.statement M
+unfolding code.routine tablesOf
+get-frames-processed-spec 𝓤 H 𝓜 𝓖 𝓡 =
+    entered 𝓤 H (tripleOf 𝓤 H (𝓖 .A) f.signature (f.spec 𝓤 H (𝓖 .A) (𝓜 .mem) (𝓡 .run)))
+    (tables 𝓤 H 𝓜 𝓡 code.env .C) (tables 𝓤 H 𝓜 𝓡 code.env .Λ) #f code.function (code.unfolded 𝓤 H 𝓜 𝓡)
+    (peek sampler counted 0 (value (word w64) ∷ []) #g (once (λ κs s v r e. r ≡ getFramesProcessedOf s (v .0))) 𝓤 H (𝓖 .A) (givenOf 𝓤 H 𝓜 𝓖) (tablesOf 𝓤 H 𝓜 (tables 𝓤 H 𝓜 𝓡 code.env))
+    (cited 𝓤 H (tripleOf 𝓤 H (𝓖 .A) g.signature (g.spec 𝓤 H (𝓖 .A) (𝓜 .mem) (𝓡 .run))) 𝓜 𝓡 code.env #g g-def.routine code.calls-questions·get-frames-processed (g-thm.met 𝓤 H 𝓜 𝓖 𝓡)))

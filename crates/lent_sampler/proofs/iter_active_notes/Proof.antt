@@ -1,0 +1,30 @@
+-- `lent_sampler::iter_active_notes` meets its contract: `Peek.antt`'s walk, over `questions::iter_active_notes`.
+use contract.Running.{givenOf, tables, tablesOf}
+use denote.Triple.Spec.{tripleOf}
+use denote.Triple.Table.{entered, cited}
+use lib.ListN.{length}
+use mathlib.Core.Path.{_≡_}
+use mathlib.Core.List.{[], _∷_}
+use denote.Ref.{now}
+use mir.Syntax.{w64}
+use Rattle.questions.specs.Questions.{iterActiveNotesOf, activeNotesAfter}
+use Rattle.questions.proofs.iter_active_notes as g
+use Rattle.questions.proofs.iter_active_notes.Symbol as g-def
+use Rattle.questions.proofs.iter_active_notes.Symbol.{name as #g}
+use Rattle.questions.proofs.iter_active_notes.Met as g-thm
+use Rattle.lent_sampler.proofs.Rows.{word}
+use Rattle.lent_sampler.proofs.Lent.{sampler, counted}
+use Rattle.lent_sampler.proofs.Arguments.{value, slice, twice}
+use Rattle.lent_sampler.proofs.Peek.{peek}
+use Rattle.lent_sampler.proofs.iter_active_notes.Key.{name as #f}
+use Rattle.lent_sampler.proofs.iter_active_notes as f
+use Rattle.lent_sampler.proofs.iter_active_notes.Statement as stated
+use Rattle.lent_sampler.proofs.iter_active_notes.Code as code
+
+pub iter-active-notes-spec : {M : Type 1} → stated.statement M
+unfolding code.routine tablesOf
+iter-active-notes-spec 𝓤 H 𝓜 𝓖 𝓡 =
+    entered 𝓤 H (tripleOf 𝓤 H (𝓖 .A) f.signature (f.spec 𝓤 H (𝓖 .A) (𝓜 .mem) (𝓡 .run)))
+    (tables 𝓤 H 𝓜 𝓡 code.env .C) (tables 𝓤 H 𝓜 𝓡 code.env .Λ) #f code.function (code.unfolded 𝓤 H 𝓜 𝓡)
+    (peek sampler counted 1 (value (word w64) ∷ slice 0 tt (word w64) ∷ []) #g (twice (λ κs s v r e. r ≡ iterActiveNotesOf s (v .0) (length (now (v .1 .0)))) (λ κs s v r e. now (e .1 .0) ≡ activeNotesAfter s (v .0) (now (v .1 .0)))) 𝓤 H (𝓖 .A) (givenOf 𝓤 H 𝓜 𝓖) (tablesOf 𝓤 H 𝓜 (tables 𝓤 H 𝓜 𝓡 code.env))
+    (cited 𝓤 H (tripleOf 𝓤 H (𝓖 .A) g.signature (g.spec 𝓤 H (𝓖 .A) (𝓜 .mem) (𝓡 .run))) 𝓜 𝓡 code.env #g g-def.routine code.calls-questions·iter-active-notes (g-thm.met 𝓤 H 𝓜 𝓖 𝓡)))

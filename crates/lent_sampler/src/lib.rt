@@ -1,0 +1,404 @@
+// The sampler's calls on one record that its host lends, with the definitions of the calls by value in their contracts.
+// A frame is played where the record stands. The other calls hand a copy of it to the call by value. What takes a
+// record, a channel or a list of records lent is proved by hand.
+ghost use mathlib.Core.Path.{_≡_};
+ghost use Rattle.sampler.specs.Samplers.{
+  startPlayingOf,
+  stopPlayingOf,
+  setNoteSpeedOf,
+  startRecordingOf,
+  stopRecordingOf,
+  resetOf,
+  changeOf,
+  sampleMemory,
+  Frames,
+  framedOf,
+};
+ghost use Rattle.sampler.specs.Samplers.{processSampleOf as sampleOf};
+ghost use Rattle.sampler.specs.Refusals.{goodSizes, frameNumber};
+ghost use Rattle.channel.specs.Channels.{processSampleOf, memoryOf};
+ghost use Prim.Native.Nat.{_*_, _-_, _≤_, _<_};
+ghost use mathlib.Core.Bool.{_&&_, cond};
+ghost use mathlib.Core.List.{[], _∷_, _++_};
+ghost use lib.Dec.{leb, eqb};
+ghost use lib.Ieee.{binary32, mul};
+ghost use lib.ListN.{length, getD, take, drop};
+ghost use Rattle.questions.specs.Questions.{
+  getFramesProcessedOf,
+  getDataLenOf,
+  isRecordingOf,
+  getLastRecordedOffsetOf,
+  printErrorInfoOf,
+  errorTextAfter,
+  iterActiveNotesOf,
+  activeNotesAfter,
+  noInfo,
+};
+ghost use Rattle.lent_sampler.specs.Lists.{countedOf, listedOf, voiceInfoCounted, voiceInfoAfter};
+ghost use Rattle.lent_sampler.specs.Numbers.{allGood, anyEnded, numberOf};
+use channel::Change;
+use channel::Channel;
+use channel::HeadChange;
+use common_types::Note;
+use common_types::Params;
+use questions::Counted;
+use questions::OffsetAnswer;
+use questions::Told;
+use questions::VoiceInfo;
+use questions::VoiceInfos;
+use sampler::Sampler;
+use sampler::first_of;
+
+// The call that makes a change of every channel, all or none. The six names are it, each at the change that a function
+// makes of the name's arguments.
+pub fn change(s: &mut Sampler, change: Change) -> u8
+    ensures { λ r. ⌜ record { sampler = now (s .exit); number = r } ≡ changeOf (now (s .entry)) change ⌝ }
+{
+    let r = Sampler::changed(*s, change);
+    *s = r.sampler;
+    r.number
+}
+
+fn start_of(position: f32, note: Note, velocity: f32, params: Params) -> Change
+    ensures { λ r. ⌜ r ≡ Change.Start params position note velocity ⌝ }
+{
+    Change::Start {
+        params,
+        position,
+        note,
+        velocity,
+    }
+}
+
+fn stop_of(note: Note, params: Params) -> Change
+    ensures { λ r. ⌜ r ≡ Change.Stop params note ⌝ }
+{
+    Change::Stop { params, note }
+}
+
+fn speed_of(note: Note, speed: f32) -> Change
+    ensures { λ r. ⌜ r ≡ Change.Speed note speed ⌝ }
+{
+    Change::Speed { note, speed }
+}
+
+fn recording_started() -> Change
+    ensures { λ r. ⌜ r ≡ Change.Head HeadChange.StartRecording ⌝ }
+{
+    Change::Head(HeadChange::StartRecording)
+}
+
+fn recording_stopped() -> Change
+    ensures { λ r. ⌜ r ≡ Change.Head HeadChange.StopRecording ⌝ }
+{
+    Change::Head(HeadChange::StopRecording)
+}
+
+fn all_reset() -> Change
+    ensures { λ r. ⌜ r ≡ Change.Reset ⌝ }
+{
+    Change::Reset
+}
+
+pub fn start_playing(
+    s: &mut Sampler,
+    position: f32,
+    note: Note,
+    velocity: f32,
+    params: Params,
+) -> u8
+    ensures { λ r. ⌜ record { sampler = now (s .exit); number = r }
+        ≡ startPlayingOf (now (s .entry)) position note velocity params ⌝ }
+{
+    change(s, start_of(position, note, velocity, params))
+}
+
+pub fn stop_playing(s: &mut Sampler, note: Note, params: Params) -> u8
+    ensures { λ r. ⌜ record { sampler = now (s .exit); number = r } ≡ stopPlayingOf (now (s .entry)) note params ⌝ }
+{
+    change(s, stop_of(note, params))
+}
+
+pub fn set_note_speed(s: &mut Sampler, note: Note, speed: f32) -> u8
+    ensures { λ r. ⌜ record { sampler = now (s .exit); number = r } ≡ setNoteSpeedOf (now (s .entry)) note speed ⌝ }
+{
+    change(s, speed_of(note, speed))
+}
+
+pub fn start_recording(s: &mut Sampler) -> u8
+    ensures { λ r. ⌜ record { sampler = now (s .exit); number = r } ≡ startRecordingOf (now (s .entry)) ⌝ }
+{
+    change(s, recording_started())
+}
+
+pub fn stop_recording(s: &mut Sampler) -> u8
+    ensures { λ r. ⌜ record { sampler = now (s .exit); number = r } ≡ stopRecordingOf (now (s .entry)) ⌝ }
+{
+    change(s, recording_stopped())
+}
+
+pub fn reset(s: &mut Sampler) -> u8
+    ensures { λ r. ⌜ record { sampler = now (s .exit); number = r } ≡ resetOf (now (s .entry)) ⌝ }
+{
+    change(s, all_reset())
+}
+
+// What a sample of one channel answers: its output, and the number of document 01.
+pub struct Sampled {
+    pub output: f32,
+    pub number: u8,
+}
+
+struct Sampling {
+    sampler: Sampler,
+    sampled: Sampled,
+}
+
+fn sample_of(s: Sampler, channel: usize, input: f32, params: Params, memory: &mut [u32]) -> Sampling
+    ensures { λ r. ⌜ record { sampler = r .sampler; output = r .sampled .output; number = r .sampled .number }
+        ≡ sampleOf s channel input params (now (memory .entry)) ⌝ }
+    ensures { λ r. ⌜ now (memory .exit) ≡ sampleMemory s channel input params (now (memory .entry)) ⌝ }
+{
+    let r = s.process_sample(channel, input, params, memory);
+    let sampler = r.sampler;
+    let sampled = Sampled {
+        output: r.output,
+        number: r.number,
+    };
+    Sampling { sampler, sampled }
+}
+
+// A sample of one channel.
+pub fn process_sample(
+    s: &mut Sampler,
+    channel: usize,
+    input: f32,
+    params: Params,
+    memory: &mut [u32],
+) -> Sampled
+    ensures { λ r. ⌜ (record { sampler = now (s .exit); output = r .output; number = r .number }
+        ≡ sampleOf (now (s .entry)) channel input params (now (memory .entry)))
+        × (now (memory .exit) ≡ sampleMemory (now (s .entry)) channel input params (now (memory .entry))) ⌝ }
+{
+    let r = sample_of(*s, channel, input, params, memory);
+    *s = r.sampler;
+    r.sampled
+}
+
+pub fn get_frames_processed(s: &Sampler, channel: usize) -> Counted
+    ensures { λ r. ⌜ r ≡ getFramesProcessedOf (now (s .entry)) channel ⌝ }
+{
+    questions::get_frames_processed(*s, channel)
+}
+
+pub fn get_data_len(s: &Sampler, channel: usize) -> Counted
+    ensures { λ r. ⌜ r ≡ getDataLenOf (now (s .entry)) channel ⌝ }
+{
+    questions::get_data_len(*s, channel)
+}
+
+pub fn is_recording(s: &Sampler, channel: usize) -> Told
+    ensures { λ r. ⌜ r ≡ isRecordingOf (now (s .entry)) channel ⌝ }
+{
+    questions::is_recording(*s, channel)
+}
+
+pub fn get_last_recorded_offset(s: &Sampler, channel: usize) -> OffsetAnswer
+    ensures { λ r. ⌜ r ≡ getLastRecordedOffsetOf (now (s .entry)) channel ⌝ }
+{
+    questions::get_last_recorded_offset(*s, channel)
+}
+
+pub fn print_error_info(s: &Sampler, channel: usize, text: &mut [u8]) -> Counted
+    ensures { λ r. ⌜ (r ≡ printErrorInfoOf (now (s .entry)) channel (length (now (text .entry))))
+        × (now (text .exit) ≡ errorTextAfter (now (s .entry)) channel (now (text .entry))) ⌝ }
+{
+    questions::print_error_info(*s, channel, text)
+}
+
+pub fn iter_active_notes(s: &Sampler, channel: usize, notes: &mut [u64]) -> Counted
+    ensures { λ r. ⌜ (r ≡ iterActiveNotesOf (now (s .entry)) channel (length (now (notes .entry))))
+        × (now (notes .exit) ≡ activeNotesAfter (now (s .entry)) channel (now (notes .entry))) ⌝ }
+{
+    questions::iter_active_notes(*s, channel, notes)
+}
+
+fn info_at(v: VoiceInfos, i: usize) -> VoiceInfo
+    requires { ⌜ i < 32 ⌝ }
+    ensures { λ r. ⌜ r ≡ getD (v .infos) i noInfo ⌝ }
+{
+    v.infos[i]
+}
+
+fn counted(v: VoiceInfos) -> Counted
+    ensures { λ r. ⌜ r ≡ countedOf v ⌝ }
+{
+    if v.number == 0 {
+        Counted::Done(v.count)
+    } else {
+        Counted::Refused(v.number)
+    }
+}
+
+// Writes the infos to the front of the list.
+fn fill(list: &mut [VoiceInfo], v: VoiceInfos) -> Counted
+    requires { ⌜ (v .count ≤ length (now list)) × (v .count ≤ 32) ⌝ }
+    ensures { λ r. ⌜ (r ≡ countedOf v) × (now (list .exit) ≡ listedOf v (now (list .entry))) ⌝ }
+{
+    let n = v.count;
+    let mut i = 0;
+    while i < n {
+        list[i] = info_at(v, i);
+        i += 1;
+    }
+    counted(v)
+}
+
+// Writes the figures of each voice to the front of the list.
+pub fn get_voice_info(
+    s: &Sampler,
+    channel: usize,
+    params: Params,
+    list: &mut [VoiceInfo],
+) -> Counted
+    ensures { λ r. ⌜ (r ≡ voiceInfoCounted (now (s .entry)) channel params (now (list .entry)))
+        × (now (list .exit) ≡ voiceInfoAfter (now (s .entry)) channel params (now (list .entry))) ⌝ }
+{
+    let v = questions::get_voice_info(*s, channel, params, list.len());
+    fill(list, v)
+}
+
+fn all_good(count: usize, first: bool, second: bool) -> bool
+    ensures { λ r. ⌜ r ≡ allGood count (first ∷ second ∷ []) ⌝ }
+{
+    if count == 0 {
+        return true;
+    }
+    if count == 1 {
+        return first;
+    }
+    first & second
+}
+
+fn any_ended(n: usize, first: usize, second: usize) -> bool
+    ensures { λ r. ⌜ r ≡ anyEnded n (first ∷ second ∷ []) ⌝ }
+{
+    if n == 0 {
+        return false;
+    }
+    if n == 1 {
+        return channel::LAST_TIME <= first;
+    }
+    (channel::LAST_TIME <= first) | (channel::LAST_TIME <= second)
+}
+
+fn sizes_good(count: usize, capacity: usize, first: bool, second: bool, size: usize) -> bool
+    ensures { λ r. ⌜ r
+        ≡ ((goodSizes count capacity && allGood count (first ∷ second ∷ [])) && leb (count * capacity) size) ⌝ }
+{
+    if sampler::good_sizes(count, capacity) {
+        all_good(count, first, second) & sampler::enough(count, capacity, size)
+    } else {
+        false
+    }
+}
+
+// The rows of a frame's number, from what is asked of the two channels: whether each is good, and its clock.
+fn number_of(
+    count: usize,
+    capacity: usize,
+    first: bool,
+    second: bool,
+    time: usize,
+    other: usize,
+    entries: usize,
+    params: Params,
+    size: usize,
+) -> u8
+    ensures { λ r. ⌜ r ≡ numberOf count capacity (first ∷ second ∷ []) (time ∷ other ∷ []) entries params size ⌝ }
+{
+    let end = first_of(any_ended(entries, time, other), 6, 0);
+    let beyond = first_of(params.beyond_limits(), 4, end);
+    let good = sizes_good(count, capacity, first, second, size);
+    first_of(!good, 9, first_of(count < entries, 1, beyond))
+}
+
+// The number of a frame, with no channel copied.
+fn frame_number(s: &Sampler, entries: usize, params: Params, size: usize) -> u8
+    ensures { λ r. ⌜ r ≡ frameNumber (now (s .entry)) entries params size ⌝ }
+{
+    let capacity = s.capacity;
+    let first = lent_channel::good(&s.channels[0], capacity);
+    let second = lent_channel::good(&s.channels[1], capacity);
+    let time = s.channels[0].head.now;
+    let other = s.channels[1].head.now;
+    number_of(
+        s.count,
+        capacity,
+        first,
+        second,
+        time,
+        other,
+        entries,
+        params,
+        size,
+    )
+}
+
+// A refused frame steps no channel.
+fn steps(number: u8, entries: usize) -> usize
+    ensures { λ r. ⌜ r ≡ cond (eqb number 0) entries 0 ⌝ }
+{
+    if number == 0 { entries } else { 0 }
+}
+
+fn at_volume(params: Params, output: f32) -> f32
+    ensures { λ r. ⌜ r ≡ mul binary32 (params .volume) output ⌝ }
+{
+    params.volume * output
+}
+
+// A sample of a channel on the part of the memory from `start` to `end`, at the parameters' volume.
+fn part_sample(
+    c: &mut Channel,
+    params: Params,
+    input: f32,
+    memory: &mut [u32],
+    start: usize,
+    end: usize,
+) -> f32
+    requires { ⌜ (start ≤ end) × (end ≤ length (now memory)) ⌝ }
+    ensures { λ r. ⌜ (r
+        ≡ mul binary32 (params .volume)
+        (processSampleOf params input (now (c .entry)) (take (end - start) (drop start (now (memory .entry)))) .output))
+        × (now (c .exit)
+        ≡ processSampleOf params input (now (c .entry))
+        (take (end - start) (drop start (now (memory .entry)))) .channel)
+        × (now (memory .exit) ≡ take start (now (memory .entry))
+        ++ (memoryOf input (now (c .entry)) (take (end - start) (drop start (now (memory .entry))))
+        ++ drop (end - start) (drop start (now (memory .entry))))) ⌝ }
+{
+    let output = lent_channel::with_sample(c, params, input, &mut memory[start..end]);
+    at_volume(params, output)
+}
+
+// A sample of each channel in turn, each entry of the frame replaced by its output.
+pub fn process_frame(s: &mut Sampler, frame: &mut [f32], params: Params, memory: &mut [u32]) -> u8
+    ensures { λ r. ⌜ (r
+        ≡ frameNumber (now (s .entry)) (length (now (frame .entry))) params (length (now (memory .entry))))
+        × Frames (framedOf (now (s .entry)) (now (frame .entry)) params (now (memory .entry))) (now (s .exit))
+        (now (frame .exit)) (now (memory .exit)) ⌝ }
+{
+    let entries = frame.len();
+    let number = frame_number(s, entries, params, memory.len());
+    let n = steps(number, entries);
+    let capacity = s.capacity;
+    let mut j: usize = 0;
+    while j < n {
+        let start = sampler::part_start(j, capacity);
+        let end = start + capacity;
+        frame[j] = part_sample(&mut s.channels[j], params, frame[j], memory, start, end);
+        j += 1;
+    }
+    number
+}

@@ -1,0 +1,17 @@
+-- `oracle_lines::line::write` meets its contract: a part of the array of this size has this length, by `front` of the kit's `io`. Assumes nothing.
+use borrow.Author.Needs.{needs}
+use Rattle.io.proofs.Counting.{front}
+use Rattle.oracle_lines.proofs.line.write.Statement.{statement}
+use Rattle.oracle_lines.proofs.line.write.Tie as tie
+
+slice-aggregate-write-all : tie.Need-slice-aggregate-write-all
+slice-aggregate-write-all c = front _ _ (search needs)
+
+write-all-requires : tie.Need-write-all-requires
+write-all-requires c κs = search needs
+
+returns : tie.Need-returns
+returns c = search needs
+
+pub write-spec : {M : Type 1} → statement M
+write-spec = tie.close (tie.spec slice-aggregate-write-all write-all-requires returns)

@@ -1,0 +1,92 @@
+-- What a call leaves of channel j's part of the memory: as it was, but where the call is a sample of the channel. Assumes nothing.
+use mathlib.Core.Path.{_≡_, refl, sym, ap, _∙_, subst}
+use mathlib.Core.Bool.{Bool, true, false, cond, true≢false}
+use mathlib.Core.List.{List}
+use Prim.Native.Nat.{ℕ, _*_}
+use borrow.Author.Tests.{eqb-true, eqb-false}
+use lib.Dec.{eqb, ltb}
+use lib.ListN.{length, take, drop, getD}
+use lib.Ieee.{Float}
+use Rattle.common_types.specs.declared.Params.{Params}
+use Rattle.binary32.specs.Leaves.{zero32}
+use Rattle.channel.specs.declared.Channel.{Channel}
+use Rattle.channel.specs.Channels.{memoryOf}
+use Rattle.sampler.specs.declared.Sampler.{Sampler}
+use Rattle.sampler.specs.Refusals.{channelAt, sampleNumber, frameNumber}
+use Rattle.sampler.specs.Samplers.{partOf, memoryAt, sampleMemory, Framed, framed, entriesOf, framedOf}
+use Rattle.sampler.proofs.Rows.{sample-ready, frame-steps}
+use Rattle.fates.specs.Events.{Event, idle, changes, sounds, isSample}
+use Rattle.promises.specs.Runs.{World, Call, change, sample, frame, asks, code, after, chan, ownPart, doneTo, event}
+use Rattle.promises.proofs.Apart.{part-apart, part-own, frame-part}
+use Rattle.promises.proofs.Calls.{kept}
+
+-- what an event makes of the part m of its channel c
+abbrev partBy : Event → Channel → List ℕ → List ℕ
+partBy idle c m = m
+partBy (changes d) c m = m
+partBy (sounds p x k) c m = memoryOf x c k
+
+-- parts are told by the capacity alone
+same-part : (s r : Sampler) (j : ℕ) (m : List ℕ) → r .capacity ≡ s .capacity → partOf r j m ≡ partOf s j m
+unfolding partOf
+same-part s r j m e = ap (λ (n : ℕ). take n (drop (j * n) m)) e
+
+still : (b : Bool) (e : Event) (c : Channel) (m : List ℕ) → partBy e c m ≡ m → m ≡ partBy (cond b e idle) c m
+still true e c m h = sym h
+still false e c m h = refl
+
+module _ (w : World) (j : ℕ) where
+  s : Sampler
+  s = w .sampler
+
+  m : List ℕ
+  m = w .memory
+
+  sample-part : (i : ℕ) (x : Float) (p : Params) → partOf s j (sampleMemory s i x p m) ≡ partBy (event w (sample i x p) j) (chan w j) (ownPart w j)
+  unfolding sampleMemory event code doneTo s m
+  sample-part i x p = go (eqb (sampleNumber s i p (length m)) 0) refl (eqb i j) refl
+    where
+      go : (a : Bool) → eqb (sampleNumber s i p (length m)) 0 ≡ a → (b : Bool) → eqb i j ≡ b
+          → partOf s j (cond a (memoryAt s i x m) m) ≡ partBy (cond a (cond b (sounds p x (partOf s j m)) idle) idle) (channelAt s j) (partOf s j m)
+      go false e b f = refl
+      go true e true f =
+          let r = sample-ready s i p (length m) (eqb-true _ 0 e) .part in
+          subst (λ (k : ℕ). partOf s k (memoryAt s i x m) ≡ memoryOf x (channelAt s k) (partOf s k m)) (eqb-true i j f) (part-own s i m r x)
+      go true e false f = part-apart s i m (sample-ready s i p (length m) (eqb-true _ 0 e) .part) x j (λ q. eqb-false i j f (sym q))
+
+  frame-parts : (xs : List Float) (p : Params) → ownPart (after w (frame xs p)) j ≡ partBy (event w (frame xs p) j) (chan w j) (ownPart w j)
+  unfolding after framedOf event code doneTo s m
+  frame-parts xs p = go (eqb (frameNumber s (length xs) p (length m)) 0) refl
+    where
+      f : Framed
+      f = framed s xs m
+
+      which : (b : Bool) → partOf (entriesOf p (length xs) 0 f .sampler) j (entriesOf p (length xs) 0 f .memory) ≡ cond b (memoryOf (getD xs j zero32) (channelAt s j) (partOf s j m)) (partOf s j m)
+          → partOf (entriesOf p (length xs) 0 f .sampler) j (entriesOf p (length xs) 0 f .memory) ≡ partBy (cond b (sounds p (getD xs j zero32) (partOf s j m)) idle) (channelAt s j) (partOf s j m)
+      which true e = e
+      which false e = e
+
+      go : (a : Bool) → eqb (frameNumber s (length xs) p (length m)) 0 ≡ a
+          → partOf (cond a (entriesOf p (length xs) 0 f) f .sampler) j (cond a (entriesOf p (length xs) 0 f) f .memory)
+          ≡ partBy (cond a (cond (ltb j (length xs)) (sounds p (getD xs j zero32) (partOf s j m)) idle) idle) (channelAt s j) (partOf s j m)
+      go true e = which (ltb j (length xs)) (frame-part s xs p m (frame-steps s (length xs) p (length m) (eqb-true _ 0 e)) j)
+      go false e = refl
+
+  part-after : (c : Call) → ownPart (after w c) j ≡ partBy (event w c j) (chan w j) (ownPart w j)
+  unfolding after event doneTo s m
+  part-after (change d) = same-part s _ j m (kept w (change d) .capacity) ∙ still (eqb (code w (change d)) 0) (changes d) (chan w j) (ownPart w j) refl
+  part-after (sample i x p) = same-part s _ j (sampleMemory s i x p m) (kept w (sample i x p) .capacity) ∙ sample-part i x p
+  part-after (frame xs p) = frame-parts xs p
+  part-after (asks q) = still (eqb (code w (asks q)) 0) idle (chan w j) (ownPart w j) refl
+
+  not-sampled : (e : Event) (c : Channel) (k : List ℕ) → isSample e ≡ false → partBy e c k ≡ k
+  unfolding isSample
+  not-sampled idle c k h = refl
+  not-sampled (changes d) c k h = refl
+  not-sampled (sounds p x l) c k h = absurd (true≢false h)
+
+  pub part-unwritten : (c : Call) → isSample (event w c j) ≡ false → ownPart (after w c) j ≡ ownPart w j
+  part-unwritten c h = part-after c ∙ not-sampled (event w c j) (chan w j) (ownPart w j) h
+
+  pub part-written : (c : Call) (p : Params) (x : Float) (k : List ℕ) → event w c j ≡ sounds p x k → ownPart (after w c) j ≡ memoryOf x (chan w j) k
+  part-written c p x k h = part-after c ∙ ap (λ (e : Event). partBy e (chan w j) (ownPart w j)) h
