@@ -1,4 +1,4 @@
--- `sounded` meets its contract: `own`'s walk, over `lent_sampler::process_frame`.
+-- `sounded` meets its contract: `own_sampler`'s walk, over `lent_sampler::process_frame`.
 use contract.Running.{givenOf, tables, tablesOf}
 use denote.Triple.Spec.{tripleOf}
 use denote.Triple.Table.{entered, cited}
