@@ -2,6 +2,7 @@
 // and asks what sounds. `rt check coupling` proves it, runs it, and holds what it prints to the file `stdout`.
 ghost use mathlib.Core.Path.{_≡_};
 ghost use lib.ListN.{length};
+ghost use Rattle.sampler.specs.Refusals.{frameNumber};
 ghost use Rattle.sampler.specs.Samplers.{Frames, framedOf};
 ghost use Rattle.coupling.specs.Coupling.{silent, key, settings, recordedOf, pressedOf, toldOf};
 use common_types::InitParams;
@@ -9,6 +10,7 @@ use common_types::Note;
 use common_types::Params;
 use libc::STDOUT_FILENO;
 use questions::VoiceInfos;
+use sampler::Answer;
 use sampler::Sampler;
 
 // The Rust's defaults, but that a key sounds at its level at once and the input isn't passed on.
@@ -31,7 +33,7 @@ fn recorded(frame: &mut [f32], memory: &mut [u32]) -> Sampler
     };
     let s = Sampler::new(2, init, memory).sampler;
     let s = s.start_recording().sampler;
-    sounded(s, frame, params(), memory)
+    sounded(s, frame, params(), memory).sampler
 }
 
 // The recording ends, and a key is pressed.
@@ -44,12 +46,13 @@ fn pressed(s: Sampler) -> Sampler
 }
 
 // One frame is played on the host's own record, which it lends for the call.
-fn sounded(mut s: Sampler, frame: &mut [f32], params: Params, memory: &mut [u32]) -> Sampler
-    ensures { λ r. ⌜ Frames (framedOf s (now (frame .entry)) params (now (memory .entry))) r (now (frame .exit))
+fn sounded(mut s: Sampler, frame: &mut [f32], params: Params, memory: &mut [u32]) -> Answer
+    ensures { λ r. ⌜ (r .number ≡ frameNumber s (length (now (frame .entry))) params (length (now (memory .entry))))
+        × Frames (framedOf s (now (frame .entry)) params (now (memory .entry))) (r .sampler) (now (frame .exit))
         (now (memory .exit)) ⌝ }
 {
-    lent_sampler::process_frame(&mut s, frame, params, memory);
-    s
+    let number = lent_sampler::process_frame(&mut s, frame, params, memory);
+    Answer { sampler: s, number }
 }
 
 // The key is let go. What sounds on channel 0?
@@ -70,7 +73,7 @@ fn main() {
     let mut input = [0.5, 0.25];
     let s = recorded(&mut input, &mut memory);
     let mut output = [0.0, 0.0];
-    let s = sounded(pressed(s), &mut output, params(), &mut memory);
+    let s = sounded(pressed(s), &mut output, params(), &mut memory).sampler;
     print(output[0]);
     print(output[1]);
     let voices = told(s);

@@ -73,7 +73,7 @@ impl Player {
         let params = self.params;
         let before = clock(s);
         let mut frame = [input];
-        let a = s.process_frame(&mut frame, params, memory);
+        let a = own_sampler::process_frame(s, &mut frame, params, memory);
         let sampler = a.sampler;
         if a.number == 0 {
             Played {
@@ -93,7 +93,7 @@ impl Player {
         let params = self.params;
         let before = clock(s);
         let mut frame = [first, second];
-        let a = s.process_frame(&mut frame, params, memory);
+        let a = own_sampler::process_frame(s, &mut frame, params, memory);
         let sampler = a.sampler;
         if a.number == 0 {
             Played {

@@ -1,4 +1,4 @@
--- `sounded` meets its contract: `Own.antt`'s walk, over `lent_sampler::process_frame`.
+-- `sounded` meets its contract: `own_sampler`'s walk, over `lent_sampler::process_frame`.
 use contract.Running.{givenOf, tables, tablesOf}
 use denote.Triple.Spec.{tripleOf}
 use denote.Triple.Table.{entered, cited}
@@ -9,7 +9,8 @@ use Rattle.lent_sampler.proofs.process_frame as g
 use Rattle.lent_sampler.proofs.process_frame.Symbol as g-def
 use Rattle.lent_sampler.proofs.process_frame.Symbol.{name as #g}
 use Rattle.lent_sampler.proofs.process_frame.Met as g-thm
-use Rattle.coupling.proofs.Own.{own}
+use Rattle.own_sampler.proofs.Own.{own}
+use Rattle.own_sampler.proofs.Answers.{answer}
 use Rattle.coupling.proofs.sounded.Key.{name as #f}
 use Rattle.coupling.proofs.sounded as f
 use Rattle.coupling.proofs.sounded.Statement as stated
@@ -20,5 +21,5 @@ unfolding code.routine tablesOf
 sounded-spec 𝓤 H 𝓜 𝓖 𝓡 =
     entered 𝓤 H (tripleOf 𝓤 H (𝓖 .A) f.signature (f.spec 𝓤 H (𝓖 .A) (𝓜 .mem) (𝓡 .run)))
     (tables 𝓤 H 𝓜 𝓡 code.env .C) (tables 𝓤 H 𝓜 𝓡 code.env .Λ) #f code.function (code.unfolded 𝓤 H 𝓜 𝓡)
-    (own sampler params #g frameNumber (λ s l p m. Frames (framedOf s l p m)) 𝓤 H (𝓖 .A) (givenOf 𝓤 H 𝓜 𝓖) (tablesOf 𝓤 H 𝓜 (tables 𝓤 H 𝓜 𝓡 code.env))
+    (own sampler params answer #g frameNumber (λ s l p m. Frames (framedOf s l p m)) 𝓤 H (𝓖 .A) (givenOf 𝓤 H 𝓜 𝓖) (tablesOf 𝓤 H 𝓜 (tables 𝓤 H 𝓜 𝓡 code.env))
     (cited 𝓤 H (tripleOf 𝓤 H (𝓖 .A) g.signature (g.spec 𝓤 H (𝓖 .A) (𝓜 .mem) (𝓡 .run))) 𝓜 𝓡 code.env #g g-def.routine code.calls-lent-sampler·process-frame (g-thm.met 𝓤 H 𝓜 𝓖 𝓡)))

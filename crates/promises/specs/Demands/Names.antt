@@ -1,0 +1,110 @@
+-- The names that the demands are written in, and where each stands. Definitions only. Assumes nothing.
+pub use mathlib.Core.Path.{_≡_}
+pub use mathlib.Core.Bool.{Bool, true, false, not}
+pub use mathlib.Core.Logic.{_⊎_, _≢_}
+pub use mathlib.Core.List.{List, [], _∷_, _++_, map}
+pub use mathlib.Core.Option.{some}
+pub use Prim.Native.Nat.{ℕ, suc, _+_, _-_, _*_, _/_, _%_, _^_, _≤_, _<_, min, max}
+pub use lib.Dec.{T, eqb, ltb}
+pub use lib.ListN.{length, take, drop}
+pub use lib.IntN.{ℤ}
+pub use lib.Ieee.{Float, nan, fin, binary32, up, down, add, mul, isNan, fits}
+pub use lib.Ieee.Exact.{HasValue}
+pub use Rattle.walks.specs.Walks.{any}
+pub use Rattle.walks.specs.Each.{Each}
+pub use Rattle.binary32.specs.Leaves.{asFloat, asWhole, floorOf, minOf, maxOf, bitsOf, floatOf, zero32}
+pub use Rattle.common_types.specs.declared.InitParams.{InitParams}
+pub use Rattle.common_types.specs.declared.Params.{Params}
+pub use Rattle.common_types.specs.declared.Note.{Note}
+pub use Rattle.common_types.specs.Notes.{intoU64Of, fromU64Of}
+pub use Rattle.common_types.specs.Settings.{beyondLimits, loopLengthOf}
+pub use Rattle.recorder.specs.ErrorText.{errorText}
+pub use Rattle.volume.specs.Levels.{levelOf}
+pub use Rattle.clip.specs.declared.Clip.{Clip}
+pub use Rattle.clip.specs.declared.Found.the-variants.{At}
+pub use Rattle.clip.specs.declared.FoundAnswer.the-variants.{Done}
+pub use Rattle.clip.specs.Positions.{clipOffsetAt, offsetAt, indexAt}
+pub use Rattle.clip.specs.Updates.{atSpeed, atMode, atLength, backOf, foundAt, withSpeed, withLength, withDataLength}
+pub use Rattle.clip.specs.Refusals.{dataToClipOf}
+pub use Rattle.clip.specs.Bounds.{Sound, Inside, Within}
+pub use Rattle.voice.specs.declared.Voice.{Voice}
+pub use Rattle.voice.specs.declared.Tick.{Tick}
+pub use Rattle.voice.specs.Voices.{movedOf, productOf, freshOf, atSpeedOf}
+pub use Rattle.channel.specs.declared.Channel.{Channel}
+pub use Rattle.channel.specs.Channels.{live, fullOf, memoryOf}
+pub use Rattle.sampler.specs.declared.Answer.{Answer}
+pub use Rattle.sampler.specs.Refusals.{
+  channelAt,
+  goodSizes,
+  goodSampler,
+  capacityOf,
+  goodWith,
+  noChannel,
+  badNote,
+  badPosition,
+  anyFull,
+  atEnd,
+  row,
+  setUpNumber,
+}
+pub use Rattle.questions.specs.declared.VoiceInfo.{VoiceInfo}
+pub use Rattle.questions.specs.declared.VoiceInfos.{VoiceInfos}
+pub use Rattle.questions.specs.declared.Counted.the-variants as Counted
+pub use Rattle.questions.specs.Questions.{recorderAt, notesOf, voiceInfoOf}
+pub use Rattle.fates.specs.Engine.{stepOf}
+pub use Rattle.fates.specs.Events.{act, sounds, lengthAt, isSample, emptyAt, tickAt, decayOf}
+pub use Rattle.fates.specs.Places.{voiceAt, at, gone, follow, becomes, followAll, addedBy, finishes, stoppedIn, finishedIn}
+pub use Rattle.fates.specs.Sounding.{termsOf, totalOf}
+pub use Rattle.promises.specs.Runs.{
+  World,
+  setUp,
+  Question,
+  getFramesProcessed,
+  getDataLen,
+  isRecording,
+  getLastRecordedOffset,
+  printErrorInfo,
+  iterActiveNotes,
+  getVoiceInfo,
+  fillVoiceInfo,
+  Call,
+  start,
+  stop,
+  speed,
+  startRecording,
+  stopRecording,
+  reset,
+  sample,
+  frame,
+  asks,
+  code,
+  after,
+  run,
+  chan,
+  ownPart,
+  event,
+  events,
+  isResetCall,
+  output,
+  final,
+  before,
+  FittingCall,
+}
+pub use Rattle.promises.specs.Outcomes.{
+  Given,
+  new,
+  on,
+  InfoOutcome,
+  Outcome,
+  Allows,
+  Settled,
+  numberIn,
+  leftBy,
+  outputIn,
+  Untouched,
+  Chain,
+}
+pub use Rattle.promises.specs.Table.{TableHolds}
+pub use Rattle.promises.specs.Broken.{RowNine}
+pub use Rattle.promises.specs.Rows.{RowTests}
+pub use Rattle.promises.specs.SmallParts.{RowSeven}
