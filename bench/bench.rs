@@ -1,6 +1,7 @@
 //! Times the port beside the Rust that it is ported from, in one run and on the same scenarios, and compares the bits of all outputs (docs/BENCHMARKS.md).
 //!
-//!     bench [ROUNDS]    each scenario is played ROUNDS times by each side in turn (9 unless given)
+//!     bench [ROUNDS]                each scenario is played ROUNDS times by each side in turn (9 unless given)
+//!     bench count VOICES FRAMES     a loop is played once by the port alone, for a tool that counts instructions
 
 mod original;
 #[allow(dead_code)]
@@ -81,11 +82,18 @@ fn run(rounds: u32) -> Result<(), String> {
     Ok(())
 }
 
+fn count(voices: u32, frames: u32) -> Result<(), String> {
+    port::played(&Scenario { voices, frames, ..scenario::PLAIN }).map(|_| ())
+}
+
 fn main() -> ExitCode {
-    let rounds = std::env::args().nth(1).map_or(Ok(9), |w| w.parse());
-    let ended = match rounds {
-        Ok(rounds) if rounds > 0 => run(rounds),
-        _ => Err("usage: bench [ROUNDS]".into()),
+    let words: Vec<String> = std::env::args().skip(1).collect();
+    let numbers: Vec<Option<u32>> = words.iter().map(|w| w.parse().ok()).collect();
+    let ended = match numbers[..] {
+        [] => run(9),
+        [Some(rounds)] if rounds > 0 => run(rounds),
+        [None, Some(voices), Some(frames)] if words[0] == "count" => count(voices, frames),
+        _ => Err("usage: bench [ROUNDS] or bench count VOICES FRAMES".into()),
     };
     match ended {
         Ok(()) => ExitCode::SUCCESS,

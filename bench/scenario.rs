@@ -24,7 +24,7 @@ const LOOP: u8 = 1;
 const PING_PONG: u8 = 2;
 const LONGEST_RAMP: u64 = 1 << 24;
 
-const PLAIN: Scenario = Scenario { name: "", voices: 8, mode: LOOP, ramp: 0, stopped: false, records: false, clock: 10, frames: 50_000 };
+pub const PLAIN: Scenario = Scenario { name: "", voices: 8, mode: LOOP, ramp: 0, stopped: false, records: false, clock: 10, frames: 50_000 };
 
 pub const SCENARIOS: &[Scenario] = &[
     Scenario { name: "no voices", voices: 0, frames: 500_000, ..PLAIN },

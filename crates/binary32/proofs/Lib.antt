@@ -7,8 +7,8 @@ pub mod Sums
 pub mod Snap
 pub mod Between
 pub mod Remainders
-pub mod Sticky
 pub mod Halves
+pub mod Tops
 pub mod Casts
 pub mod Floors
 pub mod Sizes

@@ -7,7 +7,7 @@ use native.Mathlib.Nat.{zero-mul, suc-mul, lt-div-mul-add, div-mul-le-self, div-
 use native.Mathlib.Omega.{arith}
 use mathlib.Core.Bool.{Bool, true, false, not, cond}
 use lib.IntN.{pos}
-use lib.Dec.{T, ltb}
+use lib.Dec.{T, ltb, ltb→lt, nltb→le}
 use lib.Arith.{le→nltb}
 use lib.Pow.{pow-add, pow-pos, pow-mono, shl-lt}
 use lib.Ieee.{Float, inf, fin, Format, prec, low, size, nearest, odd, units, round, neg, fits, isNan}
@@ -17,7 +17,7 @@ use lib.Ieee.Bits.{cond-no}
 use lib.Ieee.Exact.{HasValue, units-val, odd-sign}
 use lib.Ieee.Nearest.{closest, closest-mono, closest-same, nearest-ge}
 use lib.Ieee.Scale.{finite, overflow, round-same}
-use Rattle.binary32.proofs.Truth.{cond-split}
+use Rattle.binary32.proofs.Truth.{yes-or-no, cond-split}
 use Rattle.binary32.specs.Leaves.{signOf}
 use Rattle.binary32.proofs.Values.{finite-not-nan, value-sign, value-finite, value-same, value-cross, value-unique}
 use Rattle.binary32.proofs.Units.{Grid, grid-multiple, pow-over, Units, units-sign, on-grid}
@@ -125,7 +125,7 @@ rd-near-below f n j h =
     lt-of-lt-of-le (lt-div-mul-add (pow-pos j)) (add-le-add (rd-ge (grid-multiple f (n / u) j few) (div-mul-le-self n u)) (le-of-eq refl))
 
 -- ---- a number of prec + k digits drops k of them
-size-is : (n j : ℕ) → 2 ^ j ≤ n → n < 2 ^ suc j → size n ≡ suc j
+pub size-is : (n j : ℕ) → 2 ^ j ≤ n → n < 2 ^ suc j → size n ≡ suc j
 size-is n j lo hi = le-antisymm (size-le n (suc j) hi) (lt-of-not-le (λ (g : size n ≤ j). not-le-of-lt (lt-of-lt-of-le (size-lt n) (pow-mono g)) lo))
 
 pub rd-at : (f : Format) (n k : ℕ) → 2 ^ (prec f - 1 + k) ≤ n → n < 2 ^ (prec f + k) → rd f n ≡ closest n (2 ^ k) * 2 ^ k
@@ -158,6 +158,18 @@ round-over f s n h =
     let q = closest n (2 ^ dropped f n) in
     let k = dropped f n in
     units-is f s n ∙ cond-no (ltb (q * 2 ^ k) (overflow f)) (odd (suc (prec f)) s q k (low f)) (inf s) (le→nltb (q * 2 ^ k) (overflow f) h)
+
+-- it sees no more of n than what is kept
+pub round-kept : (f : Format) (s : Bool) (a b : ℕ) → rd f a ≡ rd f b → round f s a (2 ^ low f) ≡ round f s b (2 ^ low f)
+round-kept f s a b e = elim (yes-or-no (ltb (rd f a) (overflow f))) [
+  | inl t ↦
+      let h : rd f a < overflow f = ltb→lt (rd f a) (overflow f) t in
+      value-unique f (round f s a (2 ^ low f)) (round f s b (2 ^ low f)) s (rd f a) (2 ^ low f) (pow-pos (low f)) (round-fits f s a (2 ^ low f)) (round-fits f s b (2 ^ low f)) (round-value f s a h)
+      (subst (λ (z : ℕ). HasValue (round f s b (2 ^ low f)) s z (2 ^ low f)) (sym e) (round-value f s b (lt-of-le-of-lt (le-of-eq (sym e)) h)))
+  | inr t ↦
+      let h : overflow f ≤ rd f a = nltb→le (rd f a) (overflow f) t in
+      round-over f s a h ∙ sym (round-over f s b (le-trans h (le-of-eq e)))
+]
 
 pub round-finite : (f : Format) (s : Bool) (n : ℕ) → T (finite (round f s n (2 ^ low f))) → rd f n < overflow f
 round-finite f s n t = lt-of-not-le (λ (h : overflow f ≤ rd f n). subst (λ (x : Float). T (finite x)) (round-over f s n h) t)

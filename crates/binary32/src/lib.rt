@@ -2,9 +2,10 @@
 // the crossing test and bit patterns. Each function takes every value of its arguments, and equals a definition in
 // specs/Leaves.antt.
 ghost use mathlib.Core.Path.{_≡_};
-ghost use Prim.Native.Nat.{_*_, _^_, _<_};
+ghost use Prim.Native.Nat.{_+_, _*_, _^_, _≤_, _<_};
 ghost use lib.Dec.{T};
 ghost use lib.Ieee.{binary32, lt, ofBits};
+ghost use lib.Ieee.Nearest.{closest};
 ghost use Rattle.binary32.specs.Leaves.{
   asFloat,
   asWhole,
@@ -18,18 +19,14 @@ ghost use Rattle.binary32.specs.Leaves.{
   floatOf,
 };
 
-// `n as f32`. Both halves of 24 bits are exact below 2^48, so only their sum rounds.
+// `n as f32`. A number above 2^24 keeps the 24 digits from its top one on, and drops those below.
 pub fn u64_to_f32(n: u64) -> f32
     ensures { λ r. ⌜ r ≡ asFloat n ⌝ }
 {
-    if n <= 0x100_0000 {
-        n as f32
-    } else if n < 0x1_0000_0000_0000 {
-        low_to_f32(n)
-    } else if n % 0x2_0000 == 0 {
-        high_to_f32(n / 0x2_0000 * 2)
+    if 0x100_0000 < n {
+        rounded(n, 40 - u64::leading_zeros(n))
     } else {
-        high_to_f32(n / 0x2_0000 * 2 + 1)
+        n as f32
     }
 }
 
@@ -45,20 +42,29 @@ pub fn u32_to_f32(n: u32) -> f32
     u64_to_f32(n as u64)
 }
 
-fn low_to_f32(n: u64) -> f32
-    requires { ⌜ n < 2 ^ 48 ⌝ }
-    ensures { λ r. ⌜ r ≡ asFloat n ⌝ }
+// The multiple of 2^drop that is nearest to n, as a float. What `nearest` answers is at most 2^24, to which a carry may
+// lead: the product is exact.
+fn rounded(n: u64, drop: u32) -> f32
+    requires { ⌜ (0 < drop) × (drop < 64) × (n < 2 ^ (24 + drop)) ⌝ }
+    ensures { λ r. ⌜ r ≡ asFloat (closest n (2 ^ drop) * 2 ^ drop) ⌝ }
 {
-    ((n >> 24) as f32) * 16777216.0 + ((n & 0xff_ffff) as f32)
+    (nearest(n, 1 << drop) as f32) * f32::from_bits((drop + 127) << 23)
 }
 
-// The float nearest to s * 2^16. Of a number from 2^48 on, the 17 lowest bits matter only by being zero or not: s holds
-// the others, and that as its last bit.
-fn high_to_f32(s: u64) -> f32
-    requires { ⌜ s < 2 ^ 48 ⌝ }
-    ensures { λ r. ⌜ r ≡ asFloat (s * 2 ^ 16) ⌝ }
+// n / unit as the nearest whole number, a tie to the even one.
+fn nearest(n: u64, unit: u64) -> u64
+    requires { ⌜ (1 < unit) × (unit ≤ 2 ^ 63) ⌝ }
+    ensures { λ r. ⌜ r ≡ closest n unit ⌝ }
 {
-    ((s >> 24) as f32) * 1099511627776.0 + ((s & 0xff_ffff) as f32) * 65536.0
+    let top = n / unit;
+    let twice = n % unit * 2;
+    if twice < unit {
+        top
+    } else if twice == unit {
+        if top % 2 == 0 { top } else { top + 1 }
+    } else {
+        top + 1
+    }
 }
 
 // `x as usize`.

@@ -1,65 +1,40 @@
--- `binary32::u64_to_f32` meets its contract: from 2^48 on the 17 lowest bits become one (`sticky`), and the rest is its callees'. Assumes nothing.
-use mathlib.Core.Path.{_≡_, ap, _∙_}
-use Prim.Native.Nat.{ℕ, _*_, _/_}
+-- `binary32::u64_to_f32` meets its contract: above 2 ^ 24 by the law `top-float`, at 64 digits. Assumes nothing.
+use mathlib.Core.Path.{_∙_}
+use Prim.Native.Nat.{ℕ, _+_, _^_, _<_}
 use native.Mathlib.Omega.{arith}
+use lib.Count.{leadingZeros}
 use lib.Ieee.{binary32}
 use borrow.Author.Needs.{needs}
-use Rattle.binary32.specs.Leaves.{asFloat}
 use Rattle.binary32.proofs.Halves.{castable}
-use Rattle.binary32.proofs.Sticky.{sticky}
+use Rattle.binary32.proofs.Tops.{below-top, zeros-few, top-float}
 use Rattle.binary32.proofs.u64_to_f32.Statement.{statement}
 use Rattle.binary32.proofs.u64_to_f32.Tie as tie
+
+-- above 2 ^ 24 at most 39 zeros stand before the top digit
+few : (n : ℕ) → n < 2 ^ 64 → 2 ^ 24 < n → leadingZeros 64 n + 24 < 64
+few n W h = zeros-few 64 n (omega arith) W 24 (omega arith)
+
+sub-rounded : tie.Need-sub-rounded
+sub-rounded c = omega (arith, few (c .before .args .n) (search needs) (c .if1 .taken))
+
+rounded-requires : tie.Need-rounded-requires
+rounded-requires c κs =
+    let n = c .before .args .n in
+    let W : n < 2 ^ 64 = search needs in
+    let z = few n W (c .if1 .taken) in
+    (omega arith, omega arith, below-top 64 n (omega arith) W _ (omega arith))
 
 int-to-float-result : tie.Need-int-to-float-result
 int-to-float-result c = castable binary32 (c .before .before .args .n) (search needs)
 
-low-to-f32-requires : tie.Need-low-to-f32-requires
-low-to-f32-requires c κs = search needs
-
-mul-high-to-f32 : tie.Need-mul-high-to-f32
-mul-high-to-f32 c = search needs
-
-high-to-f32-requires : tie.Need-high-to-f32-requires
-high-to-f32-requires c κs = search needs
-
-mul-high-to-f32-2 : tie.Need-mul-high-to-f32-2
-mul-high-to-f32-2 c = search needs
-
-add-high-to-f32 : tie.Need-add-high-to-f32
-add-high-to-f32 c = search needs
-
-high-to-f32-requires-2 : tie.Need-high-to-f32-requires-2
-high-to-f32-requires-2 c κs = search needs
-
 returns : tie.Need-returns
-returns c = search needs
+returns c =
+    let n = c .before .before .args .n in
+    let z = few n (search needs) (c .before .if1 .taken) in
+    c .rounded .ensures ∙ top-float binary32 64 n _ (omega arith) (search needs) (omega arith)
 
 returns-2 : tie.Need-returns-2
 returns-2 c = search needs
 
-returns-3 : tie.Need-returns-3
-returns-3 c =
-    let n = c .before .before .before .before .args .n in
-    let e : n / 131072 * 2 * 65536 ≡ n = omega arith in
-    c .high-to-f32 .ensures ∙ ap (λ (z : ℕ). asFloat z) e
-
-returns-4 : tie.Need-returns-4
-returns-4 c =
-    let n = c .before .before .before .before .args .n in
-    c .high-to-f322 .ensures ∙ sticky binary32 16 n (omega arith) (c .before .if3 .left)
-
 pub u64-to-f32-spec : {M : Type 1} → statement M
-u64-to-f32-spec =
-    tie.close
-    (tie.spec
-    int-to-float-result
-    low-to-f32-requires
-    mul-high-to-f32
-    high-to-f32-requires
-    mul-high-to-f32-2
-    add-high-to-f32
-    high-to-f32-requires-2
-    returns
-    returns-2
-    returns-3
-    returns-4)
+u64-to-f32-spec = tie.close (tie.spec sub-rounded rounded-requires int-to-float-result returns returns-2)
