@@ -60,8 +60,8 @@ headChangedOf StartRecording h = withRecorded (record { recorder = startOf (h .r
     h
 headChangedOf StopRecording h = withRecorded (stopOf (h .recorder) (h .«data_len»)) h
 
--- ---- handle_passthru: the input passes while it is asked for and no voice is unfinished; a change of that begins a
--- ramp
+-- ---- handle_passthru: the input passes while it is asked for and no voice is unfinished;
+-- a change of that begins a ramp
 abbrev pub passesOf : Params → Bool → Bool
 passesOf p unfinished = p .«auto_passthru» && not unfinished
 

@@ -71,8 +71,8 @@ lengthOf (Ratio r) t n = mul binary32 (asFloat n) r
 unfoldable pub loopLengthOf : Params → ℕ → Float
 loopLengthOf p n = maxOf (lengthOf (p .«loop_length») (p .transport) n) (fin false 1 (pos 0))
 
--- ---- row 4: attack or decay above its limit, ratio above 1, or a time length worked out above 2 ^ 22. NaN is not
--- above.
+-- ---- row 4: attack or decay above its limit, ratio above 1, or a time length worked out above 2 ^ 22.
+-- NaN is not above.
 unfoldable pub lengthBeyond : TimeOrRatio → Transport → Bool
 lengthBeyond (Time v) t = lt (fin false 1 (pos 22)) (timeLengthOf v t)
 lengthBeyond (Ratio r) t = lt (fin false 1 (pos 0)) r

@@ -187,17 +187,3 @@ pub fn put_sampler(out: &mut [u8; 65536], at: usize, s: Sampler) -> usize
     let right = s.channels[1];
     put_used(out, first, right)
 }
-
-// Every field of the record, in use or not.
-pub fn put_all(out: &mut [u8; 65536], at: usize, s: Sampler) -> usize
-    requires { ⌜ at + 13126 ≤ 65536 ⌝ }
-    ensures { λ r. ⌜ r ≤ at + 13126 ⌝ }
-{
-    let left = s.channels[0];
-    let right = s.channels[1];
-    let first = put_u64(out, at, s.count as u64);
-    let second = put_u64(out, first, s.capacity as u64);
-    let third = end(out, second);
-    let fourth = put_channel(out, third, left, 32);
-    put_channel(out, fourth, right, 32)
-}

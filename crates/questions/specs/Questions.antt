@@ -67,8 +67,8 @@ abbrev pub getLastRecordedOffsetOf : Sampler → ℕ → OffsetAnswer
 getLastRecordedOffsetOf s j = answered (offset.Done (lastRecordedOffsetOf (recorderAt s j))) offset.Refused
     (channelNumber s j)
 
--- ---- questions whose answer is a list, to be written to a lent one with that much room: how long it is, and the lent
--- list afterwards
+-- ---- questions whose answer is a list, to be written to a lent one with that much room:
+-- how long it is, and the lent list afterwards
 unfoldable pub listNumber : Sampler → ℕ → List ℕ → ℕ → ℕ
 listNumber s j answer room = row (not (goodSampler s)) 9 (row (noChannel s j) 1 (row (ltb room (length answer)) 8 0))
 

@@ -35,8 +35,8 @@ pub record SoundSampler (s : Sampler) : Type 0 where
   pub good : goodSampler s ≡ true
   pub fitting : FittingSampler s
 
--- ---- what set-up with memory of that size, and then any calls, refused or not and with any memory lent to them, leave
--- as the record
+-- ---- what set-up with memory of that size leaves as the record, and then any calls, refused or not
+-- and with any memory lent to them
 pub data Reached (size : ℕ) : Sampler → Type 0 where
   new : (count : ℕ) (p : InitParams) → setUpNumber count size ≡ 0 → Reached size (setUpOf count p size .sampler)
   changed : (s : Sampler) (x : Change) → Reached size s → FittingChange x → Reached size (changeOf s x .sampler)

@@ -216,8 +216,8 @@ atSpeedOf speed v = record {
   «is_at_zero_crossing» = v .«is_at_zero_crossing»;
 }
 
--- ---- a voice that may stand in a record whose clock is at `now`: no time of its lies after the clock, its ramp is
--- good, and so is its clip
+-- ---- a voice that may stand in a record whose clock is at `now`: no time of its lies after the clock,
+-- its ramp is good, and so is its clip
 unfoldable pub goodVoice : ℕ → Voice → Bool
 goodVoice now v = leb (v .clip2 .since) now && leb (v .«finished_at») now && goodVolume now (v .volume)
     && goodClip (v .clip2)
