@@ -1,0 +1,6 @@
+pub mod Quantities
+pub mod Inside
+pub mod Searches
+pub mod Frames
+pub mod Turns
+pub mod Answers
