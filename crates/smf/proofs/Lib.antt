@@ -4,3 +4,5 @@ pub mod Searches
 pub mod Frames
 pub mod Turns
 pub mod Answers
+pub mod Examples
+pub mod Promised

@@ -4,3 +4,4 @@ pub mod Events
 pub mod Files
 pub mod Times
 pub mod Cues
+pub mod Promised
