@@ -18,12 +18,14 @@ stopLine frame note channel = decimal frame ++ bytes " stop " ++ decimal note ++
 
 -- `FRAME start NOTE CHANNEL VELOCITY`
 unfoldable pub startLine : ℕ → ℕ → ℕ → ℕ → List ℕ
-startLine frame note channel velocity = decimal frame ++ bytes " start " ++ decimal note ++ space ++ decimal channel ++ space ++ decimal velocity ++ newline
+startLine frame note channel velocity =
+    decimal frame ++ bytes " start " ++ decimal note ++ space ++ decimal channel ++ space ++ decimal velocity ++ newline
 
 -- an entry of the list: its frame, and note * 256 + channel + velocity * 65536
 unfoldable pub cueLine : ℕ → ℕ → List ℕ
 cueLine frame key =
-    cond (eqb (key / 65536 % 256) 0) (stopLine frame (key / 256 % 256) (key % 256)) (startLine frame (key / 256 % 256) (key % 256) (key / 65536 % 256))
+    cond (eqb (key / 65536 % 256) 0) (stopLine frame (key / 256 % 256) (key % 256))
+    (startLine frame (key / 256 % 256) (key % 256) (key / 65536 % 256))
 
 -- `R` and the number
 unfoldable pub refusalLine : ℕ → List ℕ

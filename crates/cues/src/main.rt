@@ -1,11 +1,12 @@
-// Reads a Standard MIDI File of format 0 from standard input and prints its starts and stops, a line each, with their frame counts. What the bytes mean is
-// said and proved in the crate `smf`; this program reads and writes.
+// Reads a Standard MIDI File of format 0 from standard input and prints its starts and stops, a line each, with their
+// frame counts. What the bytes mean is said and proved in the crate `smf`; this program reads and writes.
 //
 //     cues RATE [large]
 //
-// A line is `FRAME start NOTE CHANNEL VELOCITY` or `FRAME stop NOTE CHANNEL`. A refused file prints `R` and the number of the refusal, and to standard error
-// what is wrong, and at which byte. A file of up to 1,048,576 bytes is read; with the word `large`, which needs 128 MB of stack, up to 16,777,216. A longer
-// one prints `L` and how many bytes were read, one more than the limit.
+// A line is `FRAME start NOTE CHANNEL VELOCITY` or `FRAME stop NOTE CHANNEL`. A refused file prints `R` and the number
+// of the refusal, and to standard error what is wrong, and at which byte. A file of up to 1,048,576 bytes is read; with
+// the word `large`, which needs 128 MB of stack, up to 16,777,216. A longer one prints `L` and how many bytes were
+// read, one more than the limit.
 mod texts;
 
 ghost use Prim.Native.Nat.{_≤_, _<_};
@@ -32,7 +33,8 @@ fn main() {
     }
 }
 
-// One byte more than the limit tells a file that is too long. A start or a stop takes at least three bytes of the file, and two numbers of the list.
+// One byte more than the limit tells a file that is too long. A start or a stop takes at least three bytes of the file,
+// and two numbers of the list.
 fn small(rate: u32) {
     let mut file = [0u8; 1048577];
     let mut list = [0u64; 699052];
@@ -40,7 +42,8 @@ fn small(rate: u32) {
     read(rate, &mut file, &mut list, &mut out);
 }
 
-// A function that calls itself has a frame of its own: the 106 MB of this one are no part of main's. There is one turn, for the one word `large`.
+// A function that calls itself has a frame of its own: the 106 MB of this one are no part of main's. There is one turn,
+// for the one word `large`.
 fn large(rate: u32, turns: usize) {
     if turns == 0 {
         return;

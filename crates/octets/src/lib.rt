@@ -1,5 +1,6 @@
-// The bytes of a file, and the numbers that they make, two, three or four of them, the most significant first. A number that a file has the
-// other way round is the same of its bytes in that order. Each function equals a definition in specs/Octets.antt, for every value of its arguments.
+// The bytes of a file, and the numbers that they make, two, three or four of them, the most significant first. A number
+// that a file has the other way round is the same of its bytes in that order. Each function equals a definition in
+// specs/Octets.antt, for every value of its arguments.
 ghost use mathlib.Core.Path.{_≡_};
 ghost use mathlib.Core.List.{[], _∷_};
 ghost use Prim.Native.Nat.{_^_, _<_};

@@ -1,4 +1,5 @@
--- The starts and stops of a song with their frame counts, the list that holds them, and the answer of `read_song`. Definitions only.
+-- The starts and stops of a song with their frame counts, the list that holds them, and the answer of `read_song`.
+-- Definitions only.
 use mathlib.Core.Bool.{Bool, false, not, cond, _&&_}
 use mathlib.Core.List.{List, [], _∷_, _++_}
 use mathlib.Core.Path.{_≡_}
@@ -122,7 +123,8 @@ numberOf BadRate = 22
 numberOf (Faulty why) = refusalOf (why .reason)
 numberOf (Short n) = 8
 
--- ---- an entry read back: velocity v is v / 127, rounded once; velocity 0 is a stop. The note is packed as the engine packs it
+-- ---- an entry read back: velocity v is v / 127, rounded once; velocity 0 is a stop. The note stays packed, as the
+-- engine packs it
 abbrev pub velocityOf : ℕ → ℕ
 velocityOf key = key / 65536 % 256
 

@@ -1,5 +1,5 @@
--- What stands in a track of a Standard MIDI File 1.0: "<MTrk event> = <delta-time> <event>", "<event> = <MIDI event> | <sysex event> | <meta-event>".
--- `end` is where the track ends, or the file before it. Definitions only.
+-- What stands in a track of a Standard MIDI File 1.0: "<MTrk event> = <delta-time><event>", "<event> = <MIDI event> |
+-- <sysex event> | <meta-event>". `end` is where the track ends, or the file before it. Definitions only.
 use mathlib.Core.Bool.{Bool, cond, _&&_, _||_}
 use mathlib.Core.List.{List}
 use Prim.Native.Nat.{ℕ, _+_, _-_, _*_, _%_}
@@ -19,11 +19,13 @@ use Rattle.smf.specs.declared.events.Read.the-variants.{Is, End, Broken}
 use Rattle.smf.specs.declared.events.Step.{Step}
 use Rattle.smf.specs.declared.events.Step.the-variants as step
 
--- ---- MIDI events: a status byte from 80 to EF, which may be left out where it is the same as before ("running status"), and data bytes below 80
+-- ---- MIDI events: a status byte from 80 to EF, which may be left out where it is the same as before ("running status"),
+-- and data bytes below 80
 
 unfoldable pub dataAt : List ℕ → ℕ → ℕ → Data
 dataAt f end at =
-    cond (ltb at end) (cond (ltb (byteAt f at) 128) (datum.Is (byteAt f at)) (datum.Broken (faultAt NoDataByte at))) (datum.Broken (faultAt Missing at))
+    cond (ltb at end) (cond (ltb (byteAt f at) 128) (datum.Is (byteAt f at)) (datum.Broken (faultAt NoDataByte at)))
+    (datum.Broken (faultAt Missing at))
 
 -- program change, Cx, and channel pressure, Dx, have one data byte; the others have two
 unfoldable pub oneByte : ℕ → Bool
@@ -35,7 +37,8 @@ packed note channel velocity = note * 256 + channel + velocity * 65536
 
 unfoldable pub messageOf : ℕ → ℕ → ℕ → Event
 messageOf status note velocity =
-    cond (ltb status 144) (Note (packed note (status % 16) 0)) (cond (ltb status 160) (Note (packed note (status % 16) velocity)) Other)
+    cond (ltb status 144) (Note (packed note (status % 16) 0))
+    (cond (ltb status 160) (Note (packed note (status % 16) velocity)) Other)
 
 -- what a data byte is read for
 abbrev pub withData : Data → (ℕ → Read) → Read
@@ -65,18 +68,22 @@ sysexAt f end at = withQuantity (quantityAt f end at) (λ size next. past end si
 
 -- FF 51 03 tttttt, microseconds a quarter note: from the data on. More bytes than the three that are known are skipped
 unfoldable pub tempoOf : List ℕ → ℕ → ℕ → ℕ → Read
-tempoOf f end size at = cond (ltb size 3) (Broken (faultAt ShortTempo (at - 1))) (past end size at (Is (Tempo (threeAt f at)) 0 (at + size)))
+tempoOf f end size at =
+    cond (ltb size 3) (Broken (faultAt ShortTempo (at - 1))) (past end size at (Is (Tempo (threeAt f at)) 0 (at + size)))
 
 -- FF <type> <length> <bytes>: from the data on. FF 2F is End of Track
 unfoldable pub metaOf : List ℕ → ℕ → ℕ → ℕ → ℕ → Read
 metaOf f end type size at =
-    cond (eqb type 0x51) (tempoOf f end size at) (past end size at (cond (eqb type 0x2f) (End (at + size)) (Is Other 0 (at + size))))
+    cond (eqb type 0x51) (tempoOf f end size at)
+    (past end size at (cond (eqb type 0x2f) (End (at + size)) (Is Other 0 (at + size))))
 
 -- from the type on, which is "always less than 128"
 unfoldable pub metaAt : List ℕ → ℕ → ℕ → Read
 metaAt f end at =
     cond (ltb at end)
-    (cond (ltb (byteAt f at) 128) (withQuantity (quantityAt f end (at + 1)) (λ size next. metaOf f end (byteAt f at) size next)) (Broken (faultAt NoMetaType at)))
+    (cond (ltb (byteAt f at) 128)
+    (withQuantity (quantityAt f end (at + 1)) (λ size next. metaOf f end (byteAt f at) size next))
+    (Broken (faultAt NoMetaType at)))
     (Broken (faultAt Missing at))
 
 -- ---- an event

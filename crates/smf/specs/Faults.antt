@@ -1,5 +1,6 @@
--- What can be wrong with a Standard MIDI File, where, and the number of the refusal: 12 for a file that breaks the document, 13 for one of another
--- format or with a SMPTE division, 14 for a start or stop later than any frame. Definitions only.
+-- What can be wrong with a Standard MIDI File, where, and the number of the refusal: 12 for a file that breaks the
+-- document, 13 for one of another format or with a SMPTE division, 14 for a start or stop later than any frame.
+-- Definitions only.
 use Prim.Native.Nat.{ℕ}
 use Rattle.smf.specs.declared.faults.Reason.{Reason}
 use Rattle.smf.specs.declared.faults.Reason.the-variants.{Missing, NoHeader, ShortHeader, OtherFormat, OtherTrackCount, SmpteDivision, NoDivision, SecondHeader, SecondTrack, NoTrack, NoEndOfTrack, BehindEndOfTrack, LongQuantity, NoRunningStatus, SystemStatus, NoDataByte, NoMetaType, ShortTempo, LateFrame}

@@ -1,5 +1,6 @@
--- A Standard MIDI File 1.0 of format 0, front to back: the header chunk, the one track chunk and its events, and the chunks of other types, which are
--- skipped. Each field is judged once its last byte is read; a byte that is due and isn't there is a fault where it would stand. Definitions only.
+-- A Standard MIDI File 1.0 of format 0, front to back: the header chunk, the one track chunk and its events, and the
+-- chunks of other types, which are skipped. Each field is judged once its last byte is read; a byte that is due and
+-- isn't there is a fault where it would stand. Definitions only.
 use mathlib.Core.Bool.{Bool, not, cond}
 use mathlib.Core.List.{List}
 use Prim.Native.Nat.{ℕ, zero, suc, _+_, min}
@@ -21,7 +22,7 @@ use Rattle.smf.specs.declared.chunks.Found.the-variants as found
 use Rattle.smf.specs.declared.chunks.Verdict.{Verdict}
 use Rattle.smf.specs.declared.chunks.Verdict.the-variants.{Good, Broken}
 
--- ---- the header chunk: "<chunk type> <length> <format> <ntrks> <division>"
+-- ---- the header chunk: "<chunk type><length><format><ntrks><division>"
 
 -- `MThd` and `MTrk`, as numbers of four bytes
 abbrev pub headerType : ℕ
@@ -38,7 +39,8 @@ unless broken why at next = cond broken (opening.Broken (faultAt why at)) next
 abbrev pub upTo : List ℕ → ℕ → Opening → Opening
 upTo f n next = unless (ltb (length f) n) Missing (length f) next
 
--- format 0 has one track; a division with bit 15 set is SMPTE's; the header may be longer than the six bytes that are known
+-- format 0 has one track; a division with bit 15 set is SMPTE's; the header may be longer than the six bytes that are
+-- known
 unfoldable pub fieldsOf : List ℕ → ℕ → Opening
 fieldsOf f size =
     upTo f 10 (unless (not (eqb (twoAt f 8) 0)) OtherFormat 9
@@ -51,7 +53,8 @@ headerOf f =
     upTo f 4 (unless (not (eqb (fourAt f 0) headerType)) NoHeader 3
     (upTo f 8 (unless (ltb (fourAt f 4) 6) ShortHeader 7 (fieldsOf f (fourAt f 4)))))
 
--- ---- chunks: "<chunk type> <length> <bytes>". "Your programs should expect alien chunks and treat them as if they weren't there"
+-- ---- chunks: "a 4-character type and a 32-bit length, which is the number of bytes in the chunk". "Your programs should
+-- expect alien chunks and treat them as if they weren't there"
 
 -- the chunk at a place: a track, or else what is found behind it
 unfoldable pub chunkAt : List ℕ → ℕ → (ℕ → Found) → Found
@@ -85,9 +88,11 @@ restOf f at = noSecond (trackAt f at)
 -- behind End of Track the track chunk, which ends at `full`, is over, and what follows is good
 unfoldable pub behindOf : List ℕ → ℕ → ℕ → Verdict
 behindOf f full at =
-    cond (ltb at (min full (length f))) (Broken (faultAt BehindEndOfTrack at)) (cond (ltb (length f) full) (Broken (faultAt Missing (length f))) (restOf f full))
+    cond (ltb at (min full (length f))) (Broken (faultAt BehindEndOfTrack at))
+    (cond (ltb (length f) full) (Broken (faultAt Missing (length f))) (restOf f full))
 
--- ---- the events of a track, with their delta-times and the places behind them, up to the end of the file or the first fault
+-- ---- the events of a track, with their delta-times and the places behind them, up to the end of the file or the first
+-- fault
 
 pub data Events : Type 0 where
   then : ℕ → Event → ℕ → Events → Events
@@ -111,7 +116,8 @@ chunkEvents f full at = eventsFrom (length f) f full 0 at
 -- the track chunk at a place
 unfoldable pub trackOf : List ℕ → ℕ → Events
 trackOf f at =
-    cond (ltb (length f) (at + 8)) (over (Broken (faultAt Missing (length f)))) (chunkEvents f (at + 8 + fourAt f (at + 4)) (at + 8))
+    cond (ltb (length f) (at + 8)) (over (Broken (faultAt Missing (length f))))
+    (chunkEvents f (at + 8 + fourAt f (at + 4)) (at + 8))
 
 -- the file's, where its header ends at a place
 abbrev pub eventsIn : List ℕ → Found → Events

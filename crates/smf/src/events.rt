@@ -17,7 +17,8 @@ pub enum Event {
     Other,
 }
 
-// An event, the running status after it (0: none) and the place behind it; or the end of the track, and the place behind that.
+// An event, the running status after it (0: none) and the place behind it; or the end of the track, and the place
+// behind that.
 pub enum Read {
     Is {
         event: Event,

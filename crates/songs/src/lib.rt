@@ -1,5 +1,5 @@
-// Plays a song's list on the engine: the starts and stops that are due before a frame are made as calls, in the list's order. Each public function equals
-// a definition in specs/Plays.antt, for every value of its arguments.
+// Plays a song's list on the engine: the starts and stops that are due before a frame are made as calls, in the list's
+// order. Each public function equals a definition in specs/Plays.antt, for every value of its arguments.
 ghost use mathlib.Core.Path.{_≡_};
 ghost use Prim.Native.Nat.{_^_, _<_};
 ghost use Rattle.songs.specs.Plays.{callOf, oneMore, playOf};
@@ -35,7 +35,8 @@ fn one_more(refused: usize, number: u8) -> usize
     if number == 0 { refused } else { refused + 1 }
 }
 
-// Makes the calls that are due at the frame count `at`, from the entry `next` of the list on. To play a song, call it before the frame of each count.
+// Makes the calls that are due at the frame count `at`, from the entry `next` of the list on. To play a song, call it
+// before the frame of each count.
 pub fn play(s: Sampler, list: &[u64], next: usize, at: u64, params: Params) -> Playing
     ensures { λ r. ⌜ r ≡ playOf s (now (list .entry)) next at params ⌝ }
 {
