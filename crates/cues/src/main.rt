@@ -6,7 +6,7 @@
 // A line is `FRAME start NOTE CHANNEL VELOCITY` or `FRAME stop NOTE CHANNEL`. A refused file prints `R` and the number
 // of the refusal, and to standard error what is wrong, and at which byte. A file of up to 1,048,576 bytes is read; with
 // the word `large`, which needs 128 MB of stack, up to 16,777,216. A longer one prints `L` and how many bytes were
-// read, one more than the limit.
+// read, one more than the limit, and to standard error that it is too long.
 mod texts;
 
 ghost use Prim.Native.Nat.{_≤_, _<_};
@@ -19,6 +19,7 @@ use smf::Counted;
 use texts::cue_line;
 use texts::fault_line;
 use texts::limit_line;
+use texts::long_line;
 use texts::rate_line;
 use texts::refusal_line;
 use texts::short_line;
@@ -86,6 +87,7 @@ fn read(rate: u32, file: &mut [u8], list: &mut [u64], out: &mut [u8]) {
     let got = io::read_full(STDIN_FILENO, file);
     if file.len() <= got {
         show(STDOUT_FILENO, limit_line(got));
+        show(STDERR_FILENO, long_line());
         return;
     }
     let answer = smf::read_song(&file[..got], rate, list);

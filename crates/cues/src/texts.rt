@@ -103,3 +103,7 @@ pub fn limit_line(size: usize) -> Line {
         .with_decimal(size as u64)
         .with(b"\n")
 }
+
+pub fn long_line() -> Line {
+    Line::new().with(b"more bytes than there is room for\n")
+}
