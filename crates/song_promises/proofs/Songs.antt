@@ -44,6 +44,7 @@ made p w c = go (c .starts)
   where
     note : Note
     note = fromU64Of (c .note)
+
     go : (b : Bool)
         → withSampler (cond b (startPlayingOf (w .sampler) (asFloat 0) note (c .velocity) p) (stopPlayingOf (w .sampler) note p) .sampler) w
         ≡ after w (cond b (startOf p c) (stop note p))
@@ -142,8 +143,8 @@ module _ (count : ℕ) (q : InitParams) (m : List ℕ) (good : setUpNumber count
     in-time accepted filled free s sp x part =
         subst
         (λ (v : World). event v s j ≡ sounds sp x part → emptyAt part (chan v j) ≡ false
-            → FirstIn v s j sp x part (length (live (chan u j)))
-            (freshOf p (asFloat 0) (fromU64Of (c .note)) (c .velocity) (chan u j .head .now) (chan u j .head .«data_len»)))
+        → FirstIn v s j sp x part (length (live (chan u j)))
+        (freshOf p (asFloat 0) (fromU64Of (c .note)) (c .velocity) (chan u j .head .now) (chan u j .head .«data_len»)))
         reached
         (λ sample full. holds .on-time (asFloat 0) (fromU64Of (c .note)) (c .velocity) p accepted filled (hands p later) (no-reset p later) s sp x part sample same free full)
 
