@@ -2,9 +2,12 @@
 use mathlib.Core.Path.{_≡_, refl, sym, ap, _∙_, subst}
 use mathlib.Core.Bool.{Bool, true, false, cond}
 use mathlib.Core.List.{List, [], _∷_, _++_, map, map-append}
-use Prim.Native.Nat.{ℕ, _+_, _<_}
-use lib.Dec.{eqb}
-use lib.ListN.{length}
+use Prim.Native.Nat.{ℕ, zero, suc, _+_, _*_, _≤_, _<_}
+use native.Mathlib.Omega.{arith}
+use borrow.Author.Tests.{leb-true, leb-false}
+use lib.Dec.{leb, eqb}
+use lib.ListN.{length, drop}
+use lib.Seq.{drop-drop}
 use lib.Ieee.{Float}
 use Rattle.binary32.specs.Leaves.{asFloat}
 use Rattle.common_types.specs.Notes.{fromU64Of}
@@ -15,20 +18,24 @@ use Rattle.channel.specs.declared.Change.{Change}
 use Rattle.channel.specs.declared.Change.the-variants.{Start, Stop}
 use Rattle.channel.specs.Channels.{live}
 use Rattle.voice.specs.Voices.{freshOf}
+use Rattle.walks.specs.Each.{Each}
 use Rattle.walks.specs.Walks.{any, fold}
 use Rattle.sampler.specs.Refusals.{setUpNumber}
 use Rattle.sampler.specs.Samplers.{startPlayingOf, stopPlayingOf}
 use Rattle.sampler.specs.declared.Answer.{Answer}
 use Rattle.sampler.specs.declared.Sampler.{Sampler}
+use Rattle.smf.specs.Cues.{Entry, songOf, numbersOf, cueOf}
+use Rattle.smf.specs.Promised.{NeverFall}
 use Rattle.smf.specs.declared.Cue.{Cue}
-use Rattle.songs.specs.Plays.{callOf, playOf}
+use Rattle.smf.proofs.Promised.{promised}
+use Rattle.songs.specs.Plays.{callOf, cuesOf, dueOf, playOf}
 use Rattle.songs.proofs.Hands.{by-hand}
 use Rattle.fates.specs.Events.{Event, idle, changes, sounds, isReset, isSample, emptyAt}
 use Rattle.fates.specs.Places.{stoppedIn}
 use Rattle.promises.specs.Runs.{World, setUp, Call, change, start, stop, frame, code, withSampler, after, run, chan, doneTo, event, events, isResetCall}
 use Rattle.promises.specs.Demands.{isEmpty, FirstIn, Demand3}
 use Rattle.promises.proofs.Demands.{demands}
-use Rattle.song_promises.specs.Songs.{startOf, handOf, hands, dueIn, played, hosted, woven, SongByHand, SongOnTime, Songs}
+use Rattle.song_promises.specs.Songs.{startOf, handOf, hands, leftIn, dueIn, Rising, played, hosted, woven, SongByHand, SongOnTime, SongInTurn, Songs}
 
 -- ---- by hand
 
@@ -72,6 +79,56 @@ weaves w list next at p (xs ∷ rest) =
     ∙ ap (λ (n : ℕ). run (after (played w list next at p) (frame xs p)) (woven list n (at + 1) p rest)) (by-hand (w .sampler) list next at p .places)
     ∙ ap (λ (v : World). run (after v (frame xs p)) (woven list (next + length due) (at + 1) p rest)) (plays w list next at p)
     ∙ sym (run-more w (hands p due) (frame xs p ∷ woven list (next + length due) (at + 1) p rest))
+
+-- ---- each call in its turn
+
+module _ (at : ℕ) where
+  abbrev InTurn : List Cue → List Cue → Type 0
+  InTurn due cs = Each (λ (c : Cue). c .frame ≡ at) due × Rising (at + 1) (drop (length due) cs)
+
+  one-turn : (c : Cue) (cs due : List Cue) (b : Bool) → leb (c .frame) at ≡ b → at ≤ c .frame → Rising (c .frame) cs
+      → (Rising at cs → InTurn due cs) → InTurn (cond b (c ∷ due) []) (c ∷ cs)
+  unfolding Each Rising
+  one-turn c cs due true e low up rest =
+      let most = leb-true (c .frame) at e in
+      let same : c .frame ≡ at = omega arith in
+      let k = rest (subst (λ (n : ℕ). Rising n cs) same up) in
+      ((same, k .0), k .1)
+  one-turn c cs due false e low up rest =
+      let late = leb-false (c .frame) at e in
+      (tt, (omega arith, up))
+
+  in-turn : (cs : List Cue) → Rising at cs → InTurn (dueOf at cs) cs
+  unfolding Each Rising dueOf
+  in-turn [] h = (tt, tt)
+  in-turn (c ∷ cs) h = one-turn c cs (dueOf at cs) (leb (c .frame) at) refl (h .0) (h .1) (in-turn cs)
+
+two-more : (k : ℕ) → 2 * suc k ≡ suc (suc (2 * k))
+two-more k = omega arith
+
+cues-behind : (k : ℕ) (l : List ℕ) → cuesOf (drop (2 * k) l) ≡ drop k (cuesOf l)
+unfolding cuesOf
+cues-behind zero l = refl
+cues-behind (suc k) [] = ap (λ (n : ℕ). cuesOf (drop n [])) (two-more k)
+cues-behind (suc k) (x ∷ []) = ap (λ (n : ℕ). cuesOf (drop n (x ∷ []))) (two-more k)
+cues-behind (suc k) (x ∷ y ∷ l) = ap (λ (n : ℕ). cuesOf (drop n (x ∷ y ∷ l))) (two-more k) ∙ cues-behind k l
+
+left-behind : (list : List ℕ) (next k : ℕ) → leftIn list (next + k) ≡ drop k (leftIn list next)
+left-behind list next k =
+    cues-behind (next + k) list
+    ∙ sym (drop-drop k next (cuesOf list))
+    ∙ ap (drop k) (sym (cues-behind next list))
+
+turns : (list : List ℕ) (next at : ℕ) → Rising at (leftIn list next)
+    → Each (λ (c : Cue). c .frame ≡ at) (dueIn list next at) × Rising (at + 1) (leftIn list (next + length (dueIn list next at)))
+turns list next at h =
+    let k = in-turn at (leftIn list next) h in
+    (k .0, subst (Rising (at + 1)) (sym (left-behind list next (length (dueIn list next at)))) (k .1))
+
+rises : (from : ℕ) (es : List Entry) → NeverFall from es → Rising from (cuesOf (numbersOf es))
+unfolding NeverFall Rising cuesOf numbersOf cueOf
+rises from [] h = h
+rises from (e ∷ es) h = (h .0, rises (e .frame) es (h .1))
 
 -- ---- starts and stops are neither resets nor samples
 
@@ -151,6 +208,7 @@ module _ (count : ℕ) (q : InitParams) (m : List ℕ) (good : setUpNumber count
 pub songs : Songs
 songs = record {
   hand = record { by-hand = plays; one-run = weaves };
+  turn = record { begins = λ rate f. rises 0 (songOf rate f .entries) (promised .in-order rate f); turns = turns };
   time = record {
     no-time = no-time;
     on-time = λ count q m good cs j k list next p w from earlier c later split starts u then. in-time count q m good cs j k list next p w from earlier c later split starts u then;

@@ -4,16 +4,18 @@
 use mathlib.Core.Path.{_≡_}
 use mathlib.Core.Bool.{true, false, cond}
 use mathlib.Core.List.{List, [], _∷_, _++_, map}
-use Prim.Native.Nat.{ℕ, _+_, _*_, _<_}
+use Prim.Native.Nat.{ℕ, _+_, _*_, _≤_, _<_}
 use lib.ListN.{length, drop}
 use lib.Ieee.{Float}
 use Rattle.binary32.specs.Leaves.{asFloat}
+use Rattle.walks.specs.Each.{Each}
 use Rattle.common_types.specs.Notes.{fromU64Of}
 use Rattle.common_types.specs.declared.InitParams.{InitParams}
 use Rattle.common_types.specs.declared.Params.{Params}
 use Rattle.voice.specs.Voices.{freshOf}
 use Rattle.channel.specs.Channels.{live}
 use Rattle.sampler.specs.Refusals.{setUpNumber}
+use Rattle.smf.specs.Cues.{songOf, numbersOf}
 use Rattle.smf.specs.declared.Cue.{Cue}
 use Rattle.songs.specs.Plays.{cuesOf, dueOf, playOf}
 use Rattle.fates.specs.Events.{sounds, emptyAt}
@@ -31,9 +33,18 @@ handOf p c = cond (c .starts) (startOf p c) (stop (fromU64Of (c .note)) p)
 abbrev pub hands : Params → List Cue → List Call
 hands p cs = map (handOf p) cs
 
--- those of a list that are due at a count, from the entry `next` on
+-- the starts and stops from the entry `next` of a list on
+abbrev pub leftIn : List ℕ → ℕ → List Cue
+leftIn list next = cuesOf (drop (2 * next) list)
+
+-- those of them that are due at a count
 abbrev pub dueIn : List ℕ → ℕ → ℕ → List Cue
-dueIn list next at = dueOf at (cuesOf (drop (2 * next) list))
+dueIn list next at = dueOf at (leftIn list next)
+
+-- their frames are at least `from`, and never fall
+unfoldable pub Rising : ℕ → List Cue → Type 0
+Rising from [] = Unit {0}
+Rising from (c ∷ cs) = (from ≤ c .frame) × Rising (c .frame) cs
 
 -- the record and the memory after `songs::play`, which is lent no memory
 abbrev pub played : World → List ℕ → ℕ → ℕ → Params → World
@@ -85,6 +96,17 @@ pub record SongOnTime : Type 0 where
       → FirstIn (played w list next (c .frame) p) s j sp x part (length (live (chan u j)))
       (freshOf p (asFloat 0) (fromU64Of (c .note)) (c .velocity) (chan u j .head .now) (chan u j .head .«data_len»))
 
+-- A host that begins at entry 0 and count 0, and plays before the frame of each count, makes every call at its own
+-- count.
+pub record SongInTurn : Type 0 where
+  -- the list of a file rises from 0
+  pub begins : (rate : ℕ) (f : List ℕ) → Rising 0 (leftIn (numbersOf (songOf rate f .entries)) 0)
+  -- of a list that rises from this count on, what is due is what has this count, and the rest rises from the next
+  pub turns : (list : List ℕ) (next at : ℕ) → Rising at (leftIn list next)
+      → Each (λ (c : Cue). c .frame ≡ at) (dueIn list next at)
+      × Rising (at + 1) (leftIn list (next + length (dueIn list next at)))
+
 pub record Songs : Type 0 where
   pub hand : SongByHand
+  pub turn : SongInTurn
   pub time : SongOnTime
