@@ -1,0 +1,25 @@
+-- `two_at` meets its contract. Assumes nothing.
+use Rattle.smf.specs.Fields.{twoAt}
+use borrow.Author.Needs.{needs}
+use Rattle.smf.proofs.fields.two_at.Statement.{statement}
+use Rattle.smf.proofs.fields.two_at.Tie as tie
+
+byte-at-requires : tie.Need-byte-at-requires
+byte-at-requires c κs = search needs
+
+add-byte-at : tie.Need-add-byte-at
+add-byte-at c = search needs
+
+byte-at-requires-2 : tie.Need-byte-at-requires-2
+byte-at-requires-2 c κs = search needs
+
+of-two-requires : tie.Need-of-two-requires
+of-two-requires c κs = search needs
+
+returns : tie.Need-returns
+unfolding twoAt
+returns c = (simp (c .of-two .ensures .0, c .before .byte-at2 .ensures, c .before .before .byte-at .ensures), c .of-two .ensures .1)
+
+pub two-at-spec : {M : Type 1} → statement M
+two-at-spec =
+    tie.close (tie.spec byte-at-requires add-byte-at byte-at-requires-2 of-two-requires returns)

@@ -1,0 +1,29 @@
+-- `late` meets its contract. Assumes nothing.
+use Rattle.smf.specs.Cues.{lateOf}
+use borrow.Author.Needs.{needs}
+use Rattle.smf.proofs.tracks.late.Statement.{statement}
+use Rattle.smf.proofs.tracks.late.Tie as tie
+
+enum-told : tie.Need-enum-told
+enum-told c = search needs
+
+enum-told-2 : tie.Need-enum-told-2
+enum-told-2 c = search needs
+
+enum-told-3 : tie.Need-enum-told-3
+enum-told-3 c = search needs
+
+returns : tie.Need-returns
+unfolding lateOf
+returns c = simp (c .enum-told .given .1)
+
+returns-2 : tie.Need-returns-2
+unfolding lateOf
+returns-2 c = simp (c .enum-told2 .given .1)
+
+returns-3 : tie.Need-returns-3
+unfolding lateOf
+returns-3 c = simp (c .enum-told3 .given .1)
+
+pub late-spec : {M : Type 1} → statement M
+late-spec = tie.close (tie.spec enum-told enum-told-2 enum-told-3 returns returns-2 returns-3)

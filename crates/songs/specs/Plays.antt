@@ -1,0 +1,60 @@
+-- A song's list, played: the calls that are due, one after the other, by the definitions that the engine's calls equal.
+-- Definitions only.
+use mathlib.Core.Path.{_≡_}
+use mathlib.Core.Bool.{cond}
+use mathlib.Core.List.{List, [], _∷_}
+use Prim.Native.Nat.{ℕ, _+_, _*_}
+use lib.Dec.{leb, eqb}
+use lib.ListN.{length, drop}
+use Rattle.binary32.specs.Leaves.{asFloat}
+use Rattle.walks.specs.Walks.{fold}
+use Rattle.common_types.specs.Notes.{fromU64Of}
+use Rattle.common_types.specs.declared.Params.{Params}
+use Rattle.sampler.specs.Samplers.{startPlayingOf, stopPlayingOf}
+use Rattle.sampler.specs.declared.Answer.{Answer}
+use Rattle.sampler.specs.declared.Sampler.{Sampler}
+use Rattle.smf.specs.Cues.{cueOf}
+use Rattle.smf.specs.declared.Cue.{Cue}
+use Rattle.songs.specs.declared.Playing.{Playing}
+
+-- the call that a host would make by hand: every start is at position 0
+unfoldable pub callOf : Sampler → Cue → Params → Answer
+callOf s c p =
+    cond (c .starts) (startPlayingOf s (asFloat 0) (fromU64Of (c .note)) (c .velocity) p)
+    (stopPlayingOf s (fromU64Of (c .note)) p)
+
+-- a refused call is counted
+unfoldable pub oneMore : ℕ → ℕ → ℕ
+oneMore refused number = cond (eqb number 0) refused (refused + 1)
+
+-- the starts and stops of a list, two numbers each
+unfoldable pub cuesOf : List ℕ → List Cue
+cuesOf [] = []
+cuesOf (x ∷ []) = []
+cuesOf (frame ∷ key ∷ rest) = cueOf frame key ∷ cuesOf rest
+
+-- those that are due at the count `at`, up to the first that isn't; a refused one changes nothing, and the song goes on
+unfoldable pub playedOf : Sampler → List Cue → ℕ → ℕ → Params → ℕ → Playing
+playedOf s [] next at p refused = record { sampler = s; next = next; refused = refused }
+playedOf s (c ∷ cs) next at p refused =
+    let a = callOf s c p in
+    cond (leb (c .frame) at) (playedOf (a .sampler) cs (next + 1) at p (oneMore refused (a .number)))
+    (record { sampler = s; next = next; refused = refused })
+
+-- from the entry `next` on
+unfoldable pub playOf : Sampler → List ℕ → ℕ → ℕ → Params → Playing
+playOf s list next at p = playedOf s (cuesOf (drop (2 * next) list)) next at p 0
+
+-- ---- "Playing the list equals making the calls by hand"
+
+-- those of a list that are due, up to the first that isn't
+unfoldable pub dueOf : ℕ → List Cue → List Cue
+dueOf at [] = []
+dueOf at (c ∷ cs) = cond (leb (c .frame) at) (c ∷ dueOf at cs) []
+
+pub record ByHand (s : Sampler) (list : List ℕ) (next at : ℕ) (p : Params) : Type 0 where
+  -- the engine is as after each call in turn
+  pub calls : playOf s list next at p .sampler
+      ≡ fold (λ (e : Sampler) (c : Cue). callOf e c p .sampler) s (dueOf at (cuesOf (drop (2 * next) list)))
+  -- and the next entry is the one behind them
+  pub places : playOf s list next at p .next ≡ next + length (dueOf at (cuesOf (drop (2 * next) list)))
