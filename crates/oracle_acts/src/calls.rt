@@ -8,7 +8,7 @@ use common_types::Params;
 use oracle_lines::field::f32_at;
 use oracle_lines::field::u32_at;
 use oracle_lines::field::wide;
-use oracle_replies::lent;
+use oracle_show::replies::lent;
 use sampler::Answer;
 use sampler::Sampler;
 

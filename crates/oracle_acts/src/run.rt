@@ -9,8 +9,8 @@ use oracle_lines::line::put;
 use oracle_lines::line::put_f32;
 use oracle_lines::line::put_u32;
 use oracle_lines::line::write;
-use oracle_replies::put_number;
-use oracle_show::put_sampler;
+use oracle_show::record::put_sampler;
+use oracle_show::replies::put_number;
 use sampler::Answer;
 use sampler::Sampler;
 

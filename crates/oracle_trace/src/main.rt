@@ -21,7 +21,7 @@ use oracle_lines::line::end;
 use oracle_lines::line::tag;
 use oracle_lines::line::write;
 use oracle_lines::settings::params_of;
-use oracle_replies::query;
+use oracle_show::replies::query;
 
 fn main() {
     let mut memory = [0u32; 65536];

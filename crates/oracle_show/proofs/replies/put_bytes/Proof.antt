@@ -1,9 +1,9 @@
--- `oracle_replies::put_bytes` meets its contract. The invariant: each byte passed has its two digits and a space. Assumes nothing.
+-- `oracle_show::replies::put_bytes` meets its contract. The invariant: each byte passed has its two digits and a space. Assumes nothing.
 use Prim.Native.Nat.{_+_, _*_, _-_, _≤_}
 use mathlib.Core.Path.{_≡_}
 use borrow.Author.Needs.{needs}
-use Rattle.oracle_replies.proofs.put_bytes.Statement.{statement}
-use Rattle.oracle_replies.proofs.put_bytes.Tie as tie
+use Rattle.oracle_show.proofs.replies.put_bytes.Statement.{statement}
+use Rattle.oracle_show.proofs.replies.put_bytes.Tie as tie
 
 abbrev Inv-loop : tie.InvT-loop
 Inv-loop out₀ at text place₀ i₀ out place i = (i ≤ 64) × (place ≡ at + 3 * i)

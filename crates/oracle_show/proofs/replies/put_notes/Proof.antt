@@ -1,9 +1,9 @@
--- `oracle_replies::put_notes` meets its contract. The invariant: each note passed has its 16 digits and a space. Assumes nothing.
+-- `oracle_show::replies::put_notes` meets its contract. The invariant: each note passed has its 16 digits and a space. Assumes nothing.
 use Prim.Native.Nat.{_+_, _*_, _-_, _≤_}
 use mathlib.Core.Path.{_≡_}
 use borrow.Author.Needs.{needs}
-use Rattle.oracle_replies.proofs.put_notes.Statement.{statement}
-use Rattle.oracle_replies.proofs.put_notes.Tie as tie
+use Rattle.oracle_show.proofs.replies.put_notes.Statement.{statement}
+use Rattle.oracle_show.proofs.replies.put_notes.Tie as tie
 
 abbrev Inv-loop : tie.InvT-loop
 Inv-loop out₀ at notes place₀ i₀ out place i = (i ≤ 34) × (place ≡ at + 17 * i)

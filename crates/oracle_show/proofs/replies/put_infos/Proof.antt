@@ -1,9 +1,9 @@
--- `oracle_replies::put_infos` meets its contract. The invariant: each info passed has its three floats. Assumes nothing.
+-- `oracle_show::replies::put_infos` meets its contract. The invariant: each info passed has its three floats. Assumes nothing.
 use Prim.Native.Nat.{_+_, _*_, _-_, _≤_}
 use mathlib.Core.Path.{_≡_}
 use borrow.Author.Needs.{needs}
-use Rattle.oracle_replies.proofs.put_infos.Statement.{statement}
-use Rattle.oracle_replies.proofs.put_infos.Tie as tie
+use Rattle.oracle_show.proofs.replies.put_infos.Statement.{statement}
+use Rattle.oracle_show.proofs.replies.put_infos.Tie as tie
 
 abbrev Inv-loop : tie.InvT-loop
 Inv-loop out₀ at a n place₀ i₀ out place i = (i ≤ 32) × (n ≤ 32) × (place ≡ at + 8 + 27 * i)

@@ -1,9 +1,9 @@
--- `oracle_replies::error_text` meets its contract: the part of the list that is lent has the length asked for. Assumes nothing.
+-- `oracle_show::replies::error_text` meets its contract: the part of the list that is lent has the length asked for. Assumes nothing.
 use mathlib.Core.Path.{sym}
 use lib.Seq.{length-take-le}
 use borrow.Author.Needs.{needs}
-use Rattle.oracle_replies.proofs.error_text.Statement.{statement}
-use Rattle.oracle_replies.proofs.error_text.Tie as tie
+use Rattle.oracle_show.proofs.replies.error_text.Statement.{statement}
+use Rattle.oracle_show.proofs.replies.error_text.Tie as tie
 
 lent-requires : tie.Need-lent-requires
 lent-requires c κs = search needs

@@ -1,9 +1,9 @@
--- `oracle_replies::active_notes` meets its contract: the part of the list that is lent has the length asked for. Assumes nothing.
+-- `oracle_show::replies::active_notes` meets its contract: the part of the list that is lent has the length asked for. Assumes nothing.
 use mathlib.Core.Path.{sym}
 use lib.Seq.{length-take-le}
 use borrow.Author.Needs.{needs}
-use Rattle.oracle_replies.proofs.active_notes.Statement.{statement}
-use Rattle.oracle_replies.proofs.active_notes.Tie as tie
+use Rattle.oracle_show.proofs.replies.active_notes.Statement.{statement}
+use Rattle.oracle_show.proofs.replies.active_notes.Tie as tie
 
 lent-requires : tie.Need-lent-requires
 lent-requires c κs = search needs
