@@ -1,3 +1,6 @@
 pub mod Bytes
+pub mod Rows
 pub mod Places
+pub mod Holding
+pub mod Fold
 pub mod Turns

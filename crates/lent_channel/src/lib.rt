@@ -2,7 +2,16 @@
 // copied. Each function equals the same definition as that of crate `channel` by value. Those that take a channel lent
 // are proved by hand.
 ghost use mathlib.Core.Path.{_≡_};
-ghost use Rattle.channel.specs.Channels.{anyUnfinishedOf, memoryOf, processSampleOf, goodChannel};
+ghost use mathlib.Core.Bool.{_&&_, _||_};
+ghost use Rattle.voice.specs.Voices.{goodVoice};
+ghost use Rattle.channel.specs.Channels.{
+  unfinishedOf,
+  anyUnfinishedOf,
+  memoryOf,
+  processSampleOf,
+  goodVoicesOf,
+  goodChannel,
+};
 ghost use Rattle.lent_channel.specs.Turns.{unusedTick, turnCountOf, sharedOf, voicesLeftOf, playedBy, headGoodOf};
 use channel::Channel;
 use channel::Head;
@@ -10,6 +19,7 @@ use clip::Mode;
 use common_types::NoteOffBehaviour;
 use common_types::Params;
 use voice::Tick;
+use voice::Voice;
 
 // How many voices take a turn, and what they share.
 pub struct Start {
@@ -77,32 +87,55 @@ fn head_good(head: Head, count: usize, capacity: usize) -> bool
     head.good(capacity)
 }
 
-// Whether the channel may stand in a record of that capacity.
-pub fn good(c: &Channel, capacity: usize) -> bool
-    ensures { λ r. ⌜ r ≡ goodChannel capacity (now (c .entry)) ⌝ }
+// What one voice more makes of an answer about those before it. Both folds have one shape, and so one proof; the second
+// doesn't need the clock.
+fn still_good(ok: bool, v: Voice, time: usize) -> bool
+    ensures { λ r. ⌜ r ≡ (ok && goodVoice time v) ⌝ }
 {
-    let mut ok = head_good(c.head, c.count, capacity);
+    ok & v.good(time)
+}
+
+fn or_unfinished(found: bool, v: Voice, _time: usize) -> bool
+    ensures { λ r. ⌜ r ≡ (found || unfinishedOf v) ⌝ }
+{
+    found | !v.finished
+}
+
+// Whether all is well so far, and each voice is good.
+fn good_voices(c: &Channel, so_far: bool) -> bool
+    ensures { λ r. ⌜ r ≡ («so_far» && goodVoicesOf (now (c .entry))) ⌝ }
+{
     let time = c.head.now;
     let n = channel::places(c.count);
+    let mut ok = so_far;
     let mut i: usize = 0;
     while i < n {
-        ok = ok & c.voices[i].good(time);
+        ok = still_good(ok, c.voices[i], time);
         i = i + 1;
     }
     ok
 }
 
-pub fn any_unfinished(c: &Channel) -> bool
-    ensures { λ r. ⌜ r ≡ anyUnfinishedOf (now (c .entry)) ⌝ }
+// Whether one was found before, or a voice is unfinished.
+fn any_unfinished(c: &Channel, before: bool) -> bool
+    ensures { λ r. ⌜ r ≡ (before || anyUnfinishedOf (now (c .entry))) ⌝ }
 {
+    let time = c.head.now;
     let n = channel::places(c.count);
-    let mut found = false;
+    let mut found = before;
     let mut i: usize = 0;
     while i < n {
-        found = found | !c.voices[i].finished;
+        found = or_unfinished(found, c.voices[i], time);
         i = i + 1;
     }
     found
+}
+
+// Whether the channel may stand in a record of that capacity.
+pub fn good(c: &Channel, capacity: usize) -> bool
+    ensures { λ r. ⌜ r ≡ goodChannel capacity (now (c .entry)) ⌝ }
+{
+    good_voices(c, head_good(c.head, c.count, capacity))
 }
 
 // Each voice takes its turn if the recording isn't empty; those that are then to be removed leave, and the others move
@@ -141,7 +174,7 @@ pub fn with_sample(c: &mut Channel, params: Params, input: f32, data: &mut [u32]
     let head = c.head;
     let recorded = head.recorded(input, data);
     let played = play(c, recorded.now, recorded.data_len, params, data);
-    let unfinished = any_unfinished(c);
+    let unfinished = any_unfinished(c, false);
     c.head = recorded.closed(params, unfinished);
     recorded.mixed(input, played)
 }

@@ -18,8 +18,8 @@ use denote.Memory.{partAt}
 use denote.Laws.{Is, shows}
 use denote.Steps.{looks, shuts, peeks}
 use denote.Struct.Steps.{spelt}
-use Rattle.lent_sampler.proofs.Rows.{Datum, row}
-use Rattle.lent_sampler.proofs.Rows.{copy as twice}
+use Rattle.lent_channel.proofs.Rows.{Datum, row}
+use Rattle.lent_channel.proofs.Rows.{copy as twice}
 use Rattle.lent_sampler.proofs.Arguments.{no-local, from-at, finds}
 
 module _ {M : Type 1} {𝓤 : URA M} {H : Heap 𝓤} {A : Atoms 𝓤} {K : Type 0} {W : Given 𝓤 H A} {Γ : List (Item 𝓤)} {C : Calls 𝓤 H} {Λ : Loops 𝓤 H} {E : Env 𝓤 H} {q : Post 𝓤 H} where

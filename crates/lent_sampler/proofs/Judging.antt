@@ -44,9 +44,9 @@ use denote.Triple.Walked.{says, Stays, stay-dropped, stay-none, walkOf, ends-at,
 use Rattle.walks.proofs.Steps.Inside.{Back, goes-in, comes-out, big}
 use Rattle.lent_channel.proofs.Bytes.{channel-bytes}
 use Rattle.lent_sampler.proofs.Bytes.{count-at, capacity-at}
-use Rattle.lent_sampler.proofs.Rows.{Datum, row}
-use Rattle.lent_sampler.proofs.Rows.{copy as twice}
-use Rattle.lent_sampler.proofs.Seats.{Seats, seat, clock, lies}
+use Rattle.lent_channel.proofs.Rows.{Datum, row, lies}
+use Rattle.lent_channel.proofs.Rows.{copy as twice}
+use Rattle.lent_sampler.proofs.Seats.{Seats, seat, clock}
 
 module _ (T C P : Datum) (S : Seats T C) (g n : Name) (good : ℕ → C .like .Denot → Bool) (number : ℕ → ℕ → Bool → Bool → ℕ → ℕ → ℕ → P .like .Denot → ℕ → ℕ) (frameOf : T .like .Denot → ℕ → P .like .Denot → ℕ → ℕ)
     (same : (h : T .like .Denot) (k : ℕ) (p : P .like .Denot) (size : ℕ) → S .Two h

@@ -12,8 +12,6 @@ use Rattle.lent_sampler.proofs.Sampled as Y
 use Rattle.lent_sampler.proofs.Sampled.Laws as Y′
 use Rattle.lent_sampler.proofs.Sampling as Z
 use Rattle.lent_sampler.proofs.Sampling.Laws as Z′
-use Rattle.channel.proofs.Channel as K
-use Rattle.channel.proofs.Channel.Laws as K′
 use Rattle.channel.proofs.Change as X
 use Rattle.channel.proofs.Change.Laws as X′
 use Rattle.common_types.proofs.Note as N
@@ -33,13 +31,10 @@ use Rattle.questions.proofs.VoiceInfos.Laws as L′
 use Rattle.channel.specs.declared.Change.{Change}
 use Rattle.sampler.specs.declared.Sampler.{Sampler}
 use Rattle.sampler.specs.Samplers.{changeOf}
-use Rattle.lent_sampler.proofs.Rows.{Datum, struct, enum, word, Answering}
+use Rattle.lent_channel.proofs.Rows.{Datum, struct, enum, word, Answering}
 
 abbrev pub sampler : Datum
 sampler = struct T.the-type T′.the-laws T′.the-plain
-
-abbrev pub channel : Datum
-channel = struct K.the-type K′.the-laws K′.the-plain
 
 abbrev pub change : Datum
 change = enum X.the-type X′.the-laws X′.the-plain tt

@@ -1,4 +1,3 @@
-pub mod Rows
 pub mod Arguments
 pub mod Lent
 pub mod Thin

@@ -36,7 +36,7 @@ use denote.Triple.Call.{calls-at}
 use denote.Triple.Clauses.{Ended, Clauses, ensured, lasts, closing}
 use denote.Triple.Walked.{says, Stays, stay-none, stay-dropped, gave-slice, walkOf, goes-none, goes-silent, goes-gave-slice, ends-at, walked, walk-meets}
 use denote.Exit.{yes}
-use Rattle.lent_sampler.proofs.Rows.{Datum, row}
+use Rattle.lent_channel.proofs.Rows.{Datum, row}
 use Rattle.lent_sampler.proofs.Copied.{copies-out}
 
 module _ (T X Y E I Q : Datum) (g h : Name) (gives : T .like .Denot → X .like .Denot → Y .like .Denot → ℕ → I .like .Denot) (Fits : List (E .like .Denot) → I .like .Denot → Type 0)

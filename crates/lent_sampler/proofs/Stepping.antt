@@ -57,8 +57,8 @@ use Rattle.walks.proofs.Steps.Rounds.{rounds}
 use Rattle.lent_channel.proofs.Bytes.{channel-bytes}
 use Rattle.sampler.proofs.Parts.{starts-at}
 use Rattle.lent_sampler.proofs.Bytes.{capacity-at}
-use Rattle.lent_sampler.proofs.Rows.{Datum, row}
-use Rattle.lent_sampler.proofs.Seats.{Seats, seat, lies}
+use Rattle.lent_channel.proofs.Rows.{Datum, row, lies}
+use Rattle.lent_sampler.proofs.Seats.{Seats, seat}
 
 pub record Turning (T C P : Datum) (S : Seats T C) : Type 1 where
   pub numberOf : T .like .Denot → ℕ → P .like .Denot → ℕ → ℕ

@@ -44,7 +44,7 @@ use denote.Triple.Clauses.{Ended, Clauses, ensured, lasts, closing}
 use denote.Triple.Walked.{says, Stays, stay-none, gave-slice, walkOf, ends-at, walked, goes-none, goes-gave-slice, walk-meets}
 use borrow.Table.OneValue.{part-in}
 use Rattle.walks.proofs.Steps.Inside.{opened}
-use Rattle.lent_sampler.proofs.Rows.{Datum, Typed, row}
+use Rattle.lent_channel.proofs.Rows.{Datum, Typed, row}
 
 -- what a T and a byte are put together to
 abbrev pub pair : (T : Datum) → T .like .Denot → ℕ → Val

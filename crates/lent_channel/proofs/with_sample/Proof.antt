@@ -2,7 +2,7 @@
 -- `play`, and then shared with `any_unfinished`. The memory is lent again to `Head::recorded`, and then shared with `play`. Assumes nothing.
 use mathlib.Core.Path.{_≡_, refl, sym, _∙_, ap, subst}
 use Prim.Native.Nat.{ℕ, _<_, _^_}
-use mathlib.Core.Bool.{Bool, true}
+use mathlib.Core.Bool.{Bool, true, false}
 use mathlib.Core.List.{List, [], _∷_}
 use lib.ListN.{length}
 use lib.Ieee.{Float, binary32, fits as fitsF}
@@ -25,7 +25,7 @@ use types.Part.{agg, whole, sub, look-in, store-in}
 use types.Mut.{close-ref}
 use types.Tokens.{lft-new, lft-end, lent-back}
 use types.SemTy.{Body}
-use types.Run.{look, init, forget, stop, hop, fld, from, load, addr, of-opd, and-then, no-more, assigns, land, returns, enter, alloc1, alloc0, params1, pass1, pass0, free1, free0}
+use types.Run.{look, init, forget, stop, hop, fld, from, load, addr, false-lit, of-opd, and-then, no-more, assigns, land, returns, enter, alloc1, alloc0, params1, pass1, pass0, free1, free0}
 use denote.Exit.{yes}
 use denote.RattleType.{owns}
 use denote.Memory.{mem, partAt, pointee}
@@ -234,15 +234,15 @@ module _ {M : Type 1} (𝓤 : URA M) (H : Heap 𝓤) (A : Atoms 𝓤) (W : Given
   Plays r c = (r ≡ sum) × (c ≡ h₂)
 
   abbrev to-asked : ℕ → GName → Asked 𝓤 H A at-mem run .Ghost
-  to-asked α δ = (((α ∷ [], tt), (fullShare, tt), tt, (at-channel δ h₂, tt), (vptr b o ∷ [], tt)), tt)
+  to-asked α δ = (((α ∷ [], tt), (fullShare, tt), tt, (at-channel δ h₂, (false, tt)), (vptr b o ∷ [], (vbool false ∷ [], tt))), tt)
 
   goes-asked : (α : ℕ) (δ : GName) → ent 𝓤 (sep 𝓤 (A .lft (α ∷ []) fullShare) (sem 𝓤 H A (ShrRef (named 0) (α ∷ []) C.the-row .own (at-channel δ h₂) (vptr b o ∷ [])))) (Asked 𝓤 H A at-mem run .pre (to-asked α δ))
   goes-asked α δ =
-      qed W (‵ (flft (α ∷ []) fullShare) ∷ ‵ (ShrRef (named 0) (α ∷ []) C.the-row .own (at-channel δ h₂) (vptr b o ∷ [])) ∷ []) ∵ nothing ! $ move ! (2 ∷ 0 ∷ []) $ fjoin ! $
-      nothing ! $ move ! (2 ∷ 0 ∷ []) $ join ! $ join ! $ nothing ! $ move ! (1 ∷ 0 ∷ []) $ join ! $ done !
+      qed W (‵ (flft (α ∷ []) fullShare) ∷ ‵ (ShrRef (named 0) (α ∷ []) C.the-row .own (at-channel δ h₂) (vptr b o ∷ [])) ∷ []) ∵ nothing ! $ move ! (1 ∷ 0 ∷ []) $ join ! $
+      nothing ! $ owned ! bool (Is bool) (bool-makes 𝓤 H A W) false _ refl $ fjoin ! $ move ! (2 ∷ 0 ∷ []) $ fjoin ! $ move ! (1 ∷ 0 ∷ []) $ join ! $ nothing ! $ move ! (1 ∷ 0 ∷ []) $ join ! $ done !
 
-  asked-of : (α : ℕ) (δ : GName) (r : Bool) → ent 𝓤 (ensured 𝓤 H A asked.ended (asked.clauses 𝓤 H A at-mem run) (α ∷ [], tt) (at-channel δ h₂, tt) tt r) (fact 𝓤 (r ≡ anyUnfinishedOf h₂))
-  asked-of α δ r = exE 𝓤 _ (λ ws. snd∗ 𝓤 (sem 𝓤 H A (lasts asked.ended (α ∷ [], tt) (at-channel δ h₂, tt) ws)) (fact 𝓤 (r ≡ anyUnfinishedOf h₂)))
+  asked-of : (α : ℕ) (δ : GName) (r : Bool) → ent 𝓤 (ensured 𝓤 H A asked.ended (asked.clauses 𝓤 H A at-mem run) (α ∷ [], tt) (at-channel δ h₂, (false, tt)) tt r) (fact 𝓤 (r ≡ anyUnfinishedOf h₂))
+  asked-of α δ r = exE 𝓤 _ (λ ws. snd∗ 𝓤 (sem 𝓤 H A (lasts asked.ended (α ∷ [], tt) (at-channel δ h₂, (false, tt)) ws)) (fact 𝓤 (r ≡ anyUnfinishedOf h₂)))
 
   abbrev to-closed : Bool → Closed 𝓤 H A at-mem run .Ghost
   to-closed u = ((tt, tt, tt, (t, (p, (u, tt))), (ev t ∷ [], (pv p ∷ [], (vbool u ∷ [], tt)))), tt)
@@ -321,8 +321,8 @@ module _ {M : Type 1} (𝓤 : URA M) (H : Heap 𝓤) (A : Atoms 𝓤) (W : Given
         assigns ! (addr ! (from ! (hop ! (look ! 40 refl) (stop !)))) (from ! (stop !)) (init ! 14 refl (tt, tt)) $ lft-new ! tt (λ α₂. move ! (4 ∷ []) $
         use1 W (later (some (λ (δ : GName). ‵ (ShrRef (named 0) (α₂ ∷ []) C.the-row .own (at-channel δ h₂) (vptr b o ∷ [])) ⊛ ‵ (flent (α₂ ∷ []) (partAt C.the-row fullShare h₂ b o))))) (lends-shr 𝓤 H A W C.the-row (named 0) (α₂ ∷ []) fullShare h₂ b o) $ await ! tt $
         pick ! (λ δ₂. split ! $ move ! (2 ∷ 0 ∷ []) $ use2 W (raw (Asked 𝓤 H A at-mem run .pre (to-asked α₂ δ₂))) (goes-asked α₂ δ₂) $
-        calls-at ! (fmOf 𝓤 H (W .laws) 𝓣) (Asked 𝓤 H A at-mem run) known-Asked (to-asked α₂ δ₂) (and-then ! (load ! (from ! (stop !)) (look ! 15 refl)) (no-more !)) (λ w₂.
-        use1 W (later (some (λ (u : Bool). ((‵ (flft (α₂ ∷ []) fullShare) ⊛ ‵ ftrue) ⊛ ‵ (bool .own u (w₂ ∷ []))) ⊛ raw (ensured 𝓤 H A asked.ended (asked.clauses 𝓤 H A at-mem run) (α₂ ∷ [], tt) (at-channel δ₂ h₂, tt) tt u)))) (id⊢ 𝓤 _) $ await ! tt $ pick ! (λ u.
+        calls-at ! (fmOf 𝓤 H (W .laws) 𝓣) (Asked 𝓤 H A at-mem run) known-Asked (to-asked α₂ δ₂) (and-then ! (load ! (from ! (stop !)) (look ! 15 refl)) (and-then ! (false-lit !) (no-more !))) (λ w₂.
+        use1 W (later (some (λ (u : Bool). ((‵ (flft (α₂ ∷ []) fullShare) ⊛ ‵ ftrue) ⊛ ‵ (bool .own u (w₂ ∷ []))) ⊛ raw (ensured 𝓤 H A asked.ended (asked.clauses 𝓤 H A at-mem run) (α₂ ∷ [], tt) (at-channel δ₂ h₂, (false, tt)) tt u)))) (id⊢ 𝓤 _) $ await ! tt $ pick ! (λ u.
         split ! $ move ! (1 ∷ []) $ use1 W (raw (fact 𝓤 (u ≡ anyUnfinishedOf h₂))) (asked-of α₂ δ₂ u) $ heard ! (u ≡ anyUnfinishedOf h₂) (λ e₂. split ! $ move ! (1 ∷ []) $
         peeks ! bool (Is bool) (shows 𝓤 H A bool) u (w₂ ∷ []) (λ is₂. drop ! $ land ! (from ! (stop !)) (init ! 27 refl (bool-lawful 𝓤 H A W .typed u _ is₂ .0)) $
         rewrite ! 27 (λ (z : Val). ‵ (fat fullShare truth l₈ 0 z)) (ap only is₂ ∙ ap vbool e₂) refl $ split ! $ lft-end ! tt $ move ! (0 ∷ 2 ∷ []) $ lent-back ! tt $

@@ -10,7 +10,7 @@ use Rattle.sampler.proofs.Sampler.changed as g
 use Rattle.sampler.proofs.Sampler.changed.Symbol as g-def
 use Rattle.sampler.proofs.Sampler.changed.Symbol.{name as #g}
 use Rattle.sampler.proofs.Sampler.changed.Met as g-thm
-use Rattle.lent_sampler.proofs.Rows.{word}
+use Rattle.lent_channel.proofs.Rows.{word}
 use Rattle.lent_sampler.proofs.Lent.{sampler, answer, change as changing}
 use Rattle.lent_sampler.proofs.Arguments.{value, once}
 use Rattle.lent_sampler.proofs.Thin.{thin}

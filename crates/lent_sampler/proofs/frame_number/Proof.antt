@@ -11,7 +11,8 @@ use Rattle.lent_channel.proofs.good.Symbol.{name as #g}
 use Rattle.lent_channel.proofs.good.Met as g-thm
 use Rattle.lent_sampler.specs.Numbers.{numberOf}
 use Rattle.lent_sampler.proofs.Numbers.{number-is}
-use Rattle.lent_sampler.proofs.Lent.{sampler, channel, params}
+use Rattle.lent_channel.proofs.Holding.{channel}
+use Rattle.lent_sampler.proofs.Lent.{sampler, params}
 use Rattle.lent_sampler.proofs.Seats.{seats}
 use Rattle.lent_sampler.proofs.Judging.{judges}
 use Rattle.lent_sampler.proofs.number_of as n

@@ -10,7 +10,7 @@ use Rattle.questions.proofs.get_data_len as g
 use Rattle.questions.proofs.get_data_len.Symbol as g-def
 use Rattle.questions.proofs.get_data_len.Symbol.{name as #g}
 use Rattle.questions.proofs.get_data_len.Met as g-thm
-use Rattle.lent_sampler.proofs.Rows.{word}
+use Rattle.lent_channel.proofs.Rows.{word}
 use Rattle.lent_sampler.proofs.Lent.{sampler, counted}
 use Rattle.lent_sampler.proofs.Arguments.{value, once}
 use Rattle.lent_sampler.proofs.Peek.{peek}

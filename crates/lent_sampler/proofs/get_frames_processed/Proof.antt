@@ -10,7 +10,7 @@ use Rattle.questions.proofs.get_frames_processed as g
 use Rattle.questions.proofs.get_frames_processed.Symbol as g-def
 use Rattle.questions.proofs.get_frames_processed.Symbol.{name as #g}
 use Rattle.questions.proofs.get_frames_processed.Met as g-thm
-use Rattle.lent_sampler.proofs.Rows.{word}
+use Rattle.lent_channel.proofs.Rows.{word}
 use Rattle.lent_sampler.proofs.Lent.{sampler, counted}
 use Rattle.lent_sampler.proofs.Arguments.{value, once}
 use Rattle.lent_sampler.proofs.Peek.{peek}

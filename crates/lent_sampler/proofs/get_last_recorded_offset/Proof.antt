@@ -10,7 +10,7 @@ use Rattle.questions.proofs.get_last_recorded_offset as g
 use Rattle.questions.proofs.get_last_recorded_offset.Symbol as g-def
 use Rattle.questions.proofs.get_last_recorded_offset.Symbol.{name as #g}
 use Rattle.questions.proofs.get_last_recorded_offset.Met as g-thm
-use Rattle.lent_sampler.proofs.Rows.{word}
+use Rattle.lent_channel.proofs.Rows.{word}
 use Rattle.lent_sampler.proofs.Lent.{sampler, offset}
 use Rattle.lent_sampler.proofs.Arguments.{value, once}
 use Rattle.lent_sampler.proofs.Peek.{peek}

@@ -12,7 +12,7 @@ use Rattle.questions.proofs.get_voice_info.Symbol as g-def
 use Rattle.questions.proofs.get_voice_info.Symbol.{name as #g}
 use Rattle.questions.proofs.get_voice_info.Met as g-thm
 use Rattle.lent_sampler.specs.Lists.{countedOf, listedOf}
-use Rattle.lent_sampler.proofs.Rows.{word}
+use Rattle.lent_channel.proofs.Rows.{word}
 use Rattle.lent_sampler.proofs.Lent.{sampler, params, info, infos, counted}
 use Rattle.lent_sampler.proofs.PeekFill.{peek}
 use Rattle.lent_sampler.proofs.fill as h

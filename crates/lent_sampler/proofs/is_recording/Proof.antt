@@ -10,7 +10,7 @@ use Rattle.questions.proofs.is_recording as g
 use Rattle.questions.proofs.is_recording.Symbol as g-def
 use Rattle.questions.proofs.is_recording.Symbol.{name as #g}
 use Rattle.questions.proofs.is_recording.Met as g-thm
-use Rattle.lent_sampler.proofs.Rows.{word}
+use Rattle.lent_channel.proofs.Rows.{word}
 use Rattle.lent_sampler.proofs.Lent.{sampler, told}
 use Rattle.lent_sampler.proofs.Arguments.{value, once}
 use Rattle.lent_sampler.proofs.Peek.{peek}

@@ -12,7 +12,7 @@ use Rattle.questions.proofs.print_error_info as g
 use Rattle.questions.proofs.print_error_info.Symbol as g-def
 use Rattle.questions.proofs.print_error_info.Symbol.{name as #g}
 use Rattle.questions.proofs.print_error_info.Met as g-thm
-use Rattle.lent_sampler.proofs.Rows.{word}
+use Rattle.lent_channel.proofs.Rows.{word}
 use Rattle.lent_sampler.proofs.Lent.{sampler, counted}
 use Rattle.lent_sampler.proofs.Arguments.{value, slice, twice}
 use Rattle.lent_sampler.proofs.Peek.{peek}

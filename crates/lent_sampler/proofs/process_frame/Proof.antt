@@ -11,7 +11,8 @@ use Rattle.sampler.proofs.part_start as start
 use Rattle.sampler.proofs.part_start.Symbol as start-def
 use Rattle.sampler.proofs.part_start.Symbol.{name as #start}
 use Rattle.sampler.proofs.part_start.Met as start-thm
-use Rattle.lent_sampler.proofs.Lent.{sampler, channel, params}
+use Rattle.lent_channel.proofs.Holding.{channel}
+use Rattle.lent_sampler.proofs.Lent.{sampler, params}
 use Rattle.lent_sampler.proofs.Seats.{seats}
 use Rattle.lent_sampler.proofs.Turned.{stepsOf, Turned, turned-starts, turned-low, turned-on, turned-ends}
 use Rattle.lent_sampler.proofs.Stepping.{Turning, steps-frame}

@@ -12,7 +12,7 @@ use Rattle.lent_sampler.proofs.sample_of as g
 use Rattle.lent_sampler.proofs.sample_of.Symbol as g-def
 use Rattle.lent_sampler.proofs.sample_of.Symbol.{name as #g}
 use Rattle.lent_sampler.proofs.sample_of.Met as g-thm
-use Rattle.lent_sampler.proofs.Rows.{word, float}
+use Rattle.lent_channel.proofs.Rows.{word, float}
 use Rattle.lent_sampler.proofs.Lent.{sampler, params, sampled, sampling}
 use Rattle.lent_sampler.proofs.Arguments.{value, slice, twice}
 use Rattle.lent_sampler.proofs.Thin.{thin}
