@@ -1,4 +1,5 @@
--- `main` is safe. Assumes nothing.
+-- `main` is safe, and lends 8,192 zeros and room enough. Assumes nothing.
+use mathlib.Core.Path.{refl}
 use borrow.Author.Needs.{needs}
 use Rattle.events.proofs.main.Statement.{statement}
 use Rattle.events.proofs.main.Tie as tie
@@ -13,7 +14,7 @@ slice-aggregate-play-3 : tie.Need-slice-aggregate-play-3
 slice-aggregate-play-3 c = search needs
 
 play-requires : tie.Need-play-requires
-play-requires c κs = search needs
+play-requires c κs = (refl, search needs)
 
 returns : tie.Need-returns
 returns c = search needs
