@@ -2,7 +2,7 @@
 use Prim.Native.Nat.{ℕ, _≤_, _-_}
 use mathlib.Core.Path.{_≡_, refl, sym, ap, _∙_}
 use native.Mathlib.Omega.{arith}
-use lib.ListN.{length, take, drop, length-set}
+use lib.ListN.{length, take, drop}
 use Rattle.events.proofs.Bytes.{moved-front, moved-ahead, front-left}
 use borrow.Author.Needs.{needs}
 use Rattle.events.proofs.moved.Statement.{statement}

@@ -1,6 +1,5 @@
 -- `feed` meets its contract. The invariant: what the turns that are left hand out, behind what was, is what all of them do. The measure is the turns that are
 -- left. Assumes nothing.
-use Prim.Native.Nat.{_<_}
 use mathlib.Core.Path.{_≡_, refl, sym, _∙_}
 use native.Mathlib.Omega.{arith}
 use lib.ListN.{length}
