@@ -340,7 +340,7 @@ unfolding computing
 undisturbed = record { accepted = refl; recorded = refl; no-reset = refl; unfinished = refl; unaltered = refl; sample = refl; finds = refl; later = refl; within = lit≤ tt }
 
 -- 3 samples on it has moved up to place 0, and sounds and shows sample 1: the value 0.5
-pub on-the-beat-met : OnTheBeat older 1 (press 61) steadily (quiet plain) plain zero32 part 1
+pub on-the-beat-met : OnTheBeat older 1 (press 61) steadily (quiet plain) plain zero32 part (freshOf plain zero32 (key 61) one32 2 2) 1
 unfolding computing
 on-the-beat-met = true-promised .on-the-beat zero32 (key 61) one32 plain 0 2 2 whole-clip steadily (quiet plain) plain zero32 part 3 undisturbed
 
@@ -356,7 +356,7 @@ unfolding computing
 seen-met = true-promised .seen zero32 (key 61) one32 plain 0 2 2 whole-clip steadily (quiet plain) plain zero32 part 3 undisturbed 0 0 refl refl
 
 -- in the sample of its own count it sounds its start
-pub no-lag-met : OnTheBeat older 1 (start half (key 61) one32 plain) [] (quiet plain) plain zero32 part 1
+pub no-lag-met : OnTheBeat older 1 (start half (key 61) one32 plain) [] (quiet plain) plain zero32 part (freshOf plain half (key 61) one32 2 2) 1
 unfolding computing
 no-lag-met =
     true-promised .no-lag half (key 61) one32 plain 1 2 2 half-clip [] (quiet plain) plain zero32 part

@@ -22,6 +22,7 @@ use Rattle.channel.specs.declared.Channel.{Channel}
 use Rattle.channel.specs.Channels.{live, memoryOf}
 use Rattle.sampler.specs.Refusals.{setUpNumber}
 use Rattle.questions.specs.Questions.{voiceInfoOf}
+use Rattle.fates.specs.Engine.{bornOf}
 use Rattle.fates.specs.Events.{Event, sounds, act, acts, emptyAt}
 use Rattle.fates.specs.Places.{voiceAt, at, follow, followAll}
 use Rattle.fates.specs.Steady.{alteredIn}
@@ -44,7 +45,7 @@ module _ (w : World) (st : Standing w) (j : ℕ) (present : j < w .sampler .coun
   b = start position note velocity p₀
 
   abbrev fresh : Voice
-  fresh = freshOf p₀ position note velocity (chan w j .head .now) (chan w j .head .«data_len»)
+  fresh = bornOf p₀ position note velocity (chan w j)
 
   module _ (cs : List Call) (s : Call) (p : Params) (x : Float) (m : List ℕ) (k : ℕ) (U : Undisturbed w j b cs s p x m k) where
     abbrev v : World
@@ -93,7 +94,7 @@ module _ (w : World) (st : Standing w) (j : ℕ) (present : j < w .sampler .coun
       index : indexAt (fresh .clip2) (chan v j .head .now) ≡ plainIndex a l d k
       index = index-is (fresh .clip2) (chan v j .head .now) a l d P (subst (λ (n : ℕ). n ≤ 2 ^ 24) (sym elapsed) (U .within)) ∙ ap (plainIndex a l d) elapsed
 
-      on-the-beat : OnTheBeat w j b cs s p x m (plainIndex a l d k)
+      on-the-beat : OnTheBeat w j b cs s p x m fresh (plainIndex a l d k)
       on-the-beat =
           let c = chan v j in
           let u = beats .voice in
@@ -102,6 +103,7 @@ module _ (w : World) (st : Standing w) (j : ℕ) (present : j < w .sampler .coun
             voice = u;
             follows = beating .follows;
             sounds = sounds-in v stand j there s p x m (U .sample) (beating .place) u (beats .sounds);
+            clip = beats .clip;
             term = beats .term ∙ ap (λ (i : ℕ). mul binary32 (recordedValueOf (memoryOf x c m) i) (levelOf (u .volume) (c .head .now))) index;
           }
 
@@ -131,7 +133,7 @@ standing-true w st j present =
       tested = true-index;
       on-the-beat = λ position note velocity p₀ a l d P cs s p x m k U. on-the-beat w st j present position note velocity p₀ cs s p x m k U a l d P;
       no-lag = λ position note velocity p₀ a l d P cs s p x m U.
-          subst (OnTheBeat w j (start position note velocity p₀) cs s p x m) (at-start a l d) (on-the-beat w st j present position note velocity p₀ cs s p x m 0 U a l d P);
+          subst (OnTheBeat w j (start position note velocity p₀) cs s p x m (bornOf p₀ position note velocity (chan w j))) (at-start a l d) (on-the-beat w st j present position note velocity p₀ cs s p x m 0 U a l d P);
       seen = λ position note velocity p₀ a l d P cs s p x m k U n i f g. seen w st j present position note velocity p₀ cs s p x m k U a l d P n i f g;
     }
 

@@ -341,14 +341,15 @@ pub record Undisturbed (w : World) (j : ℕ) (b : Call) (cs : List Call) (s : Ca
   pub later : chan (run w (b ∷ cs)) j .head .now ≡ chan w j .head .now + k
   pub within : k ≤ 2 ^ 24
 
--- At the place that it is followed to, the voice that b started sounds in s, and its term is the recorded value at
--- `index` times its level.
+-- At the place that it is followed to, the voice that b made as `born` sounds in s: it has its clip still, and its term
+-- is the recorded value at `index` times its level.
 pub record OnTheBeat (w : World) (j : ℕ) (b : Call) (cs : List Call) (s : Call) (p : Params) (x : Float) (m : List ℕ)
-    (index : ℕ) : Type 0 where
+    (born : Voice) (index : ℕ) : Type 0 where
   pub place : ℕ
   pub voice : Voice
   pub follows : followAll (events (after w b) cs j) (chan (after w b) j) (length (live (chan w j))) ≡ at place
   pub sounds : SoundsIn (run w (b ∷ cs)) s j p x m place voice
+  pub clip : voice .clip2 ≡ born .clip2
   pub term : productOf (tickAt p m (chan (run w (b ∷ cs)) j)) (memoryOf x (chan (run w (b ∷ cs)) j) m) voice
       ≡ mul binary32 (recordedValueOf (memoryOf x (chan (run w (b ∷ cs)) j) m) index)
       (levelOf (voice .volume) (chan (run w (b ∷ cs)) j .head .now))
@@ -375,19 +376,20 @@ pub record TruePositions (w : World) (j : ℕ) : Type 0 where
   -- ON THE BEAT. A voice started at count n with such a clip sounds, in the sample of count n + k, the value recorded
   -- at (start + k mod length) mod data length,
   pub on-the-beat : (position : Float) (note : Note) (velocity : Float) (p₀ : Params) (a l d : ℕ)
-      → PlainClip (freshOf p₀ position note velocity (chan w j .head .now) (chan w j .head .«data_len») .clip2) a l d
+      → PlainClip (bornOf p₀ position note velocity (chan w j) .clip2) a l d
       → (cs : List Call) (s : Call) (p : Params) (x : Float) (m : List ℕ) (k : ℕ)
       → Undisturbed w j (start position note velocity p₀) cs s p x m k
-      → OnTheBeat w j (start position note velocity p₀) cs s p x m ((a + k % l) % d)
+      → OnTheBeat w j (start position note velocity p₀) cs s p x m (bornOf p₀ position note velocity (chan w j))
+      ((a + k % l) % d)
   -- and in the sample of its own count the one at its start: THE LAG IS 0.
   pub no-lag : (position : Float) (note : Note) (velocity : Float) (p₀ : Params) (a l d : ℕ)
-      → PlainClip (freshOf p₀ position note velocity (chan w j .head .now) (chan w j .head .«data_len») .clip2) a l d
+      → PlainClip (bornOf p₀ position note velocity (chan w j) .clip2) a l d
       → (cs : List Call) (s : Call) (p : Params) (x : Float) (m : List ℕ)
       → Undisturbed w j (start position note velocity p₀) cs s p x m 0
-      → OnTheBeat w j (start position note velocity p₀) cs s p x m (a % d)
+      → OnTheBeat w j (start position note velocity p₀) cs s p x m (bornOf p₀ position note velocity (chan w j)) (a % d)
   -- SEEN. Where that voice is at a place i after the sample, its last index is that index.
   pub seen : (position : Float) (note : Note) (velocity : Float) (p₀ : Params) (a l d : ℕ)
-      → PlainClip (freshOf p₀ position note velocity (chan w j .head .now) (chan w j .head .«data_len») .clip2) a l d
+      → PlainClip (bornOf p₀ position note velocity (chan w j) .clip2) a l d
       → (cs : List Call) (s : Call) (p : Params) (x : Float) (m : List ℕ) (k : ℕ)
       → Undisturbed w j (start position note velocity p₀) cs s p x m k
       → (n i : ℕ)

@@ -52,7 +52,7 @@ pub use Rattle.questions.specs.declared.VoiceInfo.{VoiceInfo}
 pub use Rattle.questions.specs.declared.VoiceInfos.{VoiceInfos}
 pub use Rattle.questions.specs.declared.Counted.the-variants as Counted
 pub use Rattle.questions.specs.Questions.{recorderAt, notesOf, voiceInfoOf}
-pub use Rattle.fates.specs.Engine.{stepOf}
+pub use Rattle.fates.specs.Engine.{bornOf, stepOf}
 pub use Rattle.fates.specs.Events.{act, sounds, lengthAt, isSample, emptyAt, tickAt, decayOf}
 pub use Rattle.fates.specs.Places.{voiceAt, at, gone, follow, becomes, followAll, addedBy, finishes, stoppedIn, finishedIn}
 pub use Rattle.fates.specs.Sounding.{termsOf, totalOf}
