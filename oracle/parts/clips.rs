@@ -28,6 +28,8 @@ const LATER: Arg = Arg("later", 48, 8);
 
 const LAST: u64 = 1 << 48;
 const LONGEST: f32 = 4194304.0;
+/// The elapsed count up to which request 8/12 has the index of a plain clip true.
+const TRUE_TO: u64 = 1 << 24;
 
 pub const PART: Part = Part {
     name: "clip",
@@ -42,8 +44,14 @@ pub const PART: Part = Part {
         Function { name: "Clip::offset after update_..", args: &[MODE, KIND, NEW_MODE, START, SPEED, LENGTH, DATA_LENGTH, SHIFT, VALUE, SINCE, NOW, LATER] },
     ],
     edges,
-    random: &[("hostile", hostile), ("ordinary", ordinary)],
+    random: &[("hostile", hostile), ("ordinary", ordinary), ("whole", whole)],
     answer,
+    met: &[
+        ("plain up to 2^24, at the whole index", |record| plain_to(record, 0, TRUE_TO) == Some(true)),
+        ("plain up to 2^24, at another", |record| plain_to(record, 0, TRUE_TO) == Some(false)),
+        ("plain past 2^24, at the whole index", |record| plain_to(record, TRUE_TO + 1, LAST) == Some(true)),
+        ("plain past 2^24, at another", |record| plain_to(record, TRUE_TO + 1, LAST) == Some(false)),
+    ],
 };
 
 /// K1 to K6; clips at the limits and beyond, at times around theirs; each two special floats as speed and shift.
@@ -111,6 +119,35 @@ fn ordinary(r: &mut Random, last: &Record) -> Record {
     let step = r.pick(&[1, 1, 1, 64, 4096]);
     let later = now + r.below(step) + 1;
     asked(r, clip, now, ordinary_value).with_u64(LATER.1, later)
+}
+
+/// A clip of whole numbers at speed 1 (request 8/12), asked around the counts at which a float no longer holds each of them. Its start may lie past the data,
+/// and its length exceed them. One in 8 has something else: a speed, a shift, a mode or a half.
+fn whole(r: &mut Random, _: &Record) -> Record {
+    let [length, data_length] = [0; 2].map(|_| whole_length(r));
+    let start = match r.below(4) {
+        0 => r.pick(&[0.0, -0.0, 1.0, LONGEST]),
+        1 => data_length,
+        2 => whole_length(r),
+        _ => r.below(data_length as u64 + 1) as f32,
+    };
+    let since = if r.below(4) == 0 { LAST - (1 << 25) } else { within(r, &[1, 20, 40]) };
+    let mut clip = Clip::new(since as usize, start, 1.0, length, data_length, Mode::Loop);
+    clip.shift = r.pick(&[0.0, -0.0]);
+    match r.below(32) {
+        0 => clip.speed = -1.0,
+        1 => clip.shift = 1.0,
+        2 => clip.length += 0.5,
+        3 => clip.mode = Mode::PingPong,
+        _ => {}
+    }
+    let elapsed = match r.below(4) {
+        0 => within(r, &[4, 12, 22, 24, 25]),
+        1 => TRUE_TO - r.below(64),
+        2 => TRUE_TO + r.below(64),
+        _ => TRUE_TO,
+    };
+    asked(r, clip, since + elapsed, ordinary_value)
 }
 
 /// What the last record's update left, at its later time. A sequence ends by chance, or where a time or a clip is refused.
@@ -233,6 +270,13 @@ fn good_length_of(r: &mut Random) -> f32 {
     if r.below(32) == 0 { LONGEST } else { x }
 }
 
+/// A whole number from 1 to 2^22.
+fn whole_length(r: &mut Random) -> f32 {
+    let width = r.pick(&[1, 4, 10, 22]);
+    let edge = r.pick(&[1.0, 2.0, 3.0, LONGEST - 1.0, LONGEST]);
+    if r.below(4) == 0 { edge } else { (r.below(1 << width) + 1) as f32 }
+}
+
 /// A time not before that one, and now and then one above 2^48 or of any kind.
 fn time_after(r: &mut Random, time: u64) -> u64 {
     match r.below(32) {
@@ -298,6 +342,19 @@ fn updated(record: &Record) -> Option<Clip> {
         _ => clip.update_data_length(now as usize, value),
     }
     Some(clip)
+}
+
+/// For a plain clip (request 8/12) asked from so many samples after its `since` to so many: whether the Rust's index is (start + elapsed mod length) mod data
+/// length over whole numbers.
+fn plain_to(record: &Record, from: u64, to: u64) -> Option<bool> {
+    let (clip, now) = (clip(record), record.u64_at(NOW.1));
+    let whole = |x: f32| x == x.floor();
+    if refused(&clip, now) || clip.mode as u8 != 0 || clip.speed != 1.0 || clip.shift != 0.0 || !(whole(clip.start) && whole(clip.length) && whole(clip.data_length)) {
+        return None;
+    }
+    let elapsed = now - clip.since as u64;
+    let index = (clip.start as u64 + elapsed % clip.length as u64) % clip.data_length as u64;
+    (from..=to).contains(&elapsed).then(|| clip.offset(now as usize).floor() as u64 == index)
 }
 
 /// Number 7 of document 01, which the Rust doesn't have: a bad clip, a time before `since` or above 2^48.

@@ -16,6 +16,18 @@ struct Tally {
     smallest: Option<Difference>,
 }
 
+/// A part's tallies, one for each function, and how many inputs of each kind it met.
+struct Counts {
+    tallies: Vec<Tally>,
+    met: Vec<u64>,
+}
+
+impl Counts {
+    fn of(part: &Part) -> Self {
+        Counts { tallies: part.functions.iter().map(|_| Tally::default()).collect(), met: vec![0; part.met.len()] }
+    }
+}
+
 struct Difference {
     record: Record,
     rust: String,
@@ -44,11 +56,11 @@ pub fn run(seed: u64, count: usize, command: &str, words: &[&str]) -> Result<boo
         .map_err(|e| format!("{command}: {e}"))?;
     let input = port.stdin.take().unwrap();
     let writer = std::thread::spawn(move || ask(seed, count, input));
-    let tallies = compare(seed, count, BufReader::with_capacity(1 << 16, port.stdout.take().unwrap()));
+    let counts = compare(seed, count, BufReader::with_capacity(1 << 16, port.stdout.take().unwrap()));
     // A port that ended early breaks the pipe, and `compare` says so.
     let _ = writer.join();
     port.wait().map_err(|e| format!("{command}: {e}"))?;
-    Ok(report(count, &tallies?))
+    Ok(report(count, &counts?))
 }
 
 /// Hands the port a run's records, and last one that is cut short.
@@ -60,8 +72,8 @@ fn ask(seed: u64, count: usize, input: impl Write) -> std::io::Result<()> {
     input.write_all(&[0; SIZE - 1])
 }
 
-fn compare(seed: u64, count: usize, mut output: impl BufRead) -> Result<Vec<Vec<Tally>>, String> {
-    let mut tallies: Vec<Vec<Tally>> = PARTS.iter().map(|p| p.functions.iter().map(|_| Tally::default()).collect()).collect();
+fn compare(seed: u64, count: usize, mut output: impl BufRead) -> Result<Vec<Counts>, String> {
+    let mut counts: Vec<Counts> = PARTS.iter().map(Counts::of).collect();
     let (mut rust, mut port) = (Line::default(), Vec::new());
     let total: usize = PARTS.iter().map(|p| size_of(p, count)).sum();
     for (done, (number, record)) in records(seed, count).enumerate() {
@@ -76,14 +88,17 @@ fn compare(seed: u64, count: usize, mut output: impl BufRead) -> Result<Vec<Vec<
         if port.pop() != Some(b'\n') {
             return Err(format!("the port ended after {done} records"));
         }
-        count_words(&mut tallies[number], part.functions, &record, &rust, &port);
+        count_words(&mut counts[number].tallies, part.functions, &record, &rust, &port);
+        for (met, (_, is)) in counts[number].met.iter_mut().zip(part.met) {
+            *met += is(&record) as u64;
+        }
     }
     port.clear();
     output.read_to_end(&mut port).map_err(|e| e.to_string())?;
     if port != b"X\n" {
         return Err("the port did not answer a record that is cut short by X".into());
     }
-    Ok(tallies)
+    Ok(counts)
 }
 
 fn count_words(tallies: &mut [Tally], functions: &[Function], record: &Record, rust: &Line, port: &[u8]) {
@@ -120,16 +135,19 @@ fn size(function: &Function, record: &Record) -> (u32, Vec<u8>) {
     (bytes.iter().map(|b| b.count_ones()).sum(), bytes)
 }
 
-fn report(count: usize, tallies: &[Vec<Tally>]) -> bool {
+fn report(count: usize, counts: &[Counts]) -> bool {
     let (mut records, mut equal, mut differ) = (0, 0, 0);
-    for (part, tallies) in PARTS.iter().zip(tallies) {
+    for (part, counts) in PARTS.iter().zip(counts) {
         records += size_of(part, count);
         let random: String = part.random.iter().map(|kind| format!(", {count} {}", kind.0)).collect();
         println!("{}: {} edges{random}", part.name, (part.edges)().len());
-        for (function, tally) in part.functions.iter().zip(tallies) {
+        for (function, tally) in part.functions.iter().zip(&counts.tallies) {
             equal += tally.equal;
             differ += tally.differ;
             print_tally(function, tally);
+        }
+        for ((name, _), met) in part.met.iter().zip(&counts.met) {
+            println!("  {name:<40} {met}");
         }
     }
     println!("{records} records, {equal} answers equal, {differ} differ");

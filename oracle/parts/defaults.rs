@@ -23,6 +23,7 @@ pub const PART: Part = Part {
     edges: || vec![Record::new(3)],
     random: &[],
     answer,
+    met: &[],
 };
 
 fn answer(_: &Record, line: &mut Line) {

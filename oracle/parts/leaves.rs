@@ -28,6 +28,7 @@ pub const PART: Part = Part {
     edges,
     random: &[("hostile", |r, _| hostile(r)), ("ordinary", |r, _| ordinary(r))],
     answer,
+    met: &[],
 };
 
 fn record(a: u32, b: u32, n: u64) -> Record {

@@ -38,6 +38,7 @@ pub const PART: Part = Part {
     edges,
     random: &[("hostile", |r, _| hostile(r)), ("ordinary", |r, _| ordinary(r))],
     answer,
+    met: &[],
 };
 
 /// Ramps from times around the limits, of lengths around the limits, read and moved around their ends.

@@ -12,6 +12,8 @@ pub struct Part {
     /// Further inputs from a seed, by their kind. Each is made with the one before it at hand.
     pub random: &'static [(&'static str, fn(&mut Random, &Record) -> Record)],
     pub answer: fn(&Record, &mut Line),
+    /// What is counted among the inputs: its name, and whether an input is such.
+    pub met: &'static [(&'static str, fn(&Record) -> bool)],
 }
 
 impl Part {

@@ -53,6 +53,7 @@ pub const PART: Part = Part {
     edges,
     random: &[("hostile", |r, _| hostile(r)), ("ordinary", |r, _| ordinary(r))],
     answer,
+    met: &[],
 };
 
 /// Every note and channel, and with these, in turn, the special floats and the whole numbers around the limits.

@@ -84,6 +84,14 @@ value-toUnsigned w (inf t) a c C h = absurd h
 value-toUnsigned w (fin true m e) a c C h = absurd (true≢false (h .0))
 value-toUnsigned w (fin false m e) a c C h = ap (λ (n : ℕ). min n (2 ^ w - 1)) (value-cut false m e false a c C h)
 
+-- a negative value, -0 among them
+pub negative-toUnsigned : (w : ℕ) (x : Float) (a c : ℕ) → HasValue x true a c → toUnsigned w x ≡ 0
+unfolding toUnsigned
+negative-toUnsigned w nan a c h = absurd h
+negative-toUnsigned w (inf s) a c h = absurd h
+negative-toUnsigned w (fin true m e) a c h = refl
+negative-toUnsigned w (fin false m e) a c h = absurd (true≢false (sym (h .0)))
+
 -- over k times its own denominator
 pub scaled : (s : Bool) (m : ℕ) (e : ℤ) (k : ℕ) → HasValue (fin s m e) s (m * up e * k) (down e * k)
 scaled s m e k = (refl, sym (mul-assoc (m * up e) (down e) k) ∙ mul-right-comm (m * up e) (down e) k)

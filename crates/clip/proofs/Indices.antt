@@ -1,15 +1,15 @@
 -- The offset of a good clip as an index: below n, where the data length is n as a float. Assumes nothing.
-use mathlib.Core.Path.{_≡_, refl, sym, subst}
+use mathlib.Core.Path.{_≡_, sym, subst}
 use Prim.Native.Nat.{ℕ, _-_, _/_, _^_, _≤_, _<_, zero-le, min}
 use native.Mathlib.Nat.{lt-of-le-of-lt, div-lt-iff-lt-mul}
 use native.Mathlib.Omega.{arith}
-use mathlib.Core.Bool.{Bool, true, false, true≢false}
+use mathlib.Core.Bool.{Bool, true, false}
 use lib.Dec.{T}
 use lib.Pow.{pow-pos}
-use lib.Ieee.{Float, nan, inf, fin, binary32, fits, toUnsigned}
+use lib.Ieee.{Float, binary32, fits, toUnsigned}
 use lib.Ieee.Exact.{HasValue}
 use Rattle.binary32.specs.Leaves.{asFloat}
-use Rattle.binary32.proofs.Values.{value-toUnsigned}
+use Rattle.binary32.proofs.Values.{value-toUnsigned, negative-toUnsigned}
 use Rattle.binary32.proofs.Units.{Units, zero-units}
 use Rattle.binary32.proofs.Between.{whole-below}
 use Rattle.binary32.proofs.Floors.{floor-cast}
@@ -19,13 +19,6 @@ use Rattle.clip.specs.declared.Clip.{Clip}
 use Rattle.clip.proofs.Lengths.{float-units}
 use Rattle.clip.proofs.Offsets.{offset-fits, offset-within}
 
-negative-cast : (w : ℕ) (x : Float) (a c : ℕ) → HasValue x true a c → toUnsigned w x ≡ 0
-unfolding toUnsigned
-negative-cast w nan a c h = absurd h
-negative-cast w (inf s) a c h = absurd h
-negative-cast w (fin true m e) a c h = refl
-negative-cast w (fin false m e) a c h = absurd (true≢false (sym (h .0)))
-
 -- the cast of a value of a units is at most a over the units of 1
 cast-le : (w : ℕ) (x : Float) (a : ℕ) → Units binary32 x a → toUnsigned w x ≤ a / 2 ^ 149
 cast-le w x a u = go (u .sign) (u .is)
@@ -34,7 +27,7 @@ cast-le w x a u = go (u .sign) (u .is)
     least m n = omega arith
 
     go : (s : Bool) → HasValue x s a (2 ^ 149) → toUnsigned w x ≤ a / 2 ^ 149
-    go true v = subst (λ (z : ℕ). z ≤ a / 2 ^ 149) (sym (negative-cast w x a (2 ^ 149) v)) zero-le
+    go true v = subst (λ (z : ℕ). z ≤ a / 2 ^ 149) (sym (negative-toUnsigned w x a (2 ^ 149) v)) zero-le
     go false v = subst (λ (z : ℕ). z ≤ a / 2 ^ 149) (sym (value-toUnsigned w x a (2 ^ 149) (pow-pos 149) v)) (least (a / 2 ^ 149) (2 ^ w - 1))
 
 -- from 0 to below n

@@ -6,15 +6,15 @@ use native.Mathlib.Nat.{le-trans, lt-of-lt-of-le, le-add-left, mul-le-mul-right}
 use mathlib.Core.Bool.{Bool, true, false, _&&_}
 use lib.Dec.{T, lit≤, le→leb, lt→ltb}
 use lib.Pow.{pow-pos}
-use lib.Ieee.{Float, binary32, sub, lt, le, fits, ofInt}
+use lib.Ieee.{Float, binary32, sub, lt, le, fits}
 use lib.Ieee.Fits.{and-i, and-l, and-r}
 use lib.Ieee.Exact.{HasValue}
-use lib.Ieee.Back.{round-whole}
 use Rattle.binary32.specs.Leaves.{asFloat, zero32, one32}
 use Rattle.binary32.proofs.Values.{lt-value}
-use Rattle.binary32.proofs.Units.{Units, lt-units, le-units, units-above-value, zero-units, one-units, power-units, whole-units}
+use Rattle.binary32.proofs.Units.{Units, lt-units, le-units, units-above-value, zero-units, one-units, power-units}
 use Rattle.binary32.proofs.Sums.{less-one}
 use Rattle.binary32.proofs.Between.{Whole, whole}
+use Rattle.binary32.proofs.Wholes.{float-is-units}
 use Rattle.clip.specs.Refusals.{most32, goodLength, goodClip}
 use Rattle.clip.specs.declared.Clip.{Clip}
 
@@ -74,8 +74,7 @@ start-units s t h k = whole t (zero-units binary32 false) (power-units binary32 
 
 -- ---- whole numbers
 pub float-units : (n : ℕ) → n ≤ 2 ^ 22 → Units binary32 (asFloat n) (n * 2 ^ 149)
-unfolding ofInt
-float-units n h = whole-units binary32 (asFloat n) n (round-whole binary32 false n (le-trans h (lit≤ tt)))
+float-units n h = float-is-units n (le-trans h (lit≤ tt))
 
 pub float-length : (n : ℕ) → 1 ≤ n → n ≤ 2 ^ 22 → T (goodLength (asFloat n))
 unfolding goodLength

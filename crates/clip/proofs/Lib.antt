@@ -5,3 +5,6 @@ pub mod WayBack
 pub mod Kept
 pub mod Answers
 pub mod Indices
+pub mod Equal
+pub mod Plain
+pub mod Examples

@@ -2,3 +2,4 @@ pub mod Positions
 pub mod Updates
 pub mod Refusals
 pub mod Bounds
+pub mod Plain

@@ -9,3 +9,4 @@ pub mod Goes
 pub mod Terms
 pub mod Clocks
 pub mod OnTime
+pub mod Steady

@@ -55,7 +55,7 @@ event-reset w (sample i x p) j h = quiet (eqb (code w (sample i x p)) 0) _ (quie
 event-reset w (frame xs p) j h = quiet (eqb (code w (frame xs p)) 0) _ (quiet (ltb j (length xs)) _ refl)
 event-reset w (asks q) j h = quiet (eqb (code w (asks q)) 0) idle refl
 
-events-reset : (w : World) (cs : List Call) (j : ℕ) → any isResetCall cs ≡ false → any isReset (events w cs j) ≡ false
+pub events-reset : (w : World) (cs : List Call) (j : ℕ) → any isResetCall cs ≡ false → any isReset (events w cs j) ≡ false
 unfolding events any
 events-reset w [] j h = refl
 events-reset w (c ∷ cs) j h =
@@ -67,17 +67,17 @@ module _ (w : World) (st : Standing w) (j : ℕ) (k : j < w .sampler .count) whe
   hears : (s : Call) (p : Params) (x : Float) (m : List ℕ) → event w s j ≡ sounds p x m → output w s j ≡ mul binary32 (p .volume) (stepOf p x (chan w j) m .output)
   hears s p x m h = heard w st j k p x m s h .output ∙ ap (λ (r : Played). mul binary32 (p .volume) (r .output)) (sym (step-same p x (chan w j) m))
 
-  sounds-in : (s : Call) (p : Params) (x : Float) (m : List ℕ) → event w s j ≡ sounds p x m → (n : ℕ) (v : Voice) → Sounds p x m (chan w j) n v → SoundsIn w s j p x m n v
+  pub sounds-in : (s : Call) (p : Params) (x : Float) (m : List ℕ) → event w s j ≡ sounds p x m → (n : ℕ) (v : Voice) → Sounds p x m (chan w j) n v → SoundsIn w s j p x m n v
   sounds-in s p x m h n v y = record { stands = y .stands; unfinished = y .unfinished; output = hears s p x m h ∙ ap (mul binary32 (p .volume)) (y .output) }
 
 module _ (w : World) (st : Standing w) (j : ℕ) (k : j < w .sampler .count) where
-  house : Housed (chan w j)
+  pub house : Housed (chan w j)
   house = st .housing j k
 
-  next : (c : Call) → chan (after w c) j ≡ act (event w c j) (chan w j)
+  pub next : (c : Call) → chan (after w c) j ≡ act (event w c j) (chan w j)
   next c = chan-after w (st .two) (st .few) j k c
 
-  still : (c : Call) → j < after w c .sampler .count
+  pub still : (c : Call) → j < after w c .sampler .count
   still c = omega (arith, kept w c .count)
 
   -- ---- counts
@@ -100,7 +100,7 @@ module _ (w : World) (st : Standing w) (j : ℕ) (k : j < w .sampler .count) whe
     made : chan (after w (start position note velocity p₀)) j ≡ act b (chan w j)
     made = next (start position note velocity p₀) ∙ ap (λ (e : Event). act e (chan w j)) begun
 
-    takes : live (chan (after w (start position note velocity p₀)) j) ≡ live (chan w j) ++ (freshOf p₀ position note velocity (chan w j .head .now) (chan w j .head .«data_len») ∷ [])
+    pub takes : live (chan (after w (start position note velocity p₀)) j) ≡ live (chan w j) ++ (freshOf p₀ position note velocity (chan w j .head .now) (chan w j .head .«data_len») ∷ [])
     unfolding b
     takes = ap live made ∙ taken p₀ position note velocity (chan w j) house some-data room
 

@@ -67,6 +67,7 @@ use Rattle.promises.proofs.Broken.{row-nine}
 use Rattle.promises.proofs.Rows.{row-tests}
 use Rattle.promises.proofs.SmallParts.{row-seven}
 use Rattle.promises.proofs.Demand3.{demand3}
+use Rattle.promises.proofs.TruePositions.{true-positions}
 use Rattle.promises.proofs.Whole.{memory-after, no-panic, whole}
 
 -- ---- a refusal
@@ -229,6 +230,7 @@ demands = record {
   no-panic = no-panic;
   second = demand2;
   third = demand3;
+  true-positions = true-positions;
   count-stays = count-kept;
   capacity-stays = capacity-kept;
   whole = whole;

@@ -19,6 +19,7 @@ use Rattle.common_types.specs.declared.NoteOffBehaviour.the-variants as off
 use Rattle.common_types.specs.declared.time_value.TimeOrRatio.the-variants.{Ratio}
 use Rattle.common_types.specs.Settings.{defaultTransport}
 use Rattle.binary32.specs.Leaves.{floorOf, minOf, maxOf, crossingOf, zero32, one32}
+use Rattle.binary32.specs.Wholes.{wholeIn}
 use Rattle.walks.specs.Walks.{any, every, without, fold, seek}
 use Rattle.common_types.specs.Settings.{speedOf, timeLengthOf, lengthOf, loopLengthOf, lengthBeyond, beyondLimits}
 use Rattle.volume.specs.Levels.{progressOf, levelOf, towardOf, steppedOf, goodRamp, goodVolume}
@@ -26,9 +27,12 @@ use Rattle.recorder.specs.Recording.{raised, inState, misusedOf, skippedOf, sta
 use Rattle.clip.specs.Positions.{leadOf, travelAt, loopedOf, roundTripOf, mirroredOf, bouncedOf, wrappedOf, placedOf, clipOffsetAt, clipToDataOf, offsetAt, indexAt}
 use Rattle.clip.specs.Updates.{madeOf, backOf, foundAt, reversingAt, shiftFor, settledOf, withSpeed, withMode, withLength, withDataLength}
 use Rattle.clip.specs.Refusals.{goodLength, goodClip}
+use Rattle.clip.specs.Plain.{PlainClip, isPlain}
+use Rattle.clip.proofs.Plain.{tested}
 use Rattle.walks.specs.Each.{Each}
 use Rattle.voice.specs.declared.Voice.{Voice}
 use Rattle.voice.specs.Voices.{tickOf, lateOf, overOf, shouldRemoveOf, movedOf, productOf, soundedOf, finishOf, playedOutOf, endedOf, volumeStepped, turnOf, freshOf, blankVoice, atSpeedOf, goodVoice}
+use Rattle.voice.specs.Agreeing.{agreesOf}
 use Rattle.channel.specs.declared.Head.{Head}
 use Rattle.channel.specs.Soundness.{FittingChange}
 use Rattle.channel.specs.Heads.{headChangedOf, nextTime, headOf, rampOf, passthruOf, closedOf, goodHead}
@@ -41,19 +45,21 @@ use Rattle.sampler.specs.Samplers.{withChannels, setUpOf, eachOf, answerOf, par
 use Rattle.fates.specs.Engine.{begunOf, passesOver, heardBy, turnedOf, letsGo, leavesOf, leftOf, turnsOf, stepOf}
 use Rattle.fates.specs.Events.{tickAt, act, isReset, isSample, decayOf}
 use Rattle.fates.specs.Sounding.{termsOf}
+use Rattle.fates.specs.Steady.{disagrees, alters, alteredIn}
 use Rattle.fates.specs.Places.{voiceAt, at, gone, fateOf, follow, stops, becomes, addedBy, outOf, playsOut, followAll, stoppedIn, finishedIn}
 use Rattle.promises.specs.Runs.{World, Call, start, stop, speed, startRecording, stopRecording, sample, frame, getDataLen, iterActiveNotes, fillVoiceInfo, asks, FittingCall, chan, ownPart, setUp, questionNumber, code, after, run, doneTo, event, events, isResetCall, output, before}
 use lib.Ieee.{Float, nan, fin, binary32, fits, add, sub, mul, div, rem, neg, lt, le, eq, ofInt, toUnsigned, isNan, ofBits, toBits, nanBits, ofFields}
 use Rattle.promises.specs.Outcomes.{on, leftBy}
-use Rattle.promises.specs.Demands.{Plays, Asked, AllPlaced, Leaves, SoundsIn, FirstIn, termsWith, Demand3}
+use Rattle.promises.specs.Demands.{Plays, Asked, AllPlaced, Leaves, SoundsIn, FirstIn, termsWith, Demand3, Undisturbed, OnTheBeat, Shows, TruePositions}
 use Rattle.promises.proofs.Outcomes.{settled}
 use Rattle.promises.proofs.Whole.{no-panic, whole}
 use Rattle.promises.proofs.Demands.{demands}
 use Rattle.promises.proofs.Demand3.{demand3}
+use Rattle.promises.proofs.TruePositions.{true-positions}
 
 -- whatever a run computes by
 unfoldable pub computing : Unit {0}
-unfolding floorOf minOf maxOf crossingOf any every without fold seek speedOf timeLengthOf lengthOf loopLengthOf lengthBeyond beyondLimits progressOf levelOf towardOf steppedOf goodRamp goodVolume raised inState misusedOf skippedOf startOf stopOf recordedOf dataAfter goodRecorder leadOf travelAt loopedOf roundTripOf mirroredOf bouncedOf wrappedOf placedOf clipOffsetAt clipToDataOf offsetAt indexAt madeOf backOf foundAt reversingAt shiftFor settledOf withSpeed withMode withLength withDataLength goodLength goodClip tickOf lateOf overOf shouldRemoveOf movedOf productOf soundedOf finishOf playedOutOf endedOf volumeStepped turnOf freshOf blankVoice atSpeedOf goodVoice nextTime headOf rampOf passthruOf closedOf goodHead channelOf resetOf anyUnfinishedOf handledOf pushedOf startPlayingOf wantedOf findOf finishedAtOf stopPlayingOf spedOf setNoteSpeedOf headChangedOf keptOf addedOf heardOf playedOf playedIfOf takenOf begunOf passesOver heardBy turnedOf letsGo leavesOf leftOf turnsOf stepOf memoryOf processSampleOf changedOf fullOf goodVoicesOf goodChannel goodSizes goodSampler capacityOf goodWith setUpNumber startNumber stopNumber speedNumber plainNumber sampleNumber frameNumber channelNumber notesOf listNumber setUpOf eachOf answerOf partOf playedAt sampledOf outputOf memoryAt sampleOf sampleMemory entryOf entriesOf framedOf act isReset isSample decayOf fateOf follow stops becomes addedBy outOf playsOut followAll stoppedIn finishedIn setUp questionNumber code after run doneTo event events isResetCall output before add sub mul div rem neg lt le eq ofInt toUnsigned isNan ofBits toBits nanBits ofFields
+unfolding floorOf minOf maxOf crossingOf any every without fold seek speedOf timeLengthOf lengthOf loopLengthOf lengthBeyond beyondLimits progressOf levelOf towardOf steppedOf goodRamp goodVolume raised inState misusedOf skippedOf startOf stopOf recordedOf dataAfter goodRecorder leadOf travelAt loopedOf roundTripOf mirroredOf bouncedOf wrappedOf placedOf clipOffsetAt clipToDataOf offsetAt indexAt madeOf backOf foundAt reversingAt shiftFor settledOf withSpeed withMode withLength withDataLength goodLength goodClip tickOf lateOf overOf shouldRemoveOf movedOf productOf soundedOf finishOf playedOutOf endedOf volumeStepped turnOf freshOf blankVoice atSpeedOf goodVoice nextTime headOf rampOf passthruOf closedOf goodHead channelOf resetOf anyUnfinishedOf handledOf pushedOf startPlayingOf wantedOf findOf finishedAtOf stopPlayingOf spedOf setNoteSpeedOf headChangedOf keptOf addedOf heardOf playedOf playedIfOf takenOf begunOf passesOver heardBy turnedOf letsGo leavesOf leftOf turnsOf stepOf memoryOf processSampleOf changedOf fullOf goodVoicesOf goodChannel goodSizes goodSampler capacityOf goodWith setUpNumber startNumber stopNumber speedNumber plainNumber sampleNumber frameNumber channelNumber notesOf listNumber setUpOf eachOf answerOf partOf playedAt sampledOf outputOf memoryAt sampleOf sampleMemory entryOf entriesOf framedOf act isReset isSample decayOf fateOf follow stops becomes addedBy outOf playsOut followAll stoppedIn finishedIn agreesOf disagrees alters alteredIn setUp questionNumber code after run doneTo event events isResetCall output before add sub mul div rem neg lt le eq ofInt toUnsigned isNan ofBits toBits nanBits ofFields
 computing = tt
 
 -- ---- parameters, keys, calls
@@ -311,6 +317,59 @@ taken-met = promised .taken zero32 (key 61) one32 plain refl refl
 pub full-other : code (after stopped (sample 1 zero32 plain)) (press 60) ≡ 5
 unfolding computing
 full-other = refl
+
+-- ---- true positions: a voice started beside an older one, which leaves; a speed that is set and set back, and another start
+abbrev steadily : List Call
+steadily = stop (key 60) plain ∷ quiet plain ∷ speed (key 61) half ∷ speed (key 61) one32 ∷ quiet plain ∷ press 62 ∷ quiet plain ∷ []
+
+true-promised : TruePositions older 1
+unfolding computing
+true-promised = true-positions 2 init cells refl (recorded ++ (press 60 ∷ [])) 1 (lit< tt)
+
+-- both begin with a loop of the 2 samples, at the recording's start and at its half
+whole-clip : PlainClip (freshOf plain zero32 (key 61) one32 2 2 .clip2) 0 2 2
+unfolding computing isPlain wholeIn
+whole-clip = tested (freshOf plain zero32 (key 61) one32 2 2 .clip2) refl .plain
+
+half-clip : PlainClip (freshOf plain half (key 61) one32 2 2 .clip2) 1 2 2
+unfolding computing isPlain wholeIn
+half-clip = tested (freshOf plain half (key 61) one32 2 2 .clip2) refl .plain
+
+undisturbed : Undisturbed older 1 (press 61) steadily (quiet plain) plain zero32 part 3
+unfolding computing
+undisturbed = record { accepted = refl; recorded = refl; no-reset = refl; unfinished = refl; unaltered = refl; sample = refl; finds = refl; later = refl; within = lit≤ tt }
+
+-- 3 samples on it has moved up to place 0, and sounds and shows sample 1: the value 0.5
+pub on-the-beat-met : OnTheBeat older 1 (press 61) steadily (quiet plain) plain zero32 part (freshOf plain zero32 (key 61) one32 2 2) 1
+unfolding computing
+on-the-beat-met = true-promised .on-the-beat zero32 (key 61) one32 plain 0 2 2 whole-clip steadily (quiet plain) plain zero32 part 3 undisturbed
+
+abbrev beaten : World
+beaten = run older (press 61 ∷ steadily)
+
+pub on-the-beat-term : productOf (tickAt plain part (chan beaten 1)) (memoryOf zero32 (chan beaten 1) part) (voice beaten 0) ≡ half
+unfolding computing
+on-the-beat-term = refl
+
+pub seen-met : Shows (after beaten (quiet plain)) 1 0 1
+unfolding computing
+seen-met = true-promised .seen zero32 (key 61) one32 plain 0 2 2 whole-clip steadily (quiet plain) plain zero32 part 3 undisturbed 0 0 refl refl
+
+-- in the sample of its own count it sounds its start
+pub no-lag-met : OnTheBeat older 1 (start half (key 61) one32 plain) [] (quiet plain) plain zero32 part (freshOf plain half (key 61) one32 2 2) 1
+unfolding computing
+no-lag-met =
+    true-promised .no-lag half (key 61) one32 plain 1 2 2 half-clip [] (quiet plain) plain zero32 part
+    (record { accepted = refl; recorded = refl; no-reset = refl; unfinished = refl; unaltered = refl; sample = refl; finds = refl; later = refl; within = lit≤ tt })
+
+-- a sample that finds the speed 0.5 alters the clip: it shows sample 0 where it would be at sample 1
+abbrev altering : List Call
+altering = speed (key 61) half ∷ quiet plain ∷ []
+
+pub altered-met : (alteredIn (events (after older (press 61)) altering 1) (chan (after older (press 61)) 1) 1 ≡ true)
+    × (voice (run older (press 61 ∷ (altering ++ (quiet plain ∷ [])))) 1 .«last_sample_index» ≡ 0)
+unfolding computing
+altered-met = (refl, refl)
 
 -- ---- a start that nothing refuses is accepted: of the 32, one has left
 abbrev gone-by : List Call

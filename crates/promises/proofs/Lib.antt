@@ -4,6 +4,7 @@ pub mod Calls
 pub mod Memory
 pub mod Accepted
 pub mod Demand3
+pub mod TruePositions
 pub mod Whole
 pub mod Outcomes
 pub mod Infos

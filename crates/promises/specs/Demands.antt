@@ -322,6 +322,83 @@ pub record Demand3 (w : World) (j : ℕ) : Type 0 where
       → live (chan (after w (start position note velocity p)) j) ≡ live (chan w j)
       ++ (freshOf p position note velocity (chan w j .head .now) (chan w j .head .«data_len») ∷ [])
 
+-- ==== Request 8/12, after demand 3: "True positions at normal speed. Our lag measurement relies on this."
+
+-- b is an accepted start on a recording that isn't empty, and s an accepted sample, k later by the channel's count, that
+-- finds the recording not empty. Between them come the calls cs, without a reset, in which neither a stop nor play-once
+-- finishes that voice. "with no update in between that changes a field": no sample of all these, s included, asks for
+-- another length, speed, data length or mode than the voice's clip has.
+pub record Undisturbed (w : World) (j : ℕ) (b : Call) (cs : List Call) (s : Call) (p : Params) (x : Float) (m : List ℕ)
+    (k : ℕ) : Type 0 where
+  pub accepted : code w b ≡ 0
+  pub recorded : isEmpty (chan w j) ≡ false
+  pub no-reset : any isResetCall cs ≡ false
+  pub unfinished : finishedIn (events (after w b) cs j) (chan (after w b) j) (length (live (chan w j))) ≡ false
+  pub unaltered : alteredIn (events (after w b) (cs ++ (s ∷ [])) j) (chan (after w b) j) (length (live (chan w j)))
+      ≡ false
+  pub sample : event (run w (b ∷ cs)) s j ≡ sounds p x m
+  pub finds : emptyAt m (chan (run w (b ∷ cs)) j) ≡ false
+  pub later : chan (run w (b ∷ cs)) j .head .now ≡ chan w j .head .now + k
+  pub within : k ≤ 2 ^ 24
+
+-- At the place that it is followed to, the voice that b made as `born` sounds in s: it has its clip still, and its term
+-- is the recorded value at `index` times its level.
+pub record OnTheBeat (w : World) (j : ℕ) (b : Call) (cs : List Call) (s : Call) (p : Params) (x : Float) (m : List ℕ)
+    (born : Voice) (index : ℕ) : Type 0 where
+  pub place : ℕ
+  pub voice : Voice
+  pub follows : followAll (events (after w b) cs j) (chan (after w b) j) (length (live (chan w j))) ≡ at place
+  pub sounds : SoundsIn (run w (b ∷ cs)) s j p x m place voice
+  pub clip : voice .clip2 ≡ born .clip2
+  pub term : productOf (tickAt p m (chan (run w (b ∷ cs)) j)) (memoryOf x (chan (run w (b ∷ cs)) j) m) voice
+      ≡ mul binary32 (recordedValueOf (memoryOf x (chan (run w (b ∷ cs)) j) m) index)
+      (levelOf (voice .volume) (chan (run w (b ∷ cs)) j .head .now))
+
+-- After s that voice, where it is still there, has `index` for its last index, and voice info shows it as a part of
+-- the recording.
+pub record Shows (w : World) (j : ℕ) (place index : ℕ) : Type 0 where
+  pub voice : Voice
+  pub stands : voiceAt (chan w j) place ≡ some voice
+  pub last : voice .«last_sample_index» ≡ index
+  pub info : (l n : Float) → voiceInfoOf l n voice .pos ≡ div binary32 (asFloat index) n
+
+pub record TruePositions (w : World) (j : ℕ) : Type 0 where
+  -- "For a loop-mode clip with shift 0, speed 1, whole start, length and data length within the limits, .. and an
+  -- elapsed count of at most 2^24, show that the index is (start + elapsed mod length) mod data length, over whole
+  -- numbers". Here a, l and d are the start, the length and the data length. That the start is at most the data length
+  -- need not be asked;
+  pub true-index : (c : Clip) (now a l d : ℕ) → PlainClip c a l d → elapsedAt c now ≤ 2 ^ 24
+      → indexAt c now ≡ (a + elapsedAt c now % l) % d
+  -- where it is, `plainAt` tests all of these premises.
+  pub tested : (c : Clip) (now : ℕ) → plainAt c now ≡ true
+      → indexAt c now
+      ≡ plainIndex (asWhole 64 (c .start)) (asWhole 64 (c .length)) (asWhole 64 (c .«data_length»)) (elapsedAt c now)
+  -- ON THE BEAT. A voice started at count n with such a clip sounds, in the sample of count n + k, the value recorded
+  -- at (start + k mod length) mod data length,
+  pub on-the-beat : (position : Float) (note : Note) (velocity : Float) (p₀ : Params) (a l d : ℕ)
+      → PlainClip (bornOf p₀ position note velocity (chan w j) .clip2) a l d
+      → (cs : List Call) (s : Call) (p : Params) (x : Float) (m : List ℕ) (k : ℕ)
+      → Undisturbed w j (start position note velocity p₀) cs s p x m k
+      → OnTheBeat w j (start position note velocity p₀) cs s p x m (bornOf p₀ position note velocity (chan w j))
+      ((a + k % l) % d)
+  -- and in the sample of its own count the one at its start: THE LAG IS 0.
+  pub no-lag : (position : Float) (note : Note) (velocity : Float) (p₀ : Params) (a l d : ℕ)
+      → PlainClip (bornOf p₀ position note velocity (chan w j) .clip2) a l d
+      → (cs : List Call) (s : Call) (p : Params) (x : Float) (m : List ℕ)
+      → Undisturbed w j (start position note velocity p₀) cs s p x m 0
+      → OnTheBeat w j (start position note velocity p₀) cs s p x m (bornOf p₀ position note velocity (chan w j)) (a % d)
+  -- SEEN. Where that voice is at a place i after the sample, its last index is that index.
+  pub seen : (position : Float) (note : Note) (velocity : Float) (p₀ : Params) (a l d : ℕ)
+      → PlainClip (bornOf p₀ position note velocity (chan w j) .clip2) a l d
+      → (cs : List Call) (s : Call) (p : Params) (x : Float) (m : List ℕ) (k : ℕ)
+      → Undisturbed w j (start position note velocity p₀) cs s p x m k
+      → (n i : ℕ)
+      → followAll (events (after w (start position note velocity p₀)) cs j)
+      (chan (after w (start position note velocity p₀)) j) (length (live (chan w j))) ≡ at n
+      → follow (event (run w (start position note velocity p₀ ∷ cs)) s j)
+      (chan (run w (start position note velocity p₀ ∷ cs)) j) n ≡ at i
+      → Shows (after (run w (start position note velocity p₀ ∷ cs)) s) j i ((a + k % l) % d)
+
 -- What holds beside it
 pub record Whole (w : World) : Type 0 where
   -- Row 9 answers no call.
@@ -342,6 +419,9 @@ pub record Demands : Type 0 where
   -- of every record and memory that set-up and any calls leave, for each channel of those that set-up was asked for
   pub third : (count : ℕ) (p : InitParams) (m : List ℕ) → setUpNumber count (length m) ≡ 0
       → (cs : List Call) (j : ℕ) → j < count → Demand3 (run (setUp count p m) cs) j
+  -- of the same records and channels
+  pub true-positions : (count : ℕ) (p : InitParams) (m : List ℕ) → setUpNumber count (length m) ≡ 0
+      → (cs : List Call) (j : ℕ) → j < count → TruePositions (run (setUp count p m) cs) j
   -- Their count stays, and so does the capacity: "the lent memory's length divided by the channel count, rounded down,
   -- at most 2^22."
   pub count-stays : (count : ℕ) (p : InitParams) (m : List ℕ) → setUpNumber count (length m) ≡ 0

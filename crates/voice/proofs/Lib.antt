@@ -2,3 +2,4 @@ pub mod Volumes
 pub mod Starts
 pub mod Moves
 pub mod Kept
+pub mod Unmoved

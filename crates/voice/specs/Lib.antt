@@ -1,2 +1,3 @@
 pub mod Voices
 pub mod Soundness
+pub mod Agreeing

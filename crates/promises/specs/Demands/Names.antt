@@ -8,7 +8,7 @@ pub use Prim.Native.Nat.{ℕ, suc, _+_, _-_, _*_, _/_, _%_, _^_, _≤_, _<_, min
 pub use lib.Dec.{T, eqb, ltb}
 pub use lib.ListN.{length, take, drop}
 pub use lib.IntN.{ℤ}
-pub use lib.Ieee.{Float, nan, fin, binary32, up, down, add, mul, isNan, fits}
+pub use lib.Ieee.{Float, nan, fin, binary32, up, down, add, mul, div, isNan, fits}
 pub use lib.Ieee.Exact.{HasValue}
 pub use Rattle.walks.specs.Walks.{any}
 pub use Rattle.walks.specs.Each.{Each}
@@ -23,13 +23,14 @@ pub use Rattle.volume.specs.Levels.{levelOf}
 pub use Rattle.clip.specs.declared.Clip.{Clip}
 pub use Rattle.clip.specs.declared.Found.the-variants.{At}
 pub use Rattle.clip.specs.declared.FoundAnswer.the-variants.{Done}
-pub use Rattle.clip.specs.Positions.{clipOffsetAt, offsetAt, indexAt}
+pub use Rattle.clip.specs.Positions.{elapsedAt, clipOffsetAt, offsetAt, indexAt}
 pub use Rattle.clip.specs.Updates.{atSpeed, atMode, atLength, backOf, foundAt, withSpeed, withLength, withDataLength}
 pub use Rattle.clip.specs.Refusals.{dataToClipOf}
 pub use Rattle.clip.specs.Bounds.{Sound, Inside, Within}
+pub use Rattle.clip.specs.Plain.{PlainClip, plainIndex, plainAt}
 pub use Rattle.voice.specs.declared.Voice.{Voice}
 pub use Rattle.voice.specs.declared.Tick.{Tick}
-pub use Rattle.voice.specs.Voices.{movedOf, productOf, freshOf, atSpeedOf}
+pub use Rattle.voice.specs.Voices.{movedOf, recordedValueOf, productOf, freshOf, atSpeedOf}
 pub use Rattle.channel.specs.declared.Channel.{Channel}
 pub use Rattle.channel.specs.Channels.{live, fullOf, memoryOf}
 pub use Rattle.sampler.specs.declared.Answer.{Answer}
@@ -51,10 +52,11 @@ pub use Rattle.questions.specs.declared.VoiceInfo.{VoiceInfo}
 pub use Rattle.questions.specs.declared.VoiceInfos.{VoiceInfos}
 pub use Rattle.questions.specs.declared.Counted.the-variants as Counted
 pub use Rattle.questions.specs.Questions.{recorderAt, notesOf, voiceInfoOf}
-pub use Rattle.fates.specs.Engine.{stepOf}
+pub use Rattle.fates.specs.Engine.{bornOf, stepOf}
 pub use Rattle.fates.specs.Events.{act, sounds, lengthAt, isSample, emptyAt, tickAt, decayOf}
 pub use Rattle.fates.specs.Places.{voiceAt, at, gone, follow, becomes, followAll, addedBy, finishes, stoppedIn, finishedIn}
 pub use Rattle.fates.specs.Sounding.{termsOf, totalOf}
+pub use Rattle.fates.specs.Steady.{alteredIn}
 pub use Rattle.promises.specs.Runs.{
   World,
   setUp,
