@@ -269,6 +269,7 @@ fn length_beyond(length: TimeOrRatio, transport: Transport) -> bool
     match length {
         TimeOrRatio::Time(value) => time_length(value, transport) > 4194304.0,
         TimeOrRatio::Ratio(ratio) => ratio > 1.0,
+        TimeOrRatio::WholeBars(bars) => TimeValue::Bars(bars).as_samples(transport) > 4194304.0,
     }
 }
 
@@ -279,6 +280,7 @@ fn length(length: TimeOrRatio, transport: Transport, data_len: usize) -> f32
     match length {
         TimeOrRatio::Time(value) => time_length(value, transport),
         TimeOrRatio::Ratio(ratio) => binary32::usize_to_f32(data_len) * ratio,
+        TimeOrRatio::WholeBars(bars) => TimeValue::Bars(bars).as_samples(transport),
     }
 }
 

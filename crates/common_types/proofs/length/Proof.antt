@@ -16,6 +16,12 @@ enum-known-length-2 c = search needs
 usize-to-f32-requires : tie.Need-usize-to-f32-requires
 usize-to-f32-requires c κs = search needs
 
+enum-known-length-3 : tie.Need-enum-known-length-3
+enum-known-length-3 c = search needs
+
+as-samples-requires : tie.Need-as-samples-requires
+as-samples-requires c κs = search needs
+
 returns : tie.Need-returns
 unfolding lengthOf
 returns c = simp (c .time-length .ensures, c .before .before .length .given .1)
@@ -23,6 +29,10 @@ returns c = simp (c .time-length .ensures, c .before .before .length .given .1)
 returns-2 : tie.Need-returns-2
 unfolding lengthOf
 returns-2 c = simp (c .usize-to-f32 .ensures, c .before .before .length2 .given .1)
+
+returns-3 : tie.Need-returns-3
+unfolding lengthOf
+returns-3 c = simp (c .as-samples .ensures, c .before .before .length3 .given .1)
 
 pub length-spec : {M : Type 1} → statement M
 length-spec =
@@ -32,5 +42,8 @@ length-spec =
     time-length-requires
     enum-known-length-2
     usize-to-f32-requires
+    enum-known-length-3
+    as-samples-requires
     returns
-    returns-2)
+    returns-2
+    returns-3)
