@@ -1,7 +1,7 @@
 -- The parameters of a call: what speed and loop length they come to, and row 4 of document 01's table. Definitions
 -- only. Assumes nothing.
 use Prim.Native.Nat.{ℕ}
-use mathlib.Core.Bool.{Bool, true, false, _||_}
+use mathlib.Core.Bool.{Bool, true, false, cond, _||_}
 use lib.Dec.{ltb}
 use lib.IntN.{pos}
 use lib.Ieee.{Float, fin, binary32, mul, div, lt}
@@ -69,6 +69,23 @@ unfoldable pub lengthOf : TimeOrRatio → Transport → ℕ → Float
 lengthOf (Time v) t n = timeLengthOf v t
 lengthOf (Ratio r) t n = mul binary32 (asFloat n) r
 lengthOf (WholeBars x) t n = asSamplesOf (Bars x) t
+
+-- how the code works it out: from a time, and a yes or no that tells whole bars from those of `loop_length`
+abbrev pub timeIn : TimeOrRatio → TimeValue
+timeIn (Time v) = v
+timeIn (Ratio r) = Samples r
+timeIn (WholeBars x) = Bars x
+
+abbrev pub isWhole : TimeOrRatio → Bool
+isWhole (Time v) = false
+isWhole (Ratio r) = false
+isWhole (WholeBars x) = true
+
+unfoldable pub workedOf : TimeValue → Bool → Transport → Float
+workedOf (Samples x) whole t = timeLengthOf (Samples x) t
+workedOf (Seconds x) whole t = timeLengthOf (Seconds x) t
+workedOf (QuarterNotes x) whole t = timeLengthOf (QuarterNotes x) t
+workedOf (Bars x) whole t = cond whole (asSamplesOf (Bars x) t) (timeLengthOf (Bars x) t)
 
 -- the larger of that and 1; NaN gives 1
 unfoldable pub loopLengthOf : Params → ℕ → Float

@@ -154,9 +154,9 @@ before-two input other =
     let l = openedOf (firstHeaderOf b) 8192 .listing in
     let own : l ≡ under false l = opened-first b (goodFirstHeader b) refl in
     let alike : printedFromBy recordOf n l m later ≡ printedFromBy firstRecordOf n l m later =
-        ap (λ (k : Listing). printedFromBy recordOf n k m later) own
-        ∙ printed-alike recordOf firstRecordOf false false (λ (r : List ℕ). false) (λ h r _. first-record h r) n l m later (none-found (recordsFrom n later))
-        ∙ sym (ap (λ (k : Listing). printedFromBy firstRecordOf n k m later) own) in
+    ap (λ (k : Listing). printedFromBy recordOf n k m later) own
+    ∙ printed-alike recordOf firstRecordOf false false (λ (r : List ℕ). false) (λ h r _. first-record h r) n l m later (none-found (recordsFrom n later))
+    ∙ sym (ap (λ (k : Listing). printedFromBy firstRecordOf n k m later) own) in
     ap (prints recordOf n later) (first-header b (ne-eqb _ _ (λ e. other (sym (first-byte input) ∙ e))))
     ∙ ap (λ (after : List ℕ). textOf (openedOf (firstHeaderOf b) 8192 .line) ++ after) alike
 
