@@ -8,6 +8,8 @@ use crate::record::Record;
 pub const SAMPLES: u32 = 4096;
 
 pub struct Header {
+    /// 2 has the length kind 5 beside what 1 has.
+    pub version: u8,
     pub channels: u8,
     pub auto_passthru: bool,
 }
@@ -33,16 +35,16 @@ impl<'a> Input<'a> {
     }
 
     pub fn header(&mut self) -> Option<Header> {
-        let &[1, channels @ 1..=2, auto @ 0..=1, ..] = self.rest else { return None };
+        let &[version @ 1..=2, channels @ 1..=2, auto @ 0..=1, ..] = self.rest else { return None };
         self.pass(3);
-        Some(Header { channels, auto_passthru: auto == 1 })
+        Some(Header { version, channels, auto_passthru: auto == 1 })
     }
 
     /// None where the next record is bad: the offset stays at its first byte.
-    pub fn event(&mut self, channels: u8) -> Option<Event> {
+    pub fn event(&mut self, header: &Header) -> Option<Event> {
         let (length, rest) = self.rest.split_first_chunk()?;
         let (kind, fields) = rest.get(..u16::from_be_bytes(*length) as usize)?.split_first()?;
-        let record = call_of(*kind, fields, channels)?;
+        let record = call_of(*kind, fields, header)?;
         self.pass(3 + fields.len());
         Some(Event { kind: *kind, record })
     }
@@ -53,18 +55,18 @@ impl<'a> Input<'a> {
     }
 }
 
-fn call_of(kind: u8, fields: &[u8], channels: u8) -> Option<Record> {
+fn call_of(kind: u8, fields: &[u8], header: &Header) -> Option<Record> {
     let float = |at: usize| word(fields, at);
     let note = || (fields[0], fields[1]);
     let record = match (kind, fields.len()) {
-        (0, 44) => return parameters(fields),
+        (0, 44) => return parameters(fields, header.version),
         (1, 10) => call::start(note(), float(2), float(6)),
         (2, 2) => call::of_note(call::STOP, note()),
         (3, 6) => call::of_note(call::NOTE_SPEED, note()).with_u32(call::FLOAT, float(2)),
         (4, 0) => Record::new(call::START_RECORDING),
         (5, 0) => Record::new(call::STOP_RECORDING),
-        (6, 4) if channels == 1 => call::frame(1, [float(0), 0, 0], SAMPLES),
-        (6, 8) if channels == 2 => call::frame(2, [float(0), float(4), 0], 2 * SAMPLES),
+        (6, 4) if header.channels == 1 => call::frame(1, [float(0), 0, 0], SAMPLES),
+        (6, 8) if header.channels == 2 => call::frame(2, [float(0), float(4), 0], 2 * SAMPLES),
         (7, 0) => Record::new(call::RESET),
         _ => return None,
     };
@@ -72,9 +74,9 @@ fn call_of(kind: u8, fields: &[u8], channels: u8) -> Option<Record> {
 }
 
 /// The fields in the order of document 01.
-fn parameters(f: &[u8]) -> Option<Record> {
+fn parameters(f: &[u8], version: u8) -> Option<Record> {
     let (auto, mode, kind, note_off) = (f[8], f[9], f[10], f[23]);
-    if auto > 1 || mode > 2 || kind > 4 || note_off > 2 {
+    if auto > 1 || mode > 2 || kind > 3 + version || note_off > 2 {
         return None;
     }
     let bytes = [(params::AUTO_PASSTHRU, auto), (params::MODE, mode), (params::KIND, kind), (params::NOTE_OFF, note_off)];

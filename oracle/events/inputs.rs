@@ -3,19 +3,20 @@
 use crate::random::Random;
 use crate::values::{hostile_float, ordinary_float};
 
-pub const STYLES: [&str; 5] = ["noise", "a header and noise", "good", "damaged", "more frames than fit"];
+pub const STYLES: [&str; 6] = ["noise", "a header and noise", "good", "damaged", "more frames than fit", "each version with each length kind"];
 
 /// The style of the input of this number, and its bytes.
 pub fn input(seed: u64, number: u64) -> (usize, Vec<u8>) {
     let mut r = Random::new(seed.wrapping_mul(0x1_0000_0001).wrapping_add(number.wrapping_mul(0x9e37_79b9)));
     let r = &mut r;
-    let style = if number % 250 == 249 { 4 } else { r.pick(&[0, 1, 2, 2, 3, 3, 3, 3]) };
+    let style = if number % 250 == 249 { 4 } else if number % 10 == 7 { 5 } else { r.pick(&[0, 1, 2, 2, 3, 3, 3, 3]) };
     let bytes = match style {
         0 => noise(r, 120),
         1 => [header(r), noise(r, 120)].concat(),
         2 => good(r),
         3 => damaged(r),
-        _ => overflowing(r, 1 + (number / 250 % 2) as u8),
+        4 => overflowing(r, 1 + (number / 250 % 2) as u8),
+        _ => versions(r, (number / 10 % 4) as u8, (number / 40 % 8) as u8),
     };
     (style, bytes)
 }
@@ -26,17 +27,17 @@ fn noise(r: &mut Random, most: u64) -> Vec<u8> {
 }
 
 fn header(r: &mut Random) -> Vec<u8> {
-    vec![1, 1 + r.below(2) as u8, r.below(2) as u8]
+    vec![1 + r.below(2) as u8, 1 + r.below(2) as u8, r.below(2) as u8]
 }
 
 /// The records of a good listing, the header first.
 fn records(r: &mut Random) -> Vec<Vec<u8>> {
     let head = header(r);
-    let channels = head[1] as usize;
+    let (version, channels) = (head[0], head[1] as usize);
     let hostile = r.below(3) == 0;
     let mut l = vec![head];
     if r.below(4) > 0 {
-        l.extend([parameters(r, hostile), record(4, vec![])]);
+        l.extend([parameters(r, version, hostile), record(4, vec![])]);
         l.extend((0..r.below(12)).map(|_| frame(r, channels, hostile)).collect::<Vec<_>>());
         l.push(record(5, vec![]));
     }
@@ -44,7 +45,7 @@ fn records(r: &mut Random) -> Vec<Vec<u8>> {
     let crowd = if r.below(8) == 0 { 32 + r.below(12) } else { 0 };
     l.extend((0..crowd).map(|_| start(r, false)).collect::<Vec<_>>());
     for _ in 0..r.below(60) {
-        l.push(any_record(r, channels, hostile));
+        l.push(any_record(r, version, channels, hostile));
     }
     l
 }
@@ -76,7 +77,7 @@ fn break_record(r: &mut Random, l: &mut Vec<Vec<u8>>) {
         2 => l[at][2] = r.pick(&[0, 1, 2, 3, 4, 5, 6, 7, 8, 255]),
         3 => {
             let place = r.pick(&[11, 12, 13, 26]).min(size - 1) as usize;
-            l[at][place] = r.below(7) as u8;
+            l[at][place] = r.below(8) as u8;
         }
         4 => l[at].truncate(r.below(size) as usize),
         _ => {
@@ -101,11 +102,20 @@ fn break_bytes(r: &mut Random, bytes: &mut Vec<u8>) {
 /// The recording meets its capacity, and then is played. All of it prints more than 64 KB.
 fn overflowing(r: &mut Random, channel_count: u8) -> Vec<u8> {
     let channels = channel_count as usize;
-    let mut l = vec![vec![1, channel_count, r.below(2) as u8], parameters(r, false), record(4, vec![])];
+    let mut l = vec![vec![1, channel_count, r.below(2) as u8], parameters(r, 1, false), record(4, vec![])];
     l.extend((0..4100).map(|_| frame(r, channels, false)).collect::<Vec<_>>());
     l.push(record(5, vec![]));
     l.extend((0..4).map(|_| start(r, false)).collect::<Vec<_>>());
     l.extend((0..20).map(|_| frame(r, channels, false)).collect::<Vec<_>>());
+    l.concat()
+}
+
+/// A take that is played with a length of this kind under this version, whether there are such or not.
+fn versions(r: &mut Random, version: u8, kind: u8) -> Vec<u8> {
+    let mut l = vec![vec![version, 1, 0], record(4, vec![])];
+    l.extend((0..1 + r.below(9)).map(|_| frame(r, 1, false)).collect::<Vec<_>>());
+    l.extend([record(5, vec![]), parameters_of(r, kind, false), start(r, false)]);
+    l.extend((0..12).map(|_| frame(r, 1, false)).collect::<Vec<_>>());
     l.concat()
 }
 
@@ -114,9 +124,9 @@ fn record(kind: u8, fields: Vec<u8>) -> Vec<u8> {
     [&length.to_be_bytes()[..], &[kind], &fields].concat()
 }
 
-fn any_record(r: &mut Random, channels: usize, hostile: bool) -> Vec<u8> {
+fn any_record(r: &mut Random, version: u8, channels: usize, hostile: bool) -> Vec<u8> {
     match r.below(20) {
-        0 => parameters(r, hostile),
+        0 => parameters(r, version, hostile),
         1..=4 => start(r, hostile),
         5..=6 => record(2, note(r)),
         7 => record(3, [note(r), float(r, hostile)].concat()),
@@ -141,9 +151,14 @@ fn note(r: &mut Random) -> Vec<u8> {
     vec![60 + r.below(3) as u8, if r.below(12) == 0 { r.bits() as u8 } else { 0 }]
 }
 
-fn parameters(r: &mut Random, hostile: bool) -> Vec<u8> {
+/// With a length kind that the version has.
+fn parameters(r: &mut Random, version: u8, hostile: bool) -> Vec<u8> {
+    let kind = r.below(4 + version as u64) as u8;
+    parameters_of(r, kind, hostile)
+}
+
+fn parameters_of(r: &mut Random, kind: u8, hostile: bool) -> Vec<u8> {
     let mut fields = [ramp(r), ramp(r)].concat();
-    let kind = r.below(5) as u8;
     let value = match kind {
         _ if hostile => float(r, true),
         1 => bits(r.below(40) as f32 / 4.0),

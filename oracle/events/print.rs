@@ -23,7 +23,7 @@ fn play(bytes: &[u8], text: &mut String) {
     let Some(header) = input.header() else { return text.push_str("X 0\n") };
     let mut engine = opened(&header);
     while !input.is_over() {
-        let Some(event) = input.event(header.channels) else {
+        let Some(event) = input.event(&header) else {
             return writeln!(text, "X {}", input.offset).unwrap();
         };
         match event.kind {

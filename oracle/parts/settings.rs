@@ -110,9 +110,9 @@ fn ordinary(r: &mut Random) -> Record {
     let dial = r.below(1 << 16) as f32 / 65536.0;
     let rate = r.pick(&[8000.0, 22050.0, 44100.0, 48000.0, 96000.0, 192000.0f32]);
     let tempo = 20.0 + r.below(28000) as f32 / 100.0;
-    let kind = r.below(5) as u8;
+    let kind = r.below(params::WHOLE_BARS as u64 + 1) as u8;
     let value = match kind {
-        0 | 3 => r.below(256) as f32 / 16.0,
+        0 | 3 | params::WHOLE_BARS => r.below(256) as f32 / 16.0,
         2 => r.below(10000) as f32 / 1000.0,
         4 => r.below(1 << 20) as f32 / 1048576.0,
         _ => ordinary_float(r),

@@ -5,7 +5,7 @@ use crate::values::quiet;
 use audio_sampler_lib::common_types::{LoopMode, NoteOffBehaviour, Params, Transport};
 use audio_sampler_lib::time_value::{TimeOrRatio, TimeValue};
 
-/// A length kind of document 01's listing.
+/// A length kind of the listing's version 2.
 pub const KIND: usize = 4;
 pub const MODE: usize = 5;
 pub const NOTE_OFF: usize = 6;
@@ -21,29 +21,35 @@ pub const DECAY: usize = 48;
 pub const SPEED: usize = 56;
 pub const REVERSE: usize = 60;
 
+/// The last length kind. The Rust has no such length.
+pub const WHOLE_BARS: u8 = 5;
+
 pub fn params(record: &Record) -> Params {
+    let transport = transport(record);
     Params {
         attack_samples: record.u64_at(ATTACK) as usize,
         decay_samples: record.u64_at(DECAY) as usize,
         auto_passthru: record.u8_at(AUTO_PASSTHRU) != 0,
         loop_mode: loop_mode(record),
-        loop_length: length(record.u8_at(KIND), float(record, VALUE)),
+        loop_length: length(record.u8_at(KIND), float(record, VALUE), &transport),
         speed: float(record, SPEED),
         reverse_speed: float(record, REVERSE),
-        transport: transport(record),
+        transport,
         note_off_behavior: note_off(record),
         volume: float(record, VOLUME),
         ..Params::default()
     }
 }
 
-pub fn length(kind: u8, value: f32) -> TimeOrRatio {
+/// In place of whole bars the Rust plays the samples that its `as_samples` has for them.
+fn length(kind: u8, value: f32, transport: &Transport) -> TimeOrRatio {
     match kind {
         0 => TimeOrRatio::Time(TimeValue::quarter_notes(value)),
         1 => TimeOrRatio::Time(TimeValue::samples(value)),
         2 => TimeOrRatio::Time(TimeValue::Seconds(value)),
         3 => TimeOrRatio::Time(TimeValue::bars(value)),
-        _ => TimeOrRatio::Ratio(value),
+        4 => TimeOrRatio::Ratio(value),
+        WHOLE_BARS.. => TimeOrRatio::Time(TimeValue::samples(TimeValue::bars(value).as_samples(transport))),
     }
 }
 

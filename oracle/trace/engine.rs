@@ -2,7 +2,7 @@
 
 use crate::inside;
 use crate::listing::*;
-use crate::params::{beyond_limits, float, params};
+use crate::params::{beyond_limits, float, params, KIND, WHOLE_BARS};
 use crate::record::Record;
 use crate::tally::{Census, Tally};
 use crate::text::{bits, Text};
@@ -22,9 +22,14 @@ pub enum Calls {
     Lent,
 }
 
+/// The length kind of the Rust's defaults.
+const RATIO: u8 = 4;
+
 pub struct Engine {
     pub sampler: Sampler,
     pub params: Params,
+    /// Of the parameters, by its number in a record: the Rust's own don't tell whole bars from samples.
+    length_kind: u8,
     calls: Calls,
     /// 0 where the set-up was refused: then every call is.
     pub count: usize,
@@ -66,7 +71,7 @@ pub fn play(calls: Calls, records: &[Record], text: &mut Text, tally: &mut Tally
 impl Engine {
     pub fn new(calls: Calls) -> Self {
         let sampler = Sampler::new(0, &InitParams::default());
-        Engine { sampler, params: Params::default(), calls, count: 0, capacity: 0, skipped: [0; 2] }
+        Engine { sampler, params: Params::default(), length_kind: RATIO, calls, count: 0, capacity: 0, skipped: [0; 2] }
     }
 
     fn record(&mut self, r: &Record, text: &mut Text, tally: &mut Tally) {
@@ -76,7 +81,7 @@ impl Engine {
         text.put(2, kind as u64);
         text.put(1, number as u64);
         self.show(shown, text);
-        tally.call(kind, number, &before, &Census::of(self), &self.params);
+        tally.call(kind, number, &before, &Census::of(self), &self.params, self.length_kind);
         tally.asked(r);
     }
 
@@ -110,13 +115,13 @@ impl Engine {
         let good = (count == 1 || count == 2) && capacity > 0;
         (self.count, self.capacity) = if good { (count, capacity) } else { (0, 0) };
         self.sampler = Sampler::new(self.count, &InitParams { auto_passthru: r.u8_at(AUTO) != 0 });
-        self.params = Params::default();
+        (self.params, self.length_kind) = (Params::default(), RATIO);
         self.skipped = [0; 2];
         if good { 0 } else { 9 }
     }
 
     fn parameters(&mut self, r: &Record) -> u8 {
-        self.params = params(r);
+        (self.params, self.length_kind) = (params(r), r.u8_at(KIND).min(WHOLE_BARS));
         0
     }
 

@@ -396,7 +396,7 @@ impl Song {
         let rate = self.float(|s| s.r.pick(&[44100.0, 48000.0, 8000.0, 1.0]));
         let tempo = self.float(|s| s.r.pick(&[120.0, 60.0, 98.7, 240.0]));
         let signature = if self.chance(self.hostile) { [hostile_whole(&mut self.r) as u32, hostile_whole(&mut self.r) as u32] } else { self.r.pick(&[[4, 4], [3, 4], [7, 8], [1, 1]]) };
-        let kind = self.r.below(5) as u8;
+        let kind = self.r.below(params::WHOLE_BARS as u64 + 1) as u8;
         let value = self.value(kind, f32::from_bits(rate), f32::from_bits(tempo), signature);
         let value = if self.chance(self.hostile) { hostile_float(&mut self.r) } else { value.to_bits() };
         let record = Record::new(PARAMETERS)
@@ -439,6 +439,7 @@ impl Song {
             1 => samples,
             2 => samples / rate,
             3 => samples / (rate * 60.0 / tempo * signature[0] as f32 / signature[1] as f32),
+            params::WHOLE_BARS => samples / (rate * 60.0 / tempo * (signature[0] as f32 / signature[1] as f32 * 4.0)),
             _ if samples > data && !self.chance(self.bad) => self.r.below(9) as f32 / 8.0,
             _ => samples / data,
         }

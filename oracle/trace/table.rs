@@ -25,6 +25,8 @@ fn rows() -> Vec<Record> {
     let mut l = begun();
     l.extend([settings(4194304.0, 0), press(0.0), plain(RECORDINGS)]);
     l.extend([settings(4194304.5, 0), press(0.0)]);
+    l.extend([1.0, 47.0, 48.0, f32::from_bits(0x423e37c6), f32::from_bits(0x423e37c7)].into_iter().flat_map(|x| [bars(x, 4), press(0.0), query(VOICE_INFO, 0, 32)]));
+    l.extend([0.0, 1.0, -1.0].into_iter().flat_map(|x| [bars(x, 0), press(0.0), query(VOICE_INFO, 0, 32)]));
     l.extend([settings(4.0, (1 << 24) + 1), press(0.0), of_note(STOP, KEY), sound(0), whole_frame(2, LENT_MEMORY), query(VOICE_INFO, 0, 32)]);
     l.extend([settings(4.0, 0), press(-0.25), press(1.0000001), press(f32::NAN)]);
     l.extend([of_note(START, (60, 16)), of_note(STOP, (60, 16)), of_note(NOTE_SPEED, (60, 16))]);
@@ -156,6 +158,16 @@ fn whole_frame(entries: u8, lent: u32) -> Record {
 
 fn level(x: f32) -> u32 {
     x.to_bits()
+}
+
+/// A loop of so many whole bars, of 4 by the denominator, at 120 and 44100.
+fn bars(count: f32, denominator: u32) -> Record {
+    settings(count, 0)
+        .with_u8(params::KIND, params::WHOLE_BARS)
+        .with_u32(params::RATE, level(44100.0))
+        .with_u32(params::TEMPO, level(120.0))
+        .with_u32(params::NUMERATOR, 4)
+        .with_u32(params::DENOMINATOR, denominator)
 }
 
 /// A loop of so many samples, and that attack.

@@ -5,7 +5,6 @@ use crate::inside;
 use crate::listing::*;
 use crate::record::Record;
 use audio_sampler_lib::common_types::Params;
-use audio_sampler_lib::time_value::{TimeOrRatio, TimeValue};
 use audio_sampler_lib::volume::Volume;
 use std::collections::BTreeMap;
 
@@ -53,7 +52,7 @@ pub struct Tally {
 }
 
 impl Tally {
-    pub fn call(&mut self, kind: u8, number: u8, before: &Census, after: &Census, params: &Params) {
+    pub fn call(&mut self, kind: u8, number: u8, before: &Census, after: &Census, params: &Params, length_kind: u8) {
         self.calls += 1;
         self.answers[kind as usize][number as usize] += 1;
         if number != 0 {
@@ -71,7 +70,7 @@ impl Tally {
             NOTE_SPEED => self.met("voices", "there at a note speed", before.voices),
             STOP_RECORDING => self.met("recordings", "cut or emptied by a stop", (after.recorded < before.recorded) as usize),
             RESET => self.met("voices", "gone by a reset", before.voices),
-            SAMPLE | FRAME | FRAMES => self.samples(before, after, params),
+            SAMPLE | FRAME | FRAMES => self.samples(before, after, params, length_kind),
             _ => (),
         }
     }
@@ -96,7 +95,7 @@ impl Tally {
         lines.map(|(kind, times)| format!("T {kind:02X} {times:016X}\n")).collect()
     }
 
-    fn samples(&mut self, before: &Census, after: &Census, params: &Params) {
+    fn samples(&mut self, before: &Census, after: &Census, params: &Params, length_kind: u8) {
         self.met("recordings", "samples appended", after.recorded - before.recorded);
         self.met("recordings", "of 10,000 samples or more, in a sample", (after.recorded >= 10_000) as usize);
         self.met("recordings", "samples dropped", (after.skipped - before.skipped) as usize);
@@ -112,7 +111,7 @@ impl Tally {
         }
         let samples = after.clocks - before.clocks;
         self.met("samples with voices, by loop mode", name(&LOOP_MODES, params.loop_mode as usize), samples);
-        self.met("samples with voices, by length kind", name(&LENGTH_KINDS, length_kind(&params.loop_length)), samples);
+        self.met("samples with voices, by length kind", name(&LENGTH_KINDS, length_kind as usize), samples);
         self.met("voices", "in a sample", before.voices);
         self.met("voices", "left in a sample", before.voices - after.voices);
         self.met("voices", "on a ramp after a sample", after.ramps);
@@ -154,18 +153,8 @@ impl Tally {
 
 const LOOP_MODES: [&str; 3] = ["PlayOnce", "Loop", "PingPong"];
 const NOTE_OFF_MODES: [&str; 3] = ["Decay", "ZeroCrossing", "DecayAndZeroCrossing"];
-const LENGTH_KINDS: [&str; 5] = ["quarter notes", "samples", "seconds", "bars", "ratio"];
+const LENGTH_KINDS: [&str; 6] = ["quarter notes", "samples", "seconds", "bars", "ratio", "whole bars"];
 
 fn name(names: &[&'static str], index: usize) -> &'static str {
     names[index]
-}
-
-fn length_kind(length: &TimeOrRatio) -> usize {
-    match length {
-        TimeOrRatio::Time(TimeValue::QuarterNotes(_)) => 0,
-        TimeOrRatio::Time(TimeValue::Samples(_)) => 1,
-        TimeOrRatio::Time(TimeValue::Seconds(_)) => 2,
-        TimeOrRatio::Time(TimeValue::Bars(_)) => 3,
-        TimeOrRatio::Ratio(_) => 4,
-    }
 }

@@ -21,7 +21,8 @@ use Rattle.common_types.specs.declared.Transport.{Transport}
 use Rattle.common_types.specs.declared.Params.{Params}
 use Rattle.common_types.specs.declared.time_value.TimeValue.the-variants.{QuarterNotes, Samples, Seconds, Bars}
 use Rattle.common_types.specs.declared.time_value.TimeOrRatio.{TimeOrRatio}
-use Rattle.common_types.specs.declared.time_value.TimeOrRatio.the-variants.{Time, Ratio}
+use Rattle.common_types.specs.declared.time_value.TimeOrRatio.the-variants.{Time, Ratio, WholeBars}
+use Rattle.common_types.specs.Times.{asSamplesOf}
 use Rattle.common_types.specs.Settings.{carried, timeLengthOf, lengthOf, loopLengthOf, lengthBeyond, beyondLimits}
 use Rattle.common_types.proofs.Limits.{within}
 use Rattle.binary32.proofs.Extremes.{max-reaches, max-under, max-fits}
@@ -83,6 +84,7 @@ length-under : (l : TimeOrRatio) (t : Transport) (n : ℕ) → n ≤ 2 ^ 22 → 
 unfolding lengthBeyond lengthOf
 length-under (Time v) t n h b p = total (timeLengthOf v t) most p (unfold isNan in tt) b
 length-under (Ratio r) t n h b p = product-under (asFloat n) r n (ofInt-whole binary32 n (le-trans h (lit≤ tt))) h b p
+length-under (WholeBars x) t n h b p = total (asSamplesOf (Bars x) t) most p (unfold isNan in tt) b
 
 pub loop-length-from-one : (p : Params) (n : ℕ) → T (le one (loopLengthOf p n))
 unfolding loopLengthOf
@@ -96,12 +98,13 @@ loop-length-to-most p n b h =
 -- ---- in binary32
 
 length-fits : (l : TimeOrRatio) (t : Transport) (n : ℕ) → T (fits binary32 (carried l)) → T (fits binary32 (lengthOf l t n))
-unfolding lengthOf timeLengthOf
+unfolding lengthOf timeLengthOf asSamplesOf
 length-fits (Time (QuarterNotes x)) t n h = mul-fits binary32 _ _
 length-fits (Time (Samples x)) t n h = h
 length-fits (Time (Seconds x)) t n h = mul-fits binary32 _ _
 length-fits (Time (Bars x)) t n h = mul-fits binary32 _ _
 length-fits (Ratio x) t n h = mul-fits binary32 _ _
+length-fits (WholeBars x) t n h = mul-fits binary32 _ _
 
 pub loop-length-fits : (p : Params) (n : ℕ) → T (fits binary32 (carried (p .«loop_length»))) → T (fits binary32 (loopLengthOf p n))
 unfolding loopLengthOf

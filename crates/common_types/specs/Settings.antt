@@ -1,12 +1,12 @@
 -- The parameters of a call: what speed and loop length they come to, and row 4 of document 01's table. Definitions
 -- only. Assumes nothing.
 use Prim.Native.Nat.{ℕ}
-use mathlib.Core.Bool.{Bool, true, false, _||_}
+use mathlib.Core.Bool.{Bool, true, false, cond, _||_}
 use lib.Dec.{ltb}
 use lib.IntN.{pos}
 use lib.Ieee.{Float, fin, binary32, mul, div, lt}
 use Rattle.binary32.specs.Leaves.{asFloat, maxOf}
-use Rattle.common_types.specs.Times.{samplesPerQuarterNoteOf}
+use Rattle.common_types.specs.Times.{samplesPerQuarterNoteOf, asSamplesOf}
 use Rattle.common_types.specs.declared.Transport.{Transport}
 use Rattle.common_types.specs.declared.Params.{Params}
 use Rattle.common_types.specs.declared.InitParams.{InitParams}
@@ -15,7 +15,7 @@ use Rattle.common_types.specs.declared.NoteOffBehaviour.the-variants.{De
 use Rattle.common_types.specs.declared.time_value.TimeValue.{TimeValue}
 use Rattle.common_types.specs.declared.time_value.TimeValue.the-variants.{QuarterNotes, Samples, Seconds, Bars}
 use Rattle.common_types.specs.declared.time_value.TimeOrRatio.{TimeOrRatio}
-use Rattle.common_types.specs.declared.time_value.TimeOrRatio.the-variants.{Time, Ratio}
+use Rattle.common_types.specs.declared.time_value.TimeOrRatio.the-variants.{Time, Ratio, WholeBars}
 
 -- ---- the Rust's defaults
 abbrev pub defaultTransport : Transport
@@ -61,11 +61,31 @@ carried (Time (Samples x)) = x
 carried (Time (Seconds x)) = x
 carried (Time (Bars x)) = x
 carried (Ratio x) = x
+carried (WholeBars x) = x
 
--- a ratio is of the data length n
+-- a ratio is of the data length n; a whole bar (document 02, 4/12) is numerator * 4 / denominator quarter notes, in the
+-- arithmetic of `as_samples`
 unfoldable pub lengthOf : TimeOrRatio → Transport → ℕ → Float
 lengthOf (Time v) t n = timeLengthOf v t
 lengthOf (Ratio r) t n = mul binary32 (asFloat n) r
+lengthOf (WholeBars x) t n = asSamplesOf (Bars x) t
+
+-- how the code works it out: from a time, and a yes or no that tells whole bars from those of `loop_length`
+abbrev pub timeIn : TimeOrRatio → TimeValue
+timeIn (Time v) = v
+timeIn (Ratio r) = Samples r
+timeIn (WholeBars x) = Bars x
+
+abbrev pub isWhole : TimeOrRatio → Bool
+isWhole (Time v) = false
+isWhole (Ratio r) = false
+isWhole (WholeBars x) = true
+
+unfoldable pub workedOf : TimeValue → Bool → Transport → Float
+workedOf (Samples x) whole t = timeLengthOf (Samples x) t
+workedOf (Seconds x) whole t = timeLengthOf (Seconds x) t
+workedOf (QuarterNotes x) whole t = timeLengthOf (QuarterNotes x) t
+workedOf (Bars x) whole t = cond whole (asSamplesOf (Bars x) t) (timeLengthOf (Bars x) t)
 
 -- the larger of that and 1; NaN gives 1
 unfoldable pub loopLengthOf : Params → ℕ → Float
@@ -76,6 +96,7 @@ loopLengthOf p n = maxOf (lengthOf (p .«loop_length») (p .transport) n) (fin f
 unfoldable pub lengthBeyond : TimeOrRatio → Transport → Bool
 lengthBeyond (Time v) t = lt (fin false 1 (pos 22)) (timeLengthOf v t)
 lengthBeyond (Ratio r) t = lt (fin false 1 (pos 0)) r
+lengthBeyond (WholeBars x) t = lt (fin false 1 (pos 22)) (asSamplesOf (Bars x) t)
 
 unfoldable pub beyondLimits : Params → Bool
 beyondLimits p =

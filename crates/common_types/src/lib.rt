@@ -19,7 +19,9 @@ ghost use Rattle.common_types.specs.Settings.{
   defaultParams,
   defaultInitParams,
   speedOf,
-  timeLengthOf,
+  timeIn,
+  isWhole,
+  workedOf,
   lengthOf,
   loopLengthOf,
   lengthBeyond,
@@ -267,8 +269,8 @@ fn length_beyond(length: TimeOrRatio, transport: Transport) -> bool
     ensures { λ r. ⌜ r ≡ lengthBeyond length transport ⌝ }
 {
     match length {
-        TimeOrRatio::Time(value) => time_length(value, transport) > 4194304.0,
         TimeOrRatio::Ratio(ratio) => ratio > 1.0,
+        _ => time_length(timed(length), whole(length), transport) > 4194304.0,
     }
 }
 
@@ -277,14 +279,36 @@ fn length(length: TimeOrRatio, transport: Transport, data_len: usize) -> f32
     ensures { λ r. ⌜ r ≡ lengthOf length transport «data_len» ⌝ }
 {
     match length {
-        TimeOrRatio::Time(value) => time_length(value, transport),
         TimeOrRatio::Ratio(ratio) => binary32::usize_to_f32(data_len) * ratio,
+        _ => time_length(timed(length), whole(length), transport),
     }
 }
 
-// A bar here is numerator / denominator quarter notes: `TimeValue::as_samples` has four times that.
-fn time_length(value: TimeValue, transport: Transport) -> f32
-    ensures { λ r. ⌜ r ≡ timeLengthOf value transport ⌝ }
+// The time and the yes or no that `time_length` takes. With one call of it for times and whole bars alike, what the
+// compiler puts into the per-frame call stays as small as it was without whole bars.
+fn timed(length: TimeOrRatio) -> TimeValue
+    ensures { λ r. ⌜ r ≡ timeIn length ⌝ }
+{
+    match length {
+        TimeOrRatio::Time(value) => value,
+        TimeOrRatio::Ratio(ratio) => TimeValue::Samples(ratio),
+        TimeOrRatio::WholeBars(bars) => TimeValue::Bars(bars),
+    }
+}
+
+fn whole(length: TimeOrRatio) -> bool
+    ensures { λ r. ⌜ r ≡ isWhole length ⌝ }
+{
+    match length {
+        TimeOrRatio::Time(_) => false,
+        TimeOrRatio::Ratio(_) => false,
+        TimeOrRatio::WholeBars(_) => true,
+    }
+}
+
+// A bar is numerator / denominator quarter notes, and a whole one four times that, as `TimeValue::as_samples` has it.
+fn time_length(value: TimeValue, whole: bool, transport: Transport) -> f32
+    ensures { λ r. ⌜ r ≡ workedOf value whole transport ⌝ }
 {
     match value {
         TimeValue::Samples(samples) => samples,
@@ -294,7 +318,11 @@ fn time_length(value: TimeValue, transport: Transport) -> f32
         TimeValue::Bars(bars) => {
             let numerator = binary32::u32_to_f32(transport.time_sig_numerator);
             let denominator = binary32::u32_to_f32(transport.time_sig_denominator);
-            bars * (calc_samples_per_quarter_note(transport) * numerator / denominator)
+            if whole {
+                calc_samples_per_quarter_note(transport) * (numerator / denominator * 4.0) * bars
+            } else {
+                bars * (calc_samples_per_quarter_note(transport) * numerator / denominator)
+            }
         }
     }
 }

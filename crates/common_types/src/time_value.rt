@@ -17,9 +17,12 @@ pub enum TimeUnit {
     Bars,
 }
 
+// A length is a time, a part of the data, or bars of numerator / denominator * 4 quarter notes. A time of bars is
+// shorter: it has the Rust's `loop_length`.
 pub enum TimeOrRatio {
     Time(TimeValue),
     Ratio(f32),
+    WholeBars(f32),
 }
 
 pub enum TimeValue {

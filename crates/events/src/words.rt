@@ -21,7 +21,7 @@ pub fn of_header(bytes: &[u8]) {
         HeaderFault::None => say(b"nothing is wrong"),
         HeaderFault::Empty => say(b"the input is empty"),
         HeaderFault::Cut => say(b"the header is cut short: it has 3 bytes"),
-        HeaderFault::Version(n) => told(b"version ", n as u64, b", where there is 1"),
+        HeaderFault::Version(n) => told(b"version ", n as u64, b", where there are 1 and 2"),
         HeaderFault::Channels(n) => told(b"", n as u64, b" channels, where there are 1 or 2"),
         HeaderFault::Passthru(n) => told(
             b"auto pass-through ",
@@ -49,7 +49,10 @@ pub fn of_record(offset: u64, header: Header, bytes: &[u8]) {
         RecordFault::Length { kind, has, asked } => length(kind as u64, has as u64, asked as u64),
         RecordFault::Passthru(n) => told(b"pass-through ", n as u64, b", where 0 is off and 1 on"),
         RecordFault::LoopMode(n) => told(b"loop mode ", n as u64, b", where there are 0 to 2"),
-        RecordFault::LengthKind(n) => told(b"length kind ", n as u64, b", where there are 0 to 4"),
+        RecordFault::LengthKind { kind, last } => {
+            told(b"length kind ", kind as u64, b", where there are 0 to ");
+            told(b"", last as u64, b"");
+        }
         RecordFault::NoteOff(n) => told(b"note-off mode ", n as u64, b", where there are 0 to 2"),
     }
     say(b"\n");

@@ -11,8 +11,9 @@ use Rattle.binary32.specs.Leaves.{asFloat, floorOf, minOf, maxOf, crossingOf}
 use Rattle.walks.specs.Walks.{any, every, without, fold, seek}
 use Rattle.common_types.specs.declared.LoopMode.the-variants.{PingPong}
 use Rattle.common_types.specs.declared.NoteOffBehaviour.the-variants.{ZeroCrossing}
-use Rattle.common_types.specs.declared.time_value.TimeOrRatio.the-variants.{Time, Ratio}
+use Rattle.common_types.specs.declared.time_value.TimeOrRatio.the-variants.{Time, Ratio, WholeBars}
 use Rattle.common_types.specs.declared.time_value.TimeValue.the-variants.{QuarterNotes, Samples, Seconds, Bars}
+use Rattle.common_types.specs.Times.{quarterNotesPerBarOf, samplesPerQuarterNoteOf, samplesPerBarOf, asSamplesOf}
 use Rattle.common_types.specs.Settings.{speedOf, timeLengthOf, lengthOf, loopLengthOf, lengthBeyond, beyondLimits}
 use Rattle.volume.specs.Levels.{progressOf, levelOf, towardOf, steppedOf, goodRamp, goodVolume}
 use Rattle.recorder.specs.Recording.{raised, inState, misusedOf, skippedOf, startOf, stopOf, recordedOf, dataAfter, goodRecorder}
@@ -56,7 +57,7 @@ text (line ∷ lines) = bytes line ++ newline ++ text lines
 
 -- whatever a listing computes by
 computing : Unit {0}
-unfolding text fromHex pairs bytes lineOf textOf digits decimal printedFrom printed hexDigit hexDigits outputOf outputsOf answerLine frameLine badLine halfAt wordAt floatAt goodHeader headerOf bytesOf restOf goodSettings goodRecord loopModeOf noteOffOf listedLengthOf transportOf paramsOf frameCallOf callOf recordOf clockOf voicesOf answeredOf settingsOf frameOf playOf memoryAfter playerOf laterBy openedOf stepOf stepMemory floorOf minOf maxOf crossingOf any every without fold seek speedOf timeLengthOf lengthOf loopLengthOf lengthBeyond beyondLimits progressOf levelOf towardOf steppedOf goodRamp goodVolume raised inState misusedOf skippedOf startOf stopOf recordedOf dataAfter goodRecorder leadOf travelAt loopedOf roundTripOf mirroredOf bouncedOf wrappedOf placedOf clipOffsetAt clipToDataOf offsetAt indexAt madeOf backOf foundAt reversingAt shiftFor settledOf withSpeed withMode withLength withDataLength goodLength goodClip tickOf lateOf overOf shouldRemoveOf movedOf productOf soundedOf finishOf playedOutOf endedOf volumeStepped turnOf freshOf blankVoice atSpeedOf goodVoice nextTime headOf rampOf passthruOf closedOf goodHead channelOf resetOf anyUnfinishedOf handledOf pushedOf startPlayingOf wantedOf findOf finishedAtOf stopPlayingOf spedOf setNoteSpeedOf headChangedOf keptOf addedOf heardOf playedOf playedIfOf takenOf memoryOf processSampleOf changedOf fullOf goodVoicesOf goodChannel goodSizes goodSampler capacityOf goodWith setUpNumber startNumber stopNumber speedNumber plainNumber frameNumber setUpOf eachOf answerOf partOf playedAt steppedAt outputAt memoryAt entryOf entriesOf framedOf add sub mul div rem neg lt le eq ofInt toUnsigned isNan ofBits toBits nanBits ofFields
+unfolding text fromHex pairs bytes lineOf textOf digits decimal printedFrom printed hexDigit hexDigits outputOf outputsOf answerLine frameLine badLine halfAt wordAt floatAt goodHeader headerOf bytesOf restOf goodSettings goodRecord loopModeOf noteOffOf listedLengthOf transportOf paramsOf frameCallOf callOf recordOf clockOf voicesOf answeredOf settingsOf frameOf playOf memoryAfter playerOf laterBy openedOf stepOf stepMemory floorOf minOf maxOf crossingOf any every without fold seek speedOf quarterNotesPerBarOf samplesPerQuarterNoteOf samplesPerBarOf asSamplesOf timeLengthOf lengthOf loopLengthOf lengthBeyond beyondLimits progressOf levelOf towardOf steppedOf goodRamp goodVolume raised inState misusedOf skippedOf startOf stopOf recordedOf dataAfter goodRecorder leadOf travelAt loopedOf roundTripOf mirroredOf bouncedOf wrappedOf placedOf clipOffsetAt clipToDataOf offsetAt indexAt madeOf backOf foundAt reversingAt shiftFor settledOf withSpeed withMode withLength withDataLength goodLength goodClip tickOf lateOf overOf shouldRemoveOf movedOf productOf soundedOf finishOf playedOutOf endedOf volumeStepped turnOf freshOf blankVoice atSpeedOf goodVoice nextTime headOf rampOf passthruOf closedOf goodHead channelOf resetOf anyUnfinishedOf handledOf pushedOf startPlayingOf wantedOf findOf finishedAtOf stopPlayingOf spedOf setNoteSpeedOf headChangedOf keptOf addedOf heardOf playedOf playedIfOf takenOf memoryOf processSampleOf changedOf fullOf goodVoicesOf goodChannel goodSizes goodSampler capacityOf goodWith setUpNumber startNumber stopNumber speedNumber plainNumber frameNumber setUpOf eachOf answerOf partOf playedAt steppedAt outputAt memoryAt entryOf entriesOf framedOf add sub mul div rem neg lt le eq ofInt toUnsigned isNan ofBits toBits nanBits ofFields
 computing = tt
 
 -- ---- document 01's example
@@ -83,14 +84,18 @@ example : printed input ≡ output
 unfolding computing
 example = refl
 
--- ---- bad headers: none, version 2, three channels, auto pass-through 2
+-- ---- bad headers: none, versions 0 and 3, three channels, auto pass-through 2
 no-header : printed [] ≡ text ("X 0" ∷ [])
 unfolding computing
 no-header = refl
 
-version-two : printed (fromHex "020100") ≡ text ("X 0" ∷ [])
+version-zero : printed (fromHex "000100") ≡ text ("X 0" ∷ [])
 unfolding computing
-version-two = refl
+version-zero = refl
+
+version-three : printed (fromHex "030100") ≡ text ("X 0" ∷ [])
+unfolding computing
+version-three = refl
 
 three-channels : printed (fromHex "010300") ≡ text ("X 0" ∷ [])
 unfolding computing
@@ -104,10 +109,10 @@ cut-header : printed (fromHex "0101") ≡ text ("X 0" ∷ [])
 unfolding computing
 cut-header = refl
 
--- a header alone is a listing
-header-alone : printed (fromHex "010100") ≡ []
+-- a header alone is a listing, of either version
+header-alone : (printed (fromHex "010100") ≡ []) × (printed (fromHex "020100") ≡ [])
 unfolding computing
-header-alone = refl
+header-alone = (refl, refl)
 
 -- ---- bad records: cut short, of another length than its kind's, of no byte, of no kind; nothing after one is played
 cut-short : printed (fromHex "010100 0001 04 0005 06 3F00") ≡ text ("E 4 0" ∷ "X 6" ∷ [])
@@ -144,16 +149,45 @@ mode-three :
 unfolding computing
 mode-three = refl
 
+abbrev mono : Header
+mono = record { second = false; stereo = false; «auto_passthru» = false }
+
+abbrev stereo : Header
+stereo = record { second = false; stereo = true; «auto_passthru» = false }
+
+abbrev second : Header
+second = record { second = true; stereo = false; «auto_passthru» = false }
+
 -- pass-through, loop mode, length kind and note-off mode: the last of each that is named, and the next
 abbrev settings : ℕ → ℕ → ℕ → ℕ → List ℕ
 settings pass mode kind off =
     fromHex "002D 00 00000000 00000000" ++ (pass ∷ mode ∷ kind ∷ (fromHex "3F800000 3F800000 3F800000" ++ (off ∷ fromHex "3F800000 472C4400 42F00000 00000004 00000004")))
 
 modes-named :
-    map (goodRecord (record { stereo = false; «auto_passthru» = false })) (settings 1 2 4 2 ∷ settings 2 2 4 2 ∷ settings 1 3 4 2 ∷ settings 1 2 5 2 ∷ settings 1 2 4 3 ∷ [])
+    map (goodRecord mono) (settings 1 2 4 2 ∷ settings 2 2 4 2 ∷ settings 1 3 4 2 ∷ settings 1 2 5 2 ∷ settings 1 2 4 3 ∷ [])
     ≡ true ∷ false ∷ false ∷ false ∷ false ∷ []
 unfolding computing
 modes-named = refl
+
+-- in version 2 the last length kind is 5, and the other modes are as they were
+modes-of-two :
+    map (goodRecord second) (settings 1 2 5 2 ∷ settings 2 2 5 2 ∷ settings 1 3 5 2 ∷ settings 1 2 6 2 ∷ settings 1 2 5 3 ∷ [])
+    ≡ true ∷ false ∷ false ∷ false ∷ false ∷ []
+unfolding computing
+modes-of-two = refl
+
+-- a bar of 4/4 by length kind 5: a bad record in version 1, and good in version 2
+abbrev bars : String → List ℕ
+bars count = fromHex "002D 00 00000000 00000000 00 01 05" ++ fromHex count ++ fromHex "3F800000 3F800000 00 3F000000 472C4400 42F00000 00000004 00000004"
+
+one-bar : (printed (fromHex "010100" ++ bars "3F800000") ≡ text ("X 3" ∷ [])) × (printed (fromHex "020100" ++ bars "3F800000") ≡ text ("E 0 0" ∷ []))
+unfolding computing
+one-bar = (refl, refl)
+
+-- 48 bars are above 2 ^ 22 samples, and refused: the volume is still that of 47
+many-bars : printed (fromHex "020101" ++ bars "423C0000" ++ fromHex "002D 00 00000000 00000000 00 01 05 42400000 3F800000 3F800000 00 3F800000 472C4400 42F00000 00000004 00000004 0005 06 3F800000") ≡ text ("E 0 0" ∷ "E 0 4" ∷ "F 0 3F000000 0" ∷ [])
+unfolding computing
+many-bars = refl
 
 -- ---- two channels, with the input passed on: a NaN pattern is printed as such, whichever it is, and a float by its bits
 passed-on : printed (fromHex "010201 0009 06 FF800001 BE800000") ≡ text ("F 0 NAN BE800000 0" ∷ [])
@@ -161,12 +195,6 @@ unfolding computing
 passed-on = refl
 
 -- ---- each field in its place: records in which no two fields are alike
-abbrev mono : Header
-mono = record { stereo = false; «auto_passthru» = false }
-
-abbrev stereo : Header
-stereo = record { stereo = true; «auto_passthru» = false }
-
 abbrev half : Float
 half = fin false 1 (negsuc 0)
 
@@ -191,7 +219,7 @@ each-setting :
 unfolding computing
 each-setting = refl
 
-length-kinds : map (λ (kind : ℕ). listedLengthOf kind half) (0 ∷ 1 ∷ 2 ∷ 3 ∷ 4 ∷ []) ≡ Time (QuarterNotes half) ∷ Time (Samples half) ∷ Time (Seconds half) ∷ Time (Bars half) ∷ Ratio half ∷ []
+length-kinds : map (λ (kind : ℕ). listedLengthOf kind half) (0 ∷ 1 ∷ 2 ∷ 3 ∷ 4 ∷ 5 ∷ []) ≡ Time (QuarterNotes half) ∷ Time (Samples half) ∷ Time (Seconds half) ∷ Time (Bars half) ∷ Ratio half ∷ WholeBars half ∷ []
 unfolding computing
 length-kinds = refl
 
@@ -249,6 +277,14 @@ old-ones-left = refl
 reasons : Unit {0}
 unfolding text fromHex pairs bytes halfAt without goodHeader bytesOf headerFaultOf settingsFaultOf kindFaultOf recordFaultOf
 reasons = tt
+
+no-version : headerFaultOf (fromHex "0301 00") ≡ header.Version 3
+unfolding reasons
+no-version = refl
+
+last-kinds : (recordFaultOf mono (settings 1 2 5 2) ≡ fault.LengthKind 5 4) × (recordFaultOf second (settings 1 2 6 2) ≡ fault.LengthKind 6 5)
+unfolding reasons
+last-kinds = (refl, refl)
 
 three-of-two : headerFaultOf (fromHex "0103 00") ≡ header.Channels 3
 unfolding reasons

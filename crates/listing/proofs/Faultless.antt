@@ -7,7 +7,7 @@ use native.Mathlib.Omega.{arith}
 use borrow.Author.Tests.{ltb-true, ltb-false, eqb-true, eqb-false, eq-eqb, ne-eqb, not-true, not-false}
 use lib.Dec.{eqb, leb, ltb, lit≤}
 use lib.ListN.{length, getD, List·getD-eq-default}
-use Rattle.listing.specs.Records.{byteAt, halfAt, kindOf, lengths, lengthOf, channelCount, goodHeader, goodSettings, goodRecord}
+use Rattle.listing.specs.Records.{byteAt, halfAt, kindOf, lengths, lengthOf, lastLengthKind, channelCount, goodHeader, goodSettings, goodRecord}
 use Rattle.listing.specs.Faults.{headerFaultOf, headerFaultless, settingsFaultOf, kindFaultOf, recordFaultOf, recordFaultless}
 use Rattle.listing.specs.declared.records.Header.{Header}
 use Rattle.listing.specs.declared.faults.RecordFault.the-variants as fault
@@ -38,7 +38,7 @@ pub header-faultless : (b : List ℕ) → headerFaultless (headerFaultOf b) ≡ 
 unfolding headerFaultOf goodHeader
 header-faultless b =
     let size : Bool = eqb (length b) 3 in
-    let version : Bool = eqb (byteAt b 0) 1 in
+    let version : Bool = eqb (byteAt b 0) 1 || eqb (byteAt b 0) 2 in
     let count : Bool = eqb (byteAt b 1) 1 || eqb (byteAt b 1) 2 in
     let passthru : Bool = leb (byteAt b 2) 1 in
     looks headerFaultless (eqb (length b) 0) refl (empty-bad b)
@@ -91,19 +91,19 @@ module _ (h : Header) (r : List ℕ) where
           other-length (λ q. absurd (omega (arith, of-45 (omega arith))))
       by false k = other-size (eqb-false _ _ k)
 
-  settings-faultless : recordFaultless (settingsFaultOf r) ≡ goodSettings r
+  settings-faultless : recordFaultless (settingsFaultOf h r) ≡ goodSettings h r
   unfolding settingsFaultOf goodSettings
   settings-faultless =
       let a : Bool = leb (byteAt r 11) 1 in
       let b : Bool = leb (byteAt r 12) 2 in
-      let c : Bool = leb (byteAt r 13) 4 in
+      let c : Bool = leb (byteAt r 13) (lastLengthKind h) in
       let d : Bool = leb (byteAt r 26) 2 in
       tests recordFaultless a refl (tests recordFaultless b refl (tests recordFaultless c refl (tests recordFaultless d refl refl)))
       ∙ four a b c d
 
   -- all there, and of its kind's length: only settings are left
   whole-faultless : length r ≡ halfAt r 0 + 2 → halfAt r 0 ≡ lengthOf h (kindOf r) → (t : Bool) → eqb (kindOf r) 0 ≡ t
-      → recordFaultless (cond (eqb (kindOf r) 0) (settingsFaultOf r) fault.None) ≡ goodRecord h r
+      → recordFaultless (cond (eqb (kindOf r) 0) (settingsFaultOf h r) fault.None) ≡ goodRecord h r
   unfolding goodRecord
   whole-faultless all own true k = simp (k, eq-eqb (length r) (halfAt r 0 + 2) all, eq-eqb (halfAt r 0) (lengthOf h (kindOf r)) own) settings-faultless
   whole-faultless all own false k = simp (k, eq-eqb (length r) (halfAt r 0 + 2) all, eq-eqb (halfAt r 0) (lengthOf h (kindOf r)) own)

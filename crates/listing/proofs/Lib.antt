@@ -3,3 +3,4 @@ pub mod Frames
 pub mod Printed
 pub mod Examples
 pub mod Faultless
+pub mod Versions

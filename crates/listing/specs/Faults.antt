@@ -5,7 +5,7 @@ use mathlib.Core.Bool.{Bool, true, false, not, cond, _||_}
 use mathlib.Core.List.{List}
 use lib.Dec.{eqb, leb, ltb}
 use lib.ListN.{length}
-use Rattle.listing.specs.Records.{byteAt, halfAt, kindOf, lengthOf}
+use Rattle.listing.specs.Records.{byteAt, halfAt, kindOf, lengthOf, lastLengthKind}
 use Rattle.listing.specs.declared.records.Header.{Header}
 use Rattle.listing.specs.declared.faults.HeaderFault.{HeaderFault}
 use Rattle.listing.specs.declared.faults.HeaderFault.the-variants as header
@@ -17,7 +17,7 @@ unfoldable pub headerFaultOf : List ℕ → HeaderFault
 headerFaultOf b =
     cond (eqb (length b) 0) header.Empty
     (cond (not (eqb (length b) 3)) header.Cut
-    (cond (not (eqb (byteAt b 0) 1)) (header.Version (byteAt b 0))
+    (cond (not (eqb (byteAt b 0) 1 || eqb (byteAt b 0) 2)) (header.Version (byteAt b 0))
     (cond (not (eqb (byteAt b 1) 1 || eqb (byteAt b 1) 2)) (header.Channels (byteAt b 1))
     (cond (not (leb (byteAt b 2) 1)) (header.Passthru (byteAt b 2))
     header.None))))
@@ -33,11 +33,11 @@ headerFaultless (header.Passthru n) = false
 -- ---- a record
 
 -- of parameters that are all there: pass-through, loop mode, length kind, note-off mode
-unfoldable pub settingsFaultOf : List ℕ → RecordFault
-settingsFaultOf r =
+unfoldable pub settingsFaultOf : Header → List ℕ → RecordFault
+settingsFaultOf h r =
     cond (not (leb (byteAt r 11) 1)) (fault.Passthru (byteAt r 11))
     (cond (not (leb (byteAt r 12) 2)) (fault.LoopMode (byteAt r 12))
-    (cond (not (leb (byteAt r 13) 4)) (fault.LengthKind (byteAt r 13))
+    (cond (not (leb (byteAt r 13) (lastLengthKind h))) (fault.LengthKind (byteAt r 13) (lastLengthKind h))
     (cond (not (leb (byteAt r 26) 2)) (fault.NoteOff (byteAt r 26))
     fault.None)))
 
@@ -47,7 +47,7 @@ kindFaultOf h r =
     cond (ltb 7 (kindOf r)) (fault.Kind (kindOf r))
     (cond (not (eqb (halfAt r 0) (lengthOf h (kindOf r))))
     (fault.Length (kindOf r) (halfAt r 0) (lengthOf h (kindOf r)))
-    (cond (eqb (kindOf r) 0) (settingsFaultOf r)
+    (cond (eqb (kindOf r) 0) (settingsFaultOf h r)
     fault.None))
 
 -- of any: its two bytes of length, a length of 0, one that no kind has, and bytes that are not there
@@ -69,5 +69,5 @@ recordFaultless (fault.Kind kind) = false
 recordFaultless (fault.Length kind has asked) = false
 recordFaultless (fault.Passthru n) = false
 recordFaultless (fault.LoopMode n) = false
-recordFaultless (fault.LengthKind n) = false
+recordFaultless (fault.LengthKind kind last) = false
 recordFaultless (fault.NoteOff n) = false

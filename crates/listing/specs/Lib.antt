@@ -3,3 +3,4 @@ pub mod Lines
 pub mod Steps
 pub mod Whole
 pub mod Faults
+pub mod Versions

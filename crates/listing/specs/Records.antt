@@ -1,5 +1,6 @@
--- Document 01's event listing as bytes: which header and which record is good, and what call a good record is. A record
--- is the list of its bytes from its two-byte length on, or as many of them as there are. Definitions only.
+-- Document 01's event listing as bytes, with the version 2 of document 02's 4/12: which header and which record is good,
+-- and what call a good record is. A record is the list of its bytes from its two-byte length on, or as many of them as
+-- there are. Definitions only.
 use Prim.Native.Nat.{ℕ, _+_, _*_}
 use mathlib.Core.Bool.{Bool, not, cond, _&&_, _||_}
 use mathlib.Core.List.{List, [], _∷_}
@@ -20,7 +21,7 @@ use Rattle.common_types.specs.declared.NoteOffBehaviour.the-variants.{DecayAndZ
 use Rattle.common_types.specs.declared.NoteOffBehaviourAnswer.the-variants as note-off
 use Rattle.common_types.specs.declared.time_value.TimeValue.the-variants.{QuarterNotes, Samples, Seconds, Bars}
 use Rattle.common_types.specs.declared.time_value.TimeOrRatio.{TimeOrRatio}
-use Rattle.common_types.specs.declared.time_value.TimeOrRatio.the-variants.{Time, Ratio}
+use Rattle.common_types.specs.declared.time_value.TimeOrRatio.the-variants.{Time, Ratio, WholeBars}
 use Rattle.listing.specs.declared.records.Header.{Header}
 use Rattle.listing.specs.declared.records.Opening.{Opening}
 use Rattle.listing.specs.declared.records.Opening.the-variants as opening
@@ -52,17 +53,19 @@ wordAt r i = halfAt r i * 65536 + halfAt r (i + 2)
 unfoldable pub floatAt : List ℕ → ℕ → Float
 floatAt r i = floatOf (wordAt r i)
 
--- ---- the header: version 1, 1 or 2 channels, auto pass-through 0 or 1
+-- ---- the header: version 1 or 2, 1 or 2 channels, auto pass-through 0 or 1
 abbrev pub channelCount : Header → ℕ
 channelCount h = cond (h .stereo) 2 1
 
 unfoldable pub goodHeader : List ℕ → Bool
-goodHeader b = eqb (length b) 3 && eqb (byteAt b 0) 1 && (eqb (byteAt b 1) 1 || eqb (byteAt b 1) 2)
-    && leb (byteAt b 2) 1
+goodHeader b = eqb (length b) 3 && (eqb (byteAt b 0) 1 || eqb (byteAt b 0) 2)
+    && (eqb (byteAt b 1) 1 || eqb (byteAt b 1) 2) && leb (byteAt b 2) 1
 
 unfoldable pub headerOf : List ℕ → Opening
 headerOf b = cond (goodHeader b)
-    (opening.Good (record { stereo = eqb (byteAt b 1) 2; «auto_passthru» = eqb (byteAt b 2) 1 })) opening.Bad
+    (opening.Good
+    (record { second = eqb (byteAt b 0) 2; stereo = eqb (byteAt b 1) 2; «auto_passthru» = eqb (byteAt b 2) 1 }))
+    opening.Bad
 
 -- ---- a record's kind stands after its length
 abbrev pub kindOf : List ℕ → ℕ
@@ -80,15 +83,20 @@ lengthOf h kind = getD (lengths (1 + 4 * channelCount h)) kind 0
 unfoldable pub restOf : List ℕ → ℕ
 restOf b = cond (eqb (length b) 2 && leb (halfAt b 0) 45) (halfAt b 0) 0
 
+-- length kind 5 is of version 2 alone
+abbrev pub lastLengthKind : Header → ℕ
+lastLengthKind h = cond (h .second) 5 4
+
 -- kind 0: pass-through is 0 or 1, loop mode, length kind and note-off mode are among those named
-unfoldable pub goodSettings : List ℕ → Bool
-goodSettings r = leb (byteAt r 11) 1 && leb (byteAt r 12) 2 && leb (byteAt r 13) 4 && leb (byteAt r 26) 2
+unfoldable pub goodSettings : Header → List ℕ → Bool
+goodSettings h r = leb (byteAt r 11) 1 && leb (byteAt r 12) 2 && leb (byteAt r 13) (lastLengthKind h)
+    && leb (byteAt r 26) 2
 
 -- all the bytes are there, they are as many as the kind has, and each mode is one that there is
 unfoldable pub goodRecord : Header → List ℕ → Bool
 goodRecord h r =
     eqb (length r) (halfAt r 0 + 2) && eqb (halfAt r 0) (lengthOf h (kindOf r))
-    && (not (eqb (kindOf r) 0) || goodSettings r)
+    && (not (eqb (kindOf r) 0) || goodSettings h r)
 
 -- ---- the call of a good record
 abbrev pub noteAt : List ℕ → Note
@@ -102,12 +110,12 @@ unfoldable pub noteOffOf : ℕ → NoteOffBehaviour
 noteOffOf index = elim
     (noteOffFromIndexOf index) [ note-off.Done behaviour ↦ behaviour | note-off.Refused ↦ DecayAndZeroCrossing ]
 
--- length kinds 0 to 3; 4 is the ratio
-abbrev pub times : Float → List TimeOrRatio
-times x = Time (QuarterNotes x) ∷ Time (Samples x) ∷ Time (Seconds x) ∷ Time (Bars x) ∷ []
+-- length kinds 0 to 4; 5 is whole bars
+abbrev pub firstLengths : Float → List TimeOrRatio
+firstLengths x = Time (QuarterNotes x) ∷ Time (Samples x) ∷ Time (Seconds x) ∷ Time (Bars x) ∷ Ratio x ∷ []
 
 unfoldable pub loopLengthOf : ℕ → Float → TimeOrRatio
-loopLengthOf kind x = getD (times x) kind (Ratio x)
+loopLengthOf kind x = getD (firstLengths x) kind (WholeBars x)
 
 unfoldable pub transportOf : List ℕ → Transport
 transportOf r = record {

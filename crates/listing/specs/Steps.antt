@@ -122,7 +122,7 @@ laterBy n offset = min (offset + n) (2 ^ 64 - 1)
 
 -- what stands in the place of a bad header
 abbrev pub noHeader : Header
-noHeader = record { stereo = false; «auto_passthru» = false }
+noHeader = record { second = false; stereo = false; «auto_passthru» = false }
 
 -- after a good header a listing is on; a bad one is answered and ends it. `size` is the length of the lent memory
 unfoldable pub openedOf : Opening → ℕ → Step

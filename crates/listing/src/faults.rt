@@ -6,6 +6,7 @@ ghost use Rattle.listing.specs.Faults.{headerFaultOf, settingsFaultOf, k
 use crate::fields::byte_at;
 use crate::fields::half_at;
 use crate::records::Header;
+use crate::records::last_length_kind;
 use crate::records::length_of;
 
 pub enum HeaderFault {
@@ -27,7 +28,7 @@ pub enum RecordFault {
     Length { kind: u8, has: u32, asked: usize },
     Passthru(u8),
     LoopMode(u8),
-    LengthKind(u8),
+    LengthKind { kind: u8, last: u8 },
     NoteOff(u8),
 }
 
@@ -43,7 +44,7 @@ pub fn header_fault(bytes: &[u8]) -> HeaderFault
     if bytes.len() != 3 {
         return HeaderFault::Cut;
     }
-    if version != 1 {
+    if !((version == 1) | (version == 2)) {
         return HeaderFault::Version(version);
     }
     if !((count == 1) | (count == 2)) {
@@ -55,12 +56,13 @@ pub fn header_fault(bytes: &[u8]) -> HeaderFault
     HeaderFault::None
 }
 
-fn settings_fault(r: &[u8]) -> RecordFault
-    ensures { λ f. ⌜ f ≡ settingsFaultOf (now (r .entry)) ⌝ }
+fn settings_fault(h: Header, r: &[u8]) -> RecordFault
+    ensures { λ f. ⌜ f ≡ settingsFaultOf h (now (r .entry)) ⌝ }
 {
     let passthru = byte_at(r, 11);
     let loop_mode = byte_at(r, 12);
-    let length_kind = byte_at(r, 13);
+    let kind = byte_at(r, 13);
+    let last = last_length_kind(h);
     let note_off = byte_at(r, 26);
     if passthru > 1 {
         return RecordFault::Passthru(passthru);
@@ -68,8 +70,8 @@ fn settings_fault(r: &[u8]) -> RecordFault
     if loop_mode > 2 {
         return RecordFault::LoopMode(loop_mode);
     }
-    if length_kind > 4 {
-        return RecordFault::LengthKind(length_kind);
+    if kind > last {
+        return RecordFault::LengthKind { kind, last };
     }
     if note_off > 2 {
         return RecordFault::NoteOff(note_off);
@@ -90,7 +92,7 @@ fn kind_fault(h: Header, r: &[u8]) -> RecordFault
         return RecordFault::Length { kind, has, asked };
     }
     if kind == 0 {
-        return settings_fault(r);
+        return settings_fault(h, r);
     }
     RecordFault::None
 }

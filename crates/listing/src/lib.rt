@@ -100,6 +100,7 @@ pub fn open(bytes: &[u8], memory: &[u32]) -> Step
         },
         Opening::Bad => {
             let header = Header {
+                second: false,
                 stereo: false,
                 auto_passthru: false,
             };

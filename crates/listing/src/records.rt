@@ -7,6 +7,7 @@ ghost use Rattle.listing.specs.Records.{
   headerOf,
   lengthOf,
   restOf,
+  lastLengthKind,
   goodSettings,
   goodRecord,
   noteAt,
@@ -33,8 +34,9 @@ use common_types::Transport;
 use common_types::time_value::TimeOrRatio;
 use common_types::time_value::TimeValue;
 
-// A listing has one channel or two.
+// A listing is of the first version or the second, and has one channel or two.
 pub struct Header {
+    pub second: bool,
     pub stereo: bool,
     pub auto_passthru: bool,
 }
@@ -79,9 +81,10 @@ pub enum Reading {
 fn good_header(bytes: &[u8]) -> bool
     ensures { λ r. ⌜ r ≡ goodHeader (now (bytes .entry)) ⌝ }
 {
+    let version = byte_at(bytes, 0);
     let count = byte_at(bytes, 1);
     (bytes.len() == 3)
-        & (byte_at(bytes, 0) == 1)
+        & ((version == 1) | (version == 2))
         & ((count == 1) | (count == 2))
         & (byte_at(bytes, 2) <= 1)
 }
@@ -91,6 +94,7 @@ pub fn read_header(bytes: &[u8]) -> Opening
 {
     if good_header(bytes) {
         Opening::Good(Header {
+            second: byte_at(bytes, 0) == 2,
             stereo: byte_at(bytes, 1) == 2,
             auto_passthru: byte_at(bytes, 2) == 1,
         })
@@ -126,10 +130,20 @@ pub fn length_of(h: Header, kind: u8) -> usize
     if at < 8 { lengths[at] } else { 0 }
 }
 
-fn good_settings(r: &[u8]) -> bool
-    ensures { λ b. ⌜ b ≡ goodSettings (now (r .entry)) ⌝ }
+// Whole bars, length kind 5, came with the second version.
+pub fn last_length_kind(h: Header) -> u8
+    ensures { λ r. ⌜ r ≡ lastLengthKind h ⌝ }
 {
-    (byte_at(r, 11) <= 1) & (byte_at(r, 12) <= 2) & (byte_at(r, 13) <= 4) & (byte_at(r, 26) <= 2)
+    if h.second { 5 } else { 4 }
+}
+
+fn good_settings(h: Header, r: &[u8]) -> bool
+    ensures { λ b. ⌜ b ≡ goodSettings h (now (r .entry)) ⌝ }
+{
+    (byte_at(r, 11) <= 1)
+        & (byte_at(r, 12) <= 2)
+        & (byte_at(r, 13) <= last_length_kind(h))
+        & (byte_at(r, 26) <= 2)
 }
 
 fn good_record(h: Header, r: &[u8]) -> bool
@@ -137,7 +151,7 @@ fn good_record(h: Header, r: &[u8]) -> bool
 {
     let kind = byte_at(r, 2);
     let size = half_at(r, 0) as usize;
-    (r.len() == size + 2) & (size == length_of(h, kind)) & ((kind != 0) | good_settings(r))
+    (r.len() == size + 2) & (size == length_of(h, kind)) & ((kind != 0) | good_settings(h, r))
 }
 
 fn loop_mode(index: u8) -> LoopMode
@@ -166,7 +180,8 @@ fn loop_length(kind: u8, value: f32) -> TimeOrRatio
         1 => TimeOrRatio::Time(TimeValue::Samples(value)),
         2 => TimeOrRatio::Time(TimeValue::Seconds(value)),
         3 => TimeOrRatio::Time(TimeValue::Bars(value)),
-        _ => TimeOrRatio::Ratio(value),
+        4 => TimeOrRatio::Ratio(value),
+        _ => TimeOrRatio::WholeBars(value),
     }
 }
 

@@ -1,5 +1,5 @@
 // The parameters in a record: bytes length kind at 4, loop mode at 5, note-off mode at 6 and auto pass-through at 7
-// (modes in the order of their declaration, length kinds as in document 01's listing, and each byte above the last is
+// (modes in the order of their declaration, length kinds as in the listing's version 2, and each byte above the last is
 // taken for the last); floats volume at 16, value at 20, rate at 24, tempo at 28; whole numbers numerator at 32,
 // denominator at 36, attack at 40, decay at 48; floats speed at 56 and reverse speed at 60.
 ghost use Prim.Native.Nat.{_≤_};
@@ -48,7 +48,8 @@ fn loop_length(kind: u8, value: f32) -> TimeOrRatio {
         1 => TimeOrRatio::Time(TimeValue::samples(value)),
         2 => TimeOrRatio::Time(TimeValue::Seconds(value)),
         3 => TimeOrRatio::Time(TimeValue::bars(value)),
-        _ => TimeOrRatio::Ratio(value),
+        4 => TimeOrRatio::Ratio(value),
+        _ => TimeOrRatio::WholeBars(value),
     }
 }
 

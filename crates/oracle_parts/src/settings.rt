@@ -1,6 +1,6 @@
 // Part 1: common_types and time_value. The arguments: bytes note at 1, channel at 2, time unit at 3, length kind at 4,
-// loop mode at 5 and note-off mode at 6 (units and modes in the order of their declaration, length kinds as in document
-// 01's listing); a whole number n at 8, which is a packed note, an index and a data length; floats x at 16, value at
+// loop mode at 5 and note-off mode at 6 (units and modes in the order of their declaration, length kinds as in the
+// listing's version 2); a whole number n at 8, which is a packed note, an index and a data length; floats x at 16, value at
 // 20, rate at 24, tempo at 28; whole numbers numerator at 32, denominator at 36, attack at 40, decay at 48; floats
 // speed at 56 and reverse speed at 60.
 ghost use mathlib.Core.Path.{_≡_};
@@ -146,7 +146,7 @@ fn times(fields: &[u8], out: &mut [u8; 65536], at: usize) -> usize
     )
 }
 
-// The length kind of document 01's listing, and the value.
+// The length kind of the listing, and the value.
 fn put_time(out: &mut [u8; 65536], at: usize, time: TimeValue) -> usize
     requires { ⌜ at + 11 ≤ 65536 ⌝ }
     ensures { λ r. ⌜ r ≡ at + 11 ⌝ }
@@ -166,6 +166,7 @@ pub fn put_length(out: &mut [u8; 65536], at: usize, length: TimeOrRatio) -> usiz
     match length {
         TimeOrRatio::Time(time) => put_time(out, at, time),
         TimeOrRatio::Ratio(x) => put_kind(out, at, 4, x),
+        TimeOrRatio::WholeBars(x) => put_kind(out, at, 5, x),
     }
 }
 

@@ -7,8 +7,8 @@ use Prim.Native.Nat.{ℕ}
 use borrow.Author.Tests.{eqb-true}
 use lib.Dec.{eqb}
 use lib.ListN.{length}
-use lib.Ieee.{Float, nan, inf, fin, isNan, lt, binary32}
-use Rattle.binary32.specs.Leaves.{minOf, maxOf}
+use lib.Ieee.{Float, nan, inf, fin, isNan, lt, ofInt, binary32}
+use Rattle.binary32.specs.Leaves.{asFloat, minOf, maxOf}
 use Rattle.binary32.proofs.Halves.{ofInt-whole}
 use Rattle.binary32.proofs.Casts.{narrow}
 use Rattle.binary32.proofs.Floors.{floor-exact, floor-cast}
@@ -16,6 +16,11 @@ use Rattle.binary32.proofs.Patterns.{value-back, pattern-back}
 use Rattle.common_types.proofs.Packing.{unpack-pack, pack-unpack}
 use Rattle.common_types.specs.declared.InitParams.{InitParams}
 use Rattle.common_types.specs.declared.Params.{Params}
+use Rattle.common_types.specs.declared.time_value.TimeValue.the-variants.{Bars}
+use Rattle.common_types.specs.declared.time_value.TimeOrRatio.{TimeOrRatio}
+use Rattle.common_types.specs.declared.time_value.TimeOrRatio.the-variants.{WholeBars}
+use Rattle.common_types.specs.Times.{asSamplesOf}
+use Rattle.common_types.specs.Settings.{lengthOf, loopLengthOf}
 use Rattle.recorder.specs.ErrorText.{errorText}
 use Rattle.clip.proofs.Offsets.{clip-offset-inside, offset-within}
 use Rattle.channel.specs.declared.Change.{Change}
@@ -206,6 +211,10 @@ nan-second nan = (refl, refl)
 nan-second (inf s) = (refl, refl)
 nan-second (fin s m e) = (refl, refl)
 
+whole-bars : (p : Params) (n : ℕ) (x : Float) → p .«loop_length» ≡ WholeBars x → loopLengthOf p n ≡ maxOf (asSamplesOf (Bars x) (p .transport)) (asFloat 1)
+unfolding loopLengthOf lengthOf ofInt
+whole-bars p n x e = ap (λ (l : TimeOrRatio). maxOf (lengthOf l (p .transport) n) (asFloat 1)) e
+
 demand2 : Demand2
 demand2 = record {
   exact = ofInt-whole binary32;
@@ -221,6 +230,7 @@ demand2 = record {
   packed = unpack-pack;
   unpacked = pack-unpack;
   table = table-holds;
+  bar = whole-bars;
 }
 
 pub demands : Demands

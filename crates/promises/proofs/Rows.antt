@@ -15,8 +15,10 @@ use Rattle.walks.proofs.Lists.Every.{both}
 use Rattle.common_types.specs.declared.Params.{Params}
 use Rattle.common_types.specs.declared.Transport.{Transport}
 use Rattle.common_types.specs.declared.time_value.TimeValue.{TimeValue}
+use Rattle.common_types.specs.declared.time_value.TimeValue.the-variants.{Bars}
 use Rattle.common_types.specs.declared.time_value.TimeOrRatio.{TimeOrRatio}
-use Rattle.common_types.specs.declared.time_value.TimeOrRatio.the-variants.{Time, Ratio}
+use Rattle.common_types.specs.declared.time_value.TimeOrRatio.the-variants.{Time, Ratio, WholeBars}
+use Rattle.common_types.specs.Times.{asSamplesOf}
 use Rattle.common_types.specs.Settings.{timeLengthOf, lengthBeyond, beyondLimits}
 use Rattle.channel.specs.declared.Channel.{Channel}
 use Rattle.channel.specs.Heads.{headOf}
@@ -72,17 +74,22 @@ bad-position x = (to, from)
 
 -- ---- row 4
 abbrev BeyondLength : TimeOrRatio → Transport → Type 0
-BeyondLength l t = ((r : Float) × (l ≡ Ratio r) × (lt (asFloat 1) r ≡ true)) ⊎ ((v : TimeValue) × (l ≡ Time v) × (lt (asFloat (2 ^ 22)) (timeLengthOf v t) ≡ true))
+BeyondLength l t =
+    ((r : Float) × (l ≡ Ratio r) × (lt (asFloat 1) r ≡ true))
+    ⊎ (((v : TimeValue) × (l ≡ Time v) × (lt (asFloat (2 ^ 22)) (timeLengthOf v t) ≡ true))
+    ⊎ ((x : Float) × (l ≡ WholeBars x) × (lt (asFloat (2 ^ 22)) (asSamplesOf (Bars x) t) ≡ true)))
 
 length-to : (l : TimeOrRatio) (t : Transport) → lengthBeyond l t ≡ true → BeyondLength l t
 unfolding lengthBeyond ofInt
-length-to (Time v) t h = inr (v, refl, h)
+length-to (Time v) t h = inr (inl (v, refl, h))
 length-to (Ratio r) t h = inl (r, refl, h)
+length-to (WholeBars x) t h = inr (inr (x, refl, h))
 
 length-from : (l : TimeOrRatio) (t : Transport) → BeyondLength l t → lengthBeyond l t ≡ true
 unfolding lengthBeyond ofInt
 length-from l t (inl (r, e, h)) = ap (λ (k : TimeOrRatio). lengthBeyond k t) e ∙ h
-length-from l t (inr (v, e, h)) = ap (λ (k : TimeOrRatio). lengthBeyond k t) e ∙ h
+length-from l t (inr (inl (v, e, h))) = ap (λ (k : TimeOrRatio). lengthBeyond k t) e ∙ h
+length-from l t (inr (inr (x, e, h))) = ap (λ (k : TimeOrRatio). lengthBeyond k t) e ∙ h
 
 beyond : (p : Params) → (beyondLimits p ≡ true) ↔ Beyond p
 unfolding beyondLimits

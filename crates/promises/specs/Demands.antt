@@ -198,6 +198,10 @@ pub record Demand2 : Type 0 where
   pub unpacked : (v : ℕ) → intoU64Of (fromU64Of v) ≡ v % 2 ^ 16
   -- Document 01: "K1 to K10 stand as a single table under a single statement".
   pub table : TableHolds
+  -- Document 02, 4/12: "a length kind in which a bar is numerator times 4 / denominator quarter notes, in the arithmetic
+  -- of `as_samples`".
+  pub bar : (p : Params) (n : ℕ) (x : Float) → p .«loop_length» ≡ WholeBars x
+      → loopLengthOf p n ≡ maxOf (asSamplesOf (Bars x) (p .transport)) (asFloat 1)
 
 -- ==== Demand 3: "On each channel, over any calls without a reset:"
 

@@ -9,20 +9,25 @@ use Rattle.binary32.specs.Leaves.{asFloat}
 use Rattle.common_types.specs.declared.Params.{Params}
 use Rattle.common_types.specs.declared.Note.{Note}
 use Rattle.common_types.specs.declared.time_value.TimeValue.{TimeValue}
-use Rattle.common_types.specs.declared.time_value.TimeOrRatio.the-variants.{Time, Ratio}
+use Rattle.common_types.specs.declared.time_value.TimeValue.the-variants.{Bars}
+use Rattle.common_types.specs.declared.time_value.TimeOrRatio.the-variants.{Time, Ratio, WholeBars}
+use Rattle.common_types.specs.Times.{asSamplesOf}
 use Rattle.common_types.specs.Settings.{timeLengthOf, beyondLimits}
 use Rattle.channel.specs.declared.Channel.{Channel}
 use Rattle.sampler.specs.declared.Sampler.{Sampler}
 use Rattle.sampler.specs.Refusals.{channelAt, noChannel, badNote, badPosition, anyFull, atEnd}
 use Rattle.promises.specs.Broken.{In}
 
--- "attack or decay above its limit, ratio above 1, or a time length worked out above 2^22"
+-- "attack or decay above its limit, ratio above 1, or a time length worked out above 2^22"; for whole bars (document
+-- 02, 4/12) "4 by the same limit"
 abbrev pub Beyond : Params → Type 0
 Beyond p =
     (16777216 < p .«attack_samples»)
     ⊎ ((16777216 < p .«decay_samples»)
     ⊎ (((r : Float) × (p .«loop_length» ≡ Ratio r) × (lt (asFloat 1) r ≡ true))
-    ⊎ ((v : TimeValue) × (p .«loop_length» ≡ Time v) × (lt (asFloat (2 ^ 22)) (timeLengthOf v (p .transport)) ≡ true))))
+    ⊎ (((v : TimeValue) × (p .«loop_length» ≡ Time v) × (lt (asFloat (2 ^ 22)) (timeLengthOf v (p .transport)) ≡ true))
+    ⊎ ((x : Float) × (p .«loop_length» ≡ WholeBars x)
+    × (lt (asFloat (2 ^ 22)) (asSamplesOf (Bars x) (p .transport)) ≡ true)))))
 
 -- "some channel with a recording that isn't empty already holds 32 voices"
 abbrev pub Full : Sampler → Type 0

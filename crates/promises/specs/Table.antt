@@ -13,7 +13,8 @@ use Rattle.common_types.specs.declared.Params.{Params}
 use Rattle.common_types.specs.declared.Transport.{Transport}
 use Rattle.common_types.specs.declared.time_value.TimeValue.{TimeValue}
 use Rattle.common_types.specs.declared.time_value.TimeValue.the-variants.{Samples, Bars}
-use Rattle.common_types.specs.declared.time_value.TimeOrRatio.the-variants.{Time}
+use Rattle.common_types.specs.declared.time_value.TimeOrRatio.{TimeOrRatio}
+use Rattle.common_types.specs.declared.time_value.TimeOrRatio.the-variants.{Time, WholeBars}
 use Rattle.common_types.specs.Times.{asSamplesOf}
 use Rattle.common_types.specs.Settings.{defaultTransport, loopLengthOf}
 use Rattle.volume.specs.declared.Volume.{Volume}
@@ -100,12 +101,12 @@ abbrev pub K6 : List Row
 K6 = rowOf (clipOf (asFloat 10) (asFloat 1) (asFloat 4) Loop 0) (asFloat 0) ∷ []
 
 -- ---- lengths, whatever the other parameters p and the data length n are
-abbrev pub timed : Params → Transport → TimeValue → Params
-timed p t v = record {
+abbrev pub lasting : Params → Transport → TimeOrRatio → Params
+lasting p t length = record {
   «attack_samples» = p .«attack_samples»;
   «decay_samples» = p .«decay_samples»;
   transport = t;
-  «loop_length» = Time v;
+  «loop_length» = length;
   speed = p .speed;
   «reverse_speed» = p .«reverse_speed»;
   volume = p .volume;
@@ -114,14 +115,19 @@ timed p t v = record {
   «note_off_behavior» = p .«note_off_behavior»;
 }
 
+abbrev pub timed : Params → Transport → TimeValue → Params
+timed p t v = lasting p t (Time v)
+
 abbrev pub K7 : Params → ℕ → List Row
 K7 p n = rowOf (loopLength (timed p (p .transport) (Samples nan)) n) (asFloat 1)
     ∷ rowOf (loopLength (timed p (p .transport) (Samples half)) n) (asFloat 1) ∷ []
 
+-- and document 02's length kind, 4/12: "88200 samples in K8's transport"
 abbrev pub K8 : Params → ℕ → List Row
 K8 p n =
     rowOf (loopLength (timed p defaultTransport (Bars (asFloat 1))) n) (asFloat 22050)
     ∷ rowOf (asSamples (Bars (asFloat 1)) defaultTransport) (asFloat 88200)
+    ∷ rowOf (loopLength (lasting p defaultTransport (WholeBars (asFloat 1))) n) (asFloat 88200)
     ∷ []
 
 -- ---- a whole number to a float: 2 ^ 24, and 4194305 times 4

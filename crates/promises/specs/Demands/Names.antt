@@ -16,6 +16,9 @@ pub use Rattle.binary32.specs.Leaves.{asFloat, asWhole, floorOf, minOf, maxOf, 
 pub use Rattle.common_types.specs.declared.InitParams.{InitParams}
 pub use Rattle.common_types.specs.declared.Params.{Params}
 pub use Rattle.common_types.specs.declared.Note.{Note}
+pub use Rattle.common_types.specs.declared.time_value.TimeValue.the-variants.{Bars}
+pub use Rattle.common_types.specs.declared.time_value.TimeOrRatio.the-variants.{WholeBars}
+pub use Rattle.common_types.specs.Times.{asSamplesOf}
 pub use Rattle.common_types.specs.Notes.{intoU64Of, fromU64Of}
 pub use Rattle.common_types.specs.Settings.{beyondLimits, loopLengthOf}
 pub use Rattle.recorder.specs.ErrorText.{errorText}

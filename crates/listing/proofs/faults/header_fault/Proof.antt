@@ -1,6 +1,6 @@
 -- `header_fault` meets its contract. Assumes nothing.
 use mathlib.Core.Path.{_≡_}
-use mathlib.Core.Bool.{true, not, _||_}
+use mathlib.Core.Bool.{true, false, not, _||_}
 use mathlib.Core.List.{List}
 use Prim.Native.Nat.{ℕ}
 use lib.Dec.{eqb}
@@ -13,11 +13,17 @@ use borrow.Author.Needs.{needs}
 use Rattle.listing.proofs.faults.header_fault.Statement.{statement}
 use Rattle.listing.proofs.faults.header_fault.Tie as tie
 
--- a number of channels that there isn't
-channels : (b : List ℕ) (version count : ℕ) → version ≡ byteAt b 0 → count ≡ byteAt b 1 → length b ≡ 3 → version ≡ 1
-    → not (eqb count 1 || eqb count 2) ≡ true → header.Channels count ≡ headerFaultOf b
+-- a version that there isn't
+other-version : (b : List ℕ) (version : ℕ) → version ≡ byteAt b 0 → length b ≡ 3
+    → not (eqb version 1 || eqb version 2) ≡ true → header.Version version ≡ headerFaultOf b
 unfolding headerFaultOf
-channels b version count v n size one other = simp (← v, ← n, size, one, not-true (eqb count 1 || eqb count 2) other)
+other-version b version v size other = simp (← v, size, not-true (eqb version 1 || eqb version 2) other)
+
+-- a number of channels that there isn't
+channels : (b : List ℕ) (version count : ℕ) → version ≡ byteAt b 0 → count ≡ byteAt b 1 → length b ≡ 3
+    → not (eqb version 1 || eqb version 2) ≡ false → not (eqb count 1 || eqb count 2) ≡ true → header.Channels count ≡ headerFaultOf b
+unfolding headerFaultOf
+channels b version count v n size known other = simp (← v, ← n, size, known, not-true (eqb count 1 || eqb count 2) other)
 
 byte-at-requires : tie.Need-byte-at-requires
 byte-at-requires c κs = search needs
@@ -37,8 +43,7 @@ unfolding headerFaultOf
 returns-2 c = simp (ne-eqb _ _ (c .before .if1 .left), ne-eqb _ _ (c .if2 .taken))
 
 returns-3 : tie.Need-returns-3
-unfolding headerFaultOf
-returns-3 c = simp (← (c .before .before .before .before .before .byte-at .ensures), c .before .if2 .left, ne-eqb _ _ (c .if3 .taken))
+returns-3 c = other-version (c .before .before .before .before .before .before .before .args .bytes .now) _ (c .before .before .before .before .before .byte-at .ensures) (c .before .if2 .left) (c .if3 .taken)
 
 returns-4 : tie.Need-returns-4
 returns-4 c = channels (c .before .before .before .before .before .before .before .before .args .bytes .now) _ _ (c .before .before .before .before .before .before .byte-at .ensures) (c .before .before .before .before .before .byte-at2 .ensures) (c .before .before .if2 .left) (c .before .if3 .left) (c .if4 .taken)

@@ -1,9 +1,9 @@
 -- `loop_length` meets its contract. Assumes nothing.
 use mathlib.Core.Path.{sym}
 use native.Mathlib.Omega.{arith}
-use Rattle.common_types.specs.declared.time_value.TimeOrRatio.the-variants.{Ratio}
+use Rattle.common_types.specs.declared.time_value.TimeOrRatio.the-variants.{WholeBars}
 use lib.ListN.{List·getD-eq-default}
-use Rattle.listing.specs.Records.{times, loopLengthOf}
+use Rattle.listing.specs.Records.{firstLengths, loopLengthOf}
 use Rattle.listing.proofs.records.loop_length.Statement.{statement}
 use Rattle.listing.proofs.records.loop_length.Tie as tie
 
@@ -25,7 +25,13 @@ returns-4 c = rw (c .match .keys4)
 
 returns-5 : tie.Need-returns-5
 unfolding loopLengthOf
-returns-5 c = sym (List·getD-eq-default (times (c .before .args .value)) (Ratio (c .before .args .value)) {n = c .before .args .kind} (omega (arith, c .match .rest .0 .0 .0 .1, c .match .rest .0 .0 .1, c .match .rest .0 .1, c .match .rest .1)))
+returns-5 c = rw (c .match .keys5)
+
+returns-6 : tie.Need-returns-6
+unfolding loopLengthOf
+returns-6 c =
+    sym (List·getD-eq-default (firstLengths (c .before .args .value)) (WholeBars (c .before .args .value)) {n = c .before .args .kind}
+    (omega (arith, c .match .rest .0 .0 .0 .0 .1, c .match .rest .0 .0 .0 .1, c .match .rest .0 .0 .1, c .match .rest .0 .1, c .match .rest .1)))
 
 pub loop-length-spec : {M : Type 1} → statement M
-loop-length-spec = tie.close (tie.spec returns returns-2 returns-3 returns-4 returns-5)
+loop-length-spec = tie.close (tie.spec returns returns-2 returns-3 returns-4 returns-5 returns-6)
