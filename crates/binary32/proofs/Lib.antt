@@ -15,4 +15,5 @@ pub mod Sizes
 pub mod Signs
 pub mod Extremes
 pub mod Patterns
+pub mod WholeRoots
 pub mod Examples
