@@ -16,4 +16,5 @@ pub mod Signs
 pub mod Extremes
 pub mod Patterns
 pub mod WholeRoots
+pub mod Roots
 pub mod Examples

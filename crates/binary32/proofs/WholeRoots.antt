@@ -20,6 +20,18 @@ IsRoot n q = (q * q ≤ n) × (n < suc q * suc q)
 pub square-mono : {a b : ℕ} → a ≤ b → a * a ≤ b * b
 square-mono h = mul-le-mul h h
 
+next-square : (t : ℕ) → suc t * suc t ≡ t * t + (2 * t + 1)
+next-square t = suc-mul t (suc t) ∙ ap (λ (z : ℕ). z + suc t) (mul-suc t t) ∙ go (t * t)
+  where
+    go : (s : ℕ) → s + t + suc t ≡ s + (2 * t + 1)
+    go s = omega arith
+
+pub square-lt : {a b : ℕ} → a < b → a * a < b * b
+square-lt {a} {b} h = lt-of-lt-of-le (go (a * a) a (suc a * suc a) (next-square a)) (square-mono h)
+  where
+    go : (s a t : ℕ) → t ≡ s + (2 * a + 1) → s < t
+    go s a t e = omega arith
+
 pub root-unique : (n p q : ℕ) → IsRoot n p → IsRoot n q → p ≡ q
 root-unique n p q h k = le-antisymm (under p q (h .0) (k .1)) (under q p (k .0) (h .1))
   where
@@ -27,7 +39,7 @@ root-unique n p q h k = le-antisymm (under p q (h .0) (k .1)) (under q p (k .0) 
     under p q l g = le-of-suc-le-suc (lt-of-not-le (λ (m : suc q ≤ p). lt-irrefl n (lt-of-lt-of-le g (le-trans (square-mono m) l))))
 
 -- ---- the definition, digit by digit
-four-squares : (p : ℕ) → 2 * p * (2 * p) ≡ 4 * (p * p)
+pub four-squares : (p : ℕ) → 2 * p * (2 * p) ≡ 4 * (p * p)
 four-squares p = mul-mul-mul-comm 2 p 2 p
 
 next-squares : (p : ℕ) → suc (suc (2 * p)) * suc (suc (2 * p)) ≡ 4 * (suc p * suc p)
@@ -81,19 +93,13 @@ root-stays n b h = lt-of-not-le (λ (m : b ≤ isqrt n). lt-irrefl n (lt-of-lt-o
 
 -- ---- A number c * 2 ^ j of p digits and zeros has no root whose whole part is t = o * 2 ^ i, with o odd and of more than p digits, where t is short beside 2 ^ (2 i).
 -- Such a number is an even multiple of 2 ^ (2 i), and the square of t an odd one: between them lies more than there is up to the next square.
-next-square : (t : ℕ) → suc t * suc t ≡ t * t + (2 * t + 1)
-next-square t = suc-mul t (suc t) ∙ ap (λ (z : ℕ). z + suc t) (mul-suc t t) ∙ go (t * t)
-  where
-    go : (s : ℕ) → s + t + suc t ≡ s + (2 * t + 1)
-    go s = omega arith
-
 square-odd : (w : ℕ) → suc (2 * w) * suc (2 * w) ≡ suc (2 * (2 * (w * w) + 2 * w))
 square-odd w = next-square (2 * w) ∙ ap (λ (z : ℕ). z + (2 * (2 * w) + 1)) (four-squares w) ∙ go (w * w)
   where
     go : (s : ℕ) → 4 * s + (2 * (2 * w) + 1) ≡ suc (2 * (2 * s + 2 * w))
     go s = omega arith
 
-pow-lt-back : (i j : ℕ) → 2 ^ i < 2 ^ j → i < j
+pub pow-lt-back : (i j : ℕ) → 2 ^ i < 2 ^ j → i < j
 pow-lt-back i j h = lt-of-not-le (λ (g : j ≤ i). lt-irrefl (2 ^ i) (lt-of-lt-of-le h (pow-mono g)))
 
 module _ (p c j w i : ℕ) (few : c < 2 ^ p) (many : 2 ^ p ≤ suc (2 * w)) where
