@@ -17,4 +17,5 @@ pub mod Extremes
 pub mod Patterns
 pub mod WholeRoots
 pub mod Roots
+pub mod RootDigits
 pub mod Examples
