@@ -19,7 +19,7 @@ use Rattle.binary32.proofs.Units.{grid-multiple}
 use Rattle.binary32.proofs.Rounding.{rd, rd-at, rd-exact, round-kept}
 use Rattle.binary32.proofs.Tops.{closest-below, closest-above}
 use Rattle.binary32.proofs.Patterns.{bits-units}
-use Rattle.binary32.proofs.WholeRoots.{isqrt-scale, root-reaches, root-stays}
+use Rattle.binary32.proofs.WholeRoots.{isqrt-scale, root-reaches, root-stays, pow-lt-back}
 use Rattle.binary32.proofs.Roots.{never-half}
 
 -- ---- q without its last i + 1 digits, rounded by the first of them, where q is not a middle
@@ -114,3 +114,55 @@ module _ (m drop shift i : ℕ) (few : m < 2 ^ 24) (lo : 2 ^ 48 ≤ m * 2 ^ shif
       bits-units binary32 kept (suc i) kept-few (λ z. kept-full) under
       ∙ round-kept binary32 false (kept * 2 ^ suc i) q
       (rd-exact (grid-multiple binary32 kept (suc i) kept-few) ∙ ap (λ (z : ℕ). z * 2 ^ suc i) (sym kept-digits) ∙ sym (rd-at binary32 q (suc i) least most))
+
+-- ---- how far m is moved: to 49 digits, or to 50, so that what is left of the exponent is even
+abbrev pub shiftOf : ℕ → ℕ → ℕ
+shiftOf zeros drop = zeros - 15 + (zeros - 15 + drop + 1) % 2
+
+module _ (m drop : ℕ) (some : 0 < m) (few : m < 2 ^ 24) (small : drop < 254) where
+  abbrev zeros : ℕ
+  zeros = leadingZeros 64 m
+
+  abbrev shift : ℕ
+  shift = shiftOf zeros drop
+
+  -- the place of m's top digit
+  place : (j : ℕ) × (zeros + suc j ≡ 64) × (2 ^ j ≤ m) × (m < 2 ^ suc j)
+  place = leading-top 64 m some (lt-of-lt-of-le few (lit≤ tt))
+
+  pub zeros-from : 40 ≤ zeros
+  zeros-from = go (place .0) (place .1) (pow-lt-back (place .0) 24 (lt-of-le-of-lt (place .2) few))
+    where
+      go : (j : ℕ) → zeros + suc j ≡ 64 → j < 24 → 40 ≤ zeros
+      go j e l = omega arith
+
+  pub zeros-until : zeros < 64
+  zeros-until = go (place .0) (place .1)
+    where
+      go : (j : ℕ) → zeros + suc j ≡ 64 → zeros < 64
+      go j e = omega arith
+
+  moved-from : 2 ^ 48 ≤ m * 2 ^ shift
+  moved-from = le-trans (pow-mono (go (place .0) (place .1))) (le-trans (le-of-eq (pow-add 2 (place .0) shift)) (mul-le-mul-right (2 ^ shift) (place .2)))
+    where
+      go : (j : ℕ) → zeros + suc j ≡ 64 → 48 ≤ j + shift
+      go j e = omega (arith, zeros-from)
+
+  pub moved-until : m * 2 ^ shift < 2 ^ 50
+  moved-until = lt-of-lt-of-le (mul-lt-mul-of-pos-right (place .3) (pow-pos shift)) (le-trans (le-of-eq (sym (pow-add 2 (suc (place .0)) shift))) (pow-mono (go (place .0) (place .1))))
+    where
+      go : (j : ℕ) → zeros + suc j ≡ 64 → suc j + shift ≤ 50
+      go j e = omega (arith, zeros-from)
+
+  abbrev exponent : ℕ
+  exponent = (drop + 151 - shift) / 2
+
+  pub kept-until : (isqrt (m * 2 ^ shift) + 1) / 2 ≤ 2 ^ 24
+  kept-until = omega (arith, root-stays (m * 2 ^ shift) (2 ^ 25) moved-until)
+
+  pub moved-root : ofBits binary32 (exponent * 2 ^ 23 + (isqrt (m * 2 ^ shift) + 1) / 2) ≡ round binary32 false (isqrt (m * 2 ^ (drop + 149))) (2 ^ 149)
+  moved-root =
+      let i = (drop + 149 - shift) / 2 in
+      let e : exponent ≡ suc i = omega (arith, zeros-from, zeros-until) in
+      ap (λ (z : ℕ). ofBits binary32 (z * 2 ^ 23 + (isqrt (m * 2 ^ shift) + 1) / 2)) e
+      ∙ root-pattern m drop shift i few moved-from moved-until small (omega (arith, zeros-from, zeros-until)) (omega (arith, zeros-from, zeros-until))
