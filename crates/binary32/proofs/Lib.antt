@@ -18,4 +18,5 @@ pub mod Patterns
 pub mod WholeRoots
 pub mod Roots
 pub mod RootDigits
+pub mod RootCases
 pub mod Examples

@@ -73,6 +73,7 @@ module _ (f : Format) (q j : ℕ) (few : q ≤ 2 ^ prec f) (full : 0 < j → hid
     where
       most : dropped ≤ j
       most = omega (arith, size-le (q * 2 ^ j) (prec f + j) (shl-lt (prec f) j l))
+
       least : (i : ℕ) → i ≡ j → j ≤ dropped
       least zero e = le-trans (le-of-eq (sym e)) zero-le
       least (suc i) e =

@@ -51,6 +51,7 @@ module _ (q i : ℕ) (tieless : q % 2 ^ suc i * 2 ≡ 2 ^ suc i → ⊥) where
     where
       unit : 2 ^ suc i ≡ 2 ^ i + 2 ^ i
       unit = two-pow-succ i
+
       parity : (b : ℕ) → s % 2 ≡ b → closest q (2 ^ suc i) ≡ (s + 1) / 2
       parity zero e =
           let up : q < suc s * 2 ^ i = div-lt-iff-lt-mul (pow-pos i) .0 (lt-suc-self s) in

@@ -34,6 +34,7 @@ module _ (f : Format) (n k : ℕ) (lo : 2 ^ (prec f - 1 + k) ≤ n) where
     where
       fewer : suc (g .shift) ≤ k → prec f + g .shift ≤ prec f - 1 + k
       fewer l = let P : 0 < prec f = two-le-pos (prec f) (two f) in omega arith
+
       reaches : k ≤ g .shift
       reaches = le-of-suc-le-suc (lt-of-not-le (λ (l : suc (g .shift) ≤ k).
           lt-irrefl y (lt-of-lt-of-le (lt-of-le-of-lt (le-of-eq (g .is)) (lt-of-lt-of-le (mul-lt-mul-of-pos-right (g .few) (pow-pos (g .shift))) (le-of-eq (sym (pow-add 2 (prec f) (g .shift)))))) (le-trans (pow-mono (fewer l)) h))))
@@ -46,6 +47,7 @@ module _ (f : Format) (n k : ℕ) (lo : 2 ^ (prec f - 1 + k) ≤ n) where
     where
       base : 2 ^ (prec f - 1 + k) ≡ 2 ^ (prec f - 1) * 2 ^ k
       base = pow-add 2 (prec f - 1) k
+
       either : Dec (2 ^ (prec f - 1 + k) ≤ y) → y ≤ n / 2 ^ k * 2 ^ k
       either (yes l) =
           let r = coarse y g l in
@@ -85,6 +87,7 @@ module _ (f : Format) (n i : ℕ) (lo : 2 ^ (prec f - 1 + suc i) ≤ n) (hi : n 
     where
       at : rd f n ≡ closest n unit * unit
       at = rd-at f n (suc i) lo hi
+
       either : Dec (unit ≤ rest * 2) → Rounds
       either (yes h) =
           let l : unit < rest * 2 = lt-of-le-ne h (λ (e : unit ≡ rest * 2). tieless (sym e)) in
@@ -102,6 +105,7 @@ module _ (f : Format) (n i : ℕ) (lo : 2 ^ (prec f - 1 + suc i) ≤ n) (hi : n 
     where
       down : (k r t : ℕ) → k + t ≡ n → r ≡ k → y < r → y + r < 2 * n
       down k r t e a b = omega arith
+
       up : (k u r t : ℕ) → k + t ≡ n → u < t * 2 → r ≡ k + u → y ≤ k → y + r < 2 * n
       up k u r t e l a b = omega arith
 
@@ -113,6 +117,7 @@ module _ (f : Format) (n i : ℕ) (lo : 2 ^ (prec f - 1 + suc i) ≤ n) (hi : n 
     where
       down : (k u v r t : ℕ) → k + t ≡ n → u ≡ v + v → t * 2 < u → r ≡ k → k + u ≤ y → 2 * suc n ≤ y + r
       down k u v r t e b l a h = omega arith
+
       up : (k u r t : ℕ) → k + t ≡ n → t < u → r ≡ k + u → r < y → 2 * suc n ≤ y + r
       up k u r t e l a b = omega arith
 
@@ -136,6 +141,7 @@ module _ (N c j i : ℕ) (is : N ≡ c * 2 ^ j) (few : c < 2 ^ 24) (lo : 2 ^ (23
     where
       half : (r v : ℕ) → r * 2 ≡ v + v → r ≡ v
       half r v e = omega arith
+
       odd : (w v : ℕ) → w * (2 * v) + v ≡ suc (2 * w) * v
       odd w v = ap (λ (z : ℕ). z + v) (sym (mul-assoc w 2 v) ∙ ap (λ (z : ℕ). z * v) (mul-comm w 2)) ∙ sym (suc-mul (2 * w) v)
 

@@ -120,11 +120,12 @@ module _ (p c j w i : ℕ) (few : c < 2 ^ p) (many : 2 ^ p ≤ suc (2 * w)) wher
   even-multiple : i + i < j → (h : ℕ) × (c * 2 ^ j ≡ 2 * h * (2 ^ i * 2 ^ i))
   even-multiple l =
       let d = j - suc (i + i) in
-      let e : j ≡ d + suc (i + i) = omega arith in
-      (c * 2 ^ d,
-      ap (λ (z : ℕ). c * 2 ^ z) e ∙ ap (λ (z : ℕ). c * z) (pow-add 2 d (suc (i + i))) ∙ sym (mul-assoc c (2 ^ d) (2 ^ suc (i + i)))
-      ∙ ap (λ (z : ℕ). c * 2 ^ d * z) (pow-succ' 2 (i + i)) ∙ sym (mul-assoc (c * 2 ^ d) 2 (2 ^ (i + i)))
-      ∙ ap (λ (z : ℕ). z * 2 ^ (i + i)) (mul-comm (c * 2 ^ d) 2) ∙ ap (λ (z : ℕ). 2 * (c * 2 ^ d) * z) (pow-add 2 i i))
+      let e : j ≡ d + suc (i + i) = omega arith in (
+        c * 2 ^ d,
+        ap (λ (z : ℕ). c * 2 ^ z) e ∙ ap (λ (z : ℕ). c * z) (pow-add 2 d (suc (i + i))) ∙ sym (mul-assoc c (2 ^ d) (2 ^ suc (i + i)))
+            ∙ ap (λ (z : ℕ). c * 2 ^ d * z) (pow-succ' 2 (i + i)) ∙ sym (mul-assoc (c * 2 ^ d) 2 (2 ^ (i + i)))
+            ∙ ap (λ (z : ℕ). z * 2 ^ (i + i)) (mul-comm (c * 2 ^ d) 2) ∙ ap (λ (z : ℕ). 2 * (c * 2 ^ d) * z) (pow-add 2 i i),
+      )
 
   pub never-odd : 2 * (o * 2 ^ i) + 1 ≤ 2 ^ i * 2 ^ i → isqrt (c * 2 ^ j) ≡ o * 2 ^ i → ⊥
   never-odd short e =
@@ -139,8 +140,10 @@ module _ (p c j w i : ℕ) (few : c < 2 ^ p) (many : 2 ^ p ≤ suc (2 * w)) wher
     where
       parity : (s a h : ℕ) → s ≡ suc (2 * a) → s ≤ 2 * h → suc s ≤ 2 * h
       parity s a h e l = omega arith
+
       go : (s u : ℕ) → s * u + u ≡ suc s * u
       go s u = sym (suc-mul s u)
+
       near : (s z a u : ℕ) → s ≡ z → a ≤ u → s + a ≤ z + u
       near s z a u e l = omega arith
 
@@ -150,8 +153,10 @@ mean-le a b = either (decLe a b)
   where
     at : (a d : ℕ) → a * (a + d) + a * (a + d) ≤ (a + d) * (a + d) + a * a
     at a d = le-intro (a * (a + d) + a * (a + d)) (d * d) (simp (mul-add, add-mul, mul-comm, add-assoc, add-comm, add-left-comm) refl)
+
     ordered : (a b : ℕ) → a ≤ b → a * b + a * b ≤ b * b + a * a
     ordered a b h = subst (λ (x : ℕ). a * x + a * x ≤ x * x + a * a) (le-dest h .1) (at a (le-dest h .0))
+
     either : Dec (a ≤ b) → a * b + a * b ≤ b * b + a * a
     either (yes h) = ordered a b h
     either (no f) = le-trans (le-of-eq (ap (λ (z : ℕ). z + z) (mul-comm a b))) (le-trans (ordered b a (le-of-lt (lt-of-not-le f))) (le-of-eq (add-comm (a * a) (b * b))))

@@ -1,6 +1,6 @@
 // What the engine needs of binary32 beyond the language's own operators: conversions, floor, minimum, maximum, size,
-// the crossing test, bit patterns and the square root. Each function takes every value of its arguments, and equals a definition in
-// specs/Leaves.antt.
+// the crossing test, bit patterns and the square root. Each function takes every value of its arguments, and equals a
+// definition in specs/Leaves.antt.
 ghost use mathlib.Core.Path.{_≡_};
 ghost use Prim.Native.Nat.{_+_, _*_, _^_, _≤_, _<_};
 ghost use lib.Dec.{T};
@@ -211,17 +211,19 @@ pub fn sqrt(x: f32) -> f32
     }
 }
 
-// The root of a float above 0 that is finite, by its pattern: the float is m * 2^drop of the smallest ones.
+// The root of a finite float above 0, by its pattern. From 2^-126 on, the exponent's field stands for a leading digit too.
 fn root_of(pattern: u32) -> f32
     requires { ⌜ (0 < pattern) × (pattern < 0x7f80_0000) ⌝ }
     ensures { λ r. ⌜ r ≡ rootOf (floatOf pattern) ⌝ }
 {
-    let drop = if pattern < 0x80_0000 {
-        0
+    if pattern < 0x80_0000 {
+        scaled_root(pattern as u64, 0)
     } else {
-        pattern / 0x80_0000 - 1
-    };
-    scaled_root((pattern - drop * 0x80_0000) as u64, drop)
+        scaled_root(
+            (pattern % 0x80_0000 + 0x80_0000) as u64,
+            pattern / 0x80_0000 - 1,
+        )
+    }
 }
 
 // The root of m * 2^drop, in the smallest floats. With m moved up until it has 49 or 50 digits and a root that is moved
