@@ -14,7 +14,7 @@ use lib.Ieee.Digits.{size-le}
 use lib.Ieee.Fits.{up-pos, down-pos, kept-lt}
 use lib.Ieee.Positive.{num}
 use lib.Ieee.Scale.{overflow}
-use Rattle.binary32.specs.Leaves.{zero32, absOf, bitsOf, floatOf, isqrt, rootOf}
+use Rattle.binary32.specs.Leaves.{zero32, absOf, bitsOf, floatOf, rootBelow, isqrt, rootOf}
 use Rattle.binary32.proofs.Units.{grid-multiple, on-grid}
 use Rattle.binary32.proofs.Rounding.{round-grid}
 use Rattle.binary32.proofs.Patterns.{value-back, bits-units}
@@ -68,7 +68,7 @@ pattern-root m drop few small full =
 
 -- ---- zero, and below it
 zero-itself : zero32 ≡ rootOf zero32
-unfolding rootOf isqrt round
+unfolding rootOf isqrt rootBelow size round
 zero-itself = refl
 
 pub zero-root : (x : Float) → T (fits binary32 x) → eq x zero32 ≡ true → x ≡ rootOf x

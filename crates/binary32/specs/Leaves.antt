@@ -68,8 +68,8 @@ bitsOf x = toBits binary32 x
 abbrev pub floatOf : ℕ → Float
 floatOf b = ofBits binary32 b
 
--- The largest q with q * q ≤ n, for n below 4 ^ k: without the last digit it is that of n / 4, and the last digit is 1
--- where the square stays at most n.
+-- The largest q with q * q ≤ n, for an n of at most k binary digits: but for its last digit it is that of n / 4, and
+-- its last digit is 1 where the square is still at most n.
 abbrev pub withDigit : ℕ → ℕ → ℕ
 withDigit n r = cond (leb (suc r * suc r) n) (suc r) r
 
@@ -77,17 +77,15 @@ unfoldable pub rootBelow : ℕ → ℕ → ℕ
 rootBelow zero n = 0
 rootBelow (suc k) n = withDigit n (2 * rootBelow k (n / 4))
 
--- The largest q with q * q ≤ n, for every n: a number of k digits is below 4 ^ k.
+-- The largest q with q * q ≤ n (`isqrt-root`).
 unfoldable pub isqrt : ℕ → ℕ
-unfolding rootBelow
 isqrt n = rootBelow (size n) n
 
--- The float nearest to the root of x (754, 5.4.1, squareRoot; f32::sqrt): zeros of either sign, +inf and NaN are their own
--- roots, and what lies below zero has none. In units of 2 ^ -149, the smallest float, the root is that of x * 2 ^ 298, a
--- whole number; of its digits before the point, 75 or more, `round` keeps 24. `Roots.nearest` says that what stands behind
--- the point does not matter: no float is as near to the root.
+-- The float nearest to the root of x (754, 5.4.1, squareRoot; f32::sqrt). NaN, +inf and zeros of either sign are their
+-- own roots, and what lies below zero has none. In units of 2 ^ -149, the smallest float, the root of x is that of
+-- x * 2 ^ 298, a whole number. Of its whole part, 75 digits or more, `round` keeps 24; that no digit after it matters,
+-- and no other float is as near, is `Roots.nearest`.
 unfoldable pub rootOf : Float → Float
-unfolding isqrt
 rootOf nan = nan
 rootOf (inf false) = inf false
 rootOf (inf true) = nan
