@@ -1,25 +1,23 @@
 -- The cuts of a recording into columns: none passes the end of the recording, and none falls. The step is n / columns rounded once; it lies below what n / columns, cut to whole units
 -- and moved up by one, is rounded to, and so `columns` steps are at most half a sample more than n. Assumes nothing.
 use mathlib.Core.Path.{_≡_, refl, sym, ap, ap₂, _∙_, subst}
-use mathlib.Core.Logic.{_⊎_, inl, inr}
-use mathlib.Core.Bool.{Bool, true, false, not}
+use mathlib.Core.Bool.{Bool, false}
 use Prim.Native.Nat.{ℕ, zero, suc, _+_, _-_, _*_, _/_, _^_, _≤_, _<_, min, zero-le}
 use native.Mathlib.Nat.{le-trans, le-of-eq, le-of-lt, lt-of-lt-of-le, lt-of-le-of-lt, mul-comm, mul-assoc, mul-one, one-mul, mul-le-mul-left, mul-le-mul-right, lt-div-mul-add, div-mul-le-self, div-lt-iff-lt-mul, add-mul, mul-add, add-le-add, suc-mul, zero-mul, le-of-suc-le-suc, zero-lt-suc}
 use native.Mathlib.Omega.{arith}
 use lib.IntN.{pos}
-use lib.Dec.{T, lit≤, lit<, eqb, eqb→eq, not-T, leb→le}
+use lib.Dec.{T, lit≤, lit<}
 use lib.Pow.{pow-add, pow-pos, pow-mono}
-use lib.Ieee.{Float, nan, inf, fin, Format, binary32, prec, low, unlike, up, down, size, round, mul, div, le, fits, ofInt, toUnsigned}
+use lib.Ieee.{Float, fin, binary32, size, round, mul, le}
 use lib.Ieee.Digits.{size-lt, size-reaches}
-use lib.Ieee.Fits.{round-fits, mul-fits, up-pos, down-pos}
-use lib.Ieee.Bits.{cond-no}
+use lib.Ieee.Fits.{round-fits, mul-fits}
 use lib.Ieee.Exact.{HasValue}
 use lib.Ieee.Nearest.{div-mono}
 use lib.Ieee.Order.{round-mono}
-use lib.Ieee.Scale.{overflow, round-same}
-use Rattle.binary32.specs.Leaves.{asFloat, asWhole, floorOf, signOf}
+use lib.Ieee.Scale.{overflow}
+use Rattle.binary32.specs.Leaves.{asFloat}
 use Rattle.binary32.proofs.Values.{value-toUnsigned, mul-value, div-value}
-use Rattle.binary32.proofs.Units.{Units, Grid, grid-multiple, units-sign, zero-units}
+use Rattle.binary32.proofs.Units.{grid-multiple, units-sign, zero-units}
 use Rattle.binary32.proofs.Between.{Whole, whole}
 use Rattle.binary32.proofs.Rounding.{rd, rd-exact, rd-near, rd-mono, rd-le, round-units, round-value, round-sign, round-zero}
 use Rattle.binary32.proofs.Halves.{ofInt-whole}

@@ -1,5 +1,5 @@
 -- The loops of a waveform: a walk over a whole list; and the loop that writes a column a turn, where what stands in the list with the columns that are left is what the whole loop leaves. Assumes nothing.
-use mathlib.Core.Path.{_≡_, refl, sym, ap, ap₂, _∙_, subst}
+use mathlib.Core.Path.{_≡_, sym, ap, ap₂, _∙_}
 use mathlib.Core.List.{List, map}
 use Prim.Native.Nat.{ℕ, suc, _+_, _-_, _^_, _≤_, _<_, zero-le}
 use native.Mathlib.Nat.{le-of-eq, le-trans, sub-zero}

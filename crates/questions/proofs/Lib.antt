@@ -6,3 +6,4 @@ pub mod Room
 pub mod Cuts
 pub mod Filling
 pub mod Summaries
+pub mod Examples

@@ -1,7 +1,7 @@
 -- What a number says of the waveform summary: refused with the list kept, or done with the values in its front; and then the recording lies within the memory. The smallest of the columns is where the extremes start. Assumes nothing.
 use mathlib.Core.Path.{_≡_, refl, sym, ap, ap₂, _∙_, subst}
 use mathlib.Core.Bool.{Bool, true, false, not, _&&_, _||_, true≢false}
-use mathlib.Core.List.{List, [], _∷_}
+use mathlib.Core.List.{List}
 use Prim.Native.Nat.{ℕ, zero, suc, _+_, _*_, _^_, _≤_}
 use native.Mathlib.Nat.{le-trans, le-of-eq, one-mul, zero-mul, mul-le-mul-right}
 use native.Mathlib.Omega.{arith}
@@ -21,7 +21,7 @@ use Rattle.walks.proofs.Lists.Runs.{run-front}
 use Rattle.channel.specs.declared.Channel.{Channel}
 use Rattle.channel.specs.Channels.{recordingOf}
 use Rattle.sampler.specs.declared.Sampler.{Sampler}
-use Rattle.sampler.specs.Refusals.{channelAt, row, goodSizes, goodSampler, goodWith}
+use Rattle.sampler.specs.Refusals.{channelAt, goodSizes, goodSampler, goodWith}
 use Rattle.sampler.specs.Samplers.{partOf}
 use Rattle.sampler.proofs.Rows.{passed, is-true, good-sizes}
 use Rattle.questions.specs.Questions.{answered, inFront}
