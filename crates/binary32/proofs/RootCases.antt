@@ -2,11 +2,11 @@
 use mathlib.Core.Path.{_≡_, refl, sym, ap, _∙_, subst}
 use mathlib.Core.Logic.{inl, inr}
 use Prim.Native.Nat.{ℕ, zero, suc, _+_, _-_, _*_, _/_, _^_, _≤_, _<_}
-use native.Mathlib.Nat.{le-of-eq, lt-of-lt-of-le, lt-of-le-of-lt, not-le-of-lt, lt-irrefl, zero-lt-suc, eq-zero-or-pos, zero-mul, mul-pos, mul-assoc, mul-le-mul-right, mul-div-cancel}
+use native.Mathlib.Nat.{lt-of-lt-of-le, not-le-of-lt, zero-lt-suc, eq-zero-or-pos, zero-mul, mul-pos, mul-assoc, mul-div-cancel}
 use native.Mathlib.Omega.{arith}
 use mathlib.Core.Bool.{true, false, true≢false}
 use borrow.Author.Tests.{ltb-true, ltb-false}
-use lib.IntN.{ℤ, pos}
+use lib.IntN.{ℤ}
 use lib.Dec.{T}
 use lib.Pow.{pow-add, pow-mono, shl-lt}
 use lib.Ieee.{Float, nan, inf, fin, binary32, up, down, size, round, lt, isNan, fits, ofBits, toBits}

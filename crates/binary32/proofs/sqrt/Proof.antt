@@ -1,5 +1,5 @@
 -- `binary32::sqrt` meets its contract, by a law of `RootCases` for each arm. Assumes nothing.
-use mathlib.Core.Path.{_≡_, sym, ap, _∙_}
+use mathlib.Core.Path.{ap, _∙_}
 use lib.Ieee.{ofBits}
 use borrow.Author.Needs.{needs}
 use Rattle.binary32.specs.Leaves.{rootOf}
