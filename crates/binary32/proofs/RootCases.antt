@@ -2,23 +2,22 @@
 use mathlib.Core.Path.{_≡_, refl, sym, ap, _∙_, subst}
 use mathlib.Core.Logic.{inl, inr}
 use Prim.Native.Nat.{ℕ, zero, suc, _+_, _-_, _*_, _/_, _^_, _≤_, _<_}
-use native.Mathlib.Nat.{le-of-eq, lt-of-lt-of-le, lt-of-le-of-lt, not-le-of-lt, lt-irrefl, zero-lt-suc, eq-zero-or-pos, zero-mul, mul-pos, mul-assoc, mul-le-mul-right, mul-div-cancel}
+use native.Mathlib.Nat.{lt-of-lt-of-le, not-le-of-lt, zero-lt-suc, eq-zero-or-pos, zero-mul, mul-pos, mul-assoc, mul-div-cancel}
 use native.Mathlib.Omega.{arith}
-use mathlib.Core.Bool.{Bool, true, false, _&&_, _||_, true≢false}
-use borrow.Author.Tests.{ltb-false}
-use lib.IntN.{ℤ, pos}
-use lib.Dec.{T, eqb}
+use mathlib.Core.Bool.{true, false, true≢false}
+use borrow.Author.Tests.{ltb-true, ltb-false}
+use lib.IntN.{ℤ}
+use lib.Dec.{T}
 use lib.Pow.{pow-add, pow-mono, shl-lt}
-use lib.Ieee.{Float, nan, inf, fin, binary32, up, down, size, round, lt, eq, isNan, fits, ofBits, toBits}
+use lib.Ieee.{Float, nan, inf, fin, binary32, up, down, size, round, lt, isNan, fits, ofBits, toBits}
 use lib.Ieee.Digits.{size-le}
 use lib.Ieee.Fits.{up-pos, down-pos, kept-lt}
-use lib.Ieee.Positive.{num}
+use lib.Ieee.Back.{whole-unique}
 use lib.Ieee.Scale.{overflow}
-use Rattle.binary32.specs.Leaves.{zero32, absOf, bitsOf, floatOf, rootBelow, isqrt, rootOf}
+use Rattle.binary32.specs.Leaves.{zero32, bitsOf, floatOf, rootBelow, isqrt, rootOf}
 use Rattle.binary32.proofs.Units.{grid-multiple, on-grid}
 use Rattle.binary32.proofs.Rounding.{round-grid}
 use Rattle.binary32.proofs.Patterns.{value-back, bits-units}
-use Rattle.binary32.proofs.Sizes.{abs-zero}
 use Rattle.binary32.proofs.Roots.{root-units}
 
 -- ---- above zero
@@ -66,35 +65,43 @@ pattern-root m drop few small full =
     ∙ root-units (round binary32 false (m * 2 ^ drop) (2 ^ 149)) (m * 2 ^ drop) (round-grid false (grid-multiple binary32 m drop le) under)
     ∙ ap (λ (z : ℕ). round binary32 false (isqrt z) (2 ^ 149)) (mul-assoc m (2 ^ drop) (2 ^ 149) ∙ ap (λ (z : ℕ). m * z) (sym (pow-add 2 drop 149)))
 
--- ---- zero, and below it
+-- ---- below zero, and neither above nor below
+pub below-zero : (x : Float) → lt x zero32 ≡ true → nan ≡ rootOf x
+unfolding lt rootOf
+below-zero nan h = refl
+below-zero (inf true) h = refl
+below-zero (inf false) h = absurd (true≢false (sym h))
+below-zero (fin true zero e) h = absurd (none (0 * up e * 1) (0 * 1 * down e) (ap (λ (z : ℕ). z * 1) (zero-mul (up e))) (zero-mul (down e)) (ltb-true _ _ h))
+  where
+    none : (a b : ℕ) → a ≡ 0 → b ≡ 0 → 0 < a + b → ⊥
+    none a b p q h = omega arith
+below-zero (fin true (suc m) e) h = refl
+below-zero (fin false m e) h = absurd (none (m * up e * 1) (0 * 1 * down e) (zero-mul (down e)) (ltb-true _ _ h))
+  where
+    none : (a b : ℕ) → b ≡ 0 → a < b → ⊥
+    none a b q h = omega arith
+
 zero-itself : zero32 ≡ rootOf zero32
 unfolding rootOf isqrt rootBelow size round
 zero-itself = refl
 
-pub zero-root : (x : Float) → T (fits binary32 x) → eq x zero32 ≡ true → x ≡ rootOf x
-unfolding eq rootOf
-zero-root nan f h = refl
-zero-root (inf s) f h = absurd (true≢false (sym h))
-zero-root (fin true zero e) f h = refl
-zero-root (fin true (suc m) e) f h = absurd (lt-irrefl 0 (lt-of-lt-of-le (mul-pos (zero-lt-suc m) (up-pos e)) (le-of-eq (sym (ap num (abs-zero (fin true (suc m) e) f h))))))
-zero-root (fin false m e) f h =
-    let z : zero32 ≡ fin false m e = abs-zero (fin false m e) f h in
-    sym z ∙ zero-itself ∙ ap rootOf z
+some : (m : ℕ) (e : ℤ) → 0 < suc m * up e * 1
+some m e = mul-pos (mul-pos (zero-lt-suc m) (up-pos e)) (zero-lt-suc 0)
 
-level-zero : (a b : ℕ) (s : Bool) → a ≡ 0 → b ≡ 0 → (eqb a b && (s || eqb a 0)) ≡ false → ⊥
-level-zero zero zero true p q h = true≢false h
-level-zero zero zero false p q h = true≢false h
-level-zero zero (suc b) s p q h = omega arith
-level-zero (suc a) b s p q h = omega arith
-
-pub no-root : (x : Float) → lt zero32 x ≡ false → eq x zero32 ≡ false → nan ≡ rootOf x
-unfolding lt eq rootOf
-no-root nan h k = refl
-no-root (inf true) h k = refl
-no-root (inf false) h k = absurd (true≢false h)
-no-root (fin true zero e) h k = absurd (level-zero (0 * up e * 1) (0 * 1 * down e) false (ap (λ (z : ℕ). z * 1) (zero-mul (up e))) (zero-mul (down e)) k)
-no-root (fin true (suc m) e) h k = refl
-no-root (fin false m e) h k = absurd (level-zero (m * up e * 1) (0 * 1 * down e) true (none (m * up e * 1) (0 * 1 * down e) (zero-mul (down e)) (ltb-false _ _ h)) (zero-mul (down e)) k)
+pub zero-or-nan : (x : Float) → T (fits binary32 x) → lt zero32 x ≡ false → lt x zero32 ≡ false → x ≡ rootOf x
+unfolding lt rootOf fits
+zero-or-nan nan f h k = refl
+zero-or-nan (inf true) f h k = absurd (true≢false k)
+zero-or-nan (inf false) f h k = absurd (true≢false h)
+zero-or-nan (fin true zero e) f h k = refl
+zero-or-nan (fin true (suc m) e) f h k = absurd (none (suc m * up e * 1) (0 * 1 * down e) (some m e) (ltb-false _ _ k))
   where
-    none : (a b : ℕ) → b ≡ 0 → a ≤ b → a ≡ 0
-    none a b e l = omega arith
+    none : (a b : ℕ) → 0 < a → a + b ≤ 0 → ⊥
+    none a b p h = omega arith
+zero-or-nan (fin false zero e) f h k =
+    let z : zero32 ≡ fin false 0 e = whole-unique binary32 zero32 (fin false 0 e) false 0 tt f (refl, refl) (refl, simp zero-mul) in
+    sym z ∙ zero-itself ∙ ap rootOf z
+zero-or-nan (fin false (suc m) e) f h k = absurd (none (suc m * up e * 1) (0 * 1 * down e) (some m e) (zero-mul (down e)) (ltb-false _ _ h))
+  where
+    none : (a b : ℕ) → 0 < a → b ≡ 0 → a ≤ b → ⊥
+    none a b p q h = omega arith

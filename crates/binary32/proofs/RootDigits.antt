@@ -1,10 +1,8 @@
 -- How `binary32::scaled_root` finds the root of m * 2 ^ drop units: from 25 digits of it, the whole part s of the root of m * 2 ^ shift, of which the last one rounds the others.
 -- It is not the first of more digits that are all 0, since the root is never the middle of two floats (`never-half`). Assumes nothing.
 use mathlib.Core.Path.{_≡_, refl, sym, ap, ap₂, _∙_, subst}
-use mathlib.Core.Logic.{_⊎_, inl, inr}
-use Prim.Native.Nat.{ℕ, zero, suc, _+_, _-_, _*_, _/_, _%_, _^_, _≤_, _<_, zero-le}
-use native.Mathlib.Nat.{le-trans, le-of-eq, le-of-lt, lt-of-lt-of-le, lt-of-le-of-lt, lt-of-not-le, lt-suc-self, suc-mul, mul-comm, mul-assoc, mul-le-mul-right, mul-lt-mul-of-pos-right, div-mul-le-self, div-lt-iff-lt-mul, div-add-mod', two-pow-succ, pow-succ'}
-use native.Mathlib.Decide.{decLe}
+use Prim.Native.Nat.{ℕ, zero, suc, _+_, _-_, _*_, _/_, _%_, _^_, _≤_, _<_}
+use native.Mathlib.Nat.{le-trans, le-of-eq, lt-of-lt-of-le, lt-of-le-of-lt, lt-suc-self, suc-mul, mul-comm, mul-assoc, mul-le-mul-right, mul-lt-mul-of-pos-right, div-mul-le-self, div-lt-iff-lt-mul, div-add-mod', two-pow-succ, pow-succ'}
 use native.Mathlib.Omega.{arith}
 use mathlib.Core.Bool.{false}
 use lib.Arith.{lt-of-le-ne}
@@ -16,7 +14,7 @@ use lib.Ieee.Nearest.{closest}
 use lib.Ieee.Scale.{overflow}
 use Rattle.binary32.specs.Leaves.{isqrt}
 use Rattle.binary32.proofs.Units.{grid-multiple}
-use Rattle.binary32.proofs.Rounding.{rd, rd-at, rd-exact, round-kept}
+use Rattle.binary32.proofs.Rounding.{rd-at, rd-exact, round-kept}
 use Rattle.binary32.proofs.Tops.{closest-below, closest-above}
 use Rattle.binary32.proofs.Patterns.{bits-units}
 use Rattle.binary32.proofs.WholeRoots.{isqrt-scale, root-reaches, root-stays, pow-lt-back}

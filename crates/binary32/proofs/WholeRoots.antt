@@ -1,14 +1,14 @@
 -- The whole part of a number's root: what `isqrt` is, that nothing else is it, how it goes with a power of two, and how Newton's steps reach it.
 -- Nothing here is about floats. Assumes nothing.
 use mathlib.Core.Path.{_≡_, refl, sym, ap, _∙_, subst}
-use Prim.Native.Nat.{ℕ, zero, suc, _+_, _-_, _*_, _/_, _%_, _^_, _≤_, _<_, zero-le}
-use native.Mathlib.Nat.{le-refl, le-trans, le-of-eq, le-of-lt, le-antisymm, le-of-suc-le-suc, lt-of-lt-of-le, lt-of-le-of-lt, lt-of-not-le, lt-irrefl, zero-lt-suc, lt-suc-self, not-suc-le-zero, le-dest, le-intro, add-comm, add-assoc, add-left-comm, mul-comm, mul-add, add-mul, add-suc, suc-mul, mul-suc, mul-assoc, mul-left-comm, mul-le-mul, mul-le-mul-right, mul-lt-mul-of-pos-right, mul-pos, mul-mul-mul-comm, le-of-mul-le-mul-right, lt-of-mul-lt-mul-right, two-pow-succ, pow-succ', div-lt-iff-lt-mul, div-mul-le-self}
+use Prim.Native.Nat.{ℕ, zero, suc, _+_, _-_, _*_, _/_, _^_, _≤_, _<_, zero-le}
+use native.Mathlib.Nat.{le-trans, le-of-eq, le-of-lt, le-antisymm, le-of-suc-le-suc, lt-of-lt-of-le, lt-of-le-of-lt, lt-of-not-le, lt-irrefl, zero-lt-suc, lt-suc-self, not-suc-le-zero, le-dest, le-intro, add-comm, add-assoc, add-left-comm, mul-comm, mul-add, add-mul, add-suc, suc-mul, mul-suc, mul-assoc, mul-le-mul, mul-le-mul-right, mul-lt-mul-of-pos-right, mul-pos, mul-mul-mul-comm, le-of-mul-le-mul-right, lt-of-mul-lt-mul-right, two-pow-succ, pow-succ', div-lt-iff-lt-mul, div-mul-le-self}
 use native.Mathlib.Decide.{decLe}
 use native.Mathlib.Omega.{arith}
 use mathlib.Core.Bool.{Bool, true, false, not, cond}
 use lib.Arith.{add-le-cancel-left}
 use lib.Dec.{T, leb, leb→le, nleb→lt}
-use lib.Pow.{pow-add, pow-pos, pow-lt, pow-mono}
+use lib.Pow.{pow-add, pow-pos, pow-mono}
 use lib.Ieee.{size}
 use lib.Ieee.Digits.{size-lt}
 use Rattle.binary32.specs.Leaves.{withDigit, rootBelow, isqrt}

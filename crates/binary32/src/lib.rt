@@ -5,7 +5,7 @@ ghost use mathlib.Core.Path.{_≡_};
 ghost use Prim.Native.Nat.{_+_, _*_, _^_, _≤_, _<_};
 ghost use lib.Dec.{T};
 ghost use mathlib.Core.Bool.{false};
-ghost use lib.Ieee.{binary32, lt, ofBits, round};
+ghost use lib.Ieee.{nan, binary32, lt, ofBits, round};
 ghost use lib.Ieee.Nearest.{closest};
 ghost use Rattle.binary32.specs.Leaves.{
   asFloat,
@@ -172,10 +172,16 @@ pub fn from_bits(pattern: u32) -> f32
     ensures { λ r. ⌜ r ≡ floatOf pattern ⌝ }
 {
     if pattern % 0x8000_0000 > 0x7f80_0000 {
-        0.0 / 0.0
+        not_a_number()
     } else {
         f32::from_bits(pattern)
     }
+}
+
+fn not_a_number() -> f32
+    ensures { λ r. ⌜ r ≡ nan ⌝ }
+{
+    0.0 / 0.0
 }
 
 // The sign bit, which NaN has not.
@@ -204,10 +210,10 @@ pub fn sqrt(x: f32) -> f32
         } else {
             x
         }
-    } else if x == 0.0 {
-        x
+    } else if x < 0.0 {
+        not_a_number()
     } else {
-        0.0 / 0.0
+        x
     }
 }
 

@@ -1,6 +1,6 @@
 -- `binary32::root_of` meets its contract: the law `pattern-root`, with the exponent's field below 1 and above. Assumes nothing.
 use mathlib.Core.Path.{_≡_, sym, ap, _∙_}
-use Prim.Native.Nat.{ℕ, _+_, _-_, _*_, _/_, _%_, _^_, _≤_, _<_}
+use Prim.Native.Nat.{ℕ, _+_, _-_, _*_, _/_, _%_, _^_}
 use native.Mathlib.Omega.{arith}
 use borrow.Author.Needs.{needs}
 use Rattle.binary32.specs.Leaves.{floatOf, rootOf}

@@ -14,9 +14,6 @@ use Rattle.binary32.proofs.Rounding.{round-not-nan}
 use Rattle.binary32.proofs.RootDigits.{shiftOf, zeros-from, zeros-until, moved-until, kept-until, moved-root}
 use Rattle.binary32.proofs.scaled_root.Statement.{statement}
 use Rattle.binary32.proofs.scaled_root.Tie as tie
-use Rattle.binary32.proofs.scaled_root.Reads as reads
-use Rattle.binary32.proofs.scaled_root.Lts as lts
-use Rattle.binary32.proofs.whole_root.Reads as whole-root-reads
 
 -- what the contract asks of m and drop, and the count of zeros that it leaves
 abbrev Asked : ℕ → ℕ → Type 0

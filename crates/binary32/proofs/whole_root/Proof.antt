@@ -1,7 +1,6 @@
 -- `binary32::whole_root` meets its contract: each step leads to the root or above it, and the test that ends the loop says that it is not above. Assumes nothing.
-use mathlib.Core.Path.{_≡_}
-use Prim.Native.Nat.{ℕ, suc, _+_, _*_, _/_, _^_, _≤_, _<_}
-use native.Mathlib.Nat.{le-trans, le-of-lt, lt-of-le-of-lt, zero-lt-suc, div-le-self, mul-le-mul}
+use Prim.Native.Nat.{suc, _*_, _^_, _≤_, _<_}
+use native.Mathlib.Nat.{le-trans, le-of-lt, zero-lt-suc, div-le-self, mul-le-mul}
 use native.Mathlib.Omega.{arith}
 use borrow.Author.Needs.{needs}
 use Rattle.binary32.proofs.WholeRoots.{isqrt-is, newton-above, newton-down, square-pos}
