@@ -6,6 +6,7 @@
 // First `W`, the smallest and the largest, then a line for each column with its value. A refused summary prints `W` and
 // its number. A bad header or record prints `X` and its offset, and no waveform.
 ghost use Prim.Native.Nat.{_≤_};
+ghost use lib.ListN.{length};
 use decimal::Line;
 use libc::STDIN_FILENO;
 use libc::STDOUT_FILENO;
@@ -78,13 +79,22 @@ fn is_on(step: Step) -> bool {
 fn next(step: Step, memory: &mut [u32]) -> Step {
     let mut record = [0u8; 64];
     let listing = step.listing;
-    let got = io::read_full(STDIN_FILENO, &mut record[..2]);
+    let got = read(&mut record, 0, 2);
     if got < 2 {
         return listing.step(&record[..got], memory);
     }
-    let end = 2 + rest(&record[..2]);
-    let last = 2 + io::read_full(STDIN_FILENO, &mut record[2..end]);
-    listing.step(&record[..last], memory)
+    let size = rest(&record[..got]);
+    let end = 2 + read(&mut record, 2, size);
+    listing.step(&record[..end], memory)
+}
+
+// Reads so many bytes to the place `from`, or as many as are left.
+fn read(bytes: &mut [u8], from: usize, size: usize) -> usize
+    requires { ⌜ (from ≤ 2) × (size ≤ 45) × (47 ≤ length (now bytes)) ⌝ }
+    ensures { λ r. ⌜ r ≤ size ⌝ }
+{
+    let end = from + size;
+    io::read_full(STDIN_FILENO, &mut bytes[from..end])
 }
 
 fn print(step: Step, columns: usize, memory: &[u32]) {
