@@ -35,6 +35,10 @@ fn original(scenario: &Scenario) -> Result<(u64, Duration), String> {
     Ok((sum, begin.elapsed()))
 }
 
+fn ported(scenario: &Scenario) -> Result<(u64, Duration), String> {
+    port::played(&scenario.bytes())
+}
+
 /// What the frames alone take: a run without them is taken away.
 fn frames_alone(side: fn(&Scenario) -> Result<(u64, Duration), String>, scenario: &Scenario) -> Result<(u64, f64), String> {
     let (sum, all) = side(scenario)?;
@@ -53,7 +57,7 @@ fn timed(scenario: &Scenario, rounds: u32) -> Result<(Figures, Figures), String>
     for _ in 0..rounds {
         let (wanted, time) = frames_alone(original, scenario)?;
         rust.push(time);
-        let (got, time) = frames_alone(port::played, scenario)?;
+        let (got, time) = frames_alone(ported, scenario)?;
         ported.push(time);
         if got != wanted {
             return Err(format!("{}: the outputs differ", scenario.name));
@@ -83,7 +87,7 @@ fn run(rounds: u32) -> Result<(), String> {
 }
 
 fn count(voices: u32, frames: u32) -> Result<(), String> {
-    port::played(&Scenario { voices, frames, ..scenario::PLAIN }).map(|_| ())
+    ported(&Scenario { voices, frames, ..scenario::PLAIN }).map(|_| ())
 }
 
 fn main() -> ExitCode {

@@ -1,6 +1,5 @@
 //! The port's side: its program, compiled for this machine and linked in, reads its standard input and writes its standard output.
 
-use crate::scenario::Scenario;
 use std::fs::File;
 use std::io::{Seek, Write};
 use std::os::fd::AsRawFd;
@@ -36,15 +35,15 @@ impl Drop for StandIn {
     }
 }
 
-/// The sum over the bits of every output, and the time that the program took.
-pub fn played(scenario: &Scenario) -> Result<(u64, Duration), String> {
+/// The sum that the program writes for this input, and the time that it took.
+pub fn played(bytes: &[u8]) -> Result<(u64, Duration), String> {
     let path = std::env::temp_dir().join(format!("bench-{}", std::process::id()));
     let words = |e: std::io::Error| format!("{}: {e}", path.display());
     let open = || File::options().read(true).write(true).create(true).truncate(true).open(&path);
     let mut input = open().map_err(words)?;
     std::fs::remove_file(&path).map_err(words)?;
     let output = open().map_err(words)?;
-    input.write_all(&scenario.bytes()).map_err(words)?;
+    input.write_all(bytes).map_err(words)?;
     input.rewind().map_err(words)?;
     let (status, time) = {
         let _stand_ins = (StandIn::new(0, &input), StandIn::new(1, &output));

@@ -50,6 +50,8 @@ pub enum Shown {
     ErrorText(String),
     Notes(Vec<u64>),
     Infos(Vec<VoiceInfo>),
+    /// The extremes, and the list.
+    Waveform([f32; 2], Vec<f32>),
 }
 
 /// The number of the first row whose test holds.
@@ -104,6 +106,7 @@ impl Engine {
                 (0, Shown::Record)
             }
             RECORDINGS => (0, Shown::Recordings),
+            WAVEFORM => self.waveform(r),
             _ => self.query(r),
         }
     }
@@ -204,11 +207,15 @@ impl Engine {
         last
     }
 
+    /// The lent memory is too short for the channels' parts.
+    fn short(&self, r: &Record) -> bool {
+        (r.u32_at(LENT) as usize).min(MEMORY) < self.count.saturating_mul(self.capacity)
+    }
+
     fn step_number(&self, r: &Record, present: bool, stepped: Range<usize>) -> u8 {
-        let short = (r.u32_at(LENT) as usize).min(MEMORY) < self.count.saturating_mul(self.capacity);
         let mut channels = stepped.filter_map(|j| self.sampler.channels.get(j));
         row(&[
-            (9, self.broken() || short),
+            (9, self.broken() || self.short(r)),
             (1, !present),
             (4, beyond_limits(&self.params)),
             (6, channels.any(|c| inside::clock(c) >= LAST_TIME)),
@@ -265,6 +272,19 @@ impl Engine {
         if room.min(most) < size { (8, refused(kind)) } else { (0, shown) }
     }
 
+    /// Rows 9, 11 and 8; the list is as it was where one holds.
+    fn waveform(&self, r: &Record) -> (u8, Shown) {
+        let (columns, room) = (r.u32_at(COLUMNS) as usize, (r.u32_at(ROOM) as usize).min(VALUES));
+        let number = row(&[(9, self.broken() || self.short(r)), (11, columns > 4096), (8, room < columns)]);
+        let mut list = vec![7.0; VALUES];
+        if number != 0 {
+            return (number, Shown::Waveform([0.0; 2], list));
+        }
+        let summary = self.sampler.get_waveform_summary(columns);
+        list[..columns].copy_from_slice(&summary.data);
+        (0, Shown::Waveform([summary.min, summary.max], list))
+    }
+
     fn show(&self, shown: Shown, text: &mut Text) {
         match shown {
             Shown::Nothing => text.end(),
@@ -290,6 +310,10 @@ impl Engine {
                 // By value the answer has no rest; a lent list held -1 everywhere.
                 let size = 3 * if self.calls == Calls::Lent { INFOS } else { infos.len() };
                 text.list(infos.len(), figures, (8, bits(-1.0)), size);
+            }
+            Shown::Waveform(extremes, list) => {
+                extremes.iter().for_each(|x| text.float(*x));
+                text.last(16, list.into_iter().map(bits).sum());
             }
         }
     }

@@ -24,12 +24,13 @@ pub const ERROR_TEXT: u8 = 16;
 pub const ACTIVE_NOTES: u8 = 17;
 pub const VOICE_INFO: u8 = 18;
 pub const FRAMES: u8 = 19;
+pub const WAVEFORM: u8 = 20;
 
 /// The kinds by their numbers. Those in brackets are no calls.
-pub const NAMES: [&str; 20] = [
+pub const NAMES: [&str; 21] = [
     "set-up", "parameters", "start_playing", "stop_playing", "set_note_speed", "start_recording", "stop_recording", "reset", "process_sample",
     "process_frame", "(a field put)", "(recordings)", "get_frames_processed", "get_data_len", "is_recording", "get_last_recorded_offset",
-    "print_error_info", "iter_active_notes", "get_voice_info", "many of process_frame",
+    "print_error_info", "iter_active_notes", "get_voice_info", "many of process_frame", "get_waveform_summary",
 ];
 
 /// How many samples of memory the port has to lend.
@@ -38,6 +39,8 @@ pub const MEMORY: usize = 65536;
 pub const TEXT: usize = 64;
 pub const NOTES: usize = 34;
 pub const INFOS: usize = 34;
+/// The same of the list for a waveform, of which a sum is shown; before a call it holds 7.0 everywhere.
+pub const VALUES: usize = 4100;
 
 /// The places of the fields.
 pub const NOTE: usize = 1;
@@ -49,6 +52,7 @@ pub const COUNT: usize = 4;
 pub const SECOND: usize = 8;
 pub const CHANNEL: usize = 8;
 pub const SIZE: usize = 8;
+pub const COLUMNS: usize = 8;
 pub const ROOM: usize = 12;
 pub const TIMES: usize = 12;
 pub const LENT: usize = 16;
@@ -83,6 +87,10 @@ pub fn query(kind: u8, channel: u32, room: u32) -> Record {
     Record::new(kind).with_u32(CHANNEL, channel).with_u32(ROOM, room)
 }
 
+pub fn waveform(columns: u32, room: u32, lent: u32) -> Record {
+    Record::new(WAVEFORM).with_u32(COLUMNS, columns).with_u32(ROOM, room).with_u32(LENT, lent)
+}
+
 pub fn bytes(records: &[Record]) -> Vec<u8> {
     records.iter().flat_map(|r| r.0).collect()
 }
@@ -113,6 +121,7 @@ pub fn describe(r: &Record) -> String {
         PUT => puts::describe(r),
         FRAMES_PROCESSED..=LAST_OFFSET => format!("channel {}", r.u32_at(CHANNEL)),
         ERROR_TEXT..=VOICE_INFO => format!("channel {}, room for {}", r.u32_at(CHANNEL), r.u32_at(ROOM)),
+        WAVEFORM => format!("{} columns, room for {}, {} samples lent", r.u32_at(COLUMNS), r.u32_at(ROOM), r.u32_at(LENT)),
         _ => String::new(),
     };
     format!("{} {fields}", NAMES.get(kind as usize).unwrap_or(&"?")).trim_end().into()

@@ -11,7 +11,7 @@ const LENT_MEMORY: u32 = 16;
 const MOST_VOICES: usize = 32;
 
 pub fn listing() -> Vec<Record> {
-    [refused_set_ups(), rows(), full(), clock_end(), emptied(), broken(), broken_sizes(), judged()].concat()
+    [refused_set_ups(), rows(), full(), clock_end(), emptied(), broken(), broken_sizes(), judged(), waveforms()].concat()
 }
 
 /// Row 9: after each refused set-up every call is refused.
@@ -114,6 +114,25 @@ fn judged() -> Vec<Record> {
     l
 }
 
+/// Recordings in columns, at lengths and numbers of columns at which a cut falls short: 0, 1, 31 and 4,096 samples, while recording too; a list
+/// that just fits, a longer one and one that is short; too little memory; and hostile floats.
+fn waveforms() -> Vec<Record> {
+    const MEMORY: u32 = 8192;
+    let columns = |lent| [0, 1, 7, 41, 46, 4096, 4097].into_iter().flat_map(move |n: u32| [n, n + 3, n.max(1) - 1].map(|room| waveform(n, room, lent)));
+    let mut l = vec![set_up(2, false, MEMORY), settings(4.0, 0), plain(START_RECORDING)];
+    for times in [0, 1, 30, 4065] {
+        l.push(frames(2, level(-0.75), level(0.001), times, MEMORY));
+        l.extend(columns(MEMORY));
+    }
+    l.push(plain(STOP_RECORDING));
+    l.extend(columns(MEMORY - 1));
+    l.extend([set_up(1, false, MEMORY), settings(4.0, 0), plain(START_RECORDING)]);
+    let hostile = [f32::NAN, f32::INFINITY, 1e30, 1e-30, 1e-45, f32::NEG_INFINITY, -0.0, f32::MAX, 3.0];
+    l.extend(hostile.map(|x| sample(0, level(x), MEMORY)));
+    l.extend((0..20).map(|n| waveform(n, n, MEMORY)));
+    l
+}
+
 /// A voice that sounds and one that decays.
 fn sounding(channels: u32) -> Vec<Record> {
     let mut l = vec![set_up(channels, false, LENT_MEMORY), settings(4.0, 0).with_u64(params::DECAY, 1 << 24), plain(START_RECORDING)];
@@ -136,7 +155,7 @@ fn each_call(note: (u8, u8), channel: u32, lent: u32) -> Vec<Record> {
     let mut l = vec![start(note, level(0.0), level(1.0)), of_note(NOTE_SPEED, note).with_u32(FLOAT, level(0.5))];
     l.extend([plain(START_RECORDING), sample(channel, level(0.5), lent), whole_frame(1, lent), plain(STOP_RECORDING)]);
     l.extend((FRAMES_PROCESSED..=VOICE_INFO).map(|kind| query(kind, channel, 64)));
-    l.extend([of_note(STOP, note), plain(RESET)]);
+    l.extend([waveform(3, 3, lent), of_note(STOP, note), plain(RESET)]);
     l
 }
 

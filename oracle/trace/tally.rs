@@ -46,7 +46,7 @@ pub struct Tally {
     pub listings: u64,
     pub calls: u64,
     pub fields: u64,
-    answers: [[u64; 10]; NAMES.len()],
+    answers: [[u64; 12]; NAMES.len()],
     frames_of_many: u64,
     met: BTreeMap<(&'static str, &'static str), u64>,
 }
@@ -134,7 +134,7 @@ impl Tally {
     }
 
     pub fn print(&self) {
-        let numbers = [0, 1, 2, 3, 4, 5, 6, 8, 9];
+        let numbers = [0, 1, 2, 3, 4, 5, 6, 8, 9, 11];
         println!("{:<26}{}{:>10}", "answers", numbers.iter().map(|n| format!("{n:>10}")).collect::<String>(), "made");
         for ((name, counts), made) in NAMES.iter().zip(&self.answers).zip(self.times()) {
             let cells = numbers.iter().map(|n| counts[*n]).chain([made]);

@@ -16,4 +16,8 @@ pub mod Sizes
 pub mod Signs
 pub mod Extremes
 pub mod Patterns
+pub mod WholeRoots
+pub mod Roots
+pub mod RootDigits
+pub mod RootCases
 pub mod Examples

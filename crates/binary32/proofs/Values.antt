@@ -10,7 +10,7 @@ use mathlib.Core.Bool.{Bool, true, false, not, _&&_, _||_, Bool·beq, cond, true
 use lib.IntN.{ℤ, pos}
 use lib.Dec.{T, leb, ltb, eqb, lt→ltb, ltb→lt, eqb→eq, le→leb, leb→le, leb·zero, not-T, T-not}
 use lib.Arith.{mod-mul}
-use lib.Ieee.{Float, nan, inf, fin, Format, prec, low, unlike, up, down, size, round, sum, add, sub, mul, rem, neg, lt, eq, le, below, level, fits, isNan, hid, top, ofBits, toBits, toUnsigned}
+use lib.Ieee.{Float, nan, inf, fin, Format, prec, low, unlike, up, down, size, round, sum, add, sub, mul, div, rem, neg, lt, eq, le, below, level, fits, isNan, hid, top, ofBits, toBits, toUnsigned}
 use lib.Ieee.Fits.{eq→eqb, up-pos, down-pos, and-i, and-l, and-r}
 use lib.Ieee.Bits.{cond-no, ofBits-toBits}
 use lib.Ieee.Exact.{HasValue}
@@ -284,6 +284,22 @@ mod-same c k p q a b C K Q B h g = sym (mod-scale p q c Q C) ∙ ap₂ (λ (x y 
 -- a value that is not 0 in size has an m that is not 0
 not-zero : (n u c b k : ℕ) → n * u * c ≡ b * k → 0 < b → 0 < k → 0 < n
 not-zero n u c b k g B K = first-pos n u (first-pos (n * u) c (subst (λ (z : ℕ). 0 < z) (sym g) (mul-pos B K)))
+
+-- and so may dividend and divisor, which is not 0
+pub div-value : (f : Format) (x y : Float) (s : Bool) (a c : ℕ) (t : Bool) (b d : ℕ) → 0 < c → 0 < d → 0 < b → HasValue x s a c → HasValue y t b d
+    → div f x y ≡ round f (unlike s t) (a * d) (b * c)
+unfolding div
+div-value f x y s a c t b d C D B h g =
+    let (m, e, p, v) = opened x s a c h in
+    let (n, k, q, w) = opened y t b d g in
+    let X = m * up e in
+    let Y = n * up k in
+    let N : 0 < n = not-zero n (up k) d b (down k) w B (down-pos k) in
+    ap₂ (div f) p q
+    ∙ cond-no (eqb n 0) (cond (eqb m 0) nan (inf (unlike s t))) (round f (unlike s t) (X * down k) (Y * down e)) (not-T (eqb n 0) (λ t. lt-irrefl 0 (subst (λ (z : ℕ). 0 < z) (eqb→eq n 0 t) N)))
+    ∙ round-same f (unlike s t) (X * down k) (Y * down e) (a * d) (b * c) (mul-pos (mul-pos N (up-pos k)) (down-pos e)) (mul-pos B C)
+    (ap (λ (z : ℕ). X * down k * z) (mul-comm b c) ∙ mul-mul-mul-comm X (down k) c b ∙ ap₂ (λ (z w : ℕ). z * w) v (mul-comm (down k) b ∙ sym w ∙ mul-comm Y d)
+    ∙ mul-mul-mul-comm a (down e) d Y ∙ ap (λ (z : ℕ). a * d * z) (mul-comm (down e) Y))
 
 pub rem-value : (f : Format) (x y : Float) (s : Bool) (a : ℕ) (t : Bool) (b c : ℕ) → 0 < c → 0 < b → HasValue x s a c → HasValue y t b c
     → rem f x y ≡ round f s (a % b) c

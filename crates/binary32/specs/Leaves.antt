@@ -2,10 +2,11 @@
 -- chapter on operator expressions ("numeric cast") and the page of the primitive type f32. A float is the kit's
 -- (`lib.Ieee`): `nan`, `inf s`, or `fin s m e`, the number m * 2 ^ e, negative where s is true. There is one `nan`; `≡`
 -- on floats is identity, so -0 is not +0. Definitions only.
-use Prim.Native.Nat.{ℕ, _+_, _-_, _*_, _/_}
+use Prim.Native.Nat.{ℕ, zero, suc, _+_, _-_, _*_, _/_, _^_}
 use mathlib.Core.Bool.{Bool, true, false, not, _||_, Bool·beq, cond}
 use lib.IntN.{pos}
-use lib.Ieee.{Float, nan, inf, fin, binary32, up, down, round, lt, eq, isNan, ofInt, toUnsigned, ofBits, toBits}
+use lib.Dec.{leb}
+use lib.Ieee.{Float, nan, inf, fin, binary32, up, down, size, round, lt, eq, isNan, ofInt, toUnsigned, ofBits, toBits}
 
 abbrev pub zero32 : Float
 zero32 = fin false 0 (pos 0)
@@ -66,3 +67,28 @@ bitsOf x = toBits binary32 x
 
 abbrev pub floatOf : ℕ → Float
 floatOf b = ofBits binary32 b
+
+-- The largest q with q * q ≤ n, for an n of at most k binary digits: but for its last digit it is that of n / 4, and
+-- its last digit is 1 where the square is still at most n.
+abbrev pub withDigit : ℕ → ℕ → ℕ
+withDigit n r = cond (leb (suc r * suc r) n) (suc r) r
+
+unfoldable pub rootBelow : ℕ → ℕ → ℕ
+rootBelow zero n = 0
+rootBelow (suc k) n = withDigit n (2 * rootBelow k (n / 4))
+
+-- The largest q with q * q ≤ n (`isqrt-root`).
+unfoldable pub isqrt : ℕ → ℕ
+isqrt n = rootBelow (size n) n
+
+-- The float nearest to the root of x (754, 5.4.1, squareRoot; f32::sqrt). NaN, +inf and zeros of either sign are their
+-- own roots, and what lies below zero has none. In units of 2 ^ -149, the smallest float, the root of x is that of
+-- x * 2 ^ 298, a whole number. Of its whole part, 75 digits or more, `round` keeps 24; that no digit after it matters,
+-- and no other float is as near, is `Roots.nearest`.
+unfoldable pub rootOf : Float → Float
+rootOf nan = nan
+rootOf (inf false) = inf false
+rootOf (inf true) = nan
+rootOf (fin true zero e) = fin true zero e
+rootOf (fin true (suc m) e) = nan
+rootOf (fin false m e) = round binary32 false (isqrt (m * up e * 2 ^ 298 / down e)) (2 ^ 149)

@@ -1,10 +1,11 @@
 // What the engine needs of binary32 beyond the language's own operators: conversions, floor, minimum, maximum, size,
-// the crossing test and bit patterns. Each function takes every value of its arguments, and equals a definition in
-// specs/Leaves.antt.
+// the crossing test, bit patterns and the square root. Each function takes every value of its arguments, and equals a
+// definition in specs/Leaves.antt.
 ghost use mathlib.Core.Path.{_≡_};
 ghost use Prim.Native.Nat.{_+_, _*_, _^_, _≤_, _<_};
 ghost use lib.Dec.{T};
-ghost use lib.Ieee.{binary32, lt, ofBits};
+ghost use mathlib.Core.Bool.{false};
+ghost use lib.Ieee.{nan, binary32, lt, ofBits, round};
 ghost use lib.Ieee.Nearest.{closest};
 ghost use Rattle.binary32.specs.Leaves.{
   asFloat,
@@ -17,6 +18,8 @@ ghost use Rattle.binary32.specs.Leaves.{
   crossingOf,
   bitsOf,
   floatOf,
+  isqrt,
+  rootOf,
 };
 
 // `n as f32`. A number above 2^24 keeps the 24 digits from its top one on, and drops those below.
@@ -169,10 +172,16 @@ pub fn from_bits(pattern: u32) -> f32
     ensures { λ r. ⌜ r ≡ floatOf pattern ⌝ }
 {
     if pattern % 0x8000_0000 > 0x7f80_0000 {
-        0.0 / 0.0
+        not_a_number()
     } else {
         f32::from_bits(pattern)
     }
+}
+
+fn not_a_number() -> f32
+    ensures { λ r. ⌜ r ≡ nan ⌝ }
+{
+    0.0 / 0.0
 }
 
 // The sign bit, which NaN has not.
@@ -188,4 +197,62 @@ pub fn crossing(value: f32, last: f32) -> bool
     ensures { λ r. ⌜ r ≡ crossingOf value last ⌝ }
 {
     (value != value) | (last != last) | (negative(value) != negative(last)) | (value == 0.0)
+}
+
+// f32::sqrt.
+pub fn sqrt(x: f32) -> f32
+    ensures { λ r. ⌜ r ≡ rootOf x ⌝ }
+{
+    if x > 0.0 {
+        let pattern = f32::to_bits(x);
+        if pattern < 0x7f80_0000 {
+            root_of(pattern)
+        } else {
+            x
+        }
+    } else if x < 0.0 {
+        not_a_number()
+    } else {
+        x
+    }
+}
+
+// The root of a finite float above 0, by its pattern. From 2^-126 on, the exponent's field stands for a leading digit too.
+fn root_of(pattern: u32) -> f32
+    requires { ⌜ (0 < pattern) × (pattern < 0x7f80_0000) ⌝ }
+    ensures { λ r. ⌜ r ≡ rootOf (floatOf pattern) ⌝ }
+{
+    if pattern < 0x80_0000 {
+        scaled_root(pattern as u64, 0)
+    } else {
+        scaled_root(
+            (pattern % 0x80_0000 + 0x80_0000) as u64,
+            pattern / 0x80_0000 - 1,
+        )
+    }
+}
+
+// The root of m * 2^drop, in the smallest floats. With m moved up until it has 49 or 50 digits and a root that is moved
+// by a whole number of places, the whole part of the root has 25 digits, one more than a float: it is rounded by that
+// one, and a carry goes into the exponent.
+fn scaled_root(m: u64, drop: u32) -> f32
+    requires { ⌜ (0 < m) × (m < 2 ^ 24) × (drop < 254) ⌝ }
+    ensures { λ r. ⌜ r ≡ round binary32 false (isqrt (m * 2 ^ (drop + 149))) (2 ^ 149) ⌝ }
+{
+    let least = u64::leading_zeros(m) - 15;
+    let shift = least + (least + drop + 1) % 2;
+    let kept = (whole_root(m << shift) + 1) / 2;
+    f32::from_bits((drop + 151 - shift) / 2 * 0x80_0000 + kept as u32)
+}
+
+// The whole part of the root, by Newton's steps from above. The first goes from a number in the middle of the roots.
+fn whole_root(n: u64) -> u64
+    requires { ⌜ n < 2 ^ 50 ⌝ }
+    ensures { λ r. ⌜ r ≡ isqrt n ⌝ }
+{
+    let mut r = (23726566 + n / 23726566) / 2;
+    while n < r * r {
+        r = (r + n / r) / 2;
+    }
+    r
 }

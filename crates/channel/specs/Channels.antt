@@ -164,6 +164,10 @@ changedOf change.Reset c = resetOf c
 
 -- ---- questions
 
+-- the recording, as bit patterns: the front of the channel's part, while it records too
+abbrev pub recordingOf : Channel → List ℕ → List ℕ
+recordingOf c m = take (c .head .«data_len») m
+
 -- row 5 by this channel: a recording that isn't empty, and 32 voices
 unfoldable pub fullOf : Channel → Bool
 fullOf c = not (eqb (c .head .«data_len») 0) && leb 32 (c .count)

@@ -17,6 +17,7 @@ use Rattle.lent_sampler.proofs.get_last_recorded_offset.Met as get-last-recorde
 use Rattle.lent_sampler.proofs.print_error_info.Met as print-error-info-thm
 use Rattle.lent_sampler.proofs.iter_active_notes.Met as iter-active-notes-thm
 use Rattle.lent_sampler.proofs.get_voice_info.Met as get-voice-info-thm
+use Rattle.lent_sampler.proofs.get_waveform_summary.Met as get-waveform-summary-thm
 use Rattle.contracts.specs.Lent.{Lent}
 
 pub lent : (m : List ℕ) → Lent m
@@ -37,4 +38,5 @@ lent m = record {
   print-error-info = λ M. print-error-info-thm.met;
   iter-active-notes = λ M. iter-active-notes-thm.met;
   get-voice-info = λ M. get-voice-info-thm.met;
+  get-waveform-summary = λ M. get-waveform-summary-thm.met;
 }

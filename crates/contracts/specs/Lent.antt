@@ -27,6 +27,7 @@ use Rattle.promises.specs.Runs.{
   printErrorInfo,
   iterActiveNotes,
   fillVoiceInfo,
+  getWaveformSummary,
   change,
   start,
   stop,
@@ -71,6 +72,8 @@ use Rattle.lent_sampler.proofs.iter_active_notes as iter-active-notes
 use Rattle.lent_sampler.proofs.iter_active_notes.Symbol as iter-active-notes-code
 use Rattle.lent_sampler.proofs.get_voice_info as get-voice-info
 use Rattle.lent_sampler.proofs.get_voice_info.Symbol as get-voice-info-code
+use Rattle.lent_sampler.proofs.get_waveform_summary as get-waveform-summary
+use Rattle.lent_sampler.proofs.get_waveform_summary.Symbol as get-waveform-summary-code
 
 -- The function, whatever it is given, is safe, ends, and then Q holds of its arguments, its result, and what its
 -- arguments are at the end. It is what the check states of a function with no `requires` and Q for its `ensures`.
@@ -88,7 +91,7 @@ lying s m = record { sampler = s; memory = m }
 abbrev pub answer : Sampler → ℕ → Answer
 answer s number = record { sampler = s; number = number }
 
--- m is the memory that lies beside the record; only a sample and a frame are lent it
+-- m is the memory that lies beside the record; only a sample, a frame and a waveform are lent it
 pub record Lent (m : List ℕ) : Type 2 where
   pub change : Ensures change-call.ended change-code.routine
       (λ κs (s, (d, _)) r (left, _). Allows (on (lying (now s) m) (change d)) (answer (now left) r))
@@ -136,4 +139,8 @@ pub record Lent (m : List ℕ) : Type 2 where
   pub get-voice-info : Ensures get-voice-info.ended get-voice-info-code.routine
       (λ κs (s, (channel, (params, (list, _)))) r (_, (_, (_, (filled, _)))).
       Allows (on (lying (now s) m) (asks (fillVoiceInfo channel params (now list))))
+      (record { answer = r; lent = now filled }))
+  pub get-waveform-summary : Ensures get-waveform-summary.ended get-waveform-summary-code.routine
+      (λ κs (s, (columns, (list, (memory, _)))) r (_, (_, (filled, _))).
+      Allows (on (lying (now s) (now memory)) (asks (getWaveformSummary columns (now list))))
       (record { answer = r; lent = now filled }))

@@ -11,6 +11,7 @@ ghost use Rattle.promises.specs.Runs.{
   printErrorInfo,
   iterActiveNotes,
   getVoiceInfo,
+  getWaveformSummary,
   change as changeCall,
   start,
   stop,
@@ -31,6 +32,7 @@ use questions::Counted;
 use questions::OffsetAnswer;
 use questions::Told;
 use questions::VoiceInfos;
+use questions::WaveformSummary;
 use sampler::Answer;
 use sampler::SampleAnswer;
 use sampler::Sampler;
@@ -153,4 +155,18 @@ pub fn get_voice_info(s: Sampler, channel: usize, params: Params, room: usize) -
         → Allows (on (record { sampler = s; memory = m }) (asks (getVoiceInfo channel params room))) r) ⌝ }
 {
     questions::get_voice_info(s, channel, params, room)
+}
+
+pub fn get_waveform_summary(
+    s: Sampler,
+    columns: usize,
+    list: &mut [f32],
+    memory: &[u32],
+) -> WaveformSummary
+    ensures { λ r. ⌜ Allows
+        (on (record { sampler = s; memory = now (memory .entry) })
+        (asks (getWaveformSummary columns (now (list .entry)))))
+        (record { answer = r; lent = now (list .exit) }) ⌝ }
+{
+    questions::get_waveform_summary(s, columns, list, memory)
 }

@@ -28,6 +28,8 @@ use Rattle.questions.proofs.VoiceInfo as I
 use Rattle.questions.proofs.VoiceInfo.Laws as I′
 use Rattle.questions.proofs.VoiceInfos as L
 use Rattle.questions.proofs.VoiceInfos.Laws as L′
+use Rattle.questions.proofs.WaveformSummary as Q
+use Rattle.questions.proofs.WaveformSummary.Laws as Q′
 use Rattle.channel.specs.declared.Change.{Change}
 use Rattle.sampler.specs.declared.Sampler.{Sampler}
 use Rattle.sampler.specs.Samplers.{changeOf}
@@ -59,6 +61,9 @@ info = struct I.the-type I′.the-laws I′.the-plain
 
 abbrev pub infos : Datum
 infos = struct L.the-type L′.the-laws L′.the-plain
+
+abbrev pub summary : Datum
+summary = struct Q.the-type Q′.the-laws Q′.the-plain
 
 abbrev pub answer : Answering sampler (word w8)
 answer = record {

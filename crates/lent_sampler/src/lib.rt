@@ -34,6 +34,7 @@ ghost use Rattle.questions.specs.Questions.{
   activeNotesAfter,
   noInfo,
 };
+ghost use Rattle.questions.specs.Waveforms.{getWaveformSummaryOf, waveformAfter};
 ghost use Rattle.lent_sampler.specs.Lists.{countedOf, listedOf, voiceInfoCounted, voiceInfoAfter};
 ghost use Rattle.lent_sampler.specs.Numbers.{allGood, anyEnded, numberOf};
 use channel::Change;
@@ -46,6 +47,7 @@ use questions::OffsetAnswer;
 use questions::Told;
 use questions::VoiceInfo;
 use questions::VoiceInfos;
+use questions::WaveformSummary;
 use sampler::Sampler;
 use sampler::first_of;
 
@@ -266,6 +268,20 @@ pub fn get_voice_info(
 {
     let v = questions::get_voice_info(*s, channel, params, list.len());
     fill(list, v)
+}
+
+// Writes a value for each column of channel 0's recording to the front of the list.
+pub fn get_waveform_summary(
+    s: &Sampler,
+    columns: usize,
+    list: &mut [f32],
+    memory: &[u32],
+) -> WaveformSummary
+    ensures { λ r. ⌜ (r
+        ≡ getWaveformSummaryOf (now (s .entry)) columns (length (now (list .entry))) (now (memory .entry)))
+        × (now (list .exit) ≡ waveformAfter (now (s .entry)) columns (now (list .entry)) (now (memory .entry))) ⌝ }
+{
+    questions::get_waveform_summary(*s, columns, list, memory)
 }
 
 fn all_good(count: usize, first: bool, second: bool) -> bool

@@ -39,7 +39,7 @@ fn hex(n: u32) -> [u8; 8]
 }
 
 // A space and an output.
-fn with_output(line: Line, x: f32) -> Line
+pub fn with_output(line: Line, x: f32) -> Line
     ensures { λ r. ⌜ r ≡ withOf (withOf line space) (outputOf x) ⌝ }
 {
     let spaced = line.with(b" ");

@@ -1,6 +1,7 @@
 // The lines that answer the questions of a host: records of kinds 12 to 18, of the channel at 8, with room in a list
-// for the number at 12. Each function puts the line of an answer at a place of `out`, and answers the place after it.
-// Of a list that was lent all is shown.
+// for the number at 12; and of kind 20, a waveform in so many columns as the number at 8. Each function puts the line of
+// an answer at a place of `out`, and answers the place after it. Of a list that was lent all is shown, but of a
+// waveform's a sum.
 ghost use mathlib.Core.Path.{_≡_};
 ghost use Prim.Native.Nat.{_+_, _*_, _≤_, _<_};
 ghost use lib.ListN.{length};
@@ -17,6 +18,7 @@ use questions::OffsetAnswer;
 use questions::Told;
 use questions::VoiceInfo;
 use questions::VoiceInfos;
+use questions::WaveformSummary;
 use recorder::LastOffset;
 use sampler::Sampler;
 
@@ -58,6 +60,53 @@ pub fn query(s: Sampler, p: Params, fields: &[u8], out: &mut [u8; 65536], at: us
         17 => active_notes(s, channel, room, out, at),
         _ => put_infos(out, at, questions::get_voice_info(s, channel, p, room)),
     }
+}
+
+// The list is as long as the number at 12 says, and the lent memory as that at 16.
+pub fn waveform(
+    s: Sampler,
+    fields: &[u8],
+    memory: &[u32],
+    out: &mut [u8; 65536],
+    at: usize,
+) -> usize
+    requires { ⌜ 64 ≤ length (now fields) ⌝ }
+    requires { ⌜ at + 40 ≤ 65536 ⌝ }
+    ensures { λ r. ⌜ r ≤ at + 40 ⌝ }
+{
+    let mut list = [7.0; 4100];
+    let n = lent(u32_at(fields, 12) as usize, 4100);
+    let m = lent(u32_at(fields, 16) as usize, memory.len());
+    let columns = u32_at(fields, 8) as usize;
+    let a = questions::get_waveform_summary(s, columns, &mut list[..n], &memory[..m]);
+    put_summary(out, at, a, &list)
+}
+
+pub fn put_summary(
+    out: &mut [u8; 65536],
+    at: usize,
+    a: WaveformSummary,
+    list: &[f32; 4100],
+) -> usize
+    requires { ⌜ at + 40 ≤ 65536 ⌝ }
+    ensures { λ r. ⌜ r ≡ at + 40 ⌝ }
+{
+    let first = put_number(out, at, 20, a.number);
+    let second = put_f32(out, first, a.smallest);
+    let third = put_f32(out, second, a.largest);
+    let fourth = put_u64(out, third, summed(list));
+    end(out, fourth)
+}
+
+// The sum of the bits of all entries.
+fn summed(list: &[f32; 4100]) -> u64 {
+    let mut sum = 0;
+    let mut i = 0;
+    while i < 4100 {
+        sum += binary32::to_bits(list[i]) as u64;
+        i += 1;
+    }
+    sum
 }
 
 // A line with a number of so many digits.

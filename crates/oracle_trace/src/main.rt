@@ -5,8 +5,8 @@
 //
 // Kinds: 0 set-up; 1 parameters; 2 start, 3 stop, 4 note speed, 5 and 6 start and stop of recording, 7 reset; 8 sample
 // of one channel; 9 frame; 10 clocks put on, or a field put; 11 the recordings; 12 frames processed, 13 data length, 14
-// is recording, 15 last recorded offset, 16 error text, 17 active notes, 18 voice info; 19 many frames. A set-up takes
-// back the parameters to the defaults.
+// is recording, 15 last recorded offset, 16 error text, 17 active notes, 18 voice info; 19 many frames; 20 waveform
+// summary. A set-up takes back the parameters to the defaults.
 ghost use mathlib.Core.Path.{_≡_};
 ghost use Prim.Native.Nat.{_+_, _*_, _≤_, _<_};
 ghost use lib.ListN.{length};
@@ -22,6 +22,7 @@ use oracle_lines::line::tag;
 use oracle_lines::line::write;
 use oracle_lines::settings::params_of;
 use oracle_show::replies::query;
+use oracle_show::replies::waveform;
 
 fn main() {
     let mut memory = [0u32; 65536];
@@ -95,6 +96,7 @@ fn record(run: Run, fields: &[u8], memory: &mut [u32], out: &mut [u8; 65536]) ->
         9 => run.heard(kind, calls::frame(run, fields, memory), out, at),
         11 => recordings(run.told(kind, out, at), memory, out),
         19 => run.heard(kind, calls::frames(run, fields, memory), out, at),
+        20 => run.on(run.sampler, waveform(run.sampler, fields, memory, out, at)),
         _ => plain(run, fields, out, at),
     }
 }

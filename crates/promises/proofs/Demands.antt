@@ -1,18 +1,20 @@
 -- The demands hold. Assumes nothing.
-use mathlib.Core.Path.{_≡_, refl, ap, _∙_}
+use mathlib.Core.Path.{_≡_, refl, sym, ap, _∙_}
 use mathlib.Core.Bool.{Bool, true, false, not, cond}
 use mathlib.Core.Logic.{_⊎_, inl, inr, _≢_}
-use mathlib.Core.List.{List}
+use mathlib.Core.List.{List, [], _++_}
 use Prim.Native.Nat.{ℕ}
 use borrow.Author.Tests.{eqb-true}
 use lib.Dec.{eqb}
-use lib.ListN.{length}
-use lib.Ieee.{Float, nan, inf, fin, isNan, lt, ofInt, binary32}
-use Rattle.binary32.specs.Leaves.{asFloat, minOf, maxOf}
+use lib.ListN.{length, drop}
+use lib.Ieee.{Float, nan, inf, fin, isNan, lt, binary32, units, odd, round, div, ofInt}
+use Rattle.binary32.specs.Leaves.{asFloat, minOf, maxOf, rootOf}
 use Rattle.binary32.proofs.Halves.{ofInt-whole}
 use Rattle.binary32.proofs.Casts.{narrow}
 use Rattle.binary32.proofs.Floors.{floor-exact, floor-cast}
 use Rattle.binary32.proofs.Patterns.{value-back, pattern-back}
+use Rattle.binary32.proofs.Roots.{nearest}
+use Rattle.walks.specs.Walks.{fold}
 use Rattle.common_types.proofs.Packing.{unpack-pack, pack-unpack}
 use Rattle.common_types.specs.declared.InitParams.{InitParams}
 use Rattle.common_types.specs.declared.Params.{Params}
@@ -24,13 +26,16 @@ use Rattle.common_types.specs.Settings.{lengthOf, loopLengthOf}
 use Rattle.recorder.specs.ErrorText.{errorText}
 use Rattle.clip.proofs.Offsets.{clip-offset-inside, offset-within}
 use Rattle.channel.specs.declared.Change.{Change}
-use Rattle.channel.specs.Channels.{live}
+use Rattle.channel.specs.Channels.{live, recordingOf}
 use Rattle.sampler.specs.declared.Sampler.{Sampler}
 use Rattle.sampler.specs.declared.Answer.{Answer}
 use Rattle.sampler.specs.Refusals.{channelAt, goodSizes, goodSampler, capacityOf, goodWith, noChannel, row, setUpNumber, startNumber, stopNumber, speedNumber, plainNumber, sampleNumber, frameNumber, channelNumber}
 use Rattle.sampler.specs.Samplers.{samplerOf, setUpOf, eachOf, answerOf, processSampleOf, sampleMemory, channelSteppedOf, memoryAt, Framed, framed, entriesOf, framedOf}
 use Rattle.questions.specs.Questions.{recorderAt, notesOf, inFront, listNumber, listAfter, infoNumber, answered, noInfos, infosWith, getVoiceInfoOf}
 use Rattle.questions.specs.declared.VoiceInfos.{VoiceInfos}
+use Rattle.questions.specs.Waveforms.{columnOf, columnsFrom, smallestOf, largestOf, summaryWith, waveformNumber, waveformOf, getWaveformSummaryOf, waveformAfter}
+use Rattle.questions.proofs.Cuts.{cut-first, cut-inside, cuts-rise}
+use Rattle.questions.proofs.Summaries.{columns-count, smallest-zero, waveform-done}
 use Rattle.lent_sampler.specs.Lists.{listedOf}
 use Rattle.channel.specs.declared.Change.the-variants.{Start, Stop, Speed, Head, Reset}
 use Rattle.promises.specs.Runs.{
@@ -45,6 +50,7 @@ use Rattle.promises.specs.Runs.{
   iterActiveNotes,
   getVoiceInfo,
   fillVoiceInfo,
+  getWaveformSummary,
   questionNumber,
   Call,
   change,
@@ -59,10 +65,11 @@ use Rattle.promises.specs.Runs.{
   asks,
   code,
   after,
+  chan,
   ownPart,
 }
 use Rattle.promises.specs.Outcomes.{on, Outcome, Allows, Untouched}
-use Rattle.promises.specs.Demands.{Demand1, Demand2, Demands}
+use Rattle.promises.specs.Demands.{waveform, Demand1, Demand2, Demands}
 use Rattle.promises.proofs.Calls.{count-kept, capacity-kept}
 use Rattle.promises.proofs.Memory.{part-unwritten, part-written}
 use Rattle.promises.proofs.Outcomes.{settled, one-outcome, number-code, left-after, output-answered, chain-run, run-chain}
@@ -110,7 +117,7 @@ after-held w (frame xs p) h =
 after-held w (asks q) h = refl
 
 untouched : (w : World) (c : Call) (r : Outcome (on w c)) → Allows (on w c) r → code w c ≢ 0 → Untouched w c r
-unfolding Untouched code questionNumber framedOf listAfter getVoiceInfoOf answered listedOf
+unfolding Untouched code questionNumber framedOf listAfter getVoiceInfoOf answered listedOf waveformAfter
 untouched w (change d) r h n = tt
 untouched w (sample j x p) r h n = tt
 untouched w (frame xs p) r h n =
@@ -129,10 +136,12 @@ untouched w (asks (iterActiveNotes j notes)) r h n =
 untouched w (asks (getVoiceInfo j p room)) r h n = tt
 untouched w (asks (fillVoiceInfo j p list)) r h n =
     h .1 ∙ ap (λ (v : VoiceInfos). listedOf v list) (other (infoNumber (w .sampler) j p (length list)) _ (infosWith noInfos 0 (infoNumber (w .sampler) j p (length list))) n)
+untouched w (asks (getWaveformSummary columns list)) r h n =
+    h .1 ∙ other (waveformNumber (w .sampler) columns (length list) (length (w .memory))) (inFront (waveformOf (w .sampler) columns (w .memory)) list) list n
 
 -- ---- a refused set-up
 empty-record : (p : InitParams) (m : List ℕ) (c : Call) → code (record { sampler = samplerOf 0 p 0; memory = m }) c ≡ 9
-unfolding code questionNumber startNumber stopNumber speedNumber plainNumber sampleNumber frameNumber channelNumber listNumber infoNumber goodWith goodSampler goodSizes
+unfolding code questionNumber startNumber stopNumber speedNumber plainNumber sampleNumber frameNumber channelNumber listNumber infoNumber waveformNumber goodWith goodSampler goodSizes
 empty-record p m (change (Start q position note velocity)) = refl
 empty-record p m (change (Stop q note)) = refl
 empty-record p m (change (Speed note s)) = refl
@@ -148,6 +157,7 @@ empty-record p m (asks (printErrorInfo j text)) = refl
 empty-record p m (asks (iterActiveNotes j notes)) = refl
 empty-record p m (asks (getVoiceInfo j q room)) = refl
 empty-record p m (asks (fillVoiceInfo j q list)) = refl
+empty-record p m (asks (getWaveformSummary columns list)) = refl
 
 unmade : (count : ℕ) (p : InitParams) (m : List ℕ) → setUpNumber count (length m) ≢ 0 → (c : Call) → code (setUp count p m) c ≡ 9
 unfolding setUp setUpOf
@@ -170,8 +180,17 @@ plain-rows w c (inl e) = ap (code w) e
 plain-rows w c (inr (inl e)) = ap (code w) e
 plain-rows w c (inr (inr e)) = ap (code w) e
 
+-- what an accepted summary answers
+summary-given : (w : World) (columns : ℕ) (list : List Float) → waveformNumber (w .sampler) columns (length list) (length (w .memory)) ≡ 0
+    → (getWaveformSummaryOf (w .sampler) columns (length list) (w .memory) ≡ summaryWith (smallestOf (waveform w columns)) (largestOf (waveform w columns)) 0)
+    × (waveformAfter (w .sampler) columns list (w .memory) ≡ waveform w columns ++ drop columns list)
+summary-given w columns list n =
+    let done = waveform-done (w .sampler) columns list (w .memory) n in
+    let count = columns-count columns (recordingOf (chan w 0) (ownPart w 0)) columns 0 in
+    (sym (done .0), sym (done .1) ∙ ap (λ (k : ℕ). waveform w columns ++ drop k list) count)
+
 demand1 : Demand1
-unfolding setUpOf setUpNumber code questionNumber startNumber stopNumber speedNumber sampleNumber frameNumber infoNumber listNumber
+unfolding setUpOf setUpNumber code questionNumber startNumber stopNumber speedNumber sampleNumber frameNumber infoNumber listNumber waveformNumber
 demand1 = record {
   takes = settled;
   one = one-outcome;
@@ -179,6 +198,7 @@ demand1 = record {
   written = λ w c r h j p x m e. ap (λ (v : World). ownPart v j) (left-after w c r h) ∙ part-written w j c p x m e;
   filled = λ w j p list r h n q. (h .0 ∙ infos-counted w j p (length list) n q, h .1 ∙ infos-listed w j p (length list) n q list);
   informed = λ w j p room r h n q. infos-given w j p room n q r h;
+  summarized = λ w columns list r h n. (h .0 ∙ summary-given w columns list n .0, h .1 ∙ summary-given w columns list n .1);
   unmade = unmade;
   sized = λ w c r h. ap (λ (v : World). length (v .memory)) (left-after w c r h) ∙ memory-after w c;
   numbered = number-code;
@@ -191,6 +211,7 @@ demand1 = record {
   fill-rows = λ w j p list. refl;
   notes-rows = λ w j notes. refl;
   text-rows = λ w j text. refl;
+  summary-rows = λ w columns list. refl;
   query-rows = query-rows;
   plain-rows = plain-rows;
   set-up-rows = λ count p m r h. ap (λ (a : Answer). a .number) h;
@@ -215,7 +236,12 @@ whole-bars : (p : Params) (n : ℕ) (x : Float) → p .«loop_length» ≡ Whole
 unfolding loopLengthOf lengthOf ofInt
 whole-bars p n x e = ap (λ (l : TimeOrRatio). maxOf (lengthOf l (p .transport) n) (asFloat 1)) e
 
+column-of-none : columnOf [] ≡ nan
+unfolding columnOf fold ofInt round units odd div rootOf
+column-of-none = refl
+
 demand2 : Demand2
+unfolding columnsFrom fold
 demand2 = record {
   exact = ofInt-whole binary32;
   narrow = narrow;
@@ -227,6 +253,14 @@ demand2 = record {
   patterns = value-back;
   values = λ b h n. pattern-back b h ∙ ap (λ (t : Bool). cond t 0x7fc0_0000 b) n;
   positions = λ c now h. (clip-offset-inside c now h, offset-within c now h);
+  roots = nearest;
+  cuts-inside = λ n columns N K M i I. cut-inside n columns N K M i I;
+  cuts-in-order = λ n columns N K M i j h J. cuts-rise n columns N K M i j h J;
+  cuts-begin = λ n columns N K M. cut-first n columns N K M;
+  empty-column = column-of-none;
+  smallest-is-zero = λ columns recording. smallest-zero columns recording columns 0;
+  columns-count = λ columns recording. columns-count columns recording columns 0;
+  no-columns = λ recording. (refl, refl, refl);
   packed = unpack-pack;
   unpacked = pack-unpack;
   table = table-holds;

@@ -41,13 +41,14 @@ use Rattle.sampler.specs.Refusals.{goodSizes, goodSampler, capacityOf, goodWith
 use Rattle.questions.specs.declared.VoiceInfo.{VoiceInfo}
 use Rattle.questions.specs.declared.Counted.the-variants as counted
 use Rattle.questions.specs.Questions.{notesOf, listNumber, voiceInfoOf, infoNumber}
+use Rattle.questions.specs.Waveforms.{waveformNumber}
 use Rattle.sampler.specs.Samplers.{withChannels, setUpOf, eachOf, answerOf, partOf, playedAt, channelSteppedOf as sampledOf, outputOf, memoryAt, processSampleOf as sampleOf, sampleMemory, entryOf, entriesOf, framedOf}
 use Rattle.fates.specs.Engine.{begunOf, passesOver, heardBy, turnedOf, letsGo, leavesOf, leftOf, turnsOf, stepOf}
 use Rattle.fates.specs.Events.{tickAt, act, isReset, isSample, decayOf}
 use Rattle.fates.specs.Sounding.{termsOf}
 use Rattle.fates.specs.Steady.{disagrees, alters, alteredIn}
 use Rattle.fates.specs.Places.{voiceAt, at, gone, fateOf, follow, stops, becomes, addedBy, outOf, playsOut, followAll, stoppedIn, finishedIn}
-use Rattle.promises.specs.Runs.{World, Call, start, stop, speed, startRecording, stopRecording, sample, frame, getDataLen, iterActiveNotes, fillVoiceInfo, asks, FittingCall, chan, ownPart, setUp, questionNumber, code, after, run, doneTo, event, events, isResetCall, output, before}
+use Rattle.promises.specs.Runs.{World, Call, start, stop, speed, startRecording, stopRecording, sample, frame, getDataLen, iterActiveNotes, fillVoiceInfo, getWaveformSummary, asks, FittingCall, chan, ownPart, setUp, questionNumber, code, after, run, doneTo, event, events, isResetCall, output, before}
 use lib.Ieee.{Float, nan, fin, binary32, fits, add, sub, mul, div, rem, neg, lt, le, eq, ofInt, toUnsigned, isNan, ofBits, toBits, nanBits, ofFields}
 use Rattle.promises.specs.Outcomes.{on, leftBy}
 use Rattle.promises.specs.Demands.{Plays, Asked, AllPlaced, Leaves, SoundsIn, FirstIn, termsWith, Demand3, Undisturbed, OnTheBeat, Shows, TruePositions}
@@ -519,6 +520,16 @@ pub numbers-met : (code older (quiet plain) ≡ 0)
     × (code (setUp 3 init cells) startRecording ≡ 9)
 unfolding computing
 numbers-met = (refl, refl, refl, refl, refl, refl, refl, refl)
+
+-- those of a waveform, on either side of each edge
+pub waveform-numbers-met : (code older (asks (getWaveformSummary 0 [])) ≡ 0)
+    × (code older (asks (getWaveformSummary 1 (one32 ∷ []))) ≡ 0)
+    × (code older (asks (getWaveformSummary 1 [])) ≡ 8)
+    × (code older (asks (getWaveformSummary 4096 [])) ≡ 8)
+    × (code older (asks (getWaveformSummary 4097 [])) ≡ 11)
+    × (code (record { sampler = older .sampler; memory = [] }) (asks (getWaveformSummary 4097 [])) ≡ 9)
+unfolding computing waveformNumber
+waveform-numbers-met = (refl, refl, refl, refl, refl, refl)
 
 -- a refused call leaves all as it was
 pub held-met : leftBy older (start nan (key 60) one32 plain) (settled (on older (start nan (key 60) one32 plain)) .outcome) ≡ older

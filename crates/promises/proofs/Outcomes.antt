@@ -18,7 +18,9 @@ use Rattle.questions.specs.declared.VoiceInfos.{VoiceInfos}
 use Rattle.questions.specs.declared.Counted.the-variants as counted
 use Rattle.lent_sampler.specs.Lists.{countedOf, voiceInfoCounted, voiceInfoAfter}
 use Rattle.questions.specs.Questions.{countedNumber, toldNumber, offsetNumber, recorderAt, notesOf, answered, printErrorInfoOf, errorTextAfter, iterActiveNotesOf, activeNotesAfter, getVoiceInfoOf}
-use Rattle.questions.proofs.Numbers.{frames-number, data-len-number, recording-number, offset-number, list-number, info-number}
+use Rattle.questions.specs.declared.WaveformSummary.{WaveformSummary}
+use Rattle.questions.specs.Waveforms.{getWaveformSummaryOf, waveformAfter}
+use Rattle.questions.proofs.Numbers.{frames-number, data-len-number, recording-number, offset-number, list-number, info-number, summary-number}
 use Rattle.promises.specs.Runs.{
   World,
   getFramesProcessed,
@@ -29,6 +31,7 @@ use Rattle.promises.specs.Runs.{
   iterActiveNotes,
   getVoiceInfo,
   fillVoiceInfo,
+  getWaveformSummary,
   questionNumber,
   Call,
   change,
@@ -82,6 +85,11 @@ settled (on w (asks (fillVoiceInfo j p list))) = record {
   allowed = (refl, refl);
   only = λ r h t. record { answer = (h .0) t; lent = (h .1) t };
 }
+settled (on w (asks (getWaveformSummary columns list))) = record {
+  outcome = record { answer = getWaveformSummaryOf (w .sampler) columns (length list) (w .memory); lent = waveformAfter (w .sampler) columns list (w .memory) };
+  allowed = (refl, refl);
+  only = λ r h t. record { answer = (h .0) t; lent = (h .1) t };
+}
 
 pub one-outcome : (g : Given) (r s : Outcome g) → Allows g r → Allows g s → r ≡ s
 one-outcome g r s h k = settled g .only r h ∙ sym (settled g .only s k)
@@ -109,6 +117,7 @@ number-code w (asks (iterActiveNotes j notes)) r h = ap countedNumber (h .0) ∙
 number-code w (asks (getVoiceInfo j p room)) r h = ap (λ (a : VoiceInfos). a .number) h ∙ info-number (w .sampler) j p room
 number-code w (asks (fillVoiceInfo j p list)) r h =
     ap countedNumber (h .0) ∙ counted-number (getVoiceInfoOf (w .sampler) j p (length list)) ∙ info-number (w .sampler) j p (length list)
+number-code w (asks (getWaveformSummary columns list)) r h = ap (λ (a : WaveformSummary). a .number) (h .0) ∙ summary-number (w .sampler) columns (length list) (w .memory)
 
 -- ---- the record and the memory afterwards
 pub left-after : (w : World) (c : Call) (r : Outcome (on w c)) → Allows (on w c) r → leftBy w c r ≡ after w c

@@ -1,7 +1,7 @@
 -- No record that set-up and calls reach is broken, what a voice sounds by is recorded, and a start that nothing refuses is accepted. Assumes nothing.
 use mathlib.Core.Path.{_≡_, refl, sym, ap, _∙_, subst}
 use mathlib.Core.Logic.{_≢_}
-use mathlib.Core.Bool.{true}
+use mathlib.Core.Bool.{Bool, true, false}
 use mathlib.Core.List.{List, [], _∷_}
 use Prim.Native.Nat.{ℕ, _^_, _≤_, _<_}
 use native.Mathlib.Nat.{le-trans, le-of-eq}
@@ -17,7 +17,7 @@ use Rattle.binary32.specs.Leaves.{asFloat}
 use Rattle.walks.specs.Each.{Each}
 use Rattle.common_types.specs.declared.InitParams.{InitParams}
 use Rattle.common_types.specs.declared.Params.{Params}
-use Rattle.common_types.specs.Settings.{speedOf, loopLengthOf, beyondLimits}
+use Rattle.common_types.specs.Settings.{speedOf, loopLengthOf, beyondLimits, defaultParams}
 use Rattle.common_types.proofs.LoopLengths.{loop-length-fits}
 use Rattle.recorder.specs.ErrorText.{errorText}
 use Rattle.clip.specs.Positions.{indexAt}
@@ -36,14 +36,15 @@ use Rattle.channel.specs.Soundness.{FittingChange, SoundChannel}
 use Rattle.channel.proofs.Parts.{data-within, voice-at}
 use Rattle.channel.proofs.Samples.{taken-sound, memory-kept, voice-recorded}
 use Rattle.sampler.specs.declared.Sampler.{Sampler}
-use Rattle.sampler.specs.Refusals.{channelAt, goodSampler, noChannel, setUpNumber, channelNumber}
+use Rattle.sampler.specs.Refusals.{channelAt, goodSampler, goodWith, noChannel, setUpNumber, frameNumber, channelNumber}
 use Rattle.sampler.specs.Soundness.{SoundSampler, Reached, Unbroken}
 use Rattle.sampler.proofs.Entries.{part-length, sample-memory-length, frame-memory-length}
 use Rattle.sampler.proofs.Kept.{small, channel-sound}
 use Rattle.sampler.proofs.Reach.{passes, another, none, reached-sound, reached-unbroken}
 use Rattle.fates.specs.Events.{lengthAt, tickAt}
 use Rattle.questions.specs.Questions.{recorderAt, notesOf, listNumber, infoNumber}
-use Rattle.promises.specs.Runs.{World, setUp, Question, getFramesProcessed, getDataLen, isRecording, getLastRecordedOffset, printErrorInfo, iterActiveNotes, getVoiceInfo, fillVoiceInfo, questionNumber, Call, change, sample, frame, asks, code, after, run, chan, FittingCall}
+use Rattle.questions.specs.Waveforms.{waveformNumber}
+use Rattle.promises.specs.Runs.{World, setUp, Question, getFramesProcessed, getDataLen, isRecording, getLastRecordedOffset, printErrorInfo, iterActiveNotes, getVoiceInfo, fillVoiceInfo, getWaveformSummary, questionNumber, Call, change, sample, frame, asks, code, after, run, chan, FittingCall}
 use Rattle.promises.specs.Demands.{lengthened, sped, toldLength, Asked, AllPlaced, Plays, NoPanic, Whole}
 use Rattle.walks.proofs.Lists.Looks.{look-below, look-value}
 use Rattle.fates.proofs.Lives.{live-length}
@@ -76,25 +77,35 @@ memory-run w [] = refl
 memory-run w (c ∷ cs) = memory-run (after w c) cs ∙ memory-after w c
 
 -- ---- row 9
-asked-nine : (w : World) → goodSampler (w .sampler) ≡ true → (q : Question) → questionNumber w q ≢ 9
-unfolding questionNumber channelNumber listNumber infoNumber
-asked-nine w g (getFramesProcessed j) = passes (goodSampler (w .sampler)) _ g (another (noChannel (w .sampler) j) 1 0 tt none)
-asked-nine w g (getDataLen j) = passes (goodSampler (w .sampler)) _ g (another (noChannel (w .sampler) j) 1 0 tt none)
-asked-nine w g (isRecording j) = passes (goodSampler (w .sampler)) _ g (another (noChannel (w .sampler) j) 1 0 tt none)
-asked-nine w g (getLastRecordedOffset j) = passes (goodSampler (w .sampler)) _ g (another (noChannel (w .sampler) j) 1 0 tt none)
-asked-nine w g (printErrorInfo j text) = passes (goodSampler (w .sampler)) _ g (another (noChannel (w .sampler) j) 1 _ tt (another (ltb (length text) (length (errorText (recorderAt (w .sampler) j)))) 8 0 tt none))
-asked-nine w g (iterActiveNotes j notes) = passes (goodSampler (w .sampler)) _ g (another (noChannel (w .sampler) j) 1 _ tt (another (ltb (length notes) (length (notesOf (live (channelAt (w .sampler) j))))) 8 0 tt none))
-asked-nine w g (getVoiceInfo j p room) =
+good-with : (s : Sampler) (size : ℕ) → Unbroken s size → goodWith s size ≡ true
+unfolding frameNumber
+good-with s size u = go (goodWith s size) refl
+  where
+    go : (b : Bool) → goodWith s size ≡ b → goodWith s size ≡ true
+    go true e = e
+    go false e = absurd (u .frame 0 defaultParams (simp e))
+
+asked-nine : (w : World) → goodSampler (w .sampler) ≡ true → goodWith (w .sampler) (length (w .memory)) ≡ true → (q : Question) → questionNumber w q ≢ 9
+unfolding questionNumber channelNumber listNumber infoNumber waveformNumber
+asked-nine w g m (getFramesProcessed j) = passes (goodSampler (w .sampler)) _ g (another (noChannel (w .sampler) j) 1 0 tt none)
+asked-nine w g m (getDataLen j) = passes (goodSampler (w .sampler)) _ g (another (noChannel (w .sampler) j) 1 0 tt none)
+asked-nine w g m (isRecording j) = passes (goodSampler (w .sampler)) _ g (another (noChannel (w .sampler) j) 1 0 tt none)
+asked-nine w g m (getLastRecordedOffset j) = passes (goodSampler (w .sampler)) _ g (another (noChannel (w .sampler) j) 1 0 tt none)
+asked-nine w g m (printErrorInfo j text) = passes (goodSampler (w .sampler)) _ g (another (noChannel (w .sampler) j) 1 _ tt (another (ltb (length text) (length (errorText (recorderAt (w .sampler) j)))) 8 0 tt none))
+asked-nine w g m (iterActiveNotes j notes) = passes (goodSampler (w .sampler)) _ g (another (noChannel (w .sampler) j) 1 _ tt (another (ltb (length notes) (length (notesOf (live (channelAt (w .sampler) j))))) 8 0 tt none))
+asked-nine w g m (getVoiceInfo j p room) =
     passes (goodSampler (w .sampler)) _ g (another (noChannel (w .sampler) j) 1 _ tt (another (beyondLimits p) 4 _ tt (another (ltb room (channelAt (w .sampler) j .count)) 8 0 tt none)))
-asked-nine w g (fillVoiceInfo j p list) =
+asked-nine w g m (fillVoiceInfo j p list) =
     passes (goodSampler (w .sampler)) _ g (another (noChannel (w .sampler) j) 1 _ tt (another (beyondLimits p) 4 _ tt (another (ltb (length list) (channelAt (w .sampler) j .count)) 8 0 tt none)))
+asked-nine w g m (getWaveformSummary columns list) =
+    passes (goodWith (w .sampler) (length (w .memory))) _ m (another (ltb 4096 columns) 11 _ tt (another (ltb (length list) columns) 8 0 tt none))
 
 no-nine : (w : World) → SoundSampler (w .sampler) → Unbroken (w .sampler) (length (w .memory)) → (c : Call) → code w c ≢ 9
 unfolding code
 no-nine w h u (change d) = u .change d
 no-nine w h u (sample j x p) = u .sample j p
 no-nine w h u (frame xs p) = u .frame (length xs) p
-no-nine w h u (asks q) = asked-nine w (h .good) q
+no-nine w h u (asks q) = asked-nine w (h .good) (good-with (w .sampler) (length (w .memory)) u) q
 
 -- ---- what a voice sounds by
 module _ (w : World) (st : Standing w) (h : SoundSampler (w .sampler)) (j n : ℕ) (v : Voice) (c : Call) (p : Params) (x : Float) (m : List ℕ) (y : Plays w j n v c p x m) where

@@ -19,6 +19,10 @@ figures w j p =
     map (voiceInfoOf (loopLengthOf p (chan w 0 .head .«data_len»)) (asFloat (chan w j .head .«data_len»)))
     (live (chan w j))
 
+-- the values of channel 0's recording in so many columns
+abbrev pub waveform : World → ℕ → List Float
+waveform w columns = columnsOf columns (recordingOf (chan w 0) (ownPart w 0))
+
 pub record Demand1 : Type 0 where
   -- "Every public call takes every value of its arguments, NaN, infinities and an empty recording included, stays
   -- inside its memory and ends." No public function of the engine has a `requires`, and the check proves each of them
@@ -47,6 +51,12 @@ pub record Demand1 : Type 0 where
       → Allows (on w (asks (getVoiceInfo j p room))) r → code w (asks (getVoiceInfo j p room)) ≡ 0
       → length (chan w j .voices) ≡ 32
       → (r .count ≡ chan w j .count) × (take (r .count) (r .infos) ≡ figures w j p)
+  -- 1/12: "for each of up to 4,096 columns of channel 0, the root of the mean square, plus the smallest and largest." A
+  -- longer list keeps its rest.
+  pub summarized : (w : World) (columns : ℕ) (list : List Float) (r : WaveformOutcome)
+      → Allows (on w (asks (getWaveformSummary columns list))) r → code w (asks (getWaveformSummary columns list)) ≡ 0
+      → (r .answer ≡ summaryWith (smallestOf (waveform w columns)) (largestOf (waveform w columns)) 0)
+      × (r .lent ≡ waveform w columns ++ drop columns list)
   -- "A bad call is answered with a number from document 01," An outcome has the call's number,
   pub numbered : (w : World) (c : Call) (r : Outcome (on w c)) → Allows (on w c) r → numberIn (on w c) r ≡ code w c
   -- which is that of the first of the table's rows that holds, in the table's order, and 0 where none does. "Order: 9
@@ -83,6 +93,10 @@ pub record Demand1 : Type 0 where
   pub text-rows : (w : World) (j : ℕ) (text : List ℕ) → code w (asks (printErrorInfo j text))
       ≡ row (not (goodSampler (w .sampler))) 9
       (row (noChannel (w .sampler) j) 1 (row (ltb (length text) (length (errorText (recorderAt (w .sampler) j)))) 8 0))
+  -- 1/12: "Refusals: 11 for too many columns, then 8, both after 9."
+  pub summary-rows : (w : World) (columns : ℕ) (list : List Float) → code w (asks (getWaveformSummary columns list))
+      ≡ row (not (goodWith (w .sampler) (length (w .memory)))) 9
+      (row (ltb 4096 columns) 11 (row (ltb (length list) columns) 8 0))
   -- Other queries, each of one channel: 1.
   pub query-rows : (w : World) (j : ℕ) (q : Question)
       → (q ≡ getFramesProcessed j) ⊎ ((q ≡ getDataLen j) ⊎ ((q ≡ isRecording j) ⊎ (q ≡ getLastRecordedOffset j)))
@@ -196,6 +210,25 @@ pub record Demand2 : Type 0 where
   -- "note packing both ways."
   pub packed : (n : Note) → n .note < 256 → n .channel < 256 → fromU64Of (intoU64Of n) ≡ n
   pub unpacked : (v : ℕ) → intoU64Of (fromU64Of v) ≡ v % 2 ^ 16
+  -- 1/12: "the root is the one that IEEE 754 rounds to nearest, given by a definition over whole numbers." Every other
+  -- float that is not below 0 lies further from the root of x than `rootOf x` does.
+  pub roots : (x : Float) → T (positive x) → T (fits binary32 x) → NearestRoot x (rootOf x)
+  -- "The cuts .. follow the Rust": `cutOf`. "Show that no cut passes the end of the data." They begin at the first
+  -- sample and don't fall. The last need not reach the end.
+  pub cuts-inside : (n columns : ℕ) → n ≤ 2 ^ 22 → 0 < columns → columns ≤ 4096 → (i : ℕ) → i ≤ columns
+      → cutOf n columns i ≤ n
+  pub cuts-in-order : (n columns : ℕ) → n ≤ 2 ^ 22 → 0 < columns → columns ≤ 4096 → (i j : ℕ) → i ≤ j → j ≤ columns
+      → cutOf n columns i ≤ cutOf n columns j
+  pub cuts-begin : (n columns : ℕ) → n ≤ 2 ^ 22 → 0 < columns → columns ≤ 4096 → cutOf n columns 0 ≡ 0
+  -- "A column with no samples is NaN and doesn't count for the extremes, which start at 0." That it doesn't count is
+  -- `smaller` and `larger`. No root is below 0, so the smallest is always +0.
+  pub empty-column : columnOf [] ≡ nan
+  pub smallest-is-zero : (columns : ℕ) (recording : List ℕ) → smallestOf (columnsOf columns recording) ≡ zero32
+  -- There are as many values as columns. "No columns gives no values and both extremes 0."
+  pub columns-count : (columns : ℕ) (recording : List ℕ) → length (columnsOf columns recording) ≡ columns
+  pub no-columns : (recording : List ℕ)
+      → (columnsOf 0 recording ≡ []) × (smallestOf (columnsOf 0 recording) ≡ zero32)
+      × (largestOf (columnsOf 0 recording) ≡ zero32)
   -- Document 01: "K1 to K10 stand as a single table under a single statement".
   pub table : TableHolds
   -- Document 02, 4/12: "a length kind in which a bar is numerator times 4 / denominator quarter notes, in the arithmetic

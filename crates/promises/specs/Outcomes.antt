@@ -40,6 +40,8 @@ use Rattle.questions.specs.Questions.{
   activeNotesAfter,
   getVoiceInfoOf,
 }
+use Rattle.questions.specs.declared.WaveformSummary.{WaveformSummary}
+use Rattle.questions.specs.Waveforms.{getWaveformSummaryOf, waveformAfter}
 use Rattle.lent_sampler.specs.Lists.{voiceInfoCounted, voiceInfoAfter}
 use Rattle.promises.specs.Runs.{
   World,
@@ -51,6 +53,7 @@ use Rattle.promises.specs.Runs.{
   iterActiveNotes,
   getVoiceInfo,
   fillVoiceInfo,
+  getWaveformSummary,
   Call,
   change,
   sample,
@@ -59,7 +62,7 @@ use Rattle.promises.specs.Runs.{
   withSampler,
 }
 
--- set-up on a memory; and every call on a record, with the memory that is lent to a sample and to a frame
+-- set-up on a memory; and every call on a record, with the memory that is lent to a sample, a frame and a waveform
 pub data Given : Type 0 where
   new : (count : ℕ) (p : InitParams) (memory : List ℕ) → Given
   on : (w : World) (c : Call) → Given
@@ -83,6 +86,10 @@ pub record InfoOutcome : Type 0 where
   pub answer : Counted
   pub lent : List VoiceInfo
 
+pub record WaveformOutcome : Type 0 where
+  pub answer : WaveformSummary
+  pub lent : List Float
+
 abbrev pub Outcome : Given → Type 0
 Outcome (new count p m) = Answer
 Outcome (on w (change d)) = Answer
@@ -96,6 +103,7 @@ Outcome (on w (asks (printErrorInfo j text))) = ListOutcome
 Outcome (on w (asks (iterActiveNotes j notes))) = ListOutcome
 Outcome (on w (asks (getVoiceInfo j p room))) = VoiceInfos
 Outcome (on w (asks (fillVoiceInfo j p list))) = InfoOutcome
+Outcome (on w (asks (getWaveformSummary columns list))) = WaveformOutcome
 
 -- ---- what the contracts allow
 abbrev pub Allows : (g : Given) → Outcome g → Type 0
@@ -117,6 +125,9 @@ Allows (on w (asks (iterActiveNotes j notes))) r = (r .answer ≡ iterActiveNote
 Allows (on w (asks (getVoiceInfo j p room))) r = r ≡ getVoiceInfoOf (w .sampler) j p room
 Allows (on w (asks (fillVoiceInfo j p list))) r = (r .answer ≡ voiceInfoCounted (w .sampler) j p list)
     × (r .lent ≡ voiceInfoAfter (w .sampler) j p list)
+Allows (on w (asks (getWaveformSummary columns list))) r =
+    (r .answer ≡ getWaveformSummaryOf (w .sampler) columns (length list) (w .memory))
+    × (r .lent ≡ waveformAfter (w .sampler) columns list (w .memory))
 
 -- one outcome, and no other
 pub record Settled (g : Given) : Type 0 where
@@ -140,6 +151,7 @@ numberIn (on w (asks (printErrorInfo j text))) r = countedNumber (r .answer)
 numberIn (on w (asks (iterActiveNotes j notes))) r = countedNumber (r .answer)
 numberIn (on w (asks (getVoiceInfo j p room))) r = r .number
 numberIn (on w (asks (fillVoiceInfo j p list))) r = countedNumber (r .answer)
+numberIn (on w (asks (getWaveformSummary columns list))) r = r .answer .number
 
 -- the record and the memory for the next call
 abbrev pub leftBy : (w : World) (c : Call) → Outcome (on w c) → World
@@ -168,6 +180,7 @@ Untouched w (asks (printErrorInfo j text)) r = r .lent ≡ text
 Untouched w (asks (iterActiveNotes j notes)) r = r .lent ≡ notes
 Untouched w (asks (getVoiceInfo j p room)) r = Unit {0}
 Untouched w (asks (fillVoiceInfo j p list)) r = r .lent ≡ list
+Untouched w (asks (getWaveformSummary columns list)) r = r .lent ≡ list
 
 -- ---- runs by the contracts alone: each call leaves what some outcome that its contract allows leaves
 pub data Chain : World → List Call → World → Type 0 where

@@ -31,6 +31,7 @@ use Rattle.sampler.specs.Samplers.{
 }
 use Rattle.questions.specs.declared.VoiceInfo.{VoiceInfo}
 use Rattle.questions.specs.Questions.{recorderAt, notesOf, listNumber, infoNumber}
+use Rattle.questions.specs.Waveforms.{waveformNumber}
 use Rattle.fates.specs.Events.{Event, idle, changes, sounds, isReset}
 
 pub record World : Type 0 where
@@ -42,7 +43,7 @@ unfoldable pub setUp : ℕ → InitParams → List ℕ → World
 setUp count p m = record { sampler = setUpOf count p (length m) .sampler; memory = m }
 
 -- the questions, each of one channel; a lent list is given as it is lent. Voice info is answered by value, with the
--- room that the caller has, and in a lent list
+-- room that the caller has, and in a lent list. The waveform summary is of channel 0, and reads the memory
 pub data Question : Type 0 where
   getFramesProcessed : (j : ℕ) → Question
   getDataLen : (j : ℕ) → Question
@@ -52,6 +53,7 @@ pub data Question : Type 0 where
   iterActiveNotes : (j : ℕ) (notes : List ℕ) → Question
   getVoiceInfo : (j : ℕ) (p : Params) (room : ℕ) → Question
   fillVoiceInfo : (j : ℕ) (p : Params) (list : List VoiceInfo) → Question
+  getWaveformSummary : (columns : ℕ) (list : List Float) → Question
 
 -- every public call after set-up: a change of every channel, a sample, a frame, or a question, which changes nothing
 pub data Call : Type 0 where
@@ -90,6 +92,8 @@ questionNumber w (iterActiveNotes j notes) = listNumber (w .sampler) j (notesOf 
     (length notes)
 questionNumber w (getVoiceInfo j p room) = infoNumber (w .sampler) j p room
 questionNumber w (fillVoiceInfo j p list) = infoNumber (w .sampler) j p (length list)
+questionNumber w (getWaveformSummary columns list) =
+    waveformNumber (w .sampler) columns (length list) (length (w .memory))
 
 -- document 01's number of a call: 0 where it is accepted
 unfoldable pub code : World → Call → ℕ

@@ -3,3 +3,7 @@ pub mod Notes
 pub mod Infos
 pub mod Numbers
 pub mod Room
+pub mod Cuts
+pub mod Filling
+pub mod Summaries
+pub mod Examples

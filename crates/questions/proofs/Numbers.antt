@@ -3,12 +3,15 @@ use mathlib.Core.Path.{_≡_, refl, sym, _∙_}
 use mathlib.Core.Bool.{Bool, true, false}
 use mathlib.Core.List.{List}
 use Prim.Native.Nat.{ℕ}
+use lib.ListN.{length}
 use borrow.Author.Tests.{eqb-true}
 use lib.Dec.{eqb}
 use Rattle.common_types.specs.declared.Params.{Params}
 use Rattle.sampler.specs.declared.Sampler.{Sampler}
 use Rattle.sampler.specs.Refusals.{channelNumber}
 use Rattle.questions.specs.declared.VoiceInfos.{VoiceInfos}
+use Rattle.questions.specs.declared.WaveformSummary.{WaveformSummary}
+use Rattle.questions.specs.Waveforms.{waveformNumber, getWaveformSummaryOf}
 use Rattle.questions.specs.Questions.{
   countedNumber,
   toldNumber,
@@ -55,3 +58,7 @@ module _ (s : Sampler) (j : ℕ) where
   pub info-number : (p : Params) (room : ℕ) → getVoiceInfoOf s j p room .number ≡ infoNumber s j p room
   unfolding getVoiceInfoOf voiceInfosOf
   info-number p room = answered-number (λ (r : VoiceInfos). r .number) _ _ (infoNumber s j p room) refl (λ n. refl)
+
+pub summary-number : (s : Sampler) (columns room : ℕ) (m : List ℕ) → getWaveformSummaryOf s columns room m .number ≡ waveformNumber s columns room (length m)
+unfolding getWaveformSummaryOf
+summary-number s columns room m = answered-number (λ (r : WaveformSummary). r .number) _ _ (waveformNumber s columns room (length m)) refl (λ n. refl)

@@ -1,11 +1,13 @@
 // The questions of the sampler: what its host may ask of one channel, with the refusals of document 01's table. Each
 // takes every value of its arguments, and equals a definition in specs/. On a refusal a lent list holds what it held.
 ghost use mathlib.Core.Path.{_≡_};
-ghost use Prim.Native.Nat.{_+_, _≤_};
+ghost use Prim.Native.Nat.{_+_, _^_, _≤_};
 ghost use mathlib.Core.Bool.{not};
-ghost use mathlib.Core.List.{[], _∷_};
+ghost use mathlib.Core.List.{[], _∷_, map};
+ghost use lib.Ieee.{binary32, mul};
 ghost use lib.ListN.{length};
 ghost use lib.Seq.{sets};
+ghost use Rattle.binary32.specs.Leaves.{asFloat, asWhole, floorOf, floatOf};
 ghost use Rattle.channel.specs.Channels.{live};
 ghost use Rattle.sampler.specs.Refusals.{channelAt, row, goodSampler, noChannel};
 ghost use Rattle.questions.specs.Questions.{
@@ -25,6 +27,16 @@ ghost use Rattle.questions.specs.Questions.{
   infosWith,
   voiceInfosOf,
   getVoiceInfoOf,
+};
+ghost use Rattle.questions.specs.Waveforms.{
+  squaresOf,
+  columnOf,
+  columnsOf,
+  largestOf,
+  summaryWith,
+  waveformNumber,
+  getWaveformSummaryOf,
+  waveformAfter,
 };
 use channel::Channel;
 use common_types::InitParams;
@@ -277,4 +289,109 @@ pub fn get_voice_info(s: Sampler, channel: usize, params: Params, room: usize) -
     }
     let first = channel_at(s, 0).head;
     voice_infos(c, params.loop_length(first.data_len))
+}
+
+// The most columns of a waveform summary.
+const MOST_COLUMNS: usize = 4096;
+
+// The smallest and the largest of a waveform's columns; on a refusal both are 0.
+pub struct WaveformSummary {
+    pub smallest: f32,
+    pub largest: f32,
+    pub number: u8,
+}
+
+// The sum of the squares. That a sample may be NaN costs the loop a comparison, and no branch: the compiler takes several
+// samples at once.
+fn squares(samples: &[u32]) -> f32
+    ensures { λ r. ⌜ r ≡ squaresOf (map floatOf (now (samples .entry))) ⌝ }
+{
+    let n = samples.len();
+    let mut total = 0.0;
+    let mut i = 0;
+    while i < n {
+        let x = binary32::from_bits(samples[i]);
+        total = total + x * x;
+        i += 1;
+    }
+    total
+}
+
+fn column(samples: &[u32]) -> f32
+    ensures { λ r. ⌜ r ≡ columnOf (map floatOf (now (samples .entry))) ⌝ }
+{
+    binary32::sqrt(squares(samples) / binary32::usize_to_f32(samples.len()))
+}
+
+// The cast drops the fraction, as the floor does.
+fn cut(step: f32, i: usize) -> usize
+    ensures { λ r. ⌜ r ≡ asWhole 64 (floorOf (mul binary32 (asFloat i) step)) ⌝ }
+{
+    binary32::f32_to_usize(binary32::usize_to_f32(i) * step)
+}
+
+// Writes the columns of a recording to the front of the list.
+fn write_columns(recording: &[u32], columns: usize, list: &mut [f32])
+    requires { ⌜ (length (now recording) ≤ 2 ^ 22) × (columns ≤ 4096) × (columns ≤ length (now list)) ⌝ }
+    ensures { λ r. ⌜ now (list .exit) ≡ sets (now (list .entry)) 0 (columnsOf columns (now (recording .entry))) ⌝ }
+{
+    let step = binary32::usize_to_f32(recording.len()) / binary32::usize_to_f32(columns);
+    let mut start = 0;
+    let mut i = 0;
+    while i < columns {
+        let end = cut(step, i + 1);
+        list[i] = column(&recording[start..end]);
+        start = end;
+        i += 1;
+    }
+}
+
+fn largest(values: &[f32]) -> f32
+    ensures { λ r. ⌜ r ≡ largestOf (now (values .entry)) ⌝ }
+{
+    let n = values.len();
+    let mut most = 0.0;
+    let mut i = 0;
+    while i < n {
+        most = binary32::max(most, values[i]);
+        i += 1;
+    }
+    most
+}
+
+fn waveform_number(s: Sampler, columns: usize, room: usize, size: usize) -> u8
+    ensures { λ r. ⌜ r ≡ waveformNumber s columns room size ⌝ }
+{
+    let short = first_of(room < columns, 8, 0);
+    let many = first_of(MOST_COLUMNS < columns, 11, short);
+    first_of(!s.good_with(size), 9, many)
+}
+
+// Writes a value for each column of channel 0's recording to the front of the list. None is below 0, so the smallest is
+// where the extremes start.
+pub fn get_waveform_summary(
+    s: Sampler,
+    columns: usize,
+    list: &mut [f32],
+    memory: &[u32],
+) -> WaveformSummary
+    ensures { λ r. ⌜ r ≡ getWaveformSummaryOf s columns (length (now (list .entry))) (now (memory .entry)) ⌝ }
+    ensures { λ r. ⌜ now (list .exit) ≡ waveformAfter s columns (now (list .entry)) (now (memory .entry)) ⌝ }
+{
+    let number = waveform_number(s, columns, list.len(), memory.len());
+    if number != 0 {
+        return WaveformSummary {
+            smallest: 0.0,
+            largest: 0.0,
+            number,
+        };
+    }
+    let head = channel_at(s, 0).head;
+    let end = head.data_len;
+    write_columns(&memory[..end], columns, list);
+    WaveformSummary {
+        smallest: 0.0,
+        largest: largest(&list[..columns]),
+        number: 0,
+    }
 }

@@ -266,7 +266,7 @@ impl Sampler {
     }
 
     // Whether the record is good, and memory of that size long enough for it.
-    fn good_with(self, size: usize) -> bool
+    pub fn good_with(self, size: usize) -> bool
         ensures { λ r. ⌜ r ≡ goodWith self size ⌝ }
     {
         if self.good() {

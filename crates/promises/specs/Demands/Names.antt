@@ -10,9 +10,11 @@ pub use lib.ListN.{length, take, drop}
 pub use lib.IntN.{ℤ}
 pub use lib.Ieee.{Float, nan, fin, binary32, up, down, add, mul, div, isNan, fits}
 pub use lib.Ieee.Exact.{HasValue}
+pub use lib.Ieee.Positive.{positive}
 pub use Rattle.walks.specs.Walks.{any}
 pub use Rattle.walks.specs.Each.{Each}
-pub use Rattle.binary32.specs.Leaves.{asFloat, asWhole, floorOf, minOf, maxOf, bitsOf, floatOf, zero32}
+pub use Rattle.binary32.specs.Leaves.{asFloat, asWhole, floorOf, minOf, maxOf, bitsOf, floatOf, rootOf, zero32}
+pub use Rattle.binary32.specs.Roots.{NearestRoot}
 pub use Rattle.common_types.specs.declared.InitParams.{InitParams}
 pub use Rattle.common_types.specs.declared.Params.{Params}
 pub use Rattle.common_types.specs.declared.Note.{Note}
@@ -35,7 +37,7 @@ pub use Rattle.voice.specs.declared.Voice.{Voice}
 pub use Rattle.voice.specs.declared.Tick.{Tick}
 pub use Rattle.voice.specs.Voices.{movedOf, recordedValueOf, productOf, freshOf, atSpeedOf}
 pub use Rattle.channel.specs.declared.Channel.{Channel}
-pub use Rattle.channel.specs.Channels.{live, fullOf, memoryOf}
+pub use Rattle.channel.specs.Channels.{live, fullOf, memoryOf, recordingOf}
 pub use Rattle.sampler.specs.declared.Answer.{Answer}
 pub use Rattle.sampler.specs.Refusals.{
   channelAt,
@@ -55,6 +57,7 @@ pub use Rattle.questions.specs.declared.VoiceInfo.{VoiceInfo}
 pub use Rattle.questions.specs.declared.VoiceInfos.{VoiceInfos}
 pub use Rattle.questions.specs.declared.Counted.the-variants as Counted
 pub use Rattle.questions.specs.Questions.{recorderAt, notesOf, voiceInfoOf}
+pub use Rattle.questions.specs.Waveforms.{cutOf, columnOf, columnsOf, smallestOf, largestOf, summaryWith}
 pub use Rattle.fates.specs.Engine.{bornOf, stepOf}
 pub use Rattle.fates.specs.Events.{act, sounds, lengthAt, isSample, emptyAt, tickAt, decayOf}
 pub use Rattle.fates.specs.Places.{voiceAt, at, gone, follow, becomes, followAll, addedBy, finishes, stoppedIn, finishedIn}
@@ -72,6 +75,7 @@ pub use Rattle.promises.specs.Runs.{
   iterActiveNotes,
   getVoiceInfo,
   fillVoiceInfo,
+  getWaveformSummary,
   Call,
   start,
   stop,
@@ -100,6 +104,7 @@ pub use Rattle.promises.specs.Outcomes.{
   new,
   on,
   InfoOutcome,
+  WaveformOutcome,
   Outcome,
   Allows,
   Settled,

@@ -1,0 +1,69 @@
+-- `get_waveform_summary` meets its contract: the table's rows in its order, and then the columns of the memory's front. Assumes nothing.
+use mathlib.Core.Path.{sym, _∙_}
+use lib.Ieee.{ofBits}
+use Rattle.questions.proofs.Summaries.{waveform-refused, front-count, front-asked, room-left, taken-count, summary-done}
+use borrow.Author.Needs.{needs}
+use Rattle.questions.proofs.get_waveform_summary.Statement.{statement}
+use Rattle.questions.proofs.get_waveform_summary.Tie as tie
+
+waveform-number-requires : tie.Need-waveform-number-requires
+waveform-number-requires c κs = search needs
+
+returns : tie.Need-returns
+unfolding ofBits
+returns c = waveform-refused _ _ _ _ _ (c .before .waveform-number .ensures) (c .if1 .taken)
+
+channel-at-requires : tie.Need-channel-at-requires
+channel-at-requires c κs = search needs
+
+slice-aggregate-write-columns : tie.Need-slice-aggregate-write-columns
+slice-aggregate-write-columns c =
+    let b = c .before .before in
+    let a = b .before .before .before .before .before .args in
+    front-count (a .s) (a .columns) (a .list .now) (a .memory .now) _ (b .channel-at .ensures) (sym (b .before .before .waveform-number .ensures) ∙ b .before .if1 .left)
+
+write-columns-requires : tie.Need-write-columns-requires
+write-columns-requires c κs =
+    let b = c .before .before .before in
+    let a = b .before .before .before .before .before .args in
+    front-asked (a .s) (a .columns) (a .list .now) (a .memory .now) _ (b .channel-at .ensures) (sym (b .before .before .waveform-number .ensures) ∙ b .before .if1 .left)
+
+slice-reshare-prefix-largest : tie.Need-slice-reshare-prefix-largest
+slice-reshare-prefix-largest c =
+    let b = c .before .before .before .before .before .before in
+    let a = b .before .before .before .before .before .args in
+    room-left (a .s) (a .columns) (a .list .now) (a .memory .now) _ (b .channel-at .ensures) (sym (b .before .before .waveform-number .ensures) ∙ b .before .if1 .left) _ (c .before .before .write-columns .ensures)
+
+slice-aggregate-largest : tie.Need-slice-aggregate-largest
+slice-aggregate-largest c =
+    let b = c .before .before .before .before .before .before .before in
+    let a = b .before .before .before .before .before .args in
+    taken-count (a .s) (a .columns) (a .list .now) (a .memory .now) _ (b .channel-at .ensures) (sym (b .before .before .waveform-number .ensures) ∙ b .before .if1 .left) _ (c .before .before .before .write-columns .ensures)
+
+largest-requires : tie.Need-largest-requires
+largest-requires c κs = search needs
+
+same-length : tie.Need-same-length
+same-length c = search needs
+
+returns-2 : tie.Need-returns-2
+unfolding ofBits
+returns-2 c =
+    let b = c .before .before .before .before .before .before .before .before in
+    let a = b .before .before .before .before .before .args in
+    summary-done (a .s) (a .columns) (a .list .now) (a .memory .now) _ (b .channel-at .ensures) (sym (b .before .before .waveform-number .ensures) ∙ b .before .if1 .left) _ (c .before .before .before .before .write-columns .ensures) _ (c .largest .ensures)
+
+pub get-waveform-summary-spec : {M : Type 1} → statement M
+get-waveform-summary-spec =
+    tie.close
+    (tie.spec
+    waveform-number-requires
+    returns
+    channel-at-requires
+    slice-aggregate-write-columns
+    write-columns-requires
+    slice-reshare-prefix-largest
+    slice-aggregate-largest
+    largest-requires
+    same-length
+    returns-2)
