@@ -5,3 +5,5 @@ pub mod WayBack
 pub mod Kept
 pub mod Answers
 pub mod Indices
+pub mod Standings
+pub mod AtOnce
