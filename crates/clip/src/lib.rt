@@ -342,31 +342,21 @@ impl Clip {
     }
 
     // The four parts in their order. A clip that none of them changes, as it is at most samples, is told in front.
-    fn moved_at(
-        self,
-        now: usize,
-        length: f32,
-        speed: f32,
-        data_length: f32,
-        mode: Mode,
-    ) -> Standing
+    fn moved_at(self, now: usize, length: f32, speed: f32, data_length: f32, mode: Mode) -> Standing
         ensures { λ r. ⌜ r ≡ standingOf (withAll self now length speed «data_length» mode) now ⌝ }
     {
         let standing = self.standing_at(now);
         if self.same_all(length, speed, data_length, mode) {
             return standing;
         }
-        standing.sized(length).paced(speed).cut(data_length).turned(mode)
+        standing
+            .sized(length)
+            .paced(speed)
+            .cut(data_length)
+            .turned(mode)
     }
 
-    pub fn with_all(
-        self,
-        now: usize,
-        length: f32,
-        speed: f32,
-        data_length: f32,
-        mode: Mode,
-    ) -> Clip
+    pub fn with_all(self, now: usize, length: f32, speed: f32, data_length: f32, mode: Mode) -> Clip
         ensures { λ r. ⌜ r ≡ withAll self now length speed «data_length» mode ⌝ }
     {
         self.moved_at(now, length, speed, data_length, mode).clip
@@ -601,11 +591,12 @@ impl Standing {
             return self;
         }
         clip.speed = speed;
-        Standing {
+        let paced = Standing {
             clip,
             now: self.now,
             elapsed: self.elapsed,
-        }.settled(self.offset())
+        };
+        paced.settled(self.offset())
     }
 
     fn turned(self, mode: Mode) -> Standing
@@ -626,11 +617,12 @@ impl Standing {
             shift: old.shift,
             mode,
         };
-        Standing {
+        let turned = Standing {
             clip,
             now: self.now,
             elapsed: self.elapsed,
-        }.settled(self.offset())
+        };
+        turned.settled(self.offset())
     }
 
     fn sized(self, length: f32) -> Standing
@@ -642,11 +634,12 @@ impl Standing {
             return self;
         }
         clip.length = length;
-        Standing {
+        let sized = Standing {
             clip,
             now: self.now,
             elapsed: self.elapsed,
-        }.settled(self.offset())
+        };
+        sized.settled(self.offset())
     }
 
     fn cut(self, data_length: f32) -> Standing

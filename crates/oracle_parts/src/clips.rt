@@ -80,7 +80,13 @@ fn update(fields: &[u8], c: Clip, time: usize) -> ClipAnswer
         0 => c.update_speed(time, value),
         1 => c.update_mode(time, mode_of(fields[3])),
         2 => c.update_length(time, value),
-        4 => c.update_all(time, value, f32_at(fields, 56), f32_at(fields, 60), mode_of(fields[3])),
+        4 => c.update_all(
+            time,
+            value,
+            f32_at(fields, 56),
+            f32_at(fields, 60),
+            mode_of(fields[3]),
+        ),
         _ => c.update_data_length(time, value),
     }
 }

@@ -27,7 +27,7 @@ returns-2 c =
     let s = b .args .self in
     let d = atDataLength (s .clip) (b .args .data-length) in
     let reset : withDataLength (s .clip) (s .now) (b .args .data-length) ≡ resumed d zero32 (s .now) =
-        simp (c .before .before .if1 .left, ← (c .before .offset .ensures), c .if2 .taken) in
+    simp (c .before .before .if1 .left, ← (c .before .offset .ensures), c .if2 .taken) in
     resumed-stands d zero32 (s .now) ∙ ap (λ (z : Clip). standingOf z (s .now)) (sym reset)
 
 returns-3 : tie.Need-returns-3
@@ -37,7 +37,7 @@ returns-3 c =
     let s = b .args .self in
     let d = atDataLength (s .clip) (b .args .data-length) in
     let kept : withDataLength (s .clip) (s .now) (b .args .data-length) ≡ d =
-        simp (c .before .before .if1 .left, ← (c .before .offset .ensures), c .if2 .left) in
+    simp (c .before .before .if1 .left, ← (c .before .offset .ensures), c .if2 .left) in
     standing-is (record { clip = d; now = s .now; elapsed = s .elapsed }) (b .pre) ∙ ap (λ (z : Clip). standingOf z (s .now)) (sym kept)
 
 pub cut-spec : {M : Type 1} → statement M
