@@ -17,6 +17,7 @@ use Rattle.common_types.proofs.Packing.{unpack-pack, pack-unpack}
 use Rattle.common_types.specs.declared.InitParams.{InitParams}
 use Rattle.common_types.specs.declared.Params.{Params}
 use Rattle.recorder.specs.ErrorText.{errorText}
+use Rattle.clip.proofs.AtOnce.{at-once, skips-length, skips-speed, skips-data-length, skips-mode}
 use Rattle.clip.proofs.Offsets.{clip-offset-inside, offset-within}
 use Rattle.channel.specs.declared.Change.{Change}
 use Rattle.channel.specs.Channels.{live}
@@ -217,6 +218,13 @@ demand2 = record {
   patterns = value-back;
   values = λ b h n. pattern-back b h ∙ ap (λ (t : Bool). cond t 0x7fc0_0000 b) n;
   positions = λ c now h. (clip-offset-inside c now h, offset-within c now h);
+  at-once = at-once;
+  skips-alone = λ c now l s d m. record {
+    length = skips-length c now l s d m;
+    speed = skips-speed c now l s d m;
+    data-length = skips-data-length c now l s d m;
+    mode = skips-mode c now l s d m;
+  };
   packed = unpack-pack;
   unpacked = pack-unpack;
   table = table-holds;
