@@ -1,7 +1,8 @@
 //! Times the port beside the Rust that it is ported from, in one run and on the same scenarios, and compares the bits of all outputs (docs/BENCHMARKS.md).
 //!
 //!     bench [ROUNDS]                each scenario is played ROUNDS times by each side in turn (9 unless given)
-//!     bench count VOICES FRAMES     a loop is played once by the port alone, for a tool that counts instructions
+//!     bench names                   the names of the scenarios, a line each
+//!     bench count ROW FRAMES        the scenario of that line (from 1) is played once, so many frames of it, by the port alone, for a tool that counts instructions
 
 mod original;
 #[allow(dead_code)]
@@ -86,8 +87,14 @@ fn run(rounds: u32) -> Result<(), String> {
     Ok(())
 }
 
-fn count(voices: u32, frames: u32) -> Result<(), String> {
-    ported(&Scenario { voices, frames, ..scenario::PLAIN }).map(|_| ())
+fn names() -> Result<(), String> {
+    SCENARIOS.iter().for_each(|scenario| println!("{}", scenario.name));
+    Ok(())
+}
+
+fn count(row: u32, frames: u32) -> Result<(), String> {
+    let scenario = SCENARIOS.get((row as usize).wrapping_sub(1)).ok_or("no such row")?;
+    ported(&Scenario { frames, ..*scenario }).map(|_| ())
 }
 
 fn main() -> ExitCode {
@@ -96,8 +103,9 @@ fn main() -> ExitCode {
     let ended = match numbers[..] {
         [] => run(9),
         [Some(rounds)] if rounds > 0 => run(rounds),
-        [None, Some(voices), Some(frames)] if words[0] == "count" => count(voices, frames),
-        _ => Err("usage: bench [ROUNDS] or bench count VOICES FRAMES".into()),
+        [None] if words[0] == "names" => names(),
+        [None, Some(row), Some(frames)] if words[0] == "count" => count(row, frames),
+        _ => Err("usage: bench [ROUNDS], bench names or bench count ROW FRAMES".into()),
     };
     match ended {
         Ok(()) => ExitCode::SUCCESS,

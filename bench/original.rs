@@ -43,6 +43,7 @@ fn summed(sum: u64, output: f32) -> u64 {
 #[inline(never)]
 pub fn played(scenario: &Scenario) -> u64 {
     let p = scenario.params();
+    let other = scenario.other_params();
     let mut s = begun(scenario, &p);
     let inputs: Vec<f32> = (0..256).map(input_at).collect();
     let mut sum = 0;
@@ -52,7 +53,8 @@ pub fn played(scenario: &Scenario) -> u64 {
             s.start_recording();
         }
         let at = k as usize;
-        let [left, right] = process(&mut s, [inputs[at % 256], inputs[(at + 7) % 256]], &p);
+        let now = if k % 2 == 0 { &p } else { &other };
+        let [left, right] = process(&mut s, [inputs[at % 256], inputs[(at + 7) % 256]], now);
         sum = summed(summed(sum, left), right);
     }
     sum

@@ -16,6 +16,8 @@ pub struct Scenario {
     pub ramp: u64,
     pub stopped: bool,
     pub records: bool,
+    /// Every second frame is played under other parameters: length, speed and mode.
+    pub changes: bool,
     pub clock: u64,
     pub frames: u32,
 }
@@ -24,7 +26,7 @@ const LOOP: u8 = 1;
 const PING_PONG: u8 = 2;
 const LONGEST_RAMP: u64 = 1 << 24;
 
-pub const PLAIN: Scenario = Scenario { name: "", voices: 8, mode: LOOP, ramp: 0, stopped: false, records: false, clock: 10, frames: 50_000 };
+const PLAIN: Scenario = Scenario { name: "", voices: 8, mode: LOOP, ramp: 0, stopped: false, records: false, changes: false, clock: 10, frames: 50_000 };
 
 pub const SCENARIOS: &[Scenario] = &[
     Scenario { name: "no voices", voices: 0, frames: 500_000, ..PLAIN },
@@ -40,6 +42,9 @@ pub const SCENARIOS: &[Scenario] = &[
     Scenario { name: "8 voices, recording", records: true, ..PLAIN },
     Scenario { name: "no voices, recording", voices: 0, records: true, frames: 500_000, ..PLAIN },
     Scenario { name: "8 voices, clock at 2^40", clock: 1 << 40, ..PLAIN },
+    Scenario { name: "1 voice, parameters change", voices: 1, changes: true, frames: 200_000, ..PLAIN },
+    Scenario { name: "8 voices, parameters change", changes: true, ..PLAIN },
+    Scenario { name: "32 voices, parameters change", voices: 32, changes: true, frames: 20_000, ..PLAIN },
     Scenario { name: "1 voice, loop, ten million frames", voices: 1, frames: 10_000_000, ..PLAIN },
 ];
 
@@ -64,18 +69,34 @@ impl Scenario {
             .with_u32(params::REVERSE, 1.0f32.to_bits())
     }
 
+    /// The parameters of every second frame.
+    fn other_settings(&self) -> Record {
+        if !self.changes {
+            return self.settings();
+        }
+        self.settings()
+            .with_u8(params::MODE, PING_PONG)
+            .with_u32(params::VALUE, 0.4f32.to_bits())
+            .with_u32(params::SPEED, 0.5f32.to_bits())
+    }
+
     pub fn params(&self) -> Params {
         params::params(&self.settings())
     }
 
-    /// The parameters and the plan, as bench/port.rt.txt reads them.
+    pub fn other_params(&self) -> Params {
+        params::params(&self.other_settings())
+    }
+
+    /// The parameters, those of every second frame and the plan, as bench/port.rt.txt reads them.
     pub fn bytes(&self) -> Vec<u8> {
         let plan = Record::new(0)
             .with_u32(0, self.frames)
             .with_u32(4, self.voices)
             .with_u32(8, self.stopped.into())
             .with_u32(12, self.records.into())
-            .with_u64(16, self.clock);
-        [self.settings().0, plan.0].concat()
+            .with_u64(16, self.clock)
+            .with_u32(24, self.changes.into());
+        [self.settings().0, self.other_settings().0, plan.0].concat()
     }
 }

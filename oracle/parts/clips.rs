@@ -8,7 +8,7 @@ use audio_sampler_lib::clip::{Clip, Mode};
 
 /// 0 for a loop, 1 for ping-pong.
 const MODE: Arg = Arg("mode", 1, 1);
-/// What is updated: 0 the speed, 1 the mode, 2 the length, 3 the data length.
+/// What is updated: 0 the speed, 1 the mode, 2 the length, 3 the data length, 4 all of them in one call, beside the Rust's four in turn.
 const KIND: Arg = Arg("kind", 2, 1);
 const NEW_MODE: Arg = Arg("new mode", 3, 1);
 const START: Arg = Arg("start", 4, 4);
@@ -18,13 +18,17 @@ const DATA_LENGTH: Arg = Arg("data length", 16, 4);
 const SHIFT: Arg = Arg("shift", 20, 4);
 /// A place in the data.
 const X: Arg = Arg("x", 24, 4);
-/// The new speed or length.
+/// The new speed or length; of all four the length.
 const VALUE: Arg = Arg("value", 28, 4);
 const SINCE: Arg = Arg("since", 32, 8);
 /// The time of the questions and of the update.
 const NOW: Arg = Arg("now", 40, 8);
 /// A time at which the clip is asked after the update.
 const LATER: Arg = Arg("later", 48, 8);
+
+/// Of all four.
+const NEW_SPEED: Arg = Arg("new speed", 56, 4);
+const NEW_DATA_LENGTH: Arg = Arg("new data length", 60, 4);
 
 const LAST: u64 = 1 << 48;
 const LONGEST: f32 = 4194304.0;
@@ -40,8 +44,8 @@ pub const PART: Part = Part {
         Function { name: "Clip::offset", args: &[MODE, START, SPEED, LENGTH, DATA_LENGTH, SHIFT, SINCE, NOW] },
         Function { name: "Clip::is_pingpong_reversing", args: &[MODE, START, SPEED, LENGTH, DATA_LENGTH, SHIFT, SINCE, NOW] },
         Function { name: "Clip::data_to_clip", args: &[START, LENGTH, DATA_LENGTH, X] },
-        Function { name: "Clip::update_..", args: &[MODE, KIND, NEW_MODE, START, SPEED, LENGTH, DATA_LENGTH, SHIFT, VALUE, SINCE, NOW] },
-        Function { name: "Clip::offset after update_..", args: &[MODE, KIND, NEW_MODE, START, SPEED, LENGTH, DATA_LENGTH, SHIFT, VALUE, SINCE, NOW, LATER] },
+        Function { name: "Clip::update_..", args: &[MODE, KIND, NEW_MODE, START, SPEED, LENGTH, DATA_LENGTH, SHIFT, VALUE, SINCE, NOW, NEW_SPEED, NEW_DATA_LENGTH] },
+        Function { name: "Clip::offset after update_..", args: &[MODE, KIND, NEW_MODE, START, SPEED, LENGTH, DATA_LENGTH, SHIFT, VALUE, SINCE, NOW, LATER, NEW_SPEED, NEW_DATA_LENGTH] },
     ],
     edges,
     random: &[("hostile", hostile), ("ordinary", ordinary), ("whole", whole)],
@@ -58,6 +62,7 @@ pub const PART: Part = Part {
 fn edges() -> Vec<Record> {
     let mut r = Random::new(0);
     let mut records = table(&mut r);
+    records.extend(all_at_once(&mut r));
     let lengths = [0.0, 0.99999994, 1.0, 1.0000001, 1.5, 4.0, 10.0, 4194303.5, LONGEST, 4194304.5, f32::INFINITY, f32::NAN];
     let starts = [-1e-45, -0.0, 0.0, 1e-45, 1.0, 8.0, 10.0, 4194303.8, LONGEST, 4194304.5, f32::INFINITY, f32::NAN];
     for mode in [Mode::Loop, Mode::PingPong] {
@@ -100,6 +105,37 @@ fn table(r: &mut Random) -> Vec<Record> {
         records.extend((0..9).map(|now| asked(r, clip, now, ordinary_value)));
     }
     records
+}
+
+/// Updates of all four, where one offset used by all of them ends elsewhere; a speed that is NaN twice in a row; a bad length beside others that are not.
+fn all_at_once(r: &mut Random) -> Vec<Record> {
+    let four = |start| Clip::new(0, start, 1.0, 4.0, 4.0, Mode::Loop);
+    let nan = Clip::new(0, 0.0, f32::NAN, 4.0, 4.0, Mode::Loop);
+    let mut records = vec![
+        all_of(r, four(0.0), 1, (4.0, -1.0, 4.0, Mode::PingPong)),
+        all_of(r, four(0.0), 1, (1.5, 1.0, 4.0, Mode::Loop)),
+        all_of(r, four(3.0), 2, (4.0, 1.0, 3.0, Mode::Loop)),
+        all_of(r, nan, 1, (4.0, f32::NAN, 4.0, Mode::Loop)),
+        all_of(r, four(0.0), 1, (0.5, -1.0, 3.0, Mode::PingPong)),
+        all_of(r, four(0.0), 1, (3.0, -1.0, 0.5, Mode::PingPong)),
+    ];
+    let again = updated(&records[3]).unwrap_or(nan);
+    records.push(all_of(r, again, 2, (4.0, f32::NAN, 4.0, Mode::Loop)));
+    records
+}
+
+fn all_of(r: &mut Random, clip: Clip, now: u64, new: (f32, f32, f32, Mode)) -> Record {
+    with_all(asked(r, clip, now, ordinary_value), new)
+}
+
+/// The record with an update of all four: length, speed, data length and mode.
+fn with_all(record: Record, (length, speed, data_length, mode): (f32, f32, f32, Mode)) -> Record {
+    record
+        .with_u8(KIND.1, 4)
+        .with_u8(NEW_MODE.1, mode as u8)
+        .with_u32(VALUE.1, length.to_bits())
+        .with_u32(NEW_SPEED.1, speed.to_bits())
+        .with_u32(NEW_DATA_LENGTH.1, data_length.to_bits())
 }
 
 /// A sequence goes on with what the last record left, and takes up hostile clips, times, speeds and lengths.
@@ -158,15 +194,15 @@ fn next(r: &mut Random, last: &Record) -> Option<(Clip, u64)> {
 
 /// A record of that clip at that time, with an update by chance. A `value` is made for each kind of update.
 fn asked(r: &mut Random, clip: Clip, now: u64, value: fn(&mut Random, &Clip, u8) -> f32) -> Record {
-    let kind = r.below(4) as u8;
-    let value = value(r, &clip, kind);
+    let kind = r.below(8) as u8;
+    let new = value(r, &clip, kind);
     let x = match r.below(8) {
         0 => f32::from_bits(hostile_float(r)),
         1 => clip.start,
         2 => clip.data_length,
         _ => clip.data_length * (r.below(1 << 24) as f32 / 16777216.0),
     };
-    Record::new(4)
+    let record = Record::new(4)
         .with_u8(MODE.1, clip.mode as u8)
         .with_u8(KIND.1, kind)
         .with_u8(NEW_MODE.1, r.below(2) as u8)
@@ -176,10 +212,36 @@ fn asked(r: &mut Random, clip: Clip, now: u64, value: fn(&mut Random, &Clip, u8)
         .with_u32(DATA_LENGTH.1, clip.data_length.to_bits())
         .with_u32(SHIFT.1, clip.shift.to_bits())
         .with_u32(X.1, x.to_bits())
-        .with_u32(VALUE.1, value.to_bits())
+        .with_u32(VALUE.1, new.to_bits())
         .with_u64(SINCE.1, clip.since as u64)
         .with_u64(NOW.1, now)
-        .with_u64(LATER.1, time_after(r, now))
+        .with_u64(LATER.1, time_after(r, now));
+    if kind < 4 { record } else { with_all(record, four(r, &clip, value)) }
+}
+
+/// New values for all four, each of them by chance the one that there is.
+fn four(r: &mut Random, clip: &Clip, value: fn(&mut Random, &Clip, u8) -> f32) -> (f32, f32, f32, Mode) {
+    let kept = r.below(16);
+    let mode = if kept & 8 == 0 { clip.mode } else { r.pick(&[Mode::Loop, Mode::PingPong]) };
+    let length = if kept & 1 == 0 { clip.length } else { value(r, clip, 2) };
+    let speed = if kept & 2 == 0 { clip.speed } else { value(r, clip, 0) };
+    let data_length = if kept & 4 == 0 { clip.data_length } else { value(r, clip, 3) };
+    (length, speed, data_length, mode)
+}
+
+/// Of an update of all four that isn't refused: which parts are skipped, 1 the length, 2 the speed, 4 the data length, 8 the mode.
+pub fn skipped(record: &Record) -> Option<usize> {
+    if record.u8_at(KIND.1) != 4 || updated(record).is_none() {
+        return None;
+    }
+    let clip = clip(record);
+    let same = [
+        float(record, VALUE) == clip.length,
+        float(record, NEW_SPEED) == clip.speed,
+        float(record, NEW_DATA_LENGTH) == clip.data_length,
+        mode(record.u8_at(NEW_MODE.1)) as u8 == clip.mode as u8,
+    ];
+    Some(same.iter().enumerate().map(|(k, &same)| (same as usize) << k).sum())
 }
 
 fn edge_value(r: &mut Random, clip: &Clip, kind: u8) -> f32 {
@@ -332,13 +394,20 @@ fn put_clip(clip: Option<Clip>, line: &mut Line) {
 fn updated(record: &Record) -> Option<Clip> {
     let (mut clip, now, value) = (clip(record), record.u64_at(NOW.1), float(record, VALUE));
     let kind = record.u8_at(KIND.1);
-    if refused(&clip, now) || kind >= 2 && !good_length(value) {
+    let (speed, data_length) = (float(record, NEW_SPEED), float(record, NEW_DATA_LENGTH));
+    if refused(&clip, now) || kind >= 2 && !good_length(value) || kind == 4 && !good_length(data_length) {
         return None;
     }
     match kind {
         0 => clip.update_speed(now as usize, value),
         1 => clip.update_mode(now as usize, mode(record.u8_at(NEW_MODE.1))),
         2 => clip.update_length(now as usize, value),
+        4 => {
+            clip.update_length(now as usize, value);
+            clip.update_speed(now as usize, speed);
+            clip.update_data_length(now as usize, data_length);
+            clip.update_mode(now as usize, mode(record.u8_at(NEW_MODE.1)));
+        }
         _ => clip.update_data_length(now as usize, value),
     }
     Some(clip)

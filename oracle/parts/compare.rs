@@ -1,5 +1,6 @@
 //! Runs the port on records, and compares its lines with the Rust's answers.
 
+use crate::clips;
 use crate::part::{Function, Line, Part};
 use crate::random::Random;
 use crate::record::{Record, SIZE};
@@ -60,7 +61,8 @@ pub fn run(seed: u64, count: usize, command: &str, words: &[&str]) -> Result<boo
     // A port that ended early breaks the pipe, and `compare` says so.
     let _ = writer.join();
     port.wait().map_err(|e| format!("{command}: {e}"))?;
-    Ok(report(count, &counts?))
+    let (counts, patterns) = counts?;
+    Ok(report(count, &counts, &patterns))
 }
 
 /// Hands the port a run's records, and last one that is cut short.
@@ -72,7 +74,9 @@ fn ask(seed: u64, count: usize, input: impl Write) -> std::io::Result<()> {
     input.write_all(&[0; SIZE - 1])
 }
 
-fn compare(seed: u64, count: usize, mut output: impl BufRead) -> Result<Vec<Counts>, String> {
+/// What each part was asked and met, and how often each pattern of skipped parts was met by an update of a clip by all four values.
+fn compare(seed: u64, count: usize, mut output: impl BufRead) -> Result<(Vec<Counts>, [u64; 16]), String> {
+    let mut patterns = [0; 16];
     let mut counts: Vec<Counts> = PARTS.iter().map(Counts::of).collect();
     let (mut rust, mut port) = (Line::default(), Vec::new());
     let total: usize = PARTS.iter().map(|p| size_of(p, count)).sum();
@@ -88,6 +92,9 @@ fn compare(seed: u64, count: usize, mut output: impl BufRead) -> Result<Vec<Coun
         if port.pop() != Some(b'\n') {
             return Err(format!("the port ended after {done} records"));
         }
+        if part.name == clips::PART.name {
+            clips::skipped(&record).into_iter().for_each(|pattern| patterns[pattern] += 1);
+        }
         count_words(&mut counts[number].tallies, part.functions, &record, &rust, &port);
         for (met, (_, is)) in counts[number].met.iter_mut().zip(part.met) {
             *met += is(&record) as u64;
@@ -98,7 +105,7 @@ fn compare(seed: u64, count: usize, mut output: impl BufRead) -> Result<Vec<Coun
     if port != b"X\n" {
         return Err("the port did not answer a record that is cut short by X".into());
     }
-    Ok(counts)
+    Ok((counts, patterns))
 }
 
 fn count_words(tallies: &mut [Tally], functions: &[Function], record: &Record, rust: &Line, port: &[u8]) {
@@ -135,7 +142,7 @@ fn size(function: &Function, record: &Record) -> (u32, Vec<u8>) {
     (bytes.iter().map(|b| b.count_ones()).sum(), bytes)
 }
 
-fn report(count: usize, counts: &[Counts]) -> bool {
+fn report(count: usize, counts: &[Counts], patterns: &[u64; 16]) -> bool {
     let (mut records, mut equal, mut differ) = (0, 0, 0);
     for (part, counts) in PARTS.iter().zip(counts) {
         records += size_of(part, count);
@@ -150,6 +157,8 @@ fn report(count: usize, counts: &[Counts]) -> bool {
             println!("  {name:<40} {met}");
         }
     }
+    let each: String = patterns.iter().map(|n| format!(" {n}")).collect();
+    println!("updates of a clip by all four values, by which are equal (1 length, 2 speed, 4 data length, 8 mode), from none to all:{each}");
     println!("{records} records, {equal} answers equal, {differ} differ");
     differ == 0
 }

@@ -8,3 +8,5 @@ pub mod Indices
 pub mod Equal
 pub mod Plain
 pub mod Examples
+pub mod Standings
+pub mod AtOnce

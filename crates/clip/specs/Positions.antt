@@ -1,5 +1,6 @@
 -- Where a clip is at a time (document 01, module 4). Floats are binary32, and operations go in the Rust's order. Each
 -- definition takes every clip and every time. Definitions only. Assumes nothing.
+use mathlib.Core.Path.{_≡_}
 use Prim.Native.Nat.{ℕ, _-_}
 use mathlib.Core.Bool.{false, cond}
 use lib.IntN.{pos}
@@ -8,6 +9,8 @@ use Rattle.binary32.specs.Leaves.{zero32, one32, asFloat, asWhole, floorOf, min
 use Rattle.clip.specs.declared.Mode.{Mode}
 use Rattle.clip.specs.declared.Mode.the-variants.{Loop, PingPong}
 use Rattle.clip.specs.declared.Clip.{Clip}
+use Rattle.clip.specs.declared.Standing.{Standing}
+use Rattle.clip.specs.declared.Sounding.{Sounding}
 
 abbrev pub two32 : Float
 two32 = fin false 1 (pos 1)
@@ -62,3 +65,17 @@ offsetAt c now = clipToDataOf c (clipOffsetAt c now)
 -- the whole part of the offset: the sample that sounds
 unfoldable pub indexAt : Clip → ℕ → ℕ
 indexAt c now = asWhole 64 (floorOf (offsetAt c now))
+
+-- ---- a clip at a time, as the code carries it
+
+-- with the float of the samples since its last change
+unfoldable pub standingOf : Clip → ℕ → Standing
+standingOf c now = record { clip = c; now = now; elapsed = asFloat (elapsedAt c now) }
+
+-- its float is that
+abbrev pub Stands : Standing → Type 0
+Stands s = s .elapsed ≡ asFloat (elapsedAt (s .clip) (s .now))
+
+-- with the index of the sample that sounds
+unfoldable pub soundingOf : Clip → ℕ → Sounding
+soundingOf c now = record { clip = c; index = indexAt c now }

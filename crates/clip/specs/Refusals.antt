@@ -7,7 +7,7 @@ use lib.IntN.{pos}
 use lib.Ieee.{Float, fin, le, lt}
 use Rattle.binary32.specs.Leaves.{zero32, one32}
 use Rattle.clip.specs.Positions.{elapsedAt, clipOffsetAt, offsetAt}
-use Rattle.clip.specs.Updates.{madeOf, foundAt, reversingAt, withSpeed, withMode, withLength, withDataLength}
+use Rattle.clip.specs.Updates.{madeOf, foundAt, reversingAt, withSpeed, withMode, withLength, withDataLength, withAll}
 use Rattle.clip.specs.declared.Mode.{Mode}
 use Rattle.clip.specs.declared.Clip.{Clip}
 use Rattle.clip.specs.declared.ClipAnswer.{ClipAnswer}
@@ -75,6 +75,22 @@ updateLengthOf c now length = cond (clipRefusedAt c now || not (goodLength lengt
 unfoldable pub updateDataLengthOf : Clip → ℕ → Float → ClipAnswer
 updateDataLengthOf c now length = cond (clipRefusedAt c now || not (goodLength length)) clip.Refused
     (clip.Done (withDataLength c now length))
+
+-- the four at once: if either length is bad none of them is applied
+unfoldable pub updateAllOf : Clip → ℕ → Float → Float → Float → Mode → ClipAnswer
+updateAllOf c now length speed data-length mode =
+    cond (clipRefusedAt c now || not (goodLength length) || not (goodLength data-length)) clip.Refused
+    (clip.Done (withAll c now length speed data-length mode))
+
+-- ---- the four public answers in turn: each is asked of the clip that the one before it left, and a refusal is carried on
+abbrev pub thenOf : ClipAnswer → (Clip → ClipAnswer) → ClipAnswer
+thenOf (clip.Done c) next = next c
+thenOf clip.Refused next = clip.Refused
+
+unfoldable pub fourOf : Clip → ℕ → Float → Float → Float → Mode → ClipAnswer
+fourOf c now length speed data-length mode =
+    thenOf (thenOf (thenOf (updateLengthOf c now length) (λ d. updateSpeedOf d now speed))
+    (λ d. updateDataLengthOf d now data-length)) (λ d. updateModeOf d now mode)
 
 -- ---- document 01's number for each answer
 abbrev pub clipNumber : ClipAnswer → ℕ

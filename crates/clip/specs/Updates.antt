@@ -2,7 +2,7 @@
 -- read first, then the field set, then the shift found, the reversing test still using the old `since` and shift, and
 -- `since` last. Each definition takes every clip and every value. Definitions only. Assumes nothing.
 use Prim.Native.Nat.{ℕ}
-use mathlib.Core.Bool.{Bool, true, false, cond}
+use mathlib.Core.Bool.{Bool, true, false, _&&_, cond}
 use lib.Ieee.{Float, binary32, add, sub, lt, le, eq}
 use Rattle.binary32.specs.Leaves.{zero32}
 use Rattle.clip.specs.Positions.{travelAt, roundTripOf, mirroredOf, offsetAt}
@@ -131,3 +131,13 @@ unfoldable pub withDataLength : Clip → ℕ → Float → Clip
 withDataLength c now length =
     cond (eq length (c .«data_length»)) c
     (cond (le length (offsetAt c now)) (resumed (atDataLength c length) zero32 now) (atDataLength c length))
+
+-- ---- one update (2/12): the four in this order, each by its own test and from the offset that those before it left
+abbrev pub withAll : Clip → ℕ → Float → Float → Float → Mode → Clip
+withAll c now length speed data-length mode =
+    withMode (withDataLength (withSpeed (withLength c now length) now speed) now data-length) now mode
+
+-- whether each of the four would be skipped
+unfoldable pub sameAll : Clip → Float → Float → Float → Mode → Bool
+sameAll c length speed data-length mode =
+    eq length (c .length) && eq speed (c .speed) && eq data-length (c .«data_length») && sameMode mode (c .mode)

@@ -1,7 +1,7 @@
 // A clip: which part of a recording a voice plays, and where it is at a time. Each function equals a definition in
 // specs/. `made`, `good`, the functions that end in `_at` and those that begin with `with_` take every clip and every
-// time: they are for clips that are known to be good. Those under the Rust's names first refuse bad arguments (number 7
-// of document 01), and then answer the same.
+// time: they are for clips that are known to be good. `sounding` is `with_all` and `index_at` in one. Those under the
+// Rust's names, and `update_all`, first refuse bad arguments (number 7 of document 01), and then answer the same.
 ghost use mathlib.Core.Path.{_≡_};
 ghost use Rattle.clip.specs.Positions.{
   elapsedAt,
@@ -17,6 +17,9 @@ ghost use Rattle.clip.specs.Positions.{
   clipToDataOf,
   offsetAt,
   indexAt,
+  standingOf,
+  Stands,
+  soundingOf,
 };
 ghost use Rattle.clip.specs.Updates.{
   madeOf,
@@ -30,6 +33,8 @@ ghost use Rattle.clip.specs.Updates.{
   withMode,
   withLength,
   withDataLength,
+  withAll,
+  sameAll,
 };
 ghost use Rattle.clip.specs.Refusals.{
   goodLength,
@@ -45,6 +50,7 @@ ghost use Rattle.clip.specs.Refusals.{
   updateModeOf,
   updateLengthOf,
   updateDataLengthOf,
+  updateAllOf,
 };
 
 // A place or a length in samples.
@@ -69,6 +75,20 @@ pub struct Clip {
 pub enum Found {
     At(f32),
     Nothing,
+}
+
+// A clip as it sounds at a time: with the place in the data of the sample that does.
+pub struct Sounding {
+    pub clip: Clip,
+    pub index: usize,
+}
+
+// A clip at a time, with the samples since its last change as a float: it is worked out once for all that is read and
+// changed at that time, since a change that sets `since` leaves 0 of it.
+struct Standing {
+    clip: Clip,
+    now: usize,
+    elapsed: f32,
 }
 
 pub enum ClipAnswer {
@@ -219,18 +239,20 @@ impl Clip {
         }
     }
 
-    fn travel_at(self, now: usize) -> f32
-        ensures { λ r. ⌜ r ≡ travelAt self now ⌝ }
+    fn standing_at(self, now: usize) -> Standing
+        ensures { λ r. ⌜ r ≡ standingOf self now ⌝ }
     {
-        let elapsed = binary32::usize_to_f32(self.elapsed_at(now));
-        self.shift + (elapsed + lead(self.speed)) * self.speed
+        Standing {
+            clip: self,
+            now,
+            elapsed: binary32::usize_to_f32(self.elapsed_at(now)),
+        }
     }
 
     pub fn clip_offset_at(self, now: usize) -> f32
         ensures { λ r. ⌜ r ≡ clipOffsetAt self now ⌝ }
     {
-        let mode = self.mode;
-        placed(mode, self.travel_at(now), self.length)
+        self.standing_at(now).place()
     }
 
     fn clip_to_data(self, place: f32) -> f32
@@ -242,13 +264,13 @@ impl Clip {
     pub fn offset_at(self, now: usize) -> f32
         ensures { λ r. ⌜ r ≡ offsetAt self now ⌝ }
     {
-        self.clip_to_data(self.clip_offset_at(now))
+        self.standing_at(now).offset()
     }
 
     pub fn index_at(self, now: usize) -> usize
         ensures { λ r. ⌜ r ≡ indexAt self now ⌝ }
     {
-        binary32::f32_to_usize(self.offset_at(now))
+        self.standing_at(now).index()
     }
 
     fn back(self, x: f32) -> f32
@@ -275,92 +297,87 @@ impl Clip {
     pub fn reversing_at(self, now: usize) -> bool
         ensures { λ r. ⌜ r ≡ reversingAt self now ⌝ }
     {
-        let mode = self.mode;
-        match mode {
-            Mode::Loop => false,
-            Mode::PingPong => round_trip(self.travel_at(now), self.length) >= self.length,
-        }
-    }
-
-    fn shift_for(self, found: Found, now: usize) -> f32
-        ensures { λ r. ⌜ r ≡ shiftFor self found now ⌝ }
-    {
-        match found {
-            Found::At(y) => if self.reversing_at(now) {
-                mirrored(y, self.length)
-            } else {
-                y
-            },
-            Found::Nothing => 0.0,
-        }
-    }
-
-    // `self` has its field set, and still its old shift and `since`.
-    fn settled(self, offset: f32, now: usize) -> Clip
-        ensures { λ r. ⌜ r ≡ settledOf self offset now ⌝ }
-    {
-        let shift = self.shift_for(self.found_at(offset), now);
-        let mut clip = self;
-        clip.shift = shift;
-        clip.since = now;
-        clip
+        self.standing_at(now).reversing()
     }
 
     pub fn with_speed(self, now: usize, speed: f32) -> Clip
         ensures { λ r. ⌜ r ≡ withSpeed self now speed ⌝ }
     {
-        if speed == self.speed {
-            return self;
-        }
-        let mut paced = self;
-        paced.speed = speed;
-        paced.settled(self.offset_at(now), now)
+        self.standing_at(now).paced(speed).clip
     }
 
     pub fn with_mode(self, now: usize, mode: Mode) -> Clip
         ensures { λ r. ⌜ r ≡ withMode self now mode ⌝ }
     {
-        let old = self.mode;
-        if same_mode(mode, old) {
-            return self;
-        }
-        let turned = Clip {
-            since: self.since,
-            start: self.start,
-            speed: self.speed,
-            length: self.length,
-            data_length: self.data_length,
-            shift: self.shift,
-            mode,
-        };
-        turned.settled(self.offset_at(now), now)
+        self.standing_at(now).turned(mode).clip
     }
 
     pub fn with_length(self, now: usize, length: f32) -> Clip
         ensures { λ r. ⌜ r ≡ withLength self now length ⌝ }
     {
-        if length == self.length {
-            return self;
-        }
-        let mut sized = self;
-        sized.length = length;
-        sized.settled(self.offset_at(now), now)
+        self.standing_at(now).sized(length).clip
     }
 
     pub fn with_data_length(self, now: usize, data_length: f32) -> Clip
         ensures { λ r. ⌜ r ≡ withDataLength self now «data_length» ⌝ }
     {
-        if data_length == self.data_length {
-            return self;
+        self.standing_at(now).cut(data_length).clip
+    }
+
+    // Whether each of the four parts of an update would be skipped.
+    fn same_all(self, length: f32, speed: f32, data_length: f32, mode: Mode) -> bool
+        ensures { λ r. ⌜ r ≡ sameAll self length speed «data_length» mode ⌝ }
+    {
+        if length != self.length {
+            return false;
         }
-        let mut cut = self;
-        cut.data_length = data_length;
-        if self.offset_at(now) >= data_length {
-            cut.shift = 0.0;
-            cut.since = now;
-            return cut;
+        if speed != self.speed {
+            return false;
         }
-        cut
+        if data_length != self.data_length {
+            return false;
+        }
+        let old = self.mode;
+        same_mode(mode, old)
+    }
+
+    // The four parts in their order. A clip that none of them changes, as it is at most samples, is told in front.
+    fn moved_at(self, now: usize, length: f32, speed: f32, data_length: f32, mode: Mode) -> Standing
+        ensures { λ r. ⌜ r ≡ standingOf (withAll self now length speed «data_length» mode) now ⌝ }
+    {
+        let standing = self.standing_at(now);
+        if self.same_all(length, speed, data_length, mode) {
+            return standing;
+        }
+        standing
+            .sized(length)
+            .paced(speed)
+            .cut(data_length)
+            .turned(mode)
+    }
+
+    pub fn with_all(self, now: usize, length: f32, speed: f32, data_length: f32, mode: Mode) -> Clip
+        ensures { λ r. ⌜ r ≡ withAll self now length speed «data_length» mode ⌝ }
+    {
+        self.moved_at(now, length, speed, data_length, mode).clip
+    }
+
+    pub fn sounding(
+        self,
+        now: usize,
+        length: f32,
+        speed: f32,
+        data_length: f32,
+        mode: Mode,
+    ) -> Sounding
+        ensures { λ r. ⌜ r ≡ soundingOf (withAll self now length speed «data_length» mode) now ⌝ }
+    {
+        let moved = self.moved_at(now, length, speed, data_length, mode);
+        let clip = moved.clip;
+        Sounding {
+            clip,
+            index: moved.index(),
+        }
     }
 
     pub fn new(
@@ -468,6 +485,185 @@ impl Clip {
             ClipAnswer::Refused
         } else {
             ClipAnswer::Done(self.with_data_length(now, data_length))
+        }
+    }
+
+    pub fn update_all(
+        self,
+        now: usize,
+        length: f32,
+        speed: f32,
+        data_length: f32,
+        mode: Mode,
+    ) -> ClipAnswer
+        ensures { λ r. ⌜ r ≡ updateAllOf self now length speed «data_length» mode ⌝ }
+    {
+        if self.refused_at(now) | !good_length(length) | !good_length(data_length) {
+            ClipAnswer::Refused
+        } else {
+            ClipAnswer::Done(self.with_all(now, length, speed, data_length, mode))
+        }
+    }
+}
+
+impl Standing {
+    fn travel(self) -> f32
+        requires { ⌜ Stands self ⌝ }
+        ensures { λ r. ⌜ r ≡ travelAt (self .clip) (self .now) ⌝ }
+    {
+        let clip = self.clip;
+        clip.shift + (self.elapsed + lead(clip.speed)) * clip.speed
+    }
+
+    fn place(self) -> f32
+        requires { ⌜ Stands self ⌝ }
+        ensures { λ r. ⌜ r ≡ clipOffsetAt (self .clip) (self .now) ⌝ }
+    {
+        let clip = self.clip;
+        let mode = clip.mode;
+        placed(mode, self.travel(), clip.length)
+    }
+
+    fn offset(self) -> f32
+        requires { ⌜ Stands self ⌝ }
+        ensures { λ r. ⌜ r ≡ offsetAt (self .clip) (self .now) ⌝ }
+    {
+        let clip = self.clip;
+        clip.clip_to_data(self.place())
+    }
+
+    fn index(self) -> usize
+        requires { ⌜ Stands self ⌝ }
+        ensures { λ r. ⌜ r ≡ indexAt (self .clip) (self .now) ⌝ }
+    {
+        binary32::f32_to_usize(self.offset())
+    }
+
+    fn reversing(self) -> bool
+        requires { ⌜ Stands self ⌝ }
+        ensures { λ r. ⌜ r ≡ reversingAt (self .clip) (self .now) ⌝ }
+    {
+        let clip = self.clip;
+        let mode = clip.mode;
+        match mode {
+            Mode::Loop => false,
+            Mode::PingPong => round_trip(self.travel(), clip.length) >= clip.length,
+        }
+    }
+
+    fn shift_for(self, found: Found) -> f32
+        requires { ⌜ Stands self ⌝ }
+        ensures { λ r. ⌜ r ≡ shiftFor (self .clip) found (self .now) ⌝ }
+    {
+        let clip = self.clip;
+        match found {
+            Found::At(y) => if self.reversing() {
+                mirrored(y, clip.length)
+            } else {
+                y
+            },
+            Found::Nothing => 0.0,
+        }
+    }
+
+    // The clip has its field set, and still its old shift and `since`.
+    fn settled(self, offset: f32) -> Standing
+        requires { ⌜ Stands self ⌝ }
+        ensures { λ r. ⌜ r ≡ standingOf (settledOf (self .clip) offset (self .now)) (self .now) ⌝ }
+    {
+        let mut clip = self.clip;
+        let shift = self.shift_for(clip.found_at(offset));
+        clip.shift = shift;
+        clip.since = self.now;
+        Standing {
+            clip,
+            now: self.now,
+            elapsed: 0.0,
+        }
+    }
+
+    fn paced(self, speed: f32) -> Standing
+        requires { ⌜ Stands self ⌝ }
+        ensures { λ r. ⌜ r ≡ standingOf (withSpeed (self .clip) (self .now) speed) (self .now) ⌝ }
+    {
+        let mut clip = self.clip;
+        if speed == clip.speed {
+            return self;
+        }
+        clip.speed = speed;
+        let paced = Standing {
+            clip,
+            now: self.now,
+            elapsed: self.elapsed,
+        };
+        paced.settled(self.offset())
+    }
+
+    fn turned(self, mode: Mode) -> Standing
+        requires { ⌜ Stands self ⌝ }
+        ensures { λ r. ⌜ r ≡ standingOf (withMode (self .clip) (self .now) mode) (self .now) ⌝ }
+    {
+        let old = self.clip;
+        let was = old.mode;
+        if same_mode(mode, was) {
+            return self;
+        }
+        let clip = Clip {
+            since: old.since,
+            start: old.start,
+            speed: old.speed,
+            length: old.length,
+            data_length: old.data_length,
+            shift: old.shift,
+            mode,
+        };
+        let turned = Standing {
+            clip,
+            now: self.now,
+            elapsed: self.elapsed,
+        };
+        turned.settled(self.offset())
+    }
+
+    fn sized(self, length: f32) -> Standing
+        requires { ⌜ Stands self ⌝ }
+        ensures { λ r. ⌜ r ≡ standingOf (withLength (self .clip) (self .now) length) (self .now) ⌝ }
+    {
+        let mut clip = self.clip;
+        if length == clip.length {
+            return self;
+        }
+        clip.length = length;
+        let sized = Standing {
+            clip,
+            now: self.now,
+            elapsed: self.elapsed,
+        };
+        sized.settled(self.offset())
+    }
+
+    fn cut(self, data_length: f32) -> Standing
+        requires { ⌜ Stands self ⌝ }
+        ensures { λ r. ⌜ r ≡ standingOf (withDataLength (self .clip) (self .now) «data_length») (self .now) ⌝ }
+    {
+        let mut clip = self.clip;
+        if data_length == clip.data_length {
+            return self;
+        }
+        clip.data_length = data_length;
+        if self.offset() >= data_length {
+            clip.shift = 0.0;
+            clip.since = self.now;
+            return Standing {
+                clip,
+                now: self.now,
+                elapsed: 0.0,
+            };
+        }
+        Standing {
+            clip,
+            now: self.now,
+            elapsed: self.elapsed,
         }
     }
 }

@@ -1,6 +1,7 @@
 // Part 4: clip. The arguments: bytes mode at 1 (0 loop, 1 ping-pong), kind of update at 2 (0 speed, 1 mode, 2 length, 3
-// data length) and new mode at 3; floats start at 4, speed at 8, length at 12, data length at 16, shift at 20, x (a
-// place in the data) at 24, value (a new speed or length) at 28; whole numbers since at 32, now at 40, later at 48.
+// data length, 4 all of them) and new mode at 3; floats start at 4, speed at 8, length at 12, data length at 16, shift at
+// 20, x (a place in the data) at 24, value (a new speed or length, of all four the length) at 28; whole numbers since at
+// 32, now at 40, later at 48; of all four the new speed at 56 and data length at 60.
 ghost use mathlib.Core.Path.{_≡_};
 ghost use Prim.Native.Nat.{_+_, _≤_, _<_};
 ghost use lib.ListN.{length};
@@ -79,6 +80,13 @@ fn update(fields: &[u8], c: Clip, time: usize) -> ClipAnswer
         0 => c.update_speed(time, value),
         1 => c.update_mode(time, mode_of(fields[3])),
         2 => c.update_length(time, value),
+        4 => c.update_all(
+            time,
+            value,
+            f32_at(fields, 56),
+            f32_at(fields, 60),
+            mode_of(fields[3]),
+        ),
         _ => c.update_data_length(time, value),
     }
 }

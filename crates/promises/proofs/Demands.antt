@@ -24,6 +24,7 @@ use Rattle.common_types.specs.declared.time_value.TimeOrRatio.the-variants.{Who
 use Rattle.common_types.specs.Times.{asSamplesOf}
 use Rattle.common_types.specs.Settings.{lengthOf, loopLengthOf}
 use Rattle.recorder.specs.ErrorText.{errorText}
+use Rattle.clip.proofs.AtOnce.{at-once, skips-length, skips-speed, skips-data-length, skips-mode}
 use Rattle.clip.proofs.Offsets.{clip-offset-inside, offset-within}
 use Rattle.channel.specs.declared.Change.{Change}
 use Rattle.channel.specs.Channels.{live, recordingOf}
@@ -261,6 +262,13 @@ demand2 = record {
   smallest-is-zero = λ columns recording. smallest-zero columns recording columns 0;
   columns-count = λ columns recording. columns-count columns recording columns 0;
   no-columns = λ recording. (refl, refl, refl);
+  at-once = at-once;
+  skips-alone = λ c now l s d m. record {
+    length = skips-length c now l s d m;
+    speed = skips-speed c now l s d m;
+    data-length = skips-data-length c now l s d m;
+    mode = skips-mode c now l s d m;
+  };
   packed = unpack-pack;
   unpacked = pack-unpack;
   table = table-holds;

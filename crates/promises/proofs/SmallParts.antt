@@ -27,7 +27,7 @@ use Rattle.clip.specs.declared.FoundAnswer.the-variants as found
 use Rattle.clip.specs.declared.PositionAnswer.the-variants as position
 use Rattle.clip.specs.declared.ElapsedAnswer.the-variants as elapsed
 use Rattle.clip.specs.declared.ReversingAnswer.the-variants as reversing
-use Rattle.clip.specs.Refusals.{most32, goodLength, goodClip, clipRefusedAt, clipNumber, foundNumber, positionNumber, elapsedNumber, reversingNumber, newClipOf, dataToClipOf, isPingpongReversingOf, elapsedOf, clipOffsetOf, offsetOf, updateSpeedOf, updateModeOf, updateLengthOf, updateDataLengthOf}
+use Rattle.clip.specs.Refusals.{most32, goodLength, goodClip, clipRefusedAt, clipNumber, foundNumber, positionNumber, elapsedNumber, reversingNumber, newClipOf, dataToClipOf, isPingpongReversingOf, elapsedOf, clipOffsetOf, offsetOf, updateSpeedOf, updateModeOf, updateLengthOf, updateDataLengthOf, updateAllOf}
 use Rattle.clip.specs.Updates.{madeOf}
 use Rattle.sampler.specs.Refusals.{row}
 use Rattle.promises.specs.SmallParts.{notIn, badSizes, badClip, badAt, badTime, RowSeven}
@@ -109,6 +109,11 @@ length-bad : (c : Clip) (now : ℕ) (length : Float) → (clipRefusedAt c now ||
 unfolding goodLength ofInt
 length-bad c now length = ap (λ (t : Bool). t || notIn 1 (2 ^ 22) length) (clip-bad-at c now)
 
+lengths-bad : (c : Clip) (now : ℕ) (length data-length : Float)
+    → (clipRefusedAt c now || not (goodLength length) || not (goodLength data-length)) ≡ (badAt c now || notIn 1 (2 ^ 22) length || notIn 1 (2 ^ 22) data-length)
+unfolding goodLength ofInt
+lengths-bad c now length data-length = ap (λ (t : Bool). t || notIn 1 (2 ^ 22) data-length) (length-bad c now length)
+
 place-bad : (c : Clip) (x : Float) → not (goodClip c && (le zero32 x && lt x (c .«data_length»))) ≡ (badClip c || not (le (asFloat 0) x && lt x (c .«data_length»)))
 unfolding ofInt
 place-bad c x = not-and (goodClip c) (le zero32 x && lt x (c .«data_length»)) ∙ ap (λ (t : Bool). t || not (le zero32 x && lt x (c .«data_length»))) (clip-bad c)
@@ -145,7 +150,7 @@ from-three : (i : ℕ) → cond (ltb i 3) 0 7 ≡ row (leb 3 i) 7 0
 from-three i = swapped (ltb i 3) 0 7 ∙ ap (λ (t : Bool). row t 7 0) (not-lt i 3)
 
 pub row-seven : RowSeven
-unfolding valueOf toOf stepOf newClipOf dataToClipOf isPingpongReversingOf elapsedOf clipOffsetOf offsetOf updateSpeedOf updateModeOf updateLengthOf updateDataLengthOf
+unfolding valueOf toOf stepOf newClipOf dataToClipOf isPingpongReversingOf elapsedOf clipOffsetOf offsetOf updateSpeedOf updateModeOf updateLengthOf updateDataLengthOf updateAllOf
 row-seven = record {
   value = λ v now. refusal levelNumber level.Refused _ refl refl (unreadAt v now) (badTime v now) (volume-bad v now);
   to = λ v now duration target. refusal volumeNumber volume.Refused _ refl refl (unreadAt v now || ltb (2 ^ 24) duration) (badTime v now || ltb (2 ^ 24) duration) (ap (λ (t : Bool). t || ltb (2 ^ 24) duration) (volume-bad v now));
@@ -165,4 +170,6 @@ row-seven = record {
   update-mode = λ c now mode. refusal clipNumber clip.Refused _ refl refl (clipRefusedAt c now) (badAt c now) (clip-bad-at c now);
   update-length = λ c now length. refusal clipNumber clip.Refused _ refl refl (clipRefusedAt c now || not (goodLength length)) _ (length-bad c now length);
   update-data-length = λ c now length. refusal clipNumber clip.Refused _ refl refl (clipRefusedAt c now || not (goodLength length)) _ (length-bad c now length);
+  update-all = λ c now length speed data-length mode.
+      refusal clipNumber clip.Refused _ refl refl (clipRefusedAt c now || not (goodLength length) || not (goodLength data-length)) _ (lengths-bad c now length data-length);
 }

@@ -181,6 +181,18 @@ pub record NoPanic (w : World) : Type 0 where
 
 -- ==== Demand 2
 
+-- of one update of a clip by all four values (2/12): a value that is equal to the clip's skips its own part alone, and
+-- what is left is the other three in their order
+pub record SkipsAlone (c : Clip) (now : ℕ) (l s d : Float) (m : Mode) : Type 0 where
+  pub length : eq l (c .length) ≡ true
+      → withAll c now l s d m ≡ withMode (withDataLength (withSpeed c now s) now d) now m
+  pub speed : eq s (c .speed) ≡ true
+      → withAll c now l s d m ≡ withMode (withDataLength (withLength c now l) now d) now m
+  pub data-length : eq d (c .«data_length») ≡ true
+      → withAll c now l s d m ≡ withMode (withSpeed (withLength c now l) now s) now m
+  pub mode : sameMode m (c .mode) ≡ true
+      → withAll c now l s d m ≡ withDataLength (withSpeed (withLength c now l) now s) now d
+
 pub record Demand2 : Type 0 where
   -- "On document 01's domain the port equals the Rust release build: output bits (one NaN counts as any other),
   -- recordings, voice lists, counts. Differential runs show it." oracle/README.md says which. No theorem can speak of
@@ -207,6 +219,10 @@ pub record Demand2 : Type 0 where
   -- and speed.
   pub positions : (c : Clip) (now : ℕ) → Sound c
       → Inside (clipOffsetAt c now) (c .length) × Within (offsetAt c now) (c .«data_length»)
+  -- One update by all four values (2/12) ends as the four calls do in turn, whatever the clip and the values are; a call
+  -- that is refused ends them, and the answer is that refusal. A value that is equal skips its own part alone.
+  pub at-once : (c : Clip) (now : ℕ) (l s d : Float) (m : Mode) → updateAllOf c now l s d m ≡ fourOf c now l s d m
+  pub skips-alone : (c : Clip) (now : ℕ) (l s d : Float) (m : Mode) → SkipsAlone c now l s d m
   -- "note packing both ways."
   pub packed : (n : Note) → n .note < 256 → n .channel < 256 → fromU64Of (intoU64Of n) ≡ n
   pub unpacked : (v : ℕ) → intoU64Of (fromU64Of v) ≡ v % 2 ^ 16

@@ -35,6 +35,7 @@ use Rattle.clip.specs.Refusals.{
   updateModeOf,
   updateLengthOf,
   updateDataLengthOf,
+  updateAllOf,
 }
 use Rattle.sampler.specs.Refusals.{row}
 
@@ -91,3 +92,7 @@ pub record RowSeven : Type 0 where
       → clipNumber (updateLengthOf c now length) ≡ row (badAt c now || notIn 1 (2 ^ 22) length) 7 0
   pub update-data-length : (c : Clip) (now : ℕ) (length : Float)
       → clipNumber (updateDataLengthOf c now length) ≡ row (badAt c now || notIn 1 (2 ^ 22) length) 7 0
+  -- 2/12: "7 as before, if any new length is bad"
+  pub update-all : (c : Clip) (now : ℕ) (length speed data-length : Float) (mode : Mode)
+      → clipNumber (updateAllOf c now length speed data-length mode)
+      ≡ row (badAt c now || notIn 1 (2 ^ 22) length || notIn 1 (2 ^ 22) data-length) 7 0

@@ -22,7 +22,7 @@ use Rattle.clip.specs.declared.Clip.{Clip}
 use Rattle.clip.specs.declared.Mode.{Mode}
 use Rattle.clip.specs.declared.Mode.the-variants as mode
 use Rattle.clip.specs.Positions.{indexAt}
-use Rattle.clip.specs.Updates.{withLength, withSpeed, withDataLength, withMode}
+use Rattle.clip.specs.Updates.{withAll}
 use Rattle.clip.specs.Refusals.{goodClip}
 use Rattle.voice.specs.declared.Voice.{Voice}
 use Rattle.voice.specs.declared.Tick.{Tick}
@@ -72,11 +72,7 @@ shouldRemoveOf t v = v .finished && overOf (t .«note_off_behavior») (isStaticA
 
 -- the clip, brought up to this sample's length, speed, data length and mode, in that order
 unfoldable pub movedOf : Tick → Voice → Clip
-movedOf t v =
-    let now = t .now in
-    withMode (withDataLength
-    (withSpeed (withLength (v .clip2) now (t .length)) now (mul binary32 (v .speed) (t .speed))) now (t .«data_length»))
-    now (t .mode)
+movedOf t v = withAll (v .clip2) (t .now) (t .length) (mul binary32 (v .speed) (t .speed)) (t .«data_length») (t .mode)
 
 -- the value recorded at a place of the channel's memory
 abbrev pub recordedValueOf : List ℕ → ℕ → Float

@@ -3,6 +3,7 @@
 ghost use mathlib.Core.Path.{_≡_};
 ghost use Prim.Native.Nat.{_-_};
 ghost use mathlib.Core.Bool.{cond};
+ghost use Rattle.clip.specs.Positions.{soundingOf};
 ghost use Rattle.voice.specs.Voices.{
   tickOf,
   clipModeOf,
@@ -26,6 +27,7 @@ ghost use Rattle.voice.specs.Voices.{
 };
 use clip::Clip;
 use clip::Mode;
+use clip::Sounding;
 use common_types::LoopMode;
 use common_types::Note;
 use common_types::NoteOffBehaviour;
@@ -210,24 +212,21 @@ impl Voice {
         self.is_at_zero_crossing
     }
 
-    // The clip, brought up to this sample's length, speed, data length and mode.
-    fn moved(self, t: Tick) -> Clip
-        ensures { λ r. ⌜ r ≡ movedOf t self ⌝ }
+    // The clip, brought up to this sample's length, speed, data length and mode, and where it is then.
+    fn moved(self, t: Tick) -> Sounding
+        ensures { λ r. ⌜ r ≡ soundingOf (movedOf t self) (t .now) ⌝ }
     {
         let clip2 = self.clip2;
         let mode = t.mode;
-        clip2
-            .with_length(t.now, t.length)
-            .with_speed(t.now, self.speed * t.speed)
-            .with_data_length(t.now, t.data_length)
-            .with_mode(t.now, mode)
+        clip2.sounding(t.now, t.length, self.speed * t.speed, t.data_length, mode)
     }
 
     fn sounded(self, t: Tick, data: &[u32]) -> Self
         ensures { λ r. ⌜ r ≡ soundedOf t (now («data» .entry)) self ⌝ }
     {
-        let clip2 = self.moved(t);
-        let index = clip2.index_at(t.now);
+        let moved = self.moved(t);
+        let clip2 = moved.clip;
+        let index = moved.index;
         let volume = self.volume;
         let note = self.note;
         let value = recorded(data, index) * volume.level(t.now);

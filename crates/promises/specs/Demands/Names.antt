@@ -8,7 +8,7 @@ pub use Prim.Native.Nat.{ℕ, suc, _+_, _-_, _*_, _/_, _%_, _^_, _≤_, _<_, min
 pub use lib.Dec.{T, eqb, ltb}
 pub use lib.ListN.{length, take, drop}
 pub use lib.IntN.{ℤ}
-pub use lib.Ieee.{Float, nan, fin, binary32, up, down, add, mul, div, isNan, fits}
+pub use lib.Ieee.{Float, nan, fin, binary32, up, down, add, mul, div, eq, isNan, fits}
 pub use lib.Ieee.Exact.{HasValue}
 pub use lib.Ieee.Positive.{positive}
 pub use Rattle.walks.specs.Walks.{any}
@@ -26,11 +26,24 @@ pub use Rattle.common_types.specs.Settings.{beyondLimits, loopLengthOf}
 pub use Rattle.recorder.specs.ErrorText.{errorText}
 pub use Rattle.volume.specs.Levels.{levelOf}
 pub use Rattle.clip.specs.declared.Clip.{Clip}
+pub use Rattle.clip.specs.declared.Mode.{Mode}
 pub use Rattle.clip.specs.declared.Found.the-variants.{At}
 pub use Rattle.clip.specs.declared.FoundAnswer.the-variants.{Done}
 pub use Rattle.clip.specs.Positions.{elapsedAt, clipOffsetAt, offsetAt, indexAt}
-pub use Rattle.clip.specs.Updates.{atSpeed, atMode, atLength, backOf, foundAt, withSpeed, withLength, withDataLength}
-pub use Rattle.clip.specs.Refusals.{dataToClipOf}
+pub use Rattle.clip.specs.Updates.{
+  atSpeed,
+  atMode,
+  atLength,
+  backOf,
+  foundAt,
+  sameMode,
+  withSpeed,
+  withMode,
+  withLength,
+  withDataLength,
+  withAll,
+}
+pub use Rattle.clip.specs.Refusals.{dataToClipOf, updateAllOf, fourOf}
 pub use Rattle.clip.specs.Bounds.{Sound, Inside, Within}
 pub use Rattle.clip.specs.Plain.{PlainClip, plainIndex, plainAt}
 pub use Rattle.voice.specs.declared.Voice.{Voice}

@@ -1,18 +1,21 @@
--- `Clip::clip_offset_at` meets its contract, by those of `placed` and `travel_at`. Assumes nothing.
+-- `Clip::clip_offset_at` meets its contract, by that of `Standing::place`. Assumes nothing.
+use mathlib.Core.Path.{ap, _∙_}
+use Rattle.clip.specs.Positions.{clipOffsetAt, standingOf}
+use Rattle.clip.specs.declared.Standing.{Standing}
+use Rattle.clip.proofs.Standings.{standing-stands}
 use borrow.Author.Needs.{needs}
-use Rattle.clip.specs.Positions.{clipOffsetAt}
 use Rattle.clip.proofs.Clip.clip_offset_at.Statement.{statement}
 use Rattle.clip.proofs.Clip.clip_offset_at.Tie as tie
 
-travel-at-requires : tie.Need-travel-at-requires
-travel-at-requires c κs = search needs
+standing-at-requires : tie.Need-standing-at-requires
+standing-at-requires c κs = search needs
 
-placed-requires : tie.Need-placed-requires
-placed-requires c κs = search needs
+place-requires : tie.Need-place-requires
+place-requires c κs = standing-stands _ _ _ (c .standing-at .ensures)
 
 returns : tie.Need-returns
-unfolding clipOffsetAt
-returns c = simp (c .placed .ensures, c .before .travel-at .ensures)
+unfolding standingOf
+returns c = c .place .ensures ∙ ap (λ (s : Standing). clipOffsetAt (s .clip) (s .now)) (c .before .standing-at .ensures)
 
 pub clip-offset-at-spec : {M : Type 1} → statement M
-clip-offset-at-spec = tie.close (tie.spec travel-at-requires placed-requires returns)
+clip-offset-at-spec = tie.close (tie.spec standing-at-requires place-requires returns)

@@ -1,18 +1,21 @@
--- `Clip::offset_at` meets its contract, by those of `clip_to_data` and `clip_offset_at`. Assumes nothing.
+-- `Clip::offset_at` meets its contract, by that of `Standing::offset`. Assumes nothing.
+use mathlib.Core.Path.{ap, _∙_}
+use Rattle.clip.specs.Positions.{offsetAt, standingOf}
+use Rattle.clip.specs.declared.Standing.{Standing}
+use Rattle.clip.proofs.Standings.{standing-stands}
 use borrow.Author.Needs.{needs}
-use Rattle.clip.specs.Positions.{offsetAt}
 use Rattle.clip.proofs.Clip.offset_at.Statement.{statement}
 use Rattle.clip.proofs.Clip.offset_at.Tie as tie
 
-clip-offset-at-requires : tie.Need-clip-offset-at-requires
-clip-offset-at-requires c κs = search needs
+standing-at-requires : tie.Need-standing-at-requires
+standing-at-requires c κs = search needs
 
-clip-to-data-requires : tie.Need-clip-to-data-requires
-clip-to-data-requires c κs = search needs
+offset-requires : tie.Need-offset-requires
+offset-requires c κs = standing-stands _ _ _ (c .standing-at .ensures)
 
 returns : tie.Need-returns
-unfolding offsetAt
-returns c = simp (c .clip-to-data .ensures, c .before .clip-offset-at .ensures)
+unfolding standingOf
+returns c = c .offset .ensures ∙ ap (λ (s : Standing). offsetAt (s .clip) (s .now)) (c .before .standing-at .ensures)
 
 pub offset-at-spec : {M : Type 1} → statement M
-offset-at-spec = tie.close (tie.spec clip-offset-at-requires clip-to-data-requires returns)
+offset-at-spec = tie.close (tie.spec standing-at-requires offset-requires returns)

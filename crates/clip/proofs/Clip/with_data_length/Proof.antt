@@ -1,24 +1,24 @@
--- `Clip::with_data_length` meets its contract: its tests are those of `withDataLength`. Assumes nothing.
-use lib.Ieee.{ofBits}
-use borrow.Author.Needs.{needs}
+-- `Clip::with_data_length` meets its contract, by that of `Standing::cut`. Assumes nothing.
+use mathlib.Core.Path.{ap, _∙_}
+use Rattle.clip.specs.Positions.{standingOf}
 use Rattle.clip.specs.Updates.{withDataLength}
+use Rattle.clip.specs.declared.Standing.{Standing}
+use Rattle.clip.proofs.Standings.{standing-stands}
+use borrow.Author.Needs.{needs}
 use Rattle.clip.proofs.Clip.with_data_length.Statement.{statement}
 use Rattle.clip.proofs.Clip.with_data_length.Tie as tie
 
+standing-at-requires : tie.Need-standing-at-requires
+standing-at-requires c κs = search needs
+
+cut-requires : tie.Need-cut-requires
+cut-requires c κs = standing-stands _ _ _ (c .standing-at .ensures)
+
 returns : tie.Need-returns
-unfolding withDataLength
-returns c = simp (c .if1 .taken)
-
-offset-at-requires : tie.Need-offset-at-requires
-offset-at-requires c κs = search needs
-
-returns-2 : tie.Need-returns-2
-unfolding withDataLength ofBits
-returns-2 c = simp (c .before .before .if1 .left, ← (c .before .offset-at .ensures), c .if2 .taken)
-
-returns-3 : tie.Need-returns-3
-unfolding withDataLength
-returns-3 c = simp (c .before .before .if1 .left, ← (c .before .offset-at .ensures), c .if2 .left)
+unfolding standingOf
+returns c =
+    ap (λ (s : Standing). s .clip) (c .before .cut .ensures)
+    ∙ ap (λ (s : Standing). withDataLength (s .clip) (s .now) (c .before .before .before .args .data-length)) (c .before .before .standing-at .ensures)
 
 pub with-data-length-spec : {M : Type 1} → statement M
-with-data-length-spec = tie.close (tie.spec returns offset-at-requires returns-2 returns-3)
+with-data-length-spec = tie.close (tie.spec standing-at-requires cut-requires returns)

@@ -1,26 +1,24 @@
--- `Clip::with_mode` meets its contract: `same_mode` is the test of `withMode`, and `settled` does the rest. Assumes nothing.
-use borrow.Author.Needs.{needs}
+-- `Clip::with_mode` meets its contract, by that of `Standing::turned`. Assumes nothing.
+use mathlib.Core.Path.{ap, _∙_}
+use Rattle.clip.specs.Positions.{standingOf}
 use Rattle.clip.specs.Updates.{withMode}
+use Rattle.clip.specs.declared.Standing.{Standing}
+use Rattle.clip.proofs.Standings.{standing-stands}
+use borrow.Author.Needs.{needs}
 use Rattle.clip.proofs.Clip.with_mode.Statement.{statement}
 use Rattle.clip.proofs.Clip.with_mode.Tie as tie
 
-same-mode-requires : tie.Need-same-mode-requires
-same-mode-requires c κs = search needs
+standing-at-requires : tie.Need-standing-at-requires
+standing-at-requires c κs = search needs
+
+turned-requires : tie.Need-turned-requires
+turned-requires c κs = standing-stands _ _ _ (c .standing-at .ensures)
 
 returns : tie.Need-returns
-unfolding withMode
-returns c = simp (← (c .before .same-mode .ensures), c .if1 .taken)
-
-offset-at-requires : tie.Need-offset-at-requires
-offset-at-requires c κs = search needs
-
-settled-requires : tie.Need-settled-requires
-settled-requires c κs = search needs
-
-returns-2 : tie.Need-returns-2
-unfolding withMode
-returns-2 c = simp (c .settled .ensures, c .before .offset-at .ensures, ← (c .before .before .before .same-mode .ensures), c .before .before .if1 .left)
+unfolding standingOf
+returns c =
+    ap (λ (s : Standing). s .clip) (c .before .turned .ensures)
+    ∙ ap (λ (s : Standing). withMode (s .clip) (s .now) (c .before .before .before .args .mode)) (c .before .before .standing-at .ensures)
 
 pub with-mode-spec : {M : Type 1} → statement M
-with-mode-spec =
-    tie.close (tie.spec same-mode-requires returns offset-at-requires settled-requires returns-2)
+with-mode-spec = tie.close (tie.spec standing-at-requires turned-requires returns)

@@ -1,14 +1,12 @@
 -- `Voice::sounded` meets its contract: the moved clip gives the index, and the index the value. Assumes nothing.
 use Rattle.voice.specs.Voices.{soundedOf, productOf}
+use Rattle.clip.specs.Positions.{soundingOf}
 use borrow.Author.Needs.{needs}
 use Rattle.voice.proofs.Voice.sounded.Statement.{statement}
 use Rattle.voice.proofs.Voice.sounded.Tie as tie
 
 moved-requires : tie.Need-moved-requires
 moved-requires c κs = search needs
-
-index-at-requires : tie.Need-index-at-requires
-index-at-requires c κs = search needs
 
 recorded-requires : tie.Need-recorded-requires
 recorded-requires c κs = search needs
@@ -20,15 +18,14 @@ crossing-requires : tie.Need-crossing-requires
 crossing-requires c κs = search needs
 
 returns : tie.Need-returns
-unfolding soundedOf productOf
-returns c = simp (c .crossing .ensures, c .before .before .before .before .level .ensures, c .before .before .before .before .before .recorded .ensures, c .before .before .before .before .before .before .before .index-at .ensures, c .before .before .before .before .before .before .before .before .moved .ensures)
+unfolding soundedOf productOf soundingOf
+returns c = simp (c .crossing .ensures, c .before .before .before .before .level .ensures, c .before .before .before .before .before .recorded .ensures, c .before .before .before .before .before .before .before .before .moved .ensures)
 
 pub sounded-spec : {M : Type 1} → statement M
 sounded-spec =
     tie.close
     (tie.spec
     moved-requires
-    index-at-requires
     recorded-requires
     level-requires
     crossing-requires

@@ -1,16 +1,16 @@
--- `Clip::shift_for` meets its contract, by what was found and the reversing test. Assumes nothing.
+-- `Standing::shift_for` meets its contract, by what was found and the reversing test. Assumes nothing.
 use mathlib.Core.Path.{_∙_}
 use lib.Ieee.{ofBits}
-use borrow.Author.Needs.{needs}
 use Rattle.clip.specs.Updates.{shiftFor}
-use Rattle.clip.proofs.Clip.shift_for.Statement.{statement}
-use Rattle.clip.proofs.Clip.shift_for.Tie as tie
+use borrow.Author.Needs.{needs}
+use Rattle.clip.proofs.Standing.shift_for.Statement.{statement}
+use Rattle.clip.proofs.Standing.shift_for.Tie as tie
 
 enum-known-found : tie.Need-enum-known-found
 enum-known-found c = search needs
 
-reversing-at-requires : tie.Need-reversing-at-requires
-reversing-at-requires c κs = search needs
+reversing-requires : tie.Need-reversing-requires
+reversing-requires c κs = search needs
 
 mirrored-requires : tie.Need-mirrored-requires
 mirrored-requires c κs = search needs
@@ -20,11 +20,11 @@ enum-told c = search needs
 
 returns : tie.Need-returns
 unfolding shiftFor
-returns c = c .mirrored .ensures ∙ simp (c .before .before .before .before .found .given .1, ← (c .before .before .reversing-at .ensures), c .before .if1 .taken)
+returns c = c .mirrored .ensures ∙ simp (c .before .before .before .before .found .given .1, ← (c .before .before .reversing .ensures), c .before .if1 .taken)
 
 returns-2 : tie.Need-returns-2
 unfolding shiftFor
-returns-2 c = simp (c .before .before .before .found .given .1, ← (c .before .reversing-at .ensures), c .if1 .left)
+returns-2 c = simp (c .before .before .before .found .given .1, ← (c .before .reversing .ensures), c .if1 .left)
 
 returns-3 : tie.Need-returns-3
 unfolding shiftFor ofBits
@@ -35,7 +35,7 @@ shift-for-spec =
     tie.close
     (tie.spec
     enum-known-found
-    reversing-at-requires
+    reversing-requires
     mirrored-requires
     enum-told
     returns
