@@ -54,17 +54,17 @@ fn figures(mut times: Vec<f64>) -> Figures {
 }
 
 fn timed(scenario: &Scenario, rounds: u32) -> Result<(Figures, Figures), String> {
-    let (mut rust, mut ported) = (Vec::new(), Vec::new());
+    let (mut rust, mut port) = (Vec::new(), Vec::new());
     for _ in 0..rounds {
         let (wanted, time) = frames_alone(original, scenario)?;
         rust.push(time);
         let (got, time) = frames_alone(ported, scenario)?;
-        ported.push(time);
+        port.push(time);
         if got != wanted {
             return Err(format!("{}: the outputs differ", scenario.name));
         }
     }
-    Ok((figures(rust), figures(ported)))
+    Ok((figures(rust), figures(port)))
 }
 
 fn run(rounds: u32) -> Result<(), String> {
