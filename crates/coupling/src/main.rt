@@ -3,8 +3,10 @@
 ghost use mathlib.Core.Path.{_≡_};
 ghost use lib.ListN.{length};
 ghost use Rattle.sampler.specs.Refusals.{frameNumber};
-ghost use Rattle.sampler.specs.Samplers.{Frames, framedOf};
+ghost use Rattle.sampler.specs.Samplers.{Frames, framedOf, changeOf};
 ghost use Rattle.coupling.specs.Coupling.{silent, key, settings, recordedOf, pressedOf, toldOf};
+use channel::Change;
+use channel::HeadChange;
 use common_types::InitParams;
 use common_types::Note;
 use common_types::Params;
@@ -32,7 +34,7 @@ fn recorded(frame: &mut [f32], memory: &mut [u32]) -> Sampler
         auto_passthru: false,
     };
     let s = Sampler::new(2, init, memory).sampler;
-    let s = s.start_recording().sampler;
+    let s = changed(s, Change::Head(HeadChange::StartRecording)).sampler;
     sounded(s, frame, params(), memory).sampler
 }
 
@@ -40,9 +42,22 @@ fn recorded(frame: &mut [f32], memory: &mut [u32]) -> Sampler
 fn pressed(s: Sampler) -> Sampler
     ensures { λ r. ⌜ r ≡ pressedOf s ⌝ }
 {
-    let s = s.stop_recording().sampler;
-    s.start_playing(0.0, Note::new(60, 0), 1.0, params())
-        .sampler
+    let s = changed(s, Change::Head(HeadChange::StopRecording)).sampler;
+    let start = Change::Start {
+        params: params(),
+        position: 0.0,
+        note: Note::new(60, 0),
+        velocity: 1.0,
+    };
+    changed(s, start).sampler
+}
+
+// A key or the recorder's switch, on the host's own record, which it lends for the call.
+fn changed(mut s: Sampler, change: Change) -> Answer
+    ensures { λ r. ⌜ r ≡ changeOf s change ⌝ }
+{
+    let number = lent_sampler::change(&mut s, change);
+    Answer { sampler: s, number }
 }
 
 // One frame is played on the host's own record, which it lends for the call.
@@ -59,7 +74,11 @@ fn sounded(mut s: Sampler, frame: &mut [f32], params: Params, memory: &mut [u32]
 fn told(s: Sampler) -> VoiceInfos
     ensures { λ r. ⌜ r ≡ toldOf s ⌝ }
 {
-    let s = s.stop_playing(Note::new(60, 0), params()).sampler;
+    let stop = Change::Stop {
+        params: params(),
+        note: Note::new(60, 0),
+    };
+    let s = changed(s, stop).sampler;
     questions::get_voice_info(s, 0, params(), 32)
 }
 

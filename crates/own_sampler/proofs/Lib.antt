@@ -1,2 +1,3 @@
 pub mod Own
 pub mod Answers
+pub mod Keys

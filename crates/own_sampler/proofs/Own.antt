@@ -61,7 +61,7 @@ pub record Answered (T : Datum) : Type 2 where
   pub typed : {M : Type 1} (𝓤 : URA M) (H : Heap 𝓤) (A : Atoms 𝓤) → Given 𝓤 H A → (x : like .Denot) (v : Val) → Is like x (v ∷ []) → Typed ty v
   pub makes : {M : Type 1} (𝓤 : URA M) (H : Heap 𝓤) (A : Atoms 𝓤) → Given 𝓤 H A → Makes 𝓤 H A like (Is like)
 
-abbrev answered : (T : Datum) → Answered T → RattleType
+abbrev pub answered : (T : Datum) → Answered T → RattleType
 answered T S = record {
   Denot = S .like .Denot;
   mir = S .ty ∷ [];

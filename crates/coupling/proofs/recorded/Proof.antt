@@ -7,8 +7,8 @@ use Rattle.coupling.proofs.recorded.Tie as tie
 new-requires : tie.Need-new-requires
 new-requires c κs = search needs
 
-start-recording-requires : tie.Need-start-recording-requires
-start-recording-requires c κs = search needs
+changed-requires : tie.Need-changed-requires
+changed-requires c κs = search needs
 
 params-requires : tie.Need-params-requires
 params-requires c κs = search needs
@@ -31,7 +31,7 @@ recorded-spec =
     tie.close
     (tie.spec
     new-requires
-    start-recording-requires
+    changed-requires
     params-requires
     sounded-requires
     same-length
