@@ -79,10 +79,9 @@ use Rattle.promises.proofs.Table.{table-holds}
 use Rattle.promises.proofs.Broken.{row-nine}
 use Rattle.promises.proofs.Rows.{row-tests}
 use Rattle.promises.proofs.SmallParts.{row-seven}
-use Rattle.promises.proofs.TruePositions.{true-positions}
 use Rattle.promises.proofs.Whole.{memory-after}
 use Rattle.promises.proofs.Turns.{in-turn}
-use Rattle.promises.proofs.Makes.{no-panic, third, spreads, count-makes, capacity-makes, whole}
+use Rattle.promises.proofs.Makes.{no-panic, third, true-positions, spreads, count-makes, capacity-makes, whole}
 use Rattle.promises.proofs.RunEnds.{run-held, run-done, run-ends}
 
 -- ---- a refusal

@@ -556,23 +556,30 @@ clocked a b =
 abbrev answers : ℕ → ℕ → Ran
 answers frames number = record { frames = frames; number = number }
 
--- as many frames as the largest clock has left; none asked for is done at the clock's end too
+-- as many frames as the largest clock has left; a run of no entries is done, at the clock's end too
 pub run-ends-met : (runAnswer (clocked (2 ^ 48 - 5) 7) 10 plain 4 ≡ answers 5 0)
     × (runAnswer (clocked (2 ^ 48 - 3) (2 ^ 48 - 3)) 10 plain 4 ≡ answers 3 6)
     × (runAnswer (clocked (2 ^ 48 - 3) (2 ^ 48 - 1)) 10 plain 4 ≡ answers 1 6)
     × (runAnswer (clocked (2 ^ 48 - 1) (2 ^ 48 - 3)) 10 plain 4 ≡ answers 1 6)
     × (runAnswer (clocked (2 ^ 48) 0) 2 plain 4 ≡ answers 0 6)
+    × (runAnswer (clocked 0 0) 0 plain 4 ≡ answers 0 0)
     × (runAnswer (clocked (2 ^ 48) (2 ^ 48)) 0 plain 4 ≡ answers 0 0)
 unfolding computing
-run-ends-met = (refl, refl, refl, refl, refl, refl)
+run-ends-met = (refl, refl, refl, refl, refl, refl, refl)
 
--- 9, then 10, then 4, then 6, each where those behind it hold too
+-- a channel that isn't in use ends no run
+pub run-alone-met : runAnswer (record { channels = clocked (2 ^ 48 - 3) (2 ^ 48) .channels; count = 1; capacity = 2 }) 5 plain 4 ≡ answers 3 6
+unfolding computing
+run-alone-met = refl
+
+-- 9, then 10, then 4, then 6, each where those behind it hold too; and 10 alone
 pub run-rows-met : (runAnswer (clocked (2 ^ 48) 0) 3 (with 16777217 loop.Loop off.Decay) 3 ≡ answers 0 9)
     × (runAnswer (clocked (2 ^ 48) 0) 3 (with 16777217 loop.Loop off.Decay) 4 ≡ answers 0 10)
     × (runAnswer (clocked (2 ^ 48) 0) 2 (with 16777217 loop.Loop off.Decay) 4 ≡ answers 0 4)
     × (runAnswer (clocked (2 ^ 48) 0) 0 (with 16777217 loop.Loop off.Decay) 4 ≡ answers 0 4)
+    × (runAnswer (clocked 0 0) 3 plain 4 ≡ answers 0 10)
 unfolding computing
-run-rows-met = (refl, refl, refl, refl)
+run-rows-met = (refl, refl, refl, refl, refl)
 
 -- the rest of the run is as it came in
 pub run-rest-met : ranOf (clocked (2 ^ 48 - 1) 0) (half ∷ half ∷ half ∷ two ∷ []) plain cells .frame ≡ zero32 ∷ zero32 ∷ half ∷ two ∷ []

@@ -16,9 +16,10 @@ use Rattle.sampler.specs.Refusals.{capacityOf, setUpNumber}
 use Rattle.sampler.specs.Soundness.{SoundSampler}
 use Rattle.sampler.proofs.Kept.{set-up-sound, change-kept, sample-kept, frame-kept}
 use Rattle.promises.specs.Runs.{World, setUp, Call, change, sample, frame, asks, after, run, FittingCall, Made, one, frames, framesDone, frameCalls, spread, made, makes, spreadAll, FittingMade}
-use Rattle.promises.specs.Demands.{NoPanic, Demand3, Whole}
+use Rattle.promises.specs.Demands.{NoPanic, Demand3, TruePositions, Whole}
 use Rattle.promises.proofs.Calls.{count-kept, capacity-kept, standing-new}
 use Rattle.promises.proofs.Demand3.{standing-demand3}
+use Rattle.promises.proofs.TruePositions.{standing-true}
 use Rattle.promises.proofs.Turns.{in-turn, kept-makes, standing-makes}
 use Rattle.promises.proofs.Whole as calls
 
@@ -110,3 +111,6 @@ module _ (count : ℕ) (q : InitParams) (m : List ℕ) (ok : setUpNumber count (
 
   pub third : (hs : List Made) (j : ℕ) → j < count → Demand3 (makes (setUp count q m) hs) j
   third hs j k = standing-demand3 (makes (setUp count q m) hs) (standing-makes (setUp count q m) hs (standing-new count q m)) j (omega (arith, count-makes hs))
+
+  pub true-positions : (hs : List Made) (j : ℕ) → j < count → TruePositions (makes (setUp count q m) hs) j
+  true-positions hs j k = standing-true (makes (setUp count q m) hs) (standing-makes (setUp count q m) hs (standing-new count q m)) j (omega (arith, count-makes hs))

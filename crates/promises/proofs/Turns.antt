@@ -1,5 +1,6 @@
 -- A run of frames is its frame calls, one after the other: testing record, memory and parameters once equals testing them at each frame. Assumes nothing.
 use mathlib.Core.Path.{_≡_, refl, sym, ap, _∙_, subst}
+use mathlib.Core.Logic.{_⊎_, inl, inr}
 use mathlib.Core.Bool.{Bool, true, false, not, _&&_, _||_, cond, true≢false}
 use mathlib.Core.List.{List, [], _∷_, _++_, append-assoc}
 use Prim.Native.Nat.{ℕ, zero, suc, _+_, _-_, _*_, _/_, _%_, _≤_, _<_, min, max, zero-le}
@@ -275,6 +276,25 @@ frames-done p n (suc k) w xs e o h l =
     one-more p n k w xs e o h l
     (frames-done p n k (next p n k w xs e o h l) (drop n xs) (next-count p n k w xs e o h l) (next-open p n k w xs e o h l) (next-room p n k w xs e o h l) (next-entries p n k w xs e o h l))
 
+-- ---- rows 9 and 4 of a run are those of a frame
+alike-rows : (a b c d e : Bool) (n : ℕ) → _≡_ {A = ℕ} (cond a 9 (cond b 10 (cond c 4 (cond d 6 0)))) n → (n ≡ 9) ⊎ (n ≡ 4) → _≡_ {A = ℕ} (cond a 9 (cond c 4 (cond e 6 0))) n
+alike-rows true b c d e n h k = h
+alike-rows false true c d e n h (inl k) = absurd (omega arith)
+alike-rows false true c d e n h (inr k) = absurd (omega arith)
+alike-rows false false true d e n h k = h
+alike-rows false false false true e n h (inl k) = absurd (omega arith)
+alike-rows false false false true e n h (inr k) = absurd (omega arith)
+alike-rows false false false false e n h (inl k) = absurd (omega arith)
+alike-rows false false false false e n h (inr k) = absurd (omega arith)
+
+alike : (w : World) (xs : List Float) (p : Params) (n : ℕ) → runNumber (w .sampler) (length xs) p (length (w .memory)) ≡ n → (n ≡ 9) ⊎ (n ≡ 4)
+    → (ys : List Float) → length ys ≡ w .sampler .count → code w (frame ys p) ≡ n
+unfolding code frameNumber runNumber
+alike w xs p n h k ys l =
+    let few : ltb (w .sampler .count) (length ys) ≡ false = le-ltb (w .sampler .count) (length ys) (le-of-eq l) in
+    rw few
+    (alike-rows (not (goodWith (w .sampler) (length (w .memory)))) (not (eqb (length xs % w .sampler .count) 0)) (beyondLimits p) (ltb (roomOf (w .sampler)) (length xs / w .sampler .count)) (any atEnd (take (length ys) (w .sampler .channels))) n h k)
+
 -- ---- with 6 the frames that are done use up the room
 module _ (w : World) (xs : List Float) (p : Params) (six : runNumber (w .sampler) (length xs) p (length (w .memory)) ≡ 6) where
   pub six-works : working (runNumber (w .sampler) (length xs) p (length (w .memory))) ≡ true
@@ -346,6 +366,7 @@ module _ (w : World) (fits : FittingSampler (w .sampler)) (xs : List Float) (p :
     next = λ e ys l.
         let cs = frameCalls p (w .sampler .count) (framesDone w xs p) xs in
         refused (run w cs) p (done .still (opens (six-works w xs p e))) ys (l ∙ sym (kept-run w cs .count)) (omega (arith, done .room, all-room w xs p e));
+    alike = alike w xs p;
   }
 
 -- ---- what a run of any parameters keeps

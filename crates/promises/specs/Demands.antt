@@ -333,9 +333,12 @@ pub record InTurn (w : World) (xs : List Float) (p : Params) : Type 0 where
       ≡ playedBy w (spread w (frames xs p)) ++ drop (framesDone w xs p * w .sampler .count) xs
   -- Record, memory and parameters are tested once. That equals a test at each frame: each of these calls is accepted,
   pub accepted : Accepted w (spread w (frames xs p))
-  -- and with 6 the frame call on the next entries would be refused 6.
+  -- with 6 the frame call on the next entries would be refused 6,
   pub next : runNumber (w .sampler) (length xs) p (length (w .memory)) ≡ 6 → (ys : List Float)
       → length ys ≡ w .sampler .count → code (run w (spread w (frames xs p))) (frame ys p) ≡ 6
+  -- and with 9 or 4 so would the first be, by the same number.
+  pub alike : (n : ℕ) → runNumber (w .sampler) (length xs) p (length (w .memory)) ≡ n → (n ≡ 9) ⊎ (n ≡ 4)
+      → (ys : List Float) → length ys ≡ w .sampler .count → code w (frame ys p) ≡ n
 
 pub record Demand3 (w : World) (j : ℕ) : Type 0 where
   -- What is done: each call does its event to the channel, and nothing else.
@@ -513,7 +516,7 @@ pub record Demands : Type 0 where
       → (hs : List Made) (j : ℕ) → j < count → Demand3 (makes (setUp count p m) hs) j
   -- of the same records and channels
   pub true-positions : (count : ℕ) (p : InitParams) (m : List ℕ) → setUpNumber count (length m) ≡ 0
-      → (cs : List Call) (j : ℕ) → j < count → TruePositions (run (setUp count p m) cs) j
+      → (hs : List Made) (j : ℕ) → j < count → TruePositions (makes (setUp count p m) hs) j
   -- "Demand 3 counts each frame of a run as a sample." What demand 3 says of calls it says of a run's frames: the run is
   -- its frame calls, each one event on the channel, and so are any calls of a host, runs among them.
   pub in-turn : (w : World) → FittingSampler (w .sampler) → (xs : List Float) (p : Params) → FittingParams p → InTurn w xs p
