@@ -82,11 +82,15 @@ impl Engine {
         let kind = r.u8_at(0);
         let before = Census::of(self);
         let (number, shown) = self.call(r);
+        let after = Census::of(self);
+        tally.call(kind, number, &before, &after, &self.params, self.length_kind);
+        if let Shown::Run(done, entries) = &shown {
+            tally.run(number, entries.len() / self.count.max(1), *done, &before, &after);
+        }
+        tally.asked(r);
         text.put(2, kind as u64);
         text.put(1, number as u64);
         self.show(shown, text);
-        tally.call(kind, number, &before, &Census::of(self), &self.params, self.length_kind);
-        tally.asked(r);
     }
 
     /// Makes a record's call.

@@ -357,8 +357,11 @@ fn runs(s: &mut Song) {
         let n = s.r.pick(&[0, 1, 2, n, n, n, 64]);
         s.run(n);
     }
-    if s.r.below(20) == 0 {
+    if s.r.below(6) == 0 {
         s.run(1000);
+    }
+    if s.r.below(2) == 0 {
+        s.runs_to_the_end();
     }
 }
 
@@ -510,6 +513,19 @@ impl Song {
             let lent = self.lent();
             self.records.push(frame(entries as u8, inputs, lent));
             self.stepped();
+        }
+    }
+
+    /// Each clock a few samples before its end, and runs of more frames than are left, or of as many.
+    fn runs_to_the_end(&mut self) {
+        for channel in 0..self.count as u8 {
+            let left = self.r.below(7);
+            self.records.push(puts::of(channel, 0, puts::put(puts::CLOCK, left.wrapping_neg())));
+        }
+        for _ in 0..3 {
+            let n = self.r.below(7);
+            self.run(n);
+            self.event();
         }
     }
 
