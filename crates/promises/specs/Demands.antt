@@ -517,12 +517,14 @@ pub record Demands : Type 0 where
   -- of the same records and channels
   pub true-positions : (count : ℕ) (p : InitParams) (m : List ℕ) → setUpNumber count (length m) ≡ 0
       → (hs : List Made) (j : ℕ) → j < count → TruePositions (makes (setUp count p m) hs) j
-  -- "Demand 3 counts each frame of a run as a sample." What demand 3 says of calls it says of a run's frames: the run is
-  -- its frame calls, each one event on the channel, and so are any calls of a host, runs among them.
-  pub in-turn : (w : World) → FittingSampler (w .sampler) → (xs : List Float) (p : Params) → FittingParams p → InTurn w xs p
+  -- "Demand 3 counts each frame of a run as a sample." What demand 3 says of calls it says of a run's frames: the run
+  -- is its frame calls, each one event on the channel, and so are any calls of a host, runs among them.
+  pub in-turn : (w : World) → FittingSampler (w .sampler) → (xs : List Float) (p : Params) → FittingParams p
+      → InTurn w xs p
   pub spreads : (count : ℕ) (p : InitParams) (m : List ℕ) → setUpNumber count (length m) ≡ 0 → (hs ks : List Made)
       → Each FittingMade hs → Each FittingMade ks
-      → makes (makes (setUp count p m) hs) ks ≡ run (makes (setUp count p m) hs) (spreadAll (makes (setUp count p m) hs) ks)
+      → makes (makes (setUp count p m) hs) ks
+      ≡ run (makes (setUp count p m) hs) (spreadAll (makes (setUp count p m) hs) ks)
   -- Their count stays, and so does the capacity: "the lent memory's length divided by the channel count, rounded down,
   -- at most 2^22."
   pub count-stays : (count : ℕ) (p : InitParams) (m : List ℕ) → setUpNumber count (length m) ≡ 0
