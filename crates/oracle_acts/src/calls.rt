@@ -132,7 +132,7 @@ fn frame_of(h: Heard, i: u32, p: Params, fields: &[u8], memory: &mut [u32]) -> H
     stepped(s, [x, -x, x], p, fields, memory)
 }
 
-// Kind 20: a run of frames on these entries, which are made from the seed at 4; the samples of memory lent at 16.
+// Kind 21: a run of frames on these entries, which are made from the seed at 4; the samples of memory lent at 16.
 pub fn run_of(run: Run, fields: &[u8], entries: &mut [f32], memory: &mut [u32]) -> RunAnswer
     requires { ⌜ 64 ≤ length (now fields) ⌝ }
 {
@@ -144,7 +144,7 @@ pub fn run_of(run: Run, fields: &[u8], entries: &mut [f32], memory: &mut [u32]) 
 }
 
 // Entries from -1 to 1, each from the 24 high bits of a number that the one before it gives.
-fn fill(entries: &mut [f32], seed: u32) {
+pub fn fill(entries: &mut [f32], seed: u32) {
     let mut x = seed;
     let mut i = 0;
     while i < entries.len() {
