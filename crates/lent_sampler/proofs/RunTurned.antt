@@ -39,6 +39,7 @@ module _ (s : Sampler) (l : List Float) (p : Params) (m : List ℕ) where
   -- the record, the run and the memory after i entries
   pub record Turned (i : ℕ) (t : Sampler) (io : List Float) (k : List ℕ) : Type 0 where
     pub two : length (t .channels) ≡ 2
+    pub count : t .count ≡ s .count
     pub capacity : t .capacity ≡ s .capacity
     pub entries : length io ≡ length l
     pub size : length k ≡ length m
@@ -47,6 +48,7 @@ module _ (s : Sampler) (l : List Float) (p : Params) (m : List ℕ) where
   pub turned-starts : length (s .channels) ≡ 2 → Turned 0 s l m
   turned-starts two = record {
     two = two;
+    count = refl;
     capacity = refl;
     entries = refl;
     size = refl;
@@ -73,13 +75,13 @@ module _ (s : Sampler) (l : List Float) (p : Params) (m : List ℕ) where
 
   module _ {i : ℕ} {t : Sampler} {io : List Float} {k : List ℕ} (z : Turned i t io k) where
     -- the channel is one of the two, the entry is there, and so is the part
-    pub turned-low : i < steps → (seat i < 2) × (i < length l) × (seat i * s .capacity + s .capacity ≤ length k)
+    pub turned-low : i < steps → (runSeat i (t .count) < 2) × (i < length l) × (runSeat i (t .count) * s .capacity + s .capacity ≤ length k)
     turned-low h =
         let f = done-fitting (some-done frames (s .count) i h) in
-        let low = seat-low i (s .count) (f .some) (f .few) in (
+        let low : runSeat i (t .count) < s .count = subst (λ (c : ℕ). runSeat i c < s .count) (sym (z .count)) (seat-low i (s .count) (f .some) (f .few)) in (
           omega (arith, low, f .few),
           omega (arith, h, inside),
-          le-trans (le-of-eq (sym (suc-mul (seat i) (s .capacity)))) (le-trans (mul-le-mul-right (s .capacity) low) (le-trans (f .fits) (le-of-eq (sym (z .size))))),
+          le-trans (le-of-eq (sym (suc-mul (runSeat i (t .count)) (s .capacity)))) (le-trans (mul-le-mul-right (s .capacity) low) (le-trans (f .fits) (le-of-eq (sym (z .size))))),
         )
 
     pub turned-ends : i ≡ steps → Frames (ranOf s l p m) t io k
@@ -94,9 +96,9 @@ module _ (s : Sampler) (l : List Float) (p : Params) (m : List ℕ) where
         whole (suc n) a = let f = done-fitting (omega (arith, a)) in all-turns p (s .count) frames s l m refl (f .some) (f .few) inside
 
     -- one entry more: its channel's sample on its part, which begins at a
-    module _ (h : i < steps) (a : ℕ) (starts : a ≡ seat i * s .capacity) where
+    module _ (h : i < steps) (a : ℕ) (starts : a ≡ runSeat i (t .count) * s .capacity) where
       abbrev j : ℕ
-      j = seat i
+      j = runSeat i (t .count)
 
       abbrev e : ℕ
       e = a + s .capacity
@@ -128,10 +130,11 @@ module _ (s : Sampler) (l : List Float) (p : Params) (m : List ℕ) where
       long : length k′ ≡ length k
       long = ap length written ∙ memory-at-length t j k (subst (λ (c : ℕ). j * c + c ≤ length k) (sym (z .capacity)) (turned-low h .2)) x
 
-      turned-one : turnOf p j i (framed t io k) ≡ framed t′ (set io i y) k′
+      turned-one : turnOf p (seat i) i (framed t io k) ≡ framed t′ (set io i y) k′
       turned-one =
           let w : getD io i zero32 ≡ x = getD-any io i zero32 nan (omega (arith, z .entries, turned-low h .1)) in
-          ap (λ (v : Float). framed (channelSteppedOf t j p v k) (set io i (outputOf t j p v k)) (memoryAt t j v k)) w
+          ap (λ (c : ℕ). turnOf p (runSeat i c) i (framed t io k)) (sym (z .count))
+          ∙ ap (λ (v : Float). framed (channelSteppedOf t j p v k) (set io i (outputOf t j p v k)) (memoryAt t j v k)) w
           ∙ sym (λ q. framed (stepped-is t j a e k starts′ ends′ p x (channelAt t j) refl played refl q) (set io i (output-is t j a e k starts′ ends′ p x (channelAt t j) refl played refl q)) (written q))
 
       one-less : steps - i ≡ suc (steps - suc i)
@@ -141,6 +144,7 @@ module _ (s : Sampler) (l : List Float) (p : Params) (m : List ℕ) where
       unfolding turnsOf
       turned-on = record {
         two = length-set (t .channels) j (played .channel) ∙ z .two;
+        count = z .count;
         capacity = z .capacity;
         entries = length-set io i y ∙ z .entries;
         size = long ∙ z .size;

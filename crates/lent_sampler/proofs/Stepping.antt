@@ -73,12 +73,12 @@ pub record Turning (T C P Q : Datum) (Y : Sounding) (J : Answering (word w64) Q)
   pub entries : (s : T .like .Denot) (l : List Float) (p : P .like .Denot) (m : List ℕ) (i : ℕ) (t : T .like .Denot) (io : List Float) (k : List ℕ) → Turned s l p m i t io k → length io ≡ length l
   pub size : (s : T .like .Denot) (l : List Float) (p : P .like .Denot) (m : List ℕ) (i : ℕ) (t : T .like .Denot) (io : List Float) (k : List ℕ) → Turned s l p m i t io k → length k ≡ length m
   pub ready : (s : T .like .Denot) (l : List Float) (p : P .like .Denot) (m : List ℕ) (i : ℕ) (t : T .like .Denot) (io : List Float) (k : List ℕ) → Turned s l p m i t io k → i < J .record-of (askedOf s (length l) p (length m))
-      → (seatOf i (S .count s) < 2) × (i < length l) × (seatOf i (S .count s) * S .capacity s + S .capacity s ≤ length k)
+      → (seatOf i (S .count t) < 2) × (i < length l) × (seatOf i (S .count t) * S .capacity s + S .capacity s ≤ length k)
   pub keeps : (x : Float) (c : C .like .Denot) (k : List ℕ) → length (records x c k) ≡ length k
   pub on : (s : T .like .Denot) (l : List Float) (p : P .like .Denot) (m : List ℕ) (i : ℕ) (t : T .like .Denot) (io : List Float) (k : List ℕ) → Turned s l p m i t io k → i < J .record-of (askedOf s (length l) p (length m))
-      → (a : ℕ) → a ≡ seatOf i (S .count s) * S .capacity s
-      → Turned s l p m (suc i) (S .changed t (seatOf i (S .count s)) (plays p (getD io i nan) (S .channel t (seatOf i (S .count s))) (midOf a (a + S .capacity s - a) k))) (set io i (Y .output (sounds p (getD io i nan) (S .channel t (seatOf i (S .count s))) (midOf a (a + S .capacity s - a) k))))
-      (putMid a (a + S .capacity s - a) k (records (getD io i nan) (S .channel t (seatOf i (S .count s))) (midOf a (a + S .capacity s - a) k)))
+      → (a : ℕ) → a ≡ seatOf i (S .count t) * S .capacity s
+      → Turned s l p m (suc i) (S .changed t (seatOf i (S .count t)) (plays p (getD io i nan) (S .channel t (seatOf i (S .count t))) (midOf a (a + S .capacity s - a) k))) (set io i (Y .output (sounds p (getD io i nan) (S .channel t (seatOf i (S .count t))) (midOf a (a + S .capacity s - a) k))))
+      (putMid a (a + S .capacity s - a) k (records (getD io i nan) (S .channel t (seatOf i (S .count t))) (midOf a (a + S .capacity s - a) k)))
   pub ends : (s : T .like .Denot) (l : List Float) (p : P .like .Denot) (m : List ℕ) (i : ℕ) (t : T .like .Denot) (io : List Float) (k : List ℕ) → Turned s l p m i t io k → i ≡ J .record-of (askedOf s (length l) p (length m)) → Leaves s l p m t io k
 
 module _ (T C P Q : Datum) (Y : Sounding) (J : Answering (word w64) Q) (S : Seats T C) (#asked #seat #start #sample : Name) (Z : Turning T C P Q Y J S) where
@@ -90,25 +90,26 @@ module _ (T C P Q : Datum) (Y : Sounding) (J : Answering (word w64) Q) (S : Seat
 
   abbrev turn : Body
   turn =
-      seq (assign (place 16 []) (op2 (lt unsigned) (copy (place 10 [])) (copy (place 7 [])))) (
-      seq (cond (copy (place 16 [])) skip (exit 1)) (
-      seq (call #seat (copy (place 10 []) ∷ copy (place 9 []) ∷ []) (place 11 [])) (
-      seq (call #start (copy (place 11 []) ∷ copy (place 8 []) ∷ []) (place 12 [])) (
-      seq (assign (place 13 []) (op2 (add unsigned) (copy (place 12 [])) (copy (place 8 [])))) (
-      seq (assign (place 18 []) (op2 (mul unsigned) (copy (place 11 [])) (intBig w64 channel-bytes))) (
-      seq (assign (place 19 []) (addrOf (place 1 (deref (T .ty) ∷ field 0 ∷ [])))) (
-      seq (assign (place 20 []) (op2 offset (copy (place 19 [])) (copy (place 18 [])))) (
-      seq (assign (place 21 []) (addrOf (place 20 (deref (C .ty) ∷ [])))) (
-      seq (assign (place 22 []) (op2 (mul unsigned) (copy (place 10 [])) (int w64 4))) (
-      seq (assign (place 23 []) (op2 offset (copy (place 2 (field 0 ∷ []))) (copy (place 22 [])))) (
-      seq (assign (place 24 []) (rvOpd (copy (place 23 (deref (tyFloat binary32) ∷ []))))) (
-      seq (assign (place 25 []) (addrOf (place 4 (field 0 ∷ deref (tyInt w32) ∷ [])))) (
-      seq (assign (place 26 []) (aggregate (copy (place 25 []) ∷ copy (place 4 (field 1 ∷ [])) ∷ []))) (
-      seq (call #sample (copy (place 21 []) ∷ copy (place 3 []) ∷ copy (place 24 []) ∷ copy (place 26 []) ∷ copy (place 12 []) ∷ copy (place 13 []) ∷ []) (place 17 [])) (
-      seq (assign (place 27 []) (op2 (mul unsigned) (copy (place 10 [])) (int w64 4))) (
-      seq (assign (place 28 []) (op2 offset (copy (place 2 (field 0 ∷ []))) (copy (place 27 [])))) (
-      seq (assign (place 28 (deref (tyFloat binary32) ∷ [])) (rvOpd (copy (place 17 (field 0 ∷ []))))) (
-      assign (place 10 []) (op2 (add unsigned) (copy (place 10 [])) (int w64 1))))))))))))))))))))
+      seq (assign (place 15 []) (op2 (lt unsigned) (copy (place 9 [])) (copy (place 7 [])))) (
+      seq (cond (copy (place 15 [])) skip (exit 1)) (
+      seq (assign (place 16 []) (rvOpd (copy (place 1 (deref (T .ty) ∷ field 1 ∷ []))))) (
+      seq (call #seat (copy (place 9 []) ∷ copy (place 16 []) ∷ []) (place 10 [])) (
+      seq (call #start (copy (place 10 []) ∷ copy (place 8 []) ∷ []) (place 11 [])) (
+      seq (assign (place 12 []) (op2 (add unsigned) (copy (place 11 [])) (copy (place 8 [])))) (
+      seq (assign (place 16 []) (op2 (mul unsigned) (copy (place 10 [])) (intBig w64 channel-bytes))) (
+      seq (assign (place 18 []) (addrOf (place 1 (deref (T .ty) ∷ field 0 ∷ [])))) (
+      seq (assign (place 19 []) (op2 offset (copy (place 18 [])) (copy (place 16 [])))) (
+      seq (assign (place 20 []) (addrOf (place 19 (deref (C .ty) ∷ [])))) (
+      seq (assign (place 21 []) (op2 (mul unsigned) (copy (place 9 [])) (int w64 4))) (
+      seq (assign (place 22 []) (op2 offset (copy (place 2 (field 0 ∷ []))) (copy (place 21 [])))) (
+      seq (assign (place 23 []) (rvOpd (copy (place 22 (deref (tyFloat binary32) ∷ []))))) (
+      seq (assign (place 24 []) (addrOf (place 4 (field 0 ∷ deref (tyInt w32) ∷ [])))) (
+      seq (assign (place 25 []) (aggregate (copy (place 24 []) ∷ copy (place 4 (field 1 ∷ [])) ∷ []))) (
+      seq (call #sample (copy (place 20 []) ∷ copy (place 3 []) ∷ copy (place 23 []) ∷ copy (place 25 []) ∷ copy (place 11 []) ∷ copy (place 12 []) ∷ []) (place 17 [])) (
+      seq (assign (place 26 []) (op2 (mul unsigned) (copy (place 9 [])) (int w64 4))) (
+      seq (assign (place 27 []) (op2 offset (copy (place 2 (field 0 ∷ []))) (copy (place 26 [])))) (
+      seq (assign (place 27 (deref (tyFloat binary32) ∷ [])) (rvOpd (copy (place 17 (field 0 ∷ []))))) (
+      assign (place 9 []) (op2 (add unsigned) (copy (place 9 [])) (int w64 1)))))))))))))))))))))
 
   abbrev after : Body
   after = seq (assign (place 0 []) (rvOpd (copy (place 6 (field 1 ∷ []))))) (
@@ -119,19 +120,18 @@ module _ (T C P Q : Datum) (Y : Sounding) (J : Answering (word w64) Q) (S : Seat
     lifetimes = 3;
     outlives = [];
     params = 4;
-    locals = local (Q .ty) valueLocal ∷ local (tyRef (named 0) mut (pointee (T .like .written))) valueLocal ∷ local (sliceTy (tyRef (named 1) mut (tyFloat binary32))) valueLocal ∷ local (P .ty) valueLocal ∷ local (sliceTy (tyRef (named 2) mut (tyInt w32))) valueLocal ∷ local (tyInt w64) valueLocal ∷ local (answer-ty (word w64) Q J) valueLocal ∷ local (tyInt w64) valueLocal ∷ local (tyInt w64) valueLocal ∷ local (tyInt w64) valueLocal ∷ local (tyInt w64) valueLocal ∷ local (tyInt w64) valueLocal ∷ local (tyInt w64) valueLocal ∷ local (tyInt w64) valueLocal ∷ local (tyRef erased imm (pointee (T .like .written))) valueLocal ∷ local (tyInt w64) valueLocal ∷ local (tyBool) valueLocal ∷ local (sounding-ty Y) valueLocal ∷ local (tyInt w64) valueLocal ∷ local (tyPtr) valueLocal ∷ local (tyPtr) valueLocal ∷ local (tyRef erased mut (pointee (C .like .written))) valueLocal ∷ local (tyInt w64) valueLocal ∷ local (tyPtr) valueLocal ∷ local (tyFloat binary32) valueLocal ∷ local (tyRef erased mut (tyInt w32)) valueLocal ∷ local (sliceTy (tyRef erased mut (tyInt w32))) valueLocal ∷ local (tyInt w64) valueLocal ∷ local (tyPtr) valueLocal ∷ [];
+    locals = local (Q .ty) valueLocal ∷ local (tyRef (named 0) mut (pointee (T .like .written))) valueLocal ∷ local (sliceTy (tyRef (named 1) mut (tyFloat binary32))) valueLocal ∷ local (P .ty) valueLocal ∷ local (sliceTy (tyRef (named 2) mut (tyInt w32))) valueLocal ∷ local (tyInt w64) valueLocal ∷ local (answer-ty (word w64) Q J) valueLocal ∷ local (tyInt w64) valueLocal ∷ local (tyInt w64) valueLocal ∷ local (tyInt w64) valueLocal ∷ local (tyInt w64) valueLocal ∷ local (tyInt w64) valueLocal ∷ local (tyInt w64) valueLocal ∷ local (tyRef erased imm (pointee (T .like .written))) valueLocal ∷ local (tyInt w64) valueLocal ∷ local (tyBool) valueLocal ∷ local (tyInt w64) valueLocal ∷ local (sounding-ty Y) valueLocal ∷ local (tyPtr) valueLocal ∷ local (tyPtr) valueLocal ∷ local (tyRef erased mut (pointee (C .like .written))) valueLocal ∷ local (tyInt w64) valueLocal ∷ local (tyPtr) valueLocal ∷ local (tyFloat binary32) valueLocal ∷ local (tyRef erased mut (tyInt w32)) valueLocal ∷ local (sliceTy (tyRef erased mut (tyInt w32))) valueLocal ∷ local (tyInt w64) valueLocal ∷ local (tyPtr) valueLocal ∷ [];
     body =
         seq (assign (place 5 []) (rvOpd (copy (place 2 (field 1 ∷ []))))) (
-        seq (assign (place 14 []) (addrOf (place 1 (deref (T .ty) ∷ [])))) (
-        seq (assign (place 15 []) (rvOpd (copy (place 4 (field 1 ∷ []))))) (
-        seq (call #asked (copy (place 14 []) ∷ copy (place 5 []) ∷ copy (place 3 []) ∷ copy (place 15 []) ∷ []) (place 6 [])) (
+        seq (assign (place 13 []) (addrOf (place 1 (deref (T .ty) ∷ [])))) (
+        seq (assign (place 14 []) (rvOpd (copy (place 4 (field 1 ∷ []))))) (
+        seq (call #asked (copy (place 13 []) ∷ copy (place 5 []) ∷ copy (place 3 []) ∷ copy (place 14 []) ∷ []) (place 6 [])) (
         seq (assign (place 7 []) (rvOpd (copy (place 6 (field 0 ∷ []))))) (
         seq (assign (place 8 []) (rvOpd (copy (place 1 (deref (T .ty) ∷ field 2 ∷ []))))) (
-        seq (assign (place 9 []) (rvOpd (copy (place 1 (deref (T .ty) ∷ field 1 ∷ []))))) (
-        seq (assign (place 10 []) (rvOpd (int w64 0))) (
+        seq (assign (place 9 []) (rvOpd (int w64 0))) (
         seq (block (loop turn)) (
         seq (assign (place 0 []) (rvOpd (copy (place 6 (field 1 ∷ []))))) (
-        return))))))))));
+        return)))))))));
   }
 
   abbrev ended : Ended
@@ -279,19 +279,16 @@ module _ (T C P Q : Datum) (Y : Sounding) (J : Answering (word w64) Q) (S : Seat
     abbrev size : ℕ
     size = S .capacity s
 
-    abbrev count : ℕ
-    count = S .count s
-
     -- ---- the call of `#seat`
-    abbrev to-seat : ℕ → Seated 𝓤 H A .Ghost
-    to-seat i = ((tt, tt, tt, (i, (count, tt)), (vint w64 i ∷ [], (vint w64 count ∷ [], tt))), tt)
+    abbrev to-seat : ℕ → ℕ → Seated 𝓤 H A .Ghost
+    to-seat count i = ((tt, tt, tt, (i, (count, tt)), (vint w64 i ∷ [], (vint w64 count ∷ [], tt))), tt)
 
-    goes-seat : (i : ℕ) → i < 2 ^ 64 → count < 2 ^ 64 → ent 𝓤 (sem 𝓤 H A ftrue) (Seated 𝓤 H A .pre (to-seat i))
-    goes-seat i i-fits fits =
+    goes-seat : (count i : ℕ) → i < 2 ^ 64 → count < 2 ^ 64 → ent 𝓤 (sem 𝓤 H A ftrue) (Seated 𝓤 H A .pre (to-seat count i))
+    goes-seat count i i-fits fits =
         qed W (‵ ftrue ∷ []) ∵ nothing ! $ owned ! usize (Is usize) (uint-makes 𝓤 H A W w64) count _ (refl, fits) $ fjoin ! $ owned ! usize (Is usize) (uint-makes 𝓤 H A W w64) i _ (refl, i-fits) $ fjoin ! $ move ! (1 ∷ 0 ∷ []) $ join ! $ nothing ! $ move ! (1 ∷ 0 ∷ []) $ join ! $ done !
 
-    seat-of : (i r : ℕ) → ent 𝓤 (ensured 𝓤 H A seat-ended (seat-clauses 𝓤) tt (i, (count, tt)) tt r) (fact 𝓤 (r ≡ Z .seatOf i count))
-    seat-of i r = exE 𝓤 _ (λ ws. snd∗ 𝓤 (sem 𝓤 H A (lasts seat-ended tt (i, (count, tt)) ws)) (fact 𝓤 (r ≡ Z .seatOf i count)))
+    seat-of : (count i r : ℕ) → ent 𝓤 (ensured 𝓤 H A seat-ended (seat-clauses 𝓤) tt (i, (count, tt)) tt r) (fact 𝓤 (r ≡ Z .seatOf i count))
+    seat-of count i r = exE 𝓤 _ (λ ws. snd∗ 𝓤 (sem 𝓤 H A (lasts seat-ended tt (i, (count, tt)) ws)) (fact 𝓤 (r ≡ Z .seatOf i count)))
 
     -- ---- the call of `#start`
     abbrev to-start : ℕ → Starts 𝓤 H A .Ghost
@@ -332,35 +329,31 @@ module _ (T C P Q : Datum) (Y : Sounding) (J : Answering (word w64) Q) (S : Seat
       abbrev Λ : Loops 𝓤 H
       Λ = 𝓣 .Λ
 
-      module _ (is-asked : Is Jr asked (asked-val ∷ [])) (size-fits : size < 2 ^ 64) (count-fits : count < 2 ^ 64) (l₀ l₁ l₂ l₃ l₄ l₅ l₆ l₇ l₈ l₉ l₁₀ l₁₁ l₁₂ l₁₃ l₁₄ l₁₅ l₁₆ l₁₇ l₁₈ l₁₉ l₂₀ l₂₁ l₂₂ l₂₃ l₂₄ l₂₅ l₂₆ l₂₇ l₂₈ : ℕ) where
+      module _ (is-asked : Is Jr asked (asked-val ∷ [])) (size-fits : size < 2 ^ 64) (l₀ l₁ l₂ l₃ l₄ l₅ l₆ l₇ l₈ l₉ l₁₀ l₁₁ l₁₂ l₁₃ l₁₄ l₁₅ l₁₆ l₁₇ l₁₈ l₁₉ l₂₀ l₂₁ l₂₂ l₂₃ l₂₄ l₂₅ l₂₆ l₂₇ : ℕ) where
         abbrev En : Env 𝓤 H
-        En = (Q .ty, l₀) ∷ (tyRef (named 0) mut (pointee (T .like .written)), l₁) ∷ (sliceTy (tyRef (named 1) mut (tyFloat binary32)), l₂) ∷ (P .ty, l₃) ∷ (sliceTy (tyRef (named 2) mut (tyInt w32)), l₄) ∷
-            (tyInt w64, l₅) ∷ (answer-ty (word w64) Q J, l₆) ∷ (tyInt w64, l₇) ∷ (tyInt w64, l₈) ∷ (tyInt w64, l₉) ∷ (tyInt w64, l₁₀) ∷ (tyInt w64, l₁₁) ∷ (tyInt w64, l₁₂) ∷ (tyInt w64, l₁₃) ∷ (tyRef erased imm (pointee (T .like .written)), l₁₄) ∷
-            (tyInt w64, l₁₅) ∷ (tyBool, l₁₆) ∷ (sounding-ty Y, l₁₇) ∷ (tyInt w64, l₁₈) ∷ (tyPtr, l₁₉) ∷ (tyPtr, l₂₀) ∷ (tyRef erased mut (pointee (C .like .written)), l₂₁) ∷
-            (tyInt w64, l₂₂) ∷ (tyPtr, l₂₃) ∷ (tyFloat binary32, l₂₄) ∷ (tyRef erased mut (tyInt w32), l₂₅) ∷ (sliceTy (tyRef erased mut (tyInt w32)), l₂₆) ∷ (tyInt w64, l₂₇) ∷
-            (tyPtr, l₂₈) ∷ []
+        En = (Q .ty, l₀) ∷ (tyRef (named 0) mut (pointee (T .like .written)), l₁) ∷ (sliceTy (tyRef (named 1) mut (tyFloat binary32)), l₂) ∷ (P .ty, l₃) ∷ (sliceTy (tyRef (named 2) mut (tyInt w32)), l₄) ∷ (tyInt w64, l₅) ∷ (answer-ty (word w64) Q J, l₆) ∷ (tyInt w64, l₇) ∷ (tyInt w64, l₈) ∷ (tyInt w64, l₉) ∷ (tyInt w64, l₁₀) ∷ (tyInt w64, l₁₁) ∷ (tyInt w64, l₁₂) ∷ (tyRef erased imm (pointee (T .like .written)), l₁₃) ∷ (tyInt w64, l₁₄) ∷ (tyBool, l₁₅) ∷ (tyInt w64, l₁₆) ∷ (sounding-ty Y, l₁₇) ∷ (tyPtr, l₁₈) ∷ (tyPtr, l₁₉) ∷ (tyRef erased mut (pointee (C .like .written)), l₂₀) ∷ (tyInt w64, l₂₁) ∷ (tyPtr, l₂₂) ∷ (tyFloat binary32, l₂₃) ∷ (tyRef erased mut (tyInt w32), l₂₄) ∷ (sliceTy (tyRef erased mut (tyInt w32)), l₂₅) ∷ (tyInt w64, l₂₆) ∷ (tyPtr, l₂₇) ∷ []
 
         -- what no turn touches
         abbrev Frame : List (Item 𝓤)
         Frame = ‵ (fat fullShare (tyRef (named 0) mut (pointee (T .like .written))) l₁ 0 (vptr b o)) ∷ ‵ (fat fullShare (sliceTy (tyRef (named 1) mut (tyFloat binary32))) l₂ 0 (sl)) ∷
             ‵ (fat fullShare (P .ty) l₃ 0 (P .val p)) ∷ ‵ (fat fullShare (sliceTy (tyRef (named 2) mut (tyInt w32))) l₄ 0 (sm)) ∷ ‵ (fat fullShare (tyInt w64) l₅ 0 (vint w64 (length l))) ∷
             ‵ (fat fullShare (answer-ty (word w64) Q J) l₆ 0 asked-val) ∷ ‵ (fat fullShare (tyInt w64) l₇ 0 (vint w64 n)) ∷ ‵ (fat fullShare (tyInt w64) l₈ 0 (vint w64 size)) ∷
-            ‵ (fat fullShare (tyRef erased imm (pointee (T .like .written))) l₁₄ 0 (vptr b o)) ∷ ‵ (fat fullShare (tyInt w64) l₁₅ 0 (vint w64 (length m))) ∷ ‵ (froom (Q .ty) l₀ 0) ∷
+            ‵ (fat fullShare (tyRef erased imm (pointee (T .like .written))) l₁₃ 0 (vptr b o)) ∷ ‵ (fat fullShare (tyInt w64) l₁₄ 0 (vint w64 (length m))) ∷ ‵ (froom (Q .ty) l₀ 0) ∷
             ‵ (fobor κ q (Holds-in (mem Tr) b o γ)) ∷ ‵ (fobs γ (T .like .coded .code s)) ∷ ‵ (fauth γ (T .like .coded .code s)) ∷ ‵ (fobor κ₁ q₁ (Held f32 (length l) b₁ o₁ γ₁)) ∷
             ‵ (fobs γ₁ (codedHoleys f32 .code (heres f32 l))) ∷ ‵ (fauth γ₁ (codedHoleys f32 .code (heres f32 l))) ∷ ‵ ftrue ∷ ‵ (fdies (Q .ty) l₀) ∷ ‵ (fdies (tyRef (named 0) mut (pointee (T .like .written))) l₁) ∷
             ‵ (fdies (sliceTy (tyRef (named 1) mut (tyFloat binary32))) l₂) ∷ ‵ (fdies (P .ty) l₃) ∷ ‵ (fdies (sliceTy (tyRef (named 2) mut (tyInt w32))) l₄) ∷ ‵ (fdies (tyInt w64) l₅) ∷
-            ‵ (fdies (answer-ty (word w64) Q J) l₆) ∷ ‵ (fdies (tyInt w64) l₇) ∷ ‵ (fdies (tyInt w64) l₈) ∷ ‵ (fdies (tyInt w64) l₁₀) ∷ ‵ (fdies (tyInt w64) l₁₂) ∷ ‵ (fdies (tyInt w64) l₁₃) ∷
-            ‵ (fdies (tyRef erased imm (pointee (T .like .written))) l₁₄) ∷ ‵ (fdies (tyInt w64) l₁₅) ∷ ‵ (fdies tyBool l₁₆) ∷ ‵ (fdies (sounding-ty Y) l₁₇) ∷ ‵ (fdies (tyInt w64) l₁₈) ∷
-            ‵ (fdies tyPtr l₁₉) ∷ ‵ (fdies tyPtr l₂₀) ∷ ‵ (fdies (tyRef erased mut (pointee (C .like .written))) l₂₁) ∷ ‵ (fdies (tyInt w64) l₂₂) ∷ ‵ (fdies tyPtr l₂₃) ∷
-            ‵ (fdies (tyFloat binary32) l₂₄) ∷ ‵ (fdies (tyRef erased mut (tyInt w32)) l₂₅) ∷ ‵ (fdies (sliceTy (tyRef erased mut (tyInt w32))) l₂₆) ∷ ‵ (fdies (tyInt w64) l₂₇) ∷
-            ‵ (fdies tyPtr l₂₈) ∷ ‵ (fat fullShare (tyInt w64) l₉ 0 (vint w64 count)) ∷ ‵ (froom (tyInt w64) l₁₁ 0) ∷ ‵ (fdies (tyInt w64) l₉) ∷ ‵ (fdies (tyInt w64) l₁₁) ∷ []
+            ‵ (fdies (answer-ty (word w64) Q J) l₆) ∷ ‵ (fdies (tyInt w64) l₇) ∷ ‵ (fdies (tyInt w64) l₈) ∷ ‵ (fdies (tyInt w64) l₉) ∷ ‵ (fdies (tyInt w64) l₁₁) ∷ ‵ (fdies (tyInt w64) l₁₂) ∷
+            ‵ (fdies (tyRef erased imm (pointee (T .like .written))) l₁₃) ∷ ‵ (fdies (tyInt w64) l₁₄) ∷ ‵ (fdies tyBool l₁₅) ∷ ‵ (fdies (sounding-ty Y) l₁₇) ∷ ‵ (fdies (tyInt w64) l₁₆) ∷
+            ‵ (fdies tyPtr l₁₈) ∷ ‵ (fdies tyPtr l₁₉) ∷ ‵ (fdies (tyRef erased mut (pointee (C .like .written))) l₂₀) ∷ ‵ (fdies (tyInt w64) l₂₁) ∷ ‵ (fdies tyPtr l₂₂) ∷
+            ‵ (fdies (tyFloat binary32) l₂₃) ∷ ‵ (fdies (tyRef erased mut (tyInt w32)) l₂₄) ∷ ‵ (fdies (sliceTy (tyRef erased mut (tyInt w32))) l₂₅) ∷ ‵ (fdies (tyInt w64) l₂₆) ∷
+            ‵ (fdies tyPtr l₂₇) ∷ ‵ (froom (tyInt w64) l₁₀ 0) ∷ ‵ (fdies (tyInt w64) l₁₀) ∷ []
 
         -- what stands after i turns
         abbrev At : ℕ → T .like .Denot → List Float → List ℕ → List (Item 𝓤)
-        At i t io k = ‵ (partAt Tr fullShare t b o) ∷ ‵ (cells-row f32 fullShare io b₁ o₁) ∷ Mem k ∷ ‵ (flft κ₂ q₂) ∷ ‵ (fat fullShare (tyInt w64) l₁₀ 0 (vint w64 i)) ∷ ‵ (froom (tyInt w64) l₁₂ 0) ∷
-            ‵ (froom (tyInt w64) l₁₃ 0) ∷ ‵ (froom tyBool l₁₆ 0) ∷ ‵ (froom (sounding-ty Y) l₁₇ 0) ∷ ‵ (froom (tyInt w64) l₁₈ 0) ∷ ‵ (froom tyPtr l₁₉ 0) ∷ ‵ (froom tyPtr l₂₀ 0) ∷
-            ‵ (froom (tyRef erased mut (pointee (C .like .written))) l₂₁ 0) ∷ ‵ (froom (tyInt w64) l₂₂ 0) ∷ ‵ (froom tyPtr l₂₃ 0) ∷ ‵ (froom (tyFloat binary32) l₂₄ 0) ∷
-            ‵ (froom (tyRef erased mut (tyInt w32)) l₂₅ 0) ∷ ‵ (froom (sliceTy (tyRef erased mut (tyInt w32))) l₂₆ 0) ∷ ‵ (froom (tyInt w64) l₂₇ 0) ∷ ‵ (froom tyPtr l₂₈ 0) ∷ Frame
+        At i t io k = ‵ (partAt Tr fullShare t b o) ∷ ‵ (cells-row f32 fullShare io b₁ o₁) ∷ Mem k ∷ ‵ (flft κ₂ q₂) ∷ ‵ (fat fullShare (tyInt w64) l₉ 0 (vint w64 i)) ∷ ‵ (froom (tyInt w64) l₁₁ 0) ∷
+            ‵ (froom (tyInt w64) l₁₂ 0) ∷ ‵ (froom tyBool l₁₅ 0) ∷ ‵ (froom (sounding-ty Y) l₁₇ 0) ∷ ‵ (froom (tyInt w64) l₁₆ 0) ∷ ‵ (froom tyPtr l₁₈ 0) ∷ ‵ (froom tyPtr l₁₉ 0) ∷
+            ‵ (froom (tyRef erased mut (pointee (C .like .written))) l₂₀ 0) ∷ ‵ (froom (tyInt w64) l₂₁ 0) ∷ ‵ (froom tyPtr l₂₂ 0) ∷ ‵ (froom (tyFloat binary32) l₂₃ 0) ∷
+            ‵ (froom (tyRef erased mut (tyInt w32)) l₂₄ 0) ∷ ‵ (froom (sliceTy (tyRef erased mut (tyInt w32))) l₂₅ 0) ∷ ‵ (froom (tyInt w64) l₂₆ 0) ∷ ‵ (froom tyPtr l₂₇ 0) ∷ Frame
 
         abbrev State : Type 0
         State = ℕ × (T .like .Denot × (List Float × (List ℕ × Unit {0})))
@@ -375,6 +368,9 @@ module _ (T C P Q : Datum) (Y : Sounding) (J : Answering (word w64) Q) (S : Seat
         Left = afterBlock 𝓤 H (afterSeq 𝓤 H (Wp 𝓤 H Cs Λ En after (atReturn 𝓤 H En Post)) (atReturn 𝓤 H En Post))
 
         module _ (i : ℕ) (t : T .like .Denot) (io : List Float) (k : List ℕ) (z : Turned i t io k) (small : i < n) where
+          abbrev count : ℕ
+          count = S .count t
+
           abbrev j : ℕ
           j = Z .seatOf i count
 
@@ -408,25 +404,27 @@ module _ (T C P Q : Datum) (Y : Sounding) (J : Answering (word w64) Q) (S : Seat
           more X go =
               qed W (At i t io k) ∵ exec ! Cs Λ En turn (anyQ (afterTurn 𝓤 H X Left)) $
               assigns ! (bin ! (load ! (from ! (stop !)) (look ! 4 refl)) (load ! (from ! (stop !)) (look ! 26 refl)) tt) (from ! (stop !)) (init ! 7 refl (tt, tt)) $
-              rewrite ! 7 (λ (u : Bool). ‵ (fat fullShare tyBool l₁₆ 0 (vbool u))) (holds (ltb i n) (lt→ltb i n small)) refl $ stays ! (load ! (from ! (stop !)) (look ! 7 refl)) $
+              rewrite ! 7 (λ (u : Bool). ‵ (fat fullShare tyBool l₁₅ 0 (vbool u))) (holds (ltb i n) (lt→ltb i n small)) refl $ stays ! (load ! (from ! (stop !)) (look ! 7 refl)) $
               -- whose entry it is
-              nothing ! $ use1 W (raw (Seated 𝓤 H A .pre (to-seat i))) (goes-seat i (omega (arith, next-fits)) count-fits) $
-              calls-at ! (fmOf 𝓤 H (W .laws) 𝓣) (Seated 𝓤 H A) known-seat (to-seat i) (and-then ! (load ! (from ! (stop !)) (look ! 5 refl)) (and-then ! (load ! (from ! (stop !)) (look ! 66 refl)) (no-more !))) (λ w₀.
+              goes-in ! fullShare Tr usize (Is usize) (shows 𝓤 H A usize) (uint-vals w64) (uint-tells w64) t t count count b o (o + count-at) (S .reads-count 𝓤 H A W fullShare t b o) (λ isn.
+              assigns ! (of-opd ! (load ! (from ! (hop ! (look ! 22 refl) (fld ! (S .field₁) (stop !)))) (look ! 0 refl))) (from ! (stop !)) (init ! 11 refl (tt, record { fits = isn .1 })) $ comes-out ! fullShare Tr usize t count (vint w64 count ∷ []) b o (o + count-at) $
+              nothing ! $ use1 W (raw (Seated 𝓤 H A .pre (to-seat count i))) (goes-seat count i (omega (arith, next-fits)) (isn .1)) $
+              calls-at ! (fmOf 𝓤 H (W .laws) 𝓣) (Seated 𝓤 H A) known-seat (to-seat count i) (and-then ! (load ! (from ! (stop !)) (look ! 5 refl)) (and-then ! (load ! (from ! (stop !)) (look ! 10 refl)) (no-more !))) (λ w₀.
               use1 W (later (some (λ (r : ℕ). (‵ ftrue ⊛ ‵ (usize .own r (w₀ ∷ []))) ⊛ raw (ensured 𝓤 H A seat-ended (seat-clauses 𝓤) tt (i, (count, tt)) tt r)))) (id⊢ 𝓤 _) $ await ! tt $ pick ! (λ r₀.
-              split ! $ move ! (1 ∷ []) $ use1 W (raw (fact 𝓤 (r₀ ≡ j))) (seat-of i r₀) $ heard ! (r₀ ≡ j) (λ e₀. split ! $ drop ! $ peeks ! usize (Is usize) (shows 𝓤 H A usize) r₀ (w₀ ∷ []) (λ is₀. drop ! $
-              land ! (from ! (stop !)) (init ! 66 refl (uint-lawful 𝓤 H A W w64 .typed r₀ _ is₀ .0)) $ rewrite ! 66 (λ (u : Val). ‵ (fat fullShare (tyInt w64) l₁₁ 0 u)) (ap only (is₀ .0) ∙ ap (vint w64) e₀) refl $
-              nothing ! $ use1 W (raw (Starts 𝓤 H A .pre (to-start j))) (goes-start j (ready .0) size-fits) $
-              calls-at ! (fmOf 𝓤 H (W .laws) 𝓣) (Starts 𝓤 H A) known-start (to-start j) (and-then ! (load ! (from ! (stop !)) (look ! 67 refl)) (and-then ! (load ! (from ! (stop !)) (look ! 28 refl)) (no-more !))) (λ w.
+              split ! $ move ! (1 ∷ []) $ use1 W (raw (fact 𝓤 (r₀ ≡ j))) (seat-of count i r₀) $ heard ! (r₀ ≡ j) (λ e₀. split ! $ drop ! $ peeks ! usize (Is usize) (shows 𝓤 H A usize) r₀ (w₀ ∷ []) (λ is₀. drop ! $
+              land ! (from ! (stop !)) (init ! 65 refl (uint-lawful 𝓤 H A W w64 .typed r₀ _ is₀ .0)) $ rewrite ! 65 (λ (u : Val). ‵ (fat fullShare (tyInt w64) l₁₀ 0 u)) (ap only (is₀ .0) ∙ ap (vint w64) e₀) refl $
+              forget ! 9 refl $ nothing ! $ use1 W (raw (Starts 𝓤 H A .pre (to-start j))) (goes-start j (ready .0) size-fits) $
+              calls-at ! (fmOf 𝓤 H (W .laws) 𝓣) (Starts 𝓤 H A) known-start (to-start j) (and-then ! (load ! (from ! (stop !)) (look ! 66 refl)) (and-then ! (load ! (from ! (stop !)) (look ! 28 refl)) (no-more !))) (λ w.
               use1 W (later (some (λ (r : ℕ). (‵ ftrue ⊛ ‵ (usize .own r (w ∷ []))) ⊛ raw (ensured 𝓤 H A start-ended (start-clauses 𝓤) tt (j, (size, tt)) tt r)))) (id⊢ 𝓤 _) $ await ! tt $ pick ! (λ a.
               split ! $ move ! (1 ∷ []) $ use1 W (raw (fact 𝓤 (a ≡ j * size))) (start-of j a (ready .0)) $ heard ! (a ≡ j * size) (λ e. split ! $ drop ! $ peeks ! usize (Is usize) (shows 𝓤 H A usize) a (w ∷ []) (λ isa. drop ! $
-              land ! (from ! (stop !)) (init ! 5 refl (uint-lawful 𝓤 H A W w64 .typed a _ isa .0)) $ rewrite ! 5 (λ (u : Val). ‵ (fat fullShare (tyInt w64) l₁₂ 0 u)) (ap only (isa .0)) refl $
+              land ! (from ! (stop !)) (init ! 5 refl (uint-lawful 𝓤 H A W w64 .typed a _ isa .0)) $ rewrite ! 5 (λ (u : Val). ‵ (fat fullShare (tyInt w64) l₁₁ 0 u)) (ap only (isa .0)) refl $
               assigns ! (bin ! (load ! (from ! (stop !)) (look ! 5 refl)) (load ! (from ! (stop !)) (look ! 27 refl)) (record { fits = end-fits a e })) (from ! (stop !)) (init ! 6 refl (tt, record { fits = end-fits a e })) $
-              assigns ! (bin ! (load ! (from ! (stop !)) (look ! 66 refl)) (big ! (record { fits = lit< tt })) (record { fits = seat-fits })) (from ! (stop !)) (init ! 9 refl (tt, record { fits = seat-fits })) $
+              assigns ! (bin ! (load ! (from ! (stop !)) (look ! 65 refl)) (big ! (record { fits = lit< tt })) (record { fits = seat-fits })) (from ! (stop !)) (init ! 9 refl (tt, record { fits = seat-fits })) $
               assigns ! (addr ! (from ! (hop ! (look ! 20 refl) (fld ! (S .field₀) (stop !))))) (from ! (stop !)) (init ! 10 refl (tt, tt)) $
-              assigns ! (bin ! (load ! (from ! (stop !)) (look ! 10 refl)) (load ! (from ! (stop !)) (look ! 9 refl)) tt) (from ! (stop !)) (init ! 11 refl (tt, tt)) $ rewrite ! 11 (λ (u : ℕ). ‵ (fat fullShare tyPtr l₂₀ 0 (vptr b u))) (sym (place-is channel-bytes (o + 0) j)) refl $
+              assigns ! (bin ! (load ! (from ! (stop !)) (look ! 10 refl)) (load ! (from ! (stop !)) (look ! 9 refl)) tt) (from ! (stop !)) (init ! 11 refl (tt, tt)) $ rewrite ! 11 (λ (u : ℕ). ‵ (fat fullShare tyPtr l₁₉ 0 (vptr b u))) (sym (place-is channel-bytes (o + 0) j)) refl $
               assigns ! (addr ! (from ! (hop ! (look ! 11 refl) (stop !)))) (from ! (stop !)) (init ! 12 refl (tt, tt)) $
               assigns ! (bin ! (load ! (from ! (stop !)) (look ! 4 refl)) (lit ! tt) (record { fits = place-fits })) (from ! (stop !)) (init ! 13 refl (tt, record { fits = place-fits })) $
-              assigns ! (bin ! (load ! (from ! (fld ! refl (stop !))) (look-in ! 21 (sub ! 0 refl (whole !)))) (load ! (from ! (stop !)) (look ! 13 refl)) tt) (from ! (stop !)) (init ! 14 refl (tt, tt)) $ rewrite ! 14 (λ (u : ℕ). ‵ (fat fullShare tyPtr l₂₃ 0 (vptr b₁ u))) (sym (place-is 4 o₁ i)) refl $
+              assigns ! (bin ! (load ! (from ! (fld ! refl (stop !))) (look-in ! 21 (sub ! 0 refl (whole !)))) (load ! (from ! (stop !)) (look ! 13 refl)) tt) (from ! (stop !)) (init ! 14 refl (tt, tt)) $ rewrite ! 14 (λ (u : ℕ). ‵ (fat fullShare tyPtr l₂₂ 0 (vptr b₁ u))) (sym (place-is 4 o₁ i)) refl $
               move ! (1 ∷ []) $ elem-out ! f32 (Is f32) (shows 𝓤 H A f32) (float-vals binary32) (float-tells binary32) fullShare io i nan b₁ o₁ within (λ isx.
               assigns ! (of-opd ! (load ! (from ! (hop ! (look ! 16 refl) (stop !))) (look ! 0 refl))) (from ! (stop !)) (init ! 17 refl (float-lawful 𝓤 H A W binary32 .typed x _ isx .0)) $ elem-back ! f32 fullShare io i nan (vfloat binary32 x ∷ []) b₁ o₁ within $
               assigns ! (addr ! (from ! (fld ! refl (hop ! (look-in ! 23 (sub ! 0 refl (whole !))) (stop !))))) (from ! (stop !)) (init ! 16 refl (tt, tt)) $
@@ -451,13 +449,13 @@ module _ (T C P Q : Datum) (Y : Sounding) (J : Answering (word w64) Q) (S : Seat
               use2 W (‵ (partAt Tr fullShare (S .changed t j (plays a)) b o)) (apply∗ 𝓤 (sem 𝓤 H A (partAt Cr fullShare (plays a) b (seat o j))) (sem 𝓤 H A (partAt Tr fullShare (S .changed t j (plays a)) b o))) $
               -- what it gave goes to the frame
               assigns ! (bin ! (load ! (from ! (stop !)) (look ! 9 refl)) (lit ! tt) (record { fits = place-fits })) (from ! (stop !)) (init ! 23 refl (tt, record { fits = place-fits })) $
-              assigns ! (bin ! (load ! (from ! (fld ! refl (stop !))) (look-in ! 26 (sub ! 0 refl (whole !)))) (load ! (from ! (stop !)) (look ! 23 refl)) tt) (from ! (stop !)) (init ! 24 refl (tt, tt)) $ rewrite ! 24 (λ (u : ℕ). ‵ (fat fullShare tyPtr l₂₈ 0 (vptr b₁ u))) (sym (place-is 4 o₁ i)) refl $
+              assigns ! (bin ! (load ! (from ! (fld ! refl (stop !))) (look-in ! 26 (sub ! 0 refl (whole !)))) (load ! (from ! (stop !)) (look ! 23 refl)) tt) (from ! (stop !)) (init ! 24 refl (tt, tt)) $ rewrite ! 24 (λ (u : ℕ). ‵ (fat fullShare tyPtr l₂₇ 0 (vptr b₁ u))) (sym (place-is 4 o₁ i)) refl $
               move ! (8 ∷ []) $ elem-out ! f32 (Is f32) (shows 𝓤 H A f32) (float-vals binary32) (float-tells binary32) fullShare io i nan b₁ o₁ within (λ _.
               assigns ! (of-opd ! (load ! (from ! (fld ! refl (stop !))) (look-in ! 15 (sub ! 0 refl (whole !))))) (from ! (hop ! (look ! 26 refl) (stop !))) (store ! 0 refl (float-lawful 𝓤 H A W binary32 .typed (Y .output r) _ (Y .owed r w′ isr) .0)) $
               move ! (1 ∷ []) $ drop ! $ move ! (0 ∷ 6 ∷ 1 ∷ []) $ elem-put ! f32 fullShare io i (Y .output r) (vfloat binary32 (Y .output r) ∷ []) b₁ o₁ within $ rewrite ! 0 (λ (y : Y .like .Denot). ‵ (cells-row f32 fullShare (set io i (Y .output y)) b₁ o₁)) (is .0) refl $
-              assigns-last ! (bin ! (load ! (from ! (stop !)) (look ! 8 refl)) (lit ! tt) (record { fits = next-fits })) (from ! (stop !)) (store ! 8 refl (tt, record { fits = next-fits })) $ rewrite ! 8 (λ (d : ℕ). ‵ (fat fullShare (tyInt w64) l₁₀ 0 (vint w64 d))) (add-one i) refl $
-              forget ! 9 refl $ forget ! 10 refl $ forget ! 11 refl $ forget ! 12 refl $ forget ! 13 refl $ forget ! 14 refl $ forget ! 15 refl $ forget ! 16 refl $ forget ! 17 refl $ forget ! 18 refl $ forget ! 19 refl $ forget ! 20 refl $ forget ! 21 refl $ forget ! 22 refl $ forget ! 23 refl $ forget ! 70 refl $
-              keep ! (1 ∷ 0 ∷ 2 ∷ 3 ∷ 8 ∷ 9 ∷ 10 ∷ 11 ∷ 12 ∷ 13 ∷ 14 ∷ 15 ∷ 16 ∷ 17 ∷ 18 ∷ 19 ∷ 20 ∷ 21 ∷ 22 ∷ 23 ∷ 24 ∷ 25 ∷ 26 ∷ 27 ∷ 28 ∷ 29 ∷ 30 ∷ 31 ∷ 32 ∷ 33 ∷ 34 ∷ 35 ∷ 36 ∷ 37 ∷ 38 ∷ 39 ∷ 40 ∷ 41 ∷ 42 ∷ 43 ∷ 44 ∷ 45 ∷ 46 ∷ 47 ∷ 48 ∷ 49 ∷ 50 ∷ 51 ∷ 52 ∷ 53 ∷ 54 ∷ 55 ∷ 56 ∷ 57 ∷ 58 ∷ 59 ∷ 60 ∷ 61 ∷ 62 ∷ 63 ∷ 64 ∷ 65 ∷ 66 ∷ 67 ∷ 68 ∷ 69 ∷ 70 ∷ 71 ∷ 72 ∷ []) $ by ! (go a e)))))))))))))))))))))
+              assigns-last ! (bin ! (load ! (from ! (stop !)) (look ! 8 refl)) (lit ! tt) (record { fits = next-fits })) (from ! (stop !)) (store ! 8 refl (tt, record { fits = next-fits })) $ rewrite ! 8 (λ (d : ℕ). ‵ (fat fullShare (tyInt w64) l₉ 0 (vint w64 d))) (add-one i) refl $
+              forget ! 9 refl $ forget ! 10 refl $ forget ! 11 refl $ forget ! 12 refl $ forget ! 13 refl $ forget ! 14 refl $ forget ! 15 refl $ forget ! 16 refl $ forget ! 17 refl $ forget ! 18 refl $ forget ! 19 refl $ forget ! 20 refl $ forget ! 21 refl $ forget ! 22 refl $ forget ! 23 refl $ forget ! 69 refl $
+              keep ! (1 ∷ 0 ∷ 2 ∷ 3 ∷ 8 ∷ 9 ∷ 10 ∷ 11 ∷ 12 ∷ 13 ∷ 14 ∷ 15 ∷ 16 ∷ 17 ∷ 18 ∷ 19 ∷ 20 ∷ 21 ∷ 22 ∷ 23 ∷ 24 ∷ 25 ∷ 26 ∷ 27 ∷ 28 ∷ 29 ∷ 30 ∷ 31 ∷ 32 ∷ 33 ∷ 34 ∷ 35 ∷ 36 ∷ 37 ∷ 38 ∷ 39 ∷ 40 ∷ 41 ∷ 42 ∷ 43 ∷ 44 ∷ 45 ∷ 46 ∷ 47 ∷ 48 ∷ 49 ∷ 50 ∷ 51 ∷ 52 ∷ 53 ∷ 54 ∷ 55 ∷ 56 ∷ 57 ∷ 58 ∷ 59 ∷ 60 ∷ 61 ∷ 62 ∷ 63 ∷ 64 ∷ 65 ∷ 66 ∷ 67 ∷ 68 ∷ 69 ∷ 70 ∷ []) $ by ! (go a e))))))))))))))))))))))
             where
               plays : ℕ → C .like .Denot
               plays a = Z .plays p x c (midOf a (a + size - a) k)
@@ -479,13 +477,13 @@ module _ (T C P Q : Datum) (Y : Sounding) (J : Answering (word w64) Q) (S : Seat
         ends t io k z X =
             qed W (At n t io k) ∵ exec ! Cs Λ En turn (anyQ (afterTurn 𝓤 H X Left)) $
             assigns ! (bin ! (load ! (from ! (stop !)) (look ! 4 refl)) (load ! (from ! (stop !)) (look ! 26 refl)) tt) (from ! (stop !)) (init ! 7 refl (tt, tt)) $
-            rewrite ! 7 (λ (u : Bool). ‵ (fat fullShare tyBool l₁₆ 0 (vbool u))) (fails (ltb n n) (λ u. lt-irrefl n (ltb→lt n n u))) refl $
+            rewrite ! 7 (λ (u : Bool). ‵ (fat fullShare tyBool l₁₅ 0 (vbool u))) (fails (ltb n n) (λ u. lt-irrefl n (ltb→lt n n u))) refl $
             leaves-loop ! (load ! (from ! (stop !)) (look ! 7 refl)) $ exec ! Cs Λ En after (atRet En Post) $
             assigns ! (of-opd ! (load ! (from ! (fld ! refl (stop !))) (look-in ! 25 (sub ! 1 refl (whole !))))) (from ! (stop !)) (init ! 30 refl (Q .typed 𝓤 H A W answer _ (J .owed asked asked-val is-asked .1))) $
             move ! (1 ∷ 34 ∷ 35 ∷ 36 ∷ []) $ closes-slice ! tt f32 l io (Z .entries s l p m n t io k z) b₁ o₁ $
             move ! (3 ∷ 33 ∷ 34 ∷ 35 ∷ []) $ close-ref ! tt (mem Tr) t {b = b} {o = o} $
-            returns ! (look ! 34 refl) $ forget ! 34 refl $ forget ! 24 refl $ forget ! 25 refl $ forget ! 26 refl $ forget ! 27 refl $ forget ! 28 refl $ forget ! 29 refl $ forget ! 30 refl $ forget ! 31 refl $ forget ! 63 refl $ forget ! 8 refl $ forget ! 32 refl $ forget ! 33 refl $ forget ! 11 refl $
-            move ! (34 ∷ 36 ∷ []) $ free1 ! $ move ! (24 ∷ 35 ∷ []) $ free1 ! $ move ! (24 ∷ 34 ∷ []) $ free1 ! $ move ! (24 ∷ 33 ∷ []) $ free1 ! $ move ! (24 ∷ 32 ∷ []) $ free1 ! $ move ! (24 ∷ 31 ∷ []) $ free1 ! $ move ! (24 ∷ 30 ∷ []) $ free1 ! $ move ! (24 ∷ 29 ∷ []) $ free1 ! $ move ! (24 ∷ 28 ∷ []) $ free1 ! $ move ! (45 ∷ 47 ∷ []) $ free1 ! $ move ! (8 ∷ 27 ∷ []) $ free1 ! $ move ! (43 ∷ 44 ∷ []) $ free1 ! $ move ! (8 ∷ 26 ∷ []) $ free1 ! $ move ! (8 ∷ 25 ∷ []) $ free1 ! $ move ! (21 ∷ 24 ∷ []) $ free1 ! $ move ! (21 ∷ 23 ∷ []) $ free1 ! $ move ! (8 ∷ 22 ∷ []) $ free1 ! $ move ! (8 ∷ 21 ∷ []) $ free1 ! $ move ! (8 ∷ 20 ∷ []) $ free1 ! $ move ! (8 ∷ 19 ∷ []) $ free1 ! $ move ! (8 ∷ 18 ∷ []) $ free1 ! $ move ! (8 ∷ 17 ∷ []) $ free1 ! $ move ! (8 ∷ 16 ∷ []) $ free1 ! $ move ! (8 ∷ 15 ∷ []) $ free1 ! $ move ! (8 ∷ 14 ∷ []) $ free1 ! $ move ! (8 ∷ 13 ∷ []) $ free1 ! $ move ! (8 ∷ 12 ∷ []) $ free1 ! $ move ! (8 ∷ 11 ∷ []) $ free1 ! $ move ! (8 ∷ 10 ∷ []) $ free1 ! $ free0 ! $
+            returns ! (look ! 34 refl) $ forget ! 34 refl $ forget ! 24 refl $ forget ! 25 refl $ forget ! 26 refl $ forget ! 27 refl $ forget ! 28 refl $ forget ! 29 refl $ forget ! 30 refl $ forget ! 31 refl $ forget ! 8 refl $ forget ! 32 refl $ forget ! 33 refl $ forget ! 11 refl $
+            move ! (34 ∷ 36 ∷ []) $ free1 ! $ move ! (24 ∷ 35 ∷ []) $ free1 ! $ move ! (24 ∷ 34 ∷ []) $ free1 ! $ move ! (24 ∷ 33 ∷ []) $ free1 ! $ move ! (24 ∷ 32 ∷ []) $ free1 ! $ move ! (24 ∷ 31 ∷ []) $ free1 ! $ move ! (24 ∷ 30 ∷ []) $ free1 ! $ move ! (24 ∷ 29 ∷ []) $ free1 ! $ move ! (24 ∷ 28 ∷ []) $ free1 ! $ move ! (8 ∷ 27 ∷ []) $ free1 ! $ move ! (43 ∷ 44 ∷ []) $ free1 ! $ move ! (8 ∷ 26 ∷ []) $ free1 ! $ move ! (8 ∷ 25 ∷ []) $ free1 ! $ move ! (21 ∷ 24 ∷ []) $ free1 ! $ move ! (21 ∷ 23 ∷ []) $ free1 ! $ move ! (8 ∷ 22 ∷ []) $ free1 ! $ move ! (9 ∷ 22 ∷ []) $ free1 ! $ move ! (8 ∷ 20 ∷ []) $ free1 ! $ move ! (8 ∷ 19 ∷ []) $ free1 ! $ move ! (8 ∷ 18 ∷ []) $ free1 ! $ move ! (8 ∷ 17 ∷ []) $ free1 ! $ move ! (8 ∷ 16 ∷ []) $ free1 ! $ move ! (8 ∷ 15 ∷ []) $ free1 ! $ move ! (8 ∷ 14 ∷ []) $ free1 ! $ move ! (8 ∷ 13 ∷ []) $ free1 ! $ move ! (8 ∷ 12 ∷ []) $ free1 ! $ move ! (8 ∷ 11 ∷ []) $ free1 ! $ move ! (8 ∷ 10 ∷ []) $ free1 ! $ free0 ! $
             keep ! (0 ∷ 1 ∷ 2 ∷ 3 ∷ 4 ∷ 5 ∷ 6 ∷ 7 ∷ 8 ∷ []) $ by ! (exits t io k (J .owed asked asked-val is-asked .1) (Z .entries s l p m n t io k z) (Z .size s l p m n t io k z) (Z .ends s l p m n t io k z refl))
 
         loops : S .Two s → ent 𝓤 (⋆ 𝓤 H A (At 0 s l m)) (Wp 𝓤 H Cs Λ En (loop turn) Left)
@@ -503,12 +501,12 @@ module _ (T C P Q : Datum) (Y : Sounding) (J : Answering (word w64) Q) (S : Seat
       walk : ent 𝓤 (onEntry 𝓤 H A (ended .signature) (κ, (κ₁, (κ₂, tt))) (q, (q₁, (q₂, tt))) args vals) (WpFn 𝓤 H Cs Λ function (vptr b o ∷ sl ∷ P .val p ∷ sm ∷ []) Post)
       walk =
           qed W ((‵ (flft κ q) ⊛ ‵ (flft κ₁ q₁) ⊛ ‵ (flft κ₂ q₂) ⊛ ‵ ftrue) ∷ ‵ (owns (MutRef (named 0) κ Tr ∷ MutSlice (named 1) κ₁ f32 ∷ row P ∷ MutSlice (named 2) κ₂ u32 ∷ []) args vals) ∷ []) ∵ enter ! Cs Λ function (vptr b o ∷ sl ∷ P .val p ∷ sm ∷ []) _ $
-          alloc1 ! (λ l₀. alloc1 ! (λ l₁. alloc1 ! (λ l₂. alloc1 ! (λ l₃. alloc1 ! (λ l₄. alloc1 ! (λ l₅. alloc1 ! (λ l₆. alloc1 ! (λ l₇. alloc1 ! (λ l₈. alloc1 ! (λ l₉. alloc1 ! (λ l₁₀. alloc1 ! (λ l₁₁. alloc1 ! (λ l₁₂. alloc1 ! (λ l₁₃. alloc1 ! (λ l₁₄. alloc1 ! (λ l₁₅. alloc1 ! (λ l₁₆. alloc1 ! (λ l₁₇. alloc1 ! (λ l₁₈. alloc1 ! (λ l₁₉. alloc1 ! (λ l₂₀. alloc1 ! (λ l₂₁. alloc1 ! (λ l₂₂. alloc1 ! (λ l₂₃. alloc1 ! (λ l₂₄. alloc1 ! (λ l₂₅. alloc1 ! (λ l₂₆. alloc1 ! (λ l₂₇. alloc1 ! (λ l₂₈. alloc0 ! $ params1 ! $
-          pass1 ! (init ! 54 refl (tt, tt)) $ pass1 ! (init ! 52 refl (tt, (tt, (record { fits = room₁ .0 }, tt)))) $ pass1 ! (init ! 50 refl (P .typed 𝓤 H A W p _ isp)) $ pass1 ! (init ! 48 refl (tt, (tt, (record { fits = room₂ .0 }, tt)))) $ pass0 ! $
-          move ! (59 ∷ []) $ fsplit ! $ fsplit3 ! $ drop ! $ move ! (2 ∷ []) $ fsplit ! $ fsplit ! $ drop ! $ fsplit ! $ move ! (2 ∷ []) $ fsplit ! $ move ! (1 ∷ []) $ fsplit ! $ move ! (65 ∷ []) $ split ! $ move ! (1 ∷ []) $ split ! $ move ! (1 ∷ []) $ split ! $
-          assigns ! (of-opd ! (load ! (from ! (fld ! refl (stop !))) (look-in ! 63 (sub ! 1 refl (whole !))))) (from ! (stop !)) (init ! 57 refl (tt, record { fits = room₁ .0 })) $
-          assigns ! (addr ! (from ! (hop ! (look ! 65 refl) (stop !)))) (from ! (stop !)) (init ! 39 refl (tt, tt)) $
-          assigns ! (of-opd ! (load ! (from ! (fld ! refl (stop !))) (look-in ! 59 (sub ! 1 refl (whole !))))) (from ! (stop !)) (init ! 37 refl (tt, record { fits = room₂ .0 })) $
+          alloc1 ! (λ l₀. alloc1 ! (λ l₁. alloc1 ! (λ l₂. alloc1 ! (λ l₃. alloc1 ! (λ l₄. alloc1 ! (λ l₅. alloc1 ! (λ l₆. alloc1 ! (λ l₇. alloc1 ! (λ l₈. alloc1 ! (λ l₉. alloc1 ! (λ l₁₀. alloc1 ! (λ l₁₁. alloc1 ! (λ l₁₂. alloc1 ! (λ l₁₃. alloc1 ! (λ l₁₄. alloc1 ! (λ l₁₅. alloc1 ! (λ l₁₆. alloc1 ! (λ l₁₇. alloc1 ! (λ l₁₈. alloc1 ! (λ l₁₉. alloc1 ! (λ l₂₀. alloc1 ! (λ l₂₁. alloc1 ! (λ l₂₂. alloc1 ! (λ l₂₃. alloc1 ! (λ l₂₄. alloc1 ! (λ l₂₅. alloc1 ! (λ l₂₆. alloc1 ! (λ l₂₇. alloc0 ! $ params1 ! $
+          pass1 ! (init ! 52 refl (tt, tt)) $ pass1 ! (init ! 50 refl (tt, (tt, (record { fits = room₁ .0 }, tt)))) $ pass1 ! (init ! 48 refl (P .typed 𝓤 H A W p _ isp)) $ pass1 ! (init ! 46 refl (tt, (tt, (record { fits = room₂ .0 }, tt)))) $ pass0 ! $
+          move ! (57 ∷ []) $ fsplit ! $ fsplit3 ! $ drop ! $ move ! (2 ∷ []) $ fsplit ! $ fsplit ! $ drop ! $ fsplit ! $ move ! (2 ∷ []) $ fsplit ! $ move ! (1 ∷ []) $ fsplit ! $ move ! (63 ∷ []) $ split ! $ move ! (1 ∷ []) $ split ! $ move ! (1 ∷ []) $ split ! $
+          assigns ! (of-opd ! (load ! (from ! (fld ! refl (stop !))) (look-in ! 61 (sub ! 1 refl (whole !))))) (from ! (stop !)) (init ! 55 refl (tt, record { fits = room₁ .0 })) $
+          assigns ! (addr ! (from ! (hop ! (look ! 63 refl) (stop !)))) (from ! (stop !)) (init ! 39 refl (tt, tt)) $
+          assigns ! (of-opd ! (load ! (from ! (fld ! refl (stop !))) (look-in ! 57 (sub ! 1 refl (whole !))))) (from ! (stop !)) (init ! 37 refl (tt, record { fits = room₂ .0 })) $
           -- the borrows of the record and of the frame are opened
           move ! (7 ∷ 8 ∷ 2 ∷ []) $ opens-slice ! tt f32 l b₁ o₁ $
           move ! (10 ∷ 11 ∷ 6 ∷ []) $ open-ref ! tt (mem Tr) {x = s} {b = b} {o = o} $ opened ! fullShare Tr (Is Tr) (shows 𝓤 H A Tr) (λ y. T .val y ∷ []) (T .tells) s b o (λ iss.
@@ -517,20 +515,18 @@ module _ (T C P Q : Datum) (Y : Sounding) (J : Answering (word w64) Q) (S : Seat
           lft-new ! tt (λ α. move ! (1 ∷ []) $
           use1 W (later (some (λ (δ : GName). ‵ (ShrRef (named 0) (α ∷ []) Tr .own (xs δ s) (vptr b o ∷ [])) ⊛ ‵ (flent (α ∷ []) (partAt Tr fullShare s b o))))) (lends-shr 𝓤 H A W Tr (named 0) (α ∷ []) fullShare s b o) $ await ! tt $ pick ! (λ δ. split ! $
           move ! (2 ∷ 0 ∷ []) $ use2 W (raw (Asks 𝓤 H A .pre (to-asked α δ))) (goes-asked α δ) $
-          calls-at ! (fmOf 𝓤 H (W .laws) 𝓣) (Asks 𝓤 H A) known-asked (to-asked α δ) (and-then ! (load ! (from ! (stop !)) (look ! 42 refl)) (and-then ! (load ! (from ! (stop !)) (look ! 60 refl)) (and-then ! (load ! (from ! (stop !)) (look ! 64 refl)) (and-then ! (load ! (from ! (stop !)) (look ! 40 refl)) (no-more !))))) (λ w.
+          calls-at ! (fmOf 𝓤 H (W .laws) 𝓣) (Asks 𝓤 H A) known-asked (to-asked α δ) (and-then ! (load ! (from ! (stop !)) (look ! 42 refl)) (and-then ! (load ! (from ! (stop !)) (look ! 58 refl)) (and-then ! (load ! (from ! (stop !)) (look ! 62 refl)) (and-then ! (load ! (from ! (stop !)) (look ! 40 refl)) (no-more !))))) (λ w.
           use1 W (later (some (λ (r : J .like .Denot). ((‵ (flft (α ∷ []) fullShare) ⊛ ‵ ftrue) ⊛ ‵ (J .like .own r (w ∷ []))) ⊛ raw (ensured 𝓤 H A asked-ended (asked-clauses 𝓤) (α ∷ [], tt) (xs δ s, (length l, (p, (length m, tt)))) tt r)))) (id⊢ 𝓤 _) $ await ! tt $ pick ! (λ r.
           split ! $ move ! (1 ∷ []) $ use1 W (raw (fact 𝓤 (r ≡ asked))) (asked-of α δ r) $ heard ! (r ≡ asked) (λ e. split ! $ move ! (1 ∷ []) $ peeks ! Jr (Is Jr) (shows 𝓤 H A Jr) r (w ∷ []) (λ isr. drop ! $
           let is-asked : Is Jr asked (asked-val ∷ []) = subst (λ (y : J .like .Denot). Is Jr y (vstruct (vcons (vint w64 (J .record-of y)) (vcons (Q .val (J .answer-of y)) vnil)) ∷ [])) e (subst (λ (u : Val). Is Jr r (u ∷ [])) (J .tells r w isr) isr) in
-          land ! (from ! (stop !)) (init ! 58 refl (J .typed 𝓤 H A W r w isr)) $
-          rewrite ! 58 (λ (u : Val). ‵ (fat fullShare (answer-ty (word w64) Q J) l₆ 0 u)) (J .tells r w isr ∙ ap (λ (y : J .like .Denot). vstruct (vcons (vint w64 (J .record-of y)) (vcons (Q .val (J .answer-of y)) vnil))) e) refl $
+          land ! (from ! (stop !)) (init ! 56 refl (J .typed 𝓤 H A W r w isr)) $
+          rewrite ! 56 (λ (u : Val). ‵ (fat fullShare (answer-ty (word w64) Q J) l₆ 0 u)) (J .tells r w isr ∙ ap (λ (y : J .like .Denot). vstruct (vcons (vint w64 (J .record-of y)) (vcons (Q .val (J .answer-of y)) vnil))) e) refl $
           split ! $ lft-end ! tt $ move ! (0 ∷ 2 ∷ []) $ lent-back ! tt $
-          assigns ! (of-opd ! (load ! (from ! (fld ! refl (stop !))) (look-in ! 58 (sub ! 0 refl (whole !))))) (from ! (stop !)) (init ! 56 refl (tt, record { fits = J .owed asked asked-val is-asked .0 .1 })) $
+          assigns ! (of-opd ! (load ! (from ! (fld ! refl (stop !))) (look-in ! 56 (sub ! 0 refl (whole !))))) (from ! (stop !)) (init ! 54 refl (tt, record { fits = J .owed asked asked-val is-asked .0 .1 })) $
           goes-in ! fullShare Tr usize (Is usize) (shows 𝓤 H A usize) (uint-vals w64) (uint-tells w64) s s size size b o (o + capacity-at) (S .reads-capacity 𝓤 H A W fullShare s b o) (λ isc.
-          assigns ! (of-opd ! (load ! (from ! (hop ! (look ! 70 refl) (fld ! (S .field₂) (stop !)))) (look ! 0 refl))) (from ! (stop !)) (init ! 56 refl (tt, record { fits = isc .1 })) $ comes-out ! fullShare Tr usize s size (vint w64 size ∷ []) b o (o + capacity-at) $
-          goes-in ! fullShare Tr usize (Is usize) (shows 𝓤 H A usize) (uint-vals w64) (uint-tells w64) s s count count b o (o + count-at) (S .reads-count 𝓤 H A W fullShare s b o) (λ isn.
-          assigns ! (of-opd ! (load ! (from ! (hop ! (look ! 70 refl) (fld ! (S .field₁) (stop !)))) (look ! 0 refl))) (from ! (stop !)) (init ! 54 refl (tt, record { fits = isn .1 })) $ comes-out ! fullShare Tr usize s count (vint w64 count ∷ []) b o (o + count-at) $
+          assigns ! (of-opd ! (load ! (from ! (hop ! (look ! 68 refl) (fld ! (S .field₂) (stop !)))) (look ! 0 refl))) (from ! (stop !)) (init ! 54 refl (tt, record { fits = isc .1 })) $ comes-out ! fullShare Tr usize s size (vint w64 size ∷ []) b o (o + capacity-at) $
           assigns ! (of-opd ! (lit ! tt)) (from ! (stop !)) (init ! 50 refl (tt, record { fits = lit< tt })) $
-          keep ! (0 ∷ 5 ∷ 11 ∷ 9 ∷ 50 ∷ 46 ∷ 44 ∷ 38 ∷ 36 ∷ 34 ∷ 32 ∷ 30 ∷ 28 ∷ 26 ∷ 24 ∷ 22 ∷ 20 ∷ 18 ∷ 16 ∷ 14 ∷ 68 ∷ 66 ∷ 64 ∷ 62 ∷ 60 ∷ 58 ∷ 56 ∷ 54 ∷ 42 ∷ 40 ∷ 70 ∷ 2 ∷ 3 ∷ 4 ∷ 6 ∷ 7 ∷ 8 ∷ 10 ∷ 71 ∷ 69 ∷ 67 ∷ 65 ∷ 63 ∷ 61 ∷ 59 ∷ 57 ∷ 55 ∷ 51 ∷ 47 ∷ 45 ∷ 43 ∷ 41 ∷ 39 ∷ 37 ∷ 35 ∷ 33 ∷ 31 ∷ 29 ∷ 27 ∷ 25 ∷ 23 ∷ 21 ∷ 19 ∷ 17 ∷ 15 ∷ 52 ∷ 48 ∷ 53 ∷ 49 ∷ []) $ by ! (loops is-asked (isc .1) (isn .1) l₀ l₁ l₂ l₃ l₄ l₅ l₆ l₇ l₈ l₉ l₁₀ l₁₁ l₁₂ l₁₃ l₁₄ l₁₅ l₁₆ l₁₇ l₁₈ l₁₉ l₂₀ l₂₁ l₂₂ l₂₃ l₂₄ l₂₅ l₂₆ l₂₇ l₂₈ (S .two s iss))))))))))))))))))))))))))))))))))))))))
+          keep ! (0 ∷ 5 ∷ 11 ∷ 9 ∷ 50 ∷ 46 ∷ 44 ∷ 38 ∷ 34 ∷ 36 ∷ 32 ∷ 30 ∷ 28 ∷ 26 ∷ 24 ∷ 22 ∷ 20 ∷ 18 ∷ 16 ∷ 14 ∷ 66 ∷ 64 ∷ 62 ∷ 60 ∷ 58 ∷ 56 ∷ 54 ∷ 52 ∷ 42 ∷ 40 ∷ 68 ∷ 2 ∷ 3 ∷ 4 ∷ 6 ∷ 7 ∷ 8 ∷ 10 ∷ 69 ∷ 67 ∷ 65 ∷ 63 ∷ 61 ∷ 59 ∷ 57 ∷ 55 ∷ 53 ∷ 51 ∷ 47 ∷ 45 ∷ 43 ∷ 41 ∷ 39 ∷ 35 ∷ 37 ∷ 33 ∷ 31 ∷ 29 ∷ 27 ∷ 25 ∷ 23 ∷ 21 ∷ 19 ∷ 17 ∷ 15 ∷ 48 ∷ 49 ∷ []) $ by ! (loops is-asked (isc .1) l₀ l₁ l₂ l₃ l₄ l₅ l₆ l₇ l₈ l₉ l₁₀ l₁₁ l₁₂ l₁₃ l₁₄ l₁₅ l₁₆ l₁₇ l₁₈ l₁₉ l₂₀ l₂₁ l₂₂ l₂₃ l₂₄ l₂₅ l₂₆ l₂₇ (S .two s iss))))))))))))))))))))))))))))))))))))))
 
   pub steps-run : {M : Type 1} (𝓤 : URA M) (H : Heap 𝓤) (A : Atoms 𝓤) (W : Given 𝓤 H A) (𝓣 : Tables 𝓤 H) → Triple 𝓤 (𝓣 .C #asked) (Asks 𝓤 H A) → Triple 𝓤 (𝓣 .C #seat) (Seated 𝓤 H A) → Triple 𝓤 (𝓣 .C #start) (Starts 𝓤 H A) → Triple 𝓤 (𝓣 .C #sample) (Samples 𝓤 H A)
       → Meets 𝓤 H A (ended .signature) (WpFn 𝓤 H (𝓣 .C) (𝓣 .Λ) function) (closing 𝓤 H A ended (clauses 𝓤))

@@ -598,10 +598,9 @@ pub fn process_frame(s: &mut Sampler, frame: &mut [f32], params: Params, memory:
     let asked = frame_asked(s, entries, params, memory.len());
     let n = asked.entries;
     let capacity = s.capacity;
-    let count = s.count;
     let mut i: usize = 0;
     while i < n {
-        let j = frame_channel(i, count);
+        let j = frame_channel(i, s.count);
         let start = sampler::part_start(j, capacity);
         let end = start + capacity;
         frame[i] = part_sample(&mut s.channels[j], params, frame[i], memory, start, end).output;
@@ -611,7 +610,7 @@ pub fn process_frame(s: &mut Sampler, frame: &mut [f32], params: Params, memory:
 }
 
 // A run of frames: entry i * count + j is channel j's of frame i. It has a loop of its own: one that it shared with the
-// frame would take more of the frame's stack.
+// frame would take more of the frame's stack. The count is read for each entry: kept, it would take stack too.
 pub fn process_frames(s: &mut Sampler, run: &mut [f32], params: Params, memory: &mut [u32]) -> Ran
     ensures { λ r. ⌜ (r
         ≡ runAnswer (now (s .entry)) (length (now (run .entry))) params (length (now (memory .entry))))
@@ -622,10 +621,9 @@ pub fn process_frames(s: &mut Sampler, run: &mut [f32], params: Params, memory: 
     let asked = run_asked(s, entries, params, memory.len());
     let n = asked.entries;
     let capacity = s.capacity;
-    let count = s.count;
     let mut i: usize = 0;
     while i < n {
-        let j = run_channel(i, count);
+        let j = run_channel(i, s.count);
         let start = sampler::part_start(j, capacity);
         let end = start + capacity;
         run[i] = part_sample(&mut s.channels[j], params, run[i], memory, start, end).output;
