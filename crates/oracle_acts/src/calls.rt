@@ -144,7 +144,7 @@ pub fn run_of(run: Run, fields: &[u8], entries: &mut [f32], memory: &mut [u32]) 
 }
 
 // Entries from -1 to 1, each from the 24 high bits of a number that the one before it gives.
-fn fill(entries: &mut [f32], seed: u32) {
+pub fn fill(entries: &mut [f32], seed: u32) {
     let mut x = seed;
     let mut i = 0;
     while i < entries.len() {
