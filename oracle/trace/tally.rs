@@ -48,6 +48,8 @@ pub struct Tally {
     pub fields: u64,
     answers: [[u64; 12]; NAMES.len()],
     frames_of_many: u64,
+    /// The kind of the record before.
+    last: u8,
     met: BTreeMap<(&'static str, &'static str), u64>,
 }
 
@@ -55,7 +57,7 @@ impl Tally {
     pub fn call(&mut self, kind: u8, number: u8, before: &Census, after: &Census, params: &Params, length_kind: u8) {
         self.calls += 1;
         self.answers[kind as usize][number as usize] += 1;
-        if number != 0 {
+        if number != 0 && !(kind == RUN && number == 6) {
             return;
         }
         match kind {
@@ -70,9 +72,24 @@ impl Tally {
             NOTE_SPEED => self.met("voices", "there at a note speed", before.voices),
             STOP_RECORDING => self.met("recordings", "cut or emptied by a stop", (after.recorded < before.recorded) as usize),
             RESET => self.met("voices", "gone by a reset", before.voices),
-            SAMPLE | FRAME | FRAMES => self.samples(before, after, params, length_kind),
+            SAMPLE | FRAME | FRAMES | RUN => self.samples(before, after, params, length_kind),
             _ => (),
         }
+    }
+
+    /// A run of frames, by its length where all of it is done, and by what it met.
+    pub fn run(&mut self, number: u8, asked: usize, done: usize, before: &Census, after: &Census) {
+        match number {
+            0 => self.met("runs of frames, by their length", run_length(asked), 1),
+            6 => self.met("runs of frames", if done > 0 { "to the clock's end, some frames done" } else { "at the clock's end, none done" }, 1),
+            _ => return,
+        }
+        let full = after.recorded > before.recorded && after.skipped > before.skipped;
+        self.met("runs of frames", "that reach the capacity", full as usize);
+        self.met("runs of frames", "with voices", (before.voices > 0) as usize);
+        self.met("runs of frames", "in which a voice leaves", (after.voices < before.voices) as usize);
+        self.met("runs of frames", "right behind a start", (self.last == START) as usize);
+        self.met("runs of frames", "right behind a stop", (self.last == STOP) as usize);
     }
 
     /// A record of many frames asks for as many calls.
@@ -80,6 +97,7 @@ impl Tally {
         if r.u8_at(0) == FRAMES {
             self.frames_of_many += r.u32_at(TIMES) as u64;
         }
+        self.last = r.u8_at(0);
     }
 
     /// How often each call was asked for, by the kind of its record.
@@ -134,7 +152,7 @@ impl Tally {
     }
 
     pub fn print(&self) {
-        let numbers = [0, 1, 2, 3, 4, 5, 6, 8, 9, 11];
+        let numbers = [0, 1, 2, 3, 4, 5, 6, 8, 9, 10, 11];
         println!("{:<26}{}{:>10}", "answers", numbers.iter().map(|n| format!("{n:>10}")).collect::<String>(), "made");
         for ((name, counts), made) in NAMES.iter().zip(&self.answers).zip(self.times()) {
             let cells = numbers.iter().map(|n| counts[*n]).chain([made]);
@@ -148,6 +166,17 @@ impl Tally {
             }
             println!("  {which:<40}{times:>14}");
         }
+    }
+}
+
+fn run_length(frames: usize) -> &'static str {
+    match frames {
+        0 => "0",
+        1 => "1",
+        2 => "2",
+        64 => "64",
+        1000 => "1,000",
+        _ => "another",
     }
 }
 

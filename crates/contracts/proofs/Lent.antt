@@ -10,6 +10,7 @@ use Rattle.lent_sampler.proofs.reset.Met as reset-thm
 use Rattle.lent_sampler.proofs.change.Met as change-thm
 use Rattle.lent_sampler.proofs.process_sample.Met as process-sample-thm
 use Rattle.lent_sampler.proofs.process_frame.Met as process-frame-thm
+use Rattle.lent_sampler.proofs.process_frames.Met as process-frames-thm
 use Rattle.lent_sampler.proofs.get_frames_processed.Met as get-frames-processed-thm
 use Rattle.lent_sampler.proofs.get_data_len.Met as get-data-len-thm
 use Rattle.lent_sampler.proofs.is_recording.Met as is-recording-thm
@@ -31,6 +32,7 @@ lent m = record {
   change = λ M. change-thm.met;
   process-sample = λ M. process-sample-thm.met;
   process-frame = λ M. process-frame-thm.met;
+  process-frames = λ M. process-frames-thm.met;
   get-frames-processed = λ M. get-frames-processed-thm.met;
   get-data-len = λ M. get-data-len-thm.met;
   is-recording = λ M. is-recording-thm.met;

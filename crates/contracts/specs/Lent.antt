@@ -39,7 +39,7 @@ use Rattle.promises.specs.Runs.{
   frame,
   asks,
 }
-use Rattle.promises.specs.Outcomes.{on, Allows}
+use Rattle.promises.specs.Outcomes.{on, along, Allows}
 use Rattle.lent_sampler.proofs.start_playing as start-playing
 use Rattle.lent_sampler.proofs.start_playing.Symbol as start-playing-code
 use Rattle.lent_sampler.proofs.stop_playing as stop-playing
@@ -58,6 +58,8 @@ use Rattle.lent_sampler.proofs.process_sample as process-sample
 use Rattle.lent_sampler.proofs.process_sample.Symbol as process-sample-code
 use Rattle.lent_sampler.proofs.process_frame as process-frame
 use Rattle.lent_sampler.proofs.process_frame.Symbol as process-frame-code
+use Rattle.lent_sampler.proofs.process_frames as process-frames
+use Rattle.lent_sampler.proofs.process_frames.Symbol as process-frames-code
 use Rattle.lent_sampler.proofs.get_frames_processed as get-frames-processed
 use Rattle.lent_sampler.proofs.get_frames_processed.Symbol as get-frames-processed-code
 use Rattle.lent_sampler.proofs.get_data_len as get-data-len
@@ -91,7 +93,7 @@ lying s m = record { sampler = s; memory = m }
 abbrev pub answer : Sampler → ℕ → Answer
 answer s number = record { sampler = s; number = number }
 
--- m is the memory that lies beside the record; only a sample, a frame and a waveform are lent it
+-- m is the memory that lies beside the record; only a sample, a frame, a run of frames and a waveform are lent it
 pub record Lent (m : List ℕ) : Type 2 where
   pub change : Ensures change-call.ended change-code.routine
       (λ κs (s, (d, _)) r (left, _). Allows (on (lying (now s) m) (change d)) (answer (now left) r))
@@ -119,7 +121,11 @@ pub record Lent (m : List ℕ) : Type 2 where
   pub process-frame : Ensures process-frame.ended process-frame-code.routine
       (λ κs (s, (entries, (params, (memory, _)))) r (left, (played, (_, (written, _)))).
       Allows (on (lying (now s) (now memory)) (frame (now entries) params))
-      (record { answer = answer (now left) r; frame = now played; memory = now written }))
+      (record { answer = record { sampler = now left; number = r }; frame = now played; memory = now written }))
+  pub process-frames : Ensures process-frames.ended process-frames-code.routine
+      (λ κs (s, (entries, (params, (memory, _)))) r (left, (played, (_, (written, _)))).
+      Allows (along (lying (now s) (now memory)) (now entries) params)
+      (record { answer = record { sampler = now left; ran = r }; run = now played; memory = now written }))
   pub get-frames-processed : Ensures get-frames-processed.ended get-frames-processed-code.routine
       (λ κs (s, (channel, _)) r _. Allows (on (lying (now s) m) (asks (getFramesProcessed channel))) r)
   pub get-data-len : Ensures get-data-len.ended get-data-len-code.routine

@@ -1,13 +1,20 @@
 -- The sampler and what its calls answer, as rows of `Rows.antt`.
 use mathlib.Core.Path.{_≡_, refl, ap}
 use Prim.Native.Nat.{ℕ}
-use mir.Syntax.{w8}
+use mir.Syntax.{w8, w64, tnil}
+use mir.Val.{vnil}
 use denote.Steps.{only}
 use denote.Struct.Laws as LL
 use Rattle.sampler.proofs.Sampler as T
 use Rattle.sampler.proofs.Sampler.Laws as T′
 use Rattle.sampler.proofs.Answer as S
 use Rattle.sampler.proofs.Answer.Laws as S′
+use Rattle.sampler.proofs.Ran as R
+use Rattle.sampler.proofs.Ran.Laws as R′
+use Rattle.lent_sampler.proofs.FrameAsked as F
+use Rattle.lent_sampler.proofs.FrameAsked.Laws as F′
+use Rattle.lent_sampler.proofs.RunAsked as G
+use Rattle.lent_sampler.proofs.RunAsked.Laws as G′
 use Rattle.lent_sampler.proofs.Sampled as Y
 use Rattle.lent_sampler.proofs.Sampled.Laws as Y′
 use Rattle.lent_sampler.proofs.Sampling as Z
@@ -30,10 +37,12 @@ use Rattle.questions.proofs.VoiceInfos as L
 use Rattle.questions.proofs.VoiceInfos.Laws as L′
 use Rattle.questions.proofs.WaveformSummary as Q
 use Rattle.questions.proofs.WaveformSummary.Laws as Q′
+use Rattle.lent_channel.proofs.Heard as Up
+use Rattle.lent_channel.proofs.Heard.Laws as Up′
 use Rattle.channel.specs.declared.Change.{Change}
 use Rattle.sampler.specs.declared.Sampler.{Sampler}
 use Rattle.sampler.specs.Samplers.{changeOf}
-use Rattle.lent_channel.proofs.Rows.{Datum, struct, enum, word, Answering}
+use Rattle.lent_channel.proofs.Rows.{Datum, struct, enum, word, Answering, Sounding}
 
 abbrev pub sampler : Datum
 sampler = struct T.the-type T′.the-laws T′.the-plain
@@ -92,6 +101,55 @@ sampling = record {
   tells = λ r v is. ap only (LL.tells Z.the-type Z′.the-laws r _ is);
   owed = λ r v is. (LL.owed Z.the-type Z′.the-laws r _ is .0, LL.owed Z.the-type Z′.the-laws r _ is .1 .0);
   typed = λ 𝓤 H A W r v is. LL.lawful Z.the-type Z′.the-laws 𝓤 H A W .typed r _ is .0;
+}
+
+abbrev pub ran : Datum
+ran = struct R.the-type R′.the-laws R′.the-plain
+
+-- what is asked before a frame, and before a run, is played
+abbrev pub frame-asked : Datum
+frame-asked = struct F.the-type F′.the-laws F′.the-plain
+
+abbrev pub frame-asking : Answering (word w64) (word w8)
+frame-asking = record {
+  like = F.the-row;
+  name = F.struct .name;
+  record-of = λ r. r .entries;
+  answer-of = λ r. r .number;
+  make = λ n y. record { entries = n; number = y };
+  eta = λ r. refl;
+  tells = λ r v is. ap only (LL.tells F.the-type F′.the-laws r _ is);
+  owed = λ r v is. (LL.owed F.the-type F′.the-laws r _ is .0, LL.owed F.the-type F′.the-laws r _ is .1 .0);
+  typed = λ 𝓤 H A W r v is. LL.lawful F.the-type F′.the-laws 𝓤 H A W .typed r _ is .0;
+}
+
+abbrev pub run-asked : Datum
+run-asked = struct G.the-type G′.the-laws G′.the-plain
+
+abbrev pub run-asking : Answering (word w64) ran
+run-asking = record {
+  like = G.the-row;
+  name = G.struct .name;
+  record-of = λ r. r .entries;
+  answer-of = λ r. r .ran;
+  make = λ n y. record { entries = n; ran = y };
+  eta = λ r. refl;
+  tells = λ r v is. ap only (LL.tells G.the-type G′.the-laws r _ is);
+  owed = λ r v is. (LL.owed G.the-type G′.the-laws r _ is .0, LL.owed G.the-type G′.the-laws r _ is .1 .0);
+  typed = λ 𝓤 H A W r v is. LL.lawful G.the-type G′.the-laws 𝓤 H A W .typed r _ is .0;
+}
+
+-- what a channel's sample hands up: a field more of it is one more in `others` and `behind`
+abbrev pub sounded : Sounding
+sounded = record {
+  like = Up.the-row;
+  name = Up.struct .name;
+  others = tnil;
+  output = λ r. r .output;
+  behind = λ r. vnil;
+  tells = λ r v is. ap only (LL.tells Up.the-type Up′.the-laws r _ is);
+  owed = λ r v is. LL.owed Up.the-type Up′.the-laws r _ is .0;
+  typed = λ 𝓤 H A W r v is. LL.lawful Up.the-type Up′.the-laws 𝓤 H A W .typed r _ is .0;
 }
 
 -- what `change` ensures: the record at entry, the change, the number and the record at exit

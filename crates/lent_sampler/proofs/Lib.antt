@@ -11,4 +11,6 @@ pub mod Bytes
 pub mod Seats
 pub mod Judging
 pub mod Turned
+pub mod RunTurns
+pub mod RunTurned
 pub mod Stepping

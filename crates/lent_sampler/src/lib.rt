@@ -13,15 +13,16 @@ ghost use Rattle.sampler.specs.Samplers.{
   sampleMemory,
   Frames,
   framedOf,
+  ranOf,
+  runAnswer,
 };
 ghost use Rattle.sampler.specs.Samplers.{processSampleOf as sampleOf};
 ghost use Rattle.sampler.specs.Refusals.{goodSizes, frameNumber};
 ghost use Rattle.channel.specs.Channels.{processSampleOf, memoryOf};
-ghost use Prim.Native.Nat.{_*_, _-_, _≤_, _<_};
+ghost use Prim.Native.Nat.{_*_, _-_, _≤_, _<_, min};
 ghost use mathlib.Core.Bool.{_&&_, cond};
 ghost use mathlib.Core.List.{[], _∷_, _++_};
 ghost use lib.Dec.{leb, eqb};
-ghost use lib.Ieee.{binary32, mul};
 ghost use lib.ListN.{length, getD, take, drop};
 ghost use Rattle.questions.specs.Questions.{
   getFramesProcessedOf,
@@ -36,18 +37,33 @@ ghost use Rattle.questions.specs.Questions.{
 };
 ghost use Rattle.questions.specs.Waveforms.{getWaveformSummaryOf, waveformAfter};
 ghost use Rattle.lent_sampler.specs.Lists.{countedOf, listedOf, voiceInfoCounted, voiceInfoAfter};
-ghost use Rattle.lent_sampler.specs.Numbers.{allGood, anyEnded, numberOf};
+ghost use Rattle.lent_channel.specs.Turns.{heardOf};
+ghost use Rattle.lent_sampler.specs.Numbers.{
+  allGood,
+  anyEnded,
+  numberOf,
+  frameAsked,
+  latestTime,
+  roomLeft,
+  runRows,
+  ranFrom,
+  runAsked,
+  runSeat,
+};
+ghost use Rattle.lent_sampler.specs.Hearing.{atVolume};
 use channel::Change;
 use channel::Channel;
 use channel::HeadChange;
 use common_types::Note;
 use common_types::Params;
+use lent_channel::Heard;
 use questions::Counted;
 use questions::OffsetAnswer;
 use questions::Told;
 use questions::VoiceInfo;
 use questions::VoiceInfos;
 use questions::WaveformSummary;
+use sampler::Ran;
 use sampler::Sampler;
 use sampler::first_of;
 
@@ -339,16 +355,61 @@ fn number_of(
     first_of(!good, 9, first_of(count < entries, 1, beyond))
 }
 
-// The number of a frame, with no channel copied.
-fn frame_number(s: &Sampler, entries: usize, params: Params, size: usize) -> u8
-    ensures { λ r. ⌜ r ≡ frameNumber (now (s .entry)) entries params size ⌝ }
+// A refused frame steps no channel.
+fn steps(number: u8, entries: usize) -> usize
+    ensures { λ r. ⌜ r ≡ cond (eqb number 0) entries 0 ⌝ }
+{
+    if number == 0 { entries } else { 0 }
+}
+
+// What is asked before a frame is played: how many entries are, and its number.
+struct FrameAsked {
+    entries: usize,
+    number: u8,
+}
+
+fn frame_of(
+    count: usize,
+    capacity: usize,
+    first: bool,
+    second: bool,
+    time: usize,
+    other: usize,
+    entries: usize,
+    params: Params,
+    size: usize,
+) -> FrameAsked
+    ensures { λ r. ⌜ r
+        ≡ frameAsked (numberOf count capacity (first ∷ second ∷ []) (time ∷ other ∷ []) entries params size) entries ⌝ }
+{
+    let number = number_of(
+        count,
+        capacity,
+        first,
+        second,
+        time,
+        other,
+        entries,
+        params,
+        size,
+    );
+    let played = steps(number, entries);
+    FrameAsked {
+        entries: played,
+        number,
+    }
+}
+
+// What is asked of a frame, with no channel copied.
+fn frame_asked(s: &Sampler, entries: usize, params: Params, size: usize) -> FrameAsked
+    ensures { λ r. ⌜ r ≡ frameAsked (frameNumber (now (s .entry)) entries params size) entries ⌝ }
 {
     let capacity = s.capacity;
     let first = lent_channel::good(&s.channels[0], capacity);
     let second = lent_channel::good(&s.channels[1], capacity);
     let time = s.channels[0].head.now;
     let other = s.channels[1].head.now;
-    number_of(
+    frame_of(
         s.count,
         capacity,
         first,
@@ -361,17 +422,145 @@ fn frame_number(s: &Sampler, entries: usize, params: Params, size: usize) -> u8
     )
 }
 
-// A refused frame steps no channel.
-fn steps(number: u8, entries: usize) -> usize
-    ensures { λ r. ⌜ r ≡ cond (eqb number 0) entries 0 ⌝ }
+fn latest(count: usize, time: usize, other: usize) -> usize
+    ensures { λ r. ⌜ r ≡ latestTime count (time ∷ other ∷ []) ⌝ }
 {
-    if number == 0 { entries } else { 0 }
+    if count == 0 {
+        return 0;
+    }
+    if count == 1 {
+        return time;
+    }
+    if time < other { other } else { time }
 }
 
-fn at_volume(params: Params, output: f32) -> f32
-    ensures { λ r. ⌜ r ≡ mul binary32 (params .volume) output ⌝ }
+// The frames that are left until a clock stands at its end.
+fn room(count: usize, time: usize, other: usize) -> usize
+    ensures { λ r. ⌜ r ≡ roomLeft count (time ∷ other ∷ []) ⌝ }
 {
-    params.volume * output
+    let latest = latest(count, time, other);
+    if latest < channel::LAST_TIME {
+        channel::LAST_TIME - latest
+    } else {
+        0
+    }
+}
+
+// The rows of a run's number. Nothing is divided before row 9: a broken record may say that it has no channels.
+fn run_number(
+    count: usize,
+    capacity: usize,
+    first: bool,
+    second: bool,
+    time: usize,
+    other: usize,
+    entries: usize,
+    params: Params,
+    size: usize,
+) -> u8
+    ensures { λ r. ⌜ r ≡ runRows count capacity (first ∷ second ∷ []) (time ∷ other ∷ []) entries params size ⌝ }
+{
+    if !sizes_good(count, capacity, first, second, size) {
+        return 9;
+    }
+    let end = first_of(room(count, time, other) < entries / count, 6, 0);
+    let beyond = first_of(params.beyond_limits(), 4, end);
+    first_of(entries % count != 0, 10, beyond)
+}
+
+// What is asked before a run is played: how many entries are, and what it answers.
+struct RunAsked {
+    entries: usize,
+    ran: Ran,
+}
+
+fn fewer(a: usize, b: usize) -> usize
+    ensures { λ r. ⌜ r ≡ min a b ⌝ }
+{
+    if a < b { a } else { b }
+}
+
+fn run_of(
+    count: usize,
+    capacity: usize,
+    first: bool,
+    second: bool,
+    time: usize,
+    other: usize,
+    entries: usize,
+    params: Params,
+    size: usize,
+) -> RunAsked
+    ensures { λ r. ⌜ r
+        ≡ runAsked count (ranFrom count capacity (first ∷ second ∷ []) (time ∷ other ∷ []) entries params size) ⌝ }
+{
+    let number = run_number(
+        count,
+        capacity,
+        first,
+        second,
+        time,
+        other,
+        entries,
+        params,
+        size,
+    );
+    if (number == 0) | (number == 6) {
+        let frames = fewer(entries / count, room(count, time, other));
+        RunAsked {
+            entries: frames * count,
+            ran: Ran { frames, number },
+        }
+    } else {
+        RunAsked {
+            entries: 0,
+            ran: Ran { frames: 0, number },
+        }
+    }
+}
+
+// What is asked of a run, with no channel copied: record, memory and parameters are judged once.
+fn run_asked(s: &Sampler, entries: usize, params: Params, size: usize) -> RunAsked
+    ensures { λ r. ⌜ r ≡ runAsked (now (s .entry) .count) (runAnswer (now (s .entry)) entries params size) ⌝ }
+{
+    let capacity = s.capacity;
+    let first = lent_channel::good(&s.channels[0], capacity);
+    let second = lent_channel::good(&s.channels[1], capacity);
+    let time = s.channels[0].head.now;
+    let other = s.channels[1].head.now;
+    run_of(
+        s.count,
+        capacity,
+        first,
+        second,
+        time,
+        other,
+        entries,
+        params,
+        size,
+    )
+}
+
+// Whose entry i is: of a frame channel i's, of a run that of its place in its frame. Both calls have one shape, and so
+// one proof; the first doesn't need the count.
+fn frame_channel(i: usize, _count: usize) -> usize
+    ensures { λ r. ⌜ r ≡ i ⌝ }
+{
+    i
+}
+
+fn run_channel(i: usize, count: usize) -> usize
+    ensures { λ r. ⌜ r ≡ runSeat i count ⌝ }
+{
+    if count == 1 { 0 } else { i % 2 }
+}
+
+fn at_volume(params: Params, heard: Heard) -> Heard
+    ensures { λ r. ⌜ r ≡ atVolume params heard ⌝ }
+{
+    Heard {
+        output: params.volume * heard.output,
+    }
 }
 
 // A sample of a channel on the part of the memory from `start` to `end`, at the parameters' volume.
@@ -382,11 +571,11 @@ fn part_sample(
     memory: &mut [u32],
     start: usize,
     end: usize,
-) -> f32
+) -> Heard
     requires { ⌜ (start ≤ end) × (end ≤ length (now memory)) ⌝ }
     ensures { λ r. ⌜ (r
-        ≡ mul binary32 (params .volume)
-        (processSampleOf params input (now (c .entry)) (take (end - start) (drop start (now (memory .entry)))) .output))
+        ≡ atVolume params (heardOf (processSampleOf params input (now (c .entry))
+        (take (end - start) (drop start (now (memory .entry)))))))
         × (now (c .exit)
         ≡ processSampleOf params input (now (c .entry))
         (take (end - start) (drop start (now (memory .entry)))) .channel)
@@ -394,8 +583,8 @@ fn part_sample(
         ++ (memoryOf input (now (c .entry)) (take (end - start) (drop start (now (memory .entry))))
         ++ drop (end - start) (drop start (now (memory .entry))))) ⌝ }
 {
-    let output = lent_channel::with_sample(c, params, input, &mut memory[start..end]);
-    at_volume(params, output)
+    let heard = lent_channel::with_sample(c, params, input, &mut memory[start..end]);
+    at_volume(params, heard)
 }
 
 // A sample of each channel in turn, each entry of the frame replaced by its output.
@@ -406,15 +595,39 @@ pub fn process_frame(s: &mut Sampler, frame: &mut [f32], params: Params, memory:
         (now (frame .exit)) (now (memory .exit)) ⌝ }
 {
     let entries = frame.len();
-    let number = frame_number(s, entries, params, memory.len());
-    let n = steps(number, entries);
+    let asked = frame_asked(s, entries, params, memory.len());
+    let n = asked.entries;
     let capacity = s.capacity;
-    let mut j: usize = 0;
-    while j < n {
+    let mut i: usize = 0;
+    while i < n {
+        let j = frame_channel(i, s.count);
         let start = sampler::part_start(j, capacity);
         let end = start + capacity;
-        frame[j] = part_sample(&mut s.channels[j], params, frame[j], memory, start, end);
-        j += 1;
+        frame[i] = part_sample(&mut s.channels[j], params, frame[i], memory, start, end).output;
+        i += 1;
     }
-    number
+    asked.number
+}
+
+// A run of frames: entry i * count + j is channel j's of frame i. It has a loop of its own: one that it shared with the
+// frame would take more of the frame's stack. The count is read for each entry: kept, it would take stack too.
+pub fn process_frames(s: &mut Sampler, run: &mut [f32], params: Params, memory: &mut [u32]) -> Ran
+    ensures { λ r. ⌜ (r
+        ≡ runAnswer (now (s .entry)) (length (now (run .entry))) params (length (now (memory .entry))))
+        × Frames (ranOf (now (s .entry)) (now (run .entry)) params (now (memory .entry))) (now (s .exit))
+        (now (run .exit)) (now (memory .exit)) ⌝ }
+{
+    let entries = run.len();
+    let asked = run_asked(s, entries, params, memory.len());
+    let n = asked.entries;
+    let capacity = s.capacity;
+    let mut i: usize = 0;
+    while i < n {
+        let j = run_channel(i, s.count);
+        let start = sampler::part_start(j, capacity);
+        let end = start + capacity;
+        run[i] = part_sample(&mut s.channels[j], params, run[i], memory, start, end).output;
+        i += 1;
+    }
+    asked.ran
 }

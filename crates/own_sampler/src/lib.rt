@@ -1,12 +1,13 @@
-// The per-frame call on a record by value, played where the record stands: it is lent to `lent_sampler::process_frame`,
-// which copies no channel. The contract is that of `Sampler::process_frame`. A function that lends a record of its own
-// is proved by hand.
+// The per-frame call and the run of frames on a record by value, played where the record stands: it is lent to the call
+// of `lent_sampler`, which copies no channel. The contract is that of the call by value. A function that lends a record
+// of its own is proved by hand.
 ghost use mathlib.Core.Path.{_≡_};
 ghost use lib.ListN.{length};
 ghost use Rattle.sampler.specs.Refusals.{frameNumber};
-ghost use Rattle.sampler.specs.Samplers.{Frames, framedOf};
+ghost use Rattle.sampler.specs.Samplers.{Frames, framedOf, ranOf, runAnswer};
 use common_types::Params;
 use sampler::Answer;
+use sampler::RunAnswer;
 use sampler::Sampler;
 
 pub fn process_frame(
@@ -21,4 +22,18 @@ pub fn process_frame(
 {
     let number = lent_sampler::process_frame(&mut s, frame, params, memory);
     Answer { sampler: s, number }
+}
+
+pub fn process_frames(
+    mut s: Sampler,
+    run: &mut [f32],
+    params: Params,
+    memory: &mut [u32],
+) -> RunAnswer
+    ensures { λ r. ⌜ (r .ran ≡ runAnswer s (length (now (run .entry))) params (length (now (memory .entry))))
+        × Frames (ranOf s (now (run .entry)) params (now (memory .entry))) (r .sampler) (now (run .exit))
+        (now (memory .exit)) ⌝ }
+{
+    let ran = lent_sampler::process_frames(&mut s, run, params, memory);
+    RunAnswer { sampler: s, ran }
 }

@@ -126,7 +126,7 @@ module _ (w : World) (st : Standing w) (j : ℕ) (present : j < w .sampler .coun
 at-start : (a l d : ℕ) → (a + 0 % l) % d ≡ a % d
 at-start a l d = ap (λ (r : ℕ). (a + r) % d) (zero-mod l) ∙ ap (λ (r : ℕ). r % d) (add-zero a)
 
-standing-true : (w : World) → Standing w → (j : ℕ) → j < w .sampler .count → TruePositions w j
+pub standing-true : (w : World) → Standing w → (j : ℕ) → j < w .sampler .count → TruePositions w j
 standing-true w st j present =
     record {
       true-index = λ c now a l d P h. index-is c now a l d P h;

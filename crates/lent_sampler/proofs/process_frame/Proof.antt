@@ -1,8 +1,8 @@
--- `lent_sampler::process_frame` meets its contract: `Stepping.antt`'s walk, over `frame_number`, `steps`, `part_start` and `part_sample`, by the laws of `Turned.antt`.
+-- `lent_sampler::process_frame` meets its contract: `Stepping.antt`'s walk, over `frame_asked`, `frame_channel`, `part_start` and `part_sample`, by the laws of `Turned.antt`.
 use contract.Running.{givenOf, tables, tablesOf}
+use mir.Syntax.{w8}
 use denote.Triple.Spec.{tripleOf}
 use denote.Triple.Table.{entered, cited}
-use lib.Ieee.{binary32, mul}
 use Rattle.channel.specs.Channels.{processSampleOf, memoryOf}
 use Rattle.channel.proofs.Samples.{memory-kept}
 use Rattle.sampler.specs.Refusals.{frameNumber}
@@ -11,19 +11,23 @@ use Rattle.sampler.proofs.part_start as start
 use Rattle.sampler.proofs.part_start.Symbol as start-def
 use Rattle.sampler.proofs.part_start.Symbol.{name as #start}
 use Rattle.sampler.proofs.part_start.Met as start-thm
+use Rattle.lent_channel.specs.Turns.{heardOf}
+use Rattle.lent_channel.proofs.Rows.{word}
 use Rattle.lent_channel.proofs.Holding.{channel}
-use Rattle.lent_sampler.proofs.Lent.{sampler, params}
+use Rattle.lent_sampler.specs.Hearing.{atVolume}
+use Rattle.lent_sampler.specs.Numbers.{frameAsked}
+use Rattle.lent_sampler.proofs.Lent.{sampler, params, sounded, frame-asking}
 use Rattle.lent_sampler.proofs.Seats.{seats}
-use Rattle.lent_sampler.proofs.Turned.{stepsOf, Turned, turned-starts, turned-low, turned-on, turned-ends}
-use Rattle.lent_sampler.proofs.Stepping.{Turning, steps-frame}
-use Rattle.lent_sampler.proofs.frame_number as number
-use Rattle.lent_sampler.proofs.frame_number.Symbol as number-def
-use Rattle.lent_sampler.proofs.frame_number.Symbol.{name as #number}
-use Rattle.lent_sampler.proofs.frame_number.Met as number-thm
-use Rattle.lent_sampler.proofs.steps as steps
-use Rattle.lent_sampler.proofs.steps.Symbol as steps-def
-use Rattle.lent_sampler.proofs.steps.Symbol.{name as #steps}
-use Rattle.lent_sampler.proofs.steps.Met as steps-thm
+use Rattle.lent_sampler.proofs.Turned.{Turned, turned-starts, turned-low, turned-on, turned-ends}
+use Rattle.lent_sampler.proofs.Stepping.{Turning, steps-run}
+use Rattle.lent_sampler.proofs.frame_asked as asked
+use Rattle.lent_sampler.proofs.frame_asked.Symbol as asked-def
+use Rattle.lent_sampler.proofs.frame_asked.Symbol.{name as #asked}
+use Rattle.lent_sampler.proofs.frame_asked.Met as asked-thm
+use Rattle.lent_sampler.proofs.frame_channel as seat
+use Rattle.lent_sampler.proofs.frame_channel.Symbol as seat-def
+use Rattle.lent_sampler.proofs.frame_channel.Symbol.{name as #seat}
+use Rattle.lent_sampler.proofs.frame_channel.Met as seat-thm
 use Rattle.lent_sampler.proofs.part_sample as sample
 use Rattle.lent_sampler.proofs.part_sample.Symbol as sample-def
 use Rattle.lent_sampler.proofs.part_sample.Symbol.{name as #sample}
@@ -33,11 +37,11 @@ use Rattle.lent_sampler.proofs.process_frame as f
 use Rattle.lent_sampler.proofs.process_frame.Statement as stated
 use Rattle.lent_sampler.proofs.process_frame.Code as code
 
-abbrev turning : Turning sampler channel params seats
+abbrev turning : Turning sampler channel params (word w8) sounded frame-asking seats
 turning = record {
-  numberOf = frameNumber;
-  stepsOf = stepsOf;
-  sounds = λ p x c k. mul binary32 (p .volume) (processSampleOf p x c k .output);
+  askedOf = λ s n p size. frameAsked (frameNumber s n p size) n;
+  seatOf = λ i count. i;
+  sounds = λ p x c k. atVolume p (heardOf (processSampleOf p x c k));
   plays = λ p x c k. processSampleOf p x c k .channel;
   records = memoryOf;
   Leaves = λ s l p m. Frames (framedOf s l p m);
@@ -57,8 +61,8 @@ unfolding code.routine tablesOf
 process-frame-spec 𝓤 H 𝓜 𝓖 𝓡 =
     entered 𝓤 H (tripleOf 𝓤 H (𝓖 .A) f.signature (f.spec 𝓤 H (𝓖 .A) (𝓜 .mem) (𝓡 .run)))
     (tables 𝓤 H 𝓜 𝓡 code.env .C) (tables 𝓤 H 𝓜 𝓡 code.env .Λ) #f code.function (code.unfolded 𝓤 H 𝓜 𝓡)
-    (steps-frame sampler channel params seats #number #steps #start #sample turning 𝓤 H (𝓖 .A) (givenOf 𝓤 H 𝓜 𝓖) (tablesOf 𝓤 H 𝓜 (tables 𝓤 H 𝓜 𝓡 code.env))
-    (cited 𝓤 H (tripleOf 𝓤 H (𝓖 .A) number.signature (number.spec 𝓤 H (𝓖 .A) (𝓜 .mem) (𝓡 .run))) 𝓜 𝓡 code.env #number number-def.routine code.calls-lent-sampler·frame-number (number-thm.met 𝓤 H 𝓜 𝓖 𝓡))
-    (cited 𝓤 H (tripleOf 𝓤 H (𝓖 .A) steps.signature (steps.spec 𝓤 H (𝓖 .A) (𝓜 .mem) (𝓡 .run))) 𝓜 𝓡 code.env #steps steps-def.routine code.calls-lent-sampler·steps (steps-thm.met 𝓤 H 𝓜 𝓖 𝓡))
+    (steps-run sampler channel params (word w8) sounded frame-asking seats #asked #seat #start #sample turning 𝓤 H (𝓖 .A) (givenOf 𝓤 H 𝓜 𝓖) (tablesOf 𝓤 H 𝓜 (tables 𝓤 H 𝓜 𝓡 code.env))
+    (cited 𝓤 H (tripleOf 𝓤 H (𝓖 .A) asked.signature (asked.spec 𝓤 H (𝓖 .A) (𝓜 .mem) (𝓡 .run))) 𝓜 𝓡 code.env #asked asked-def.routine code.calls-lent-sampler·frame-asked (asked-thm.met 𝓤 H 𝓜 𝓖 𝓡))
+    (cited 𝓤 H (tripleOf 𝓤 H (𝓖 .A) seat.signature (seat.spec 𝓤 H (𝓖 .A) (𝓜 .mem) (𝓡 .run))) 𝓜 𝓡 code.env #seat seat-def.routine code.calls-lent-sampler·frame-channel (seat-thm.met 𝓤 H 𝓜 𝓖 𝓡))
     (cited 𝓤 H (tripleOf 𝓤 H (𝓖 .A) start.signature (start.spec 𝓤 H (𝓖 .A) (𝓜 .mem) (𝓡 .run))) 𝓜 𝓡 code.env #start start-def.routine code.calls-sampler·part-start (start-thm.met 𝓤 H 𝓜 𝓖 𝓡))
     (cited 𝓤 H (tripleOf 𝓤 H (𝓖 .A) sample.signature (sample.spec 𝓤 H (𝓖 .A) (𝓜 .mem) (𝓡 .run))) 𝓜 𝓡 code.env #sample sample-def.routine code.calls-lent-sampler·part-sample (sample-thm.met 𝓤 H 𝓜 𝓖 𝓡)))
