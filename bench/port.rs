@@ -1,9 +1,10 @@
 //! The port's side: its program, compiled for this machine and linked in, reads its standard input and writes its standard output.
 
+use crate::clock;
 use std::fs::File;
 use std::io::{Seek, Write};
 use std::os::fd::AsRawFd;
-use std::time::{Duration, Instant};
+use std::time::Duration;
 
 extern "C" {
     fn port_main() -> i32;
@@ -47,8 +48,8 @@ pub fn played(bytes: &[u8]) -> Result<(u64, Duration), String> {
     input.rewind().map_err(words)?;
     let (status, time) = {
         let _stand_ins = (StandIn::new(0, &input), StandIn::new(1, &output));
-        let begin = Instant::now();
-        (unsafe { port_main() }, begin.elapsed())
+        let begin = clock::now();
+        (unsafe { port_main() }, clock::now() - begin)
     };
     let text = std::fs::read_to_string(&path).map_err(words)?;
     std::fs::remove_file(&path).map_err(words)?;
