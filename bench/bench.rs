@@ -115,6 +115,14 @@ fn figures(row: u32, rounds: u32) -> Result<[Figures; 3], String> {
     Ok(times.map(|t| t.figures(scenario.units())))
 }
 
+/// The port's time as a part of another side's. What is below a nanosecond is lost beside what is taken away.
+fn ratio(port: &Figures, side: &Figures) -> String {
+    if side.least < 1.0 {
+        return "-".into();
+    }
+    format!("{:.2}", port.least / side.least)
+}
+
 fn run(rounds: u32) -> Result<(), String> {
     println!("| {:<36} | Rust -O | Rust lto |    port | port / -O | port / lto | middle/least     |", "ns a sample or call");
     println!("|{}|", ["---"; 7].join("|"));
@@ -123,7 +131,7 @@ fn run(rounds: u32) -> Result<(), String> {
         let [plain, whole, port] = figures(row as u32, rounds)?;
         eprint!("\r{:<70}\r", "");
         print!("| {:<36} | {:>7.1} | {:>8.1} | {:>7.1} ", scenario.name, plain.least, whole.least, port.least);
-        print!("| {:>9.2} | {:>10.2} ", port.least / plain.least, port.least / whole.least);
+        print!("| {:>9} | {:>10} ", ratio(&port, &plain), ratio(&port, &whole));
         println!("| {} |", [plain, whole, port].map(|f| format!("{:.2}", f.middle / f.least)).join(", "));
     }
     eprintln!("all outputs equal, bit for bit");

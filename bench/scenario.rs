@@ -38,7 +38,7 @@ pub struct Scenario {
     /// Samples of attack and of decay.
     pub ramp: u64,
     pub auto_passthru: bool,
-    /// The first of so many voices is stopped before the first turn, and so on; 0 stops none.
+    /// Voices whose number is a multiple of this are stopped before the first turn; 0 stops none.
     pub stopped: u32,
     pub records: bool,
     /// The recording isn't stopped before the first turn: each frame makes it longer.
