@@ -120,13 +120,14 @@ fn told(c: &Channel) -> u64 {
     last + (inside::voices(c).len() + inside::recording(c).len() + inside::clock(c) + write) as u64
 }
 
-fn put_back(c: &mut Channel, was: &Channel, now: usize) {
+fn put_back(c: &mut Channel, was: &Channel, voices: u32, now: usize) {
+    let from = inside::voices(was).len() - voices as usize;
     // A turn lets voices go and samples by a shorter length, and neither has anything to drop: what stands up to the old length is still one of each.
     unsafe {
         inside::voices_mut(c).set_len(inside::voices(was).len());
         inside::recording_mut(c).set_len(inside::recording(was).len());
     }
-    inside::voices_mut(c).clone_from_slice(inside::voices(was));
+    inside::voices_mut(c)[from..].clone_from_slice(&inside::voices(was)[from..]);
     inside::put_clock(c, now);
     inside::put_passthru(c, inside::passthru(was).1.clone());
     inside::put_write_place(c, inside::write_place(was));
@@ -141,7 +142,7 @@ fn turns(scenario: &Scenario, s: &mut Sampler, p: &Params) -> u64 {
         let channels = &mut black_box(&mut *s).channels;
         sum = summed(sum, heard + channels.iter().map(told).sum::<u64>());
         let now = (scenario.clock + u64::from(k) + 1) as usize;
-        channels.iter_mut().zip(&was.channels).for_each(|(c, was)| put_back(c, was, now));
+        channels.iter_mut().zip(&was.channels).for_each(|(c, was)| put_back(c, was, scenario.put_back, now));
     }
     sum
 }
@@ -152,7 +153,7 @@ pub fn played(scenario: &Scenario) -> u64 {
     let mut p = scenario.params();
     settle(&mut p);
     let mut s = begun(scenario, &p);
-    if scenario.put_back {
+    if scenario.put_back > 0 {
         turns(scenario, &mut s, &p)
     } else {
         play(scenario, &mut s, &p)

@@ -26,8 +26,9 @@ pub enum Act {
 pub struct Scenario {
     pub name: &'static str,
     pub act: Act,
-    /// After each turn the record is put back as it was, but for its clock. What that takes is not timed.
-    pub put_back: bool,
+    /// After each turn the record is put back as it was, but for its clock, with so many voices, the last ones; 0: a turn goes on where the one before it
+    /// ended. What that takes is not timed.
+    pub put_back: u32,
     pub voices: u32,
     /// An index: 0 plays once, 1 loops, 2 goes to and fro.
     pub mode: u8,
@@ -62,7 +63,7 @@ const LONGEST_RAMP: u64 = 1 << 24;
 const PLAIN: Scenario = Scenario {
     name: "",
     act: Act::Frame,
-    put_back: false,
+    put_back: 0,
     voices: 8,
     mode: LOOP,
     speed: 0.75,
@@ -81,10 +82,10 @@ const PLAIN: Scenario = Scenario {
 };
 
 /// One frame of 32 voices, over and over.
-const LONE_FRAME: Scenario = Scenario { put_back: true, voices: 32, frames: 20_000, ..PLAIN };
+const LONE_FRAME: Scenario = Scenario { put_back: 32, voices: 32, frames: 20_000, ..PLAIN };
 
 /// A call while 8 voices are held, over and over.
-const CALL: Scenario = Scenario { put_back: true, ramp: 100, auto_passthru: true, frames: 100_000, ..PLAIN };
+const CALL: Scenario = Scenario { put_back: 1, ramp: 100, auto_passthru: true, frames: 100_000, ..PLAIN };
 
 pub const SCENARIOS: &[Scenario] = &[
     Scenario { name: "no voices", voices: 0, frames: 500_000, ..PLAIN },
@@ -123,8 +124,8 @@ pub fn of(row: u32, frames: u32, idle: bool) -> Scenario {
     let scenario = Scenario { frames, ..SCENARIOS[row as usize] };
     match (idle, scenario.put_back) {
         (false, _) => scenario,
-        (true, false) => Scenario { frames: 0, ..scenario },
-        (true, true) => Scenario { act: Act::Nothing, ..scenario },
+        (true, 0) => Scenario { frames: 0, ..scenario },
+        (true, _) => Scenario { act: Act::Nothing, ..scenario },
     }
 }
 
@@ -190,7 +191,7 @@ impl Scenario {
             .with_u32(28, self.run)
             .with_u32(32, self.grows.into())
             .with_u32(36, self.leaves.into())
-            .with_u32(40, self.put_back.into())
+            .with_u32(40, self.put_back)
             .with_u32(44, self.act as u32);
         [self.settings().0, self.other_settings().0, plan.0].concat()
     }
