@@ -1,10 +1,10 @@
 //! Times the port beside the Rust that it is ported from, in one run and on the same scenarios, and compares the bits of all outputs (docs/BENCHMARKS.md).
 //! The Rust is there twice: as `-O` compiles it, and as one module.
 //!
-//!     bench [ROUNDS]                         each scenario is played ROUNDS times by each side in turn (9 unless given)
-//!     bench rows FRAMES                      a line for each scenario: so many turns of it are how many samples or calls, and its name
-//!     bench count SIDE ROW FRAMES            the scenario of that line (from 0), so many turns, once by one side (0, 1 or 2), for a tool that counts instructions
-//!     bench idle SIDE ROW FRAMES             the same without what is to be counted
+//!     bench [ROUNDS]                each scenario is played ROUNDS times by each side in turn (9 unless given); a table is printed
+//!     bench rows FRAMES             a line for each scenario: how many samples or calls so many turns of it are, and its name
+//!     bench count SIDE ROW FRAMES   the scenario of that line (from 0), so many turns, once by one side (0, 1 or 2), for a tool that counts instructions
+//!     bench idle SIDE ROW FRAMES    the same without what is to be counted
 
 mod clock;
 mod original;
@@ -103,7 +103,7 @@ fn round(job: Job, times: &mut [Times; 3]) -> Result<Vec<[u64; 2]>, String> {
     Ok(sums)
 }
 
-fn figures(row: u32, rounds: u32) -> Result<[Figures; 3], String> {
+fn row_figures(row: u32, rounds: u32) -> Result<[Figures; 3], String> {
     let scenario = &SCENARIOS[row as usize];
     let mut times = [Times::default(), Times::default(), Times::default()];
     for _ in 0..rounds {
@@ -128,7 +128,7 @@ fn run(rounds: u32) -> Result<(), String> {
     println!("|{}|", ["---"; 7].join("|"));
     for (row, scenario) in SCENARIOS.iter().enumerate() {
         eprint!("\r{} of {}: {:<50}", row + 1, SCENARIOS.len(), scenario.name);
-        let [plain, whole, port] = figures(row as u32, rounds)?;
+        let [plain, whole, port] = row_figures(row as u32, rounds)?;
         eprint!("\r{:<70}\r", "");
         print!("| {:<36} | {:>7.1} | {:>8.1} | {:>7.1} ", scenario.name, plain.least, whole.least, port.least);
         print!("| {:>9} | {:>10} ", ratio(&port, &plain), ratio(&port, &whole));

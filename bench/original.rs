@@ -7,8 +7,8 @@ use audio_sampler_lib::sampler::{Channel, Sampler};
 use audio_sampler_lib::time_value::{TimeOrRatio, TimeValue};
 use std::hint::black_box;
 
-/// The parameters, with a zero where a length of another kind would have its number. As one module the Rust works every kind out before it asks which it is,
-/// from whatever stands there, and a float too small to be normal costs more than the rest of a sample.
+/// Puts a zero where a length of another kind would have its number. Optimized, the Rust works every kind out before it asks which one it is, from whatever
+/// stands there, and a float too small to be normal costs more than the rest of a sample.
 fn settle(p: &mut Params) {
     if let TimeOrRatio::Ratio(ratio) = p.loop_length {
         p.loop_length = TimeOrRatio::Time(TimeValue::samples(0.0));
