@@ -113,11 +113,12 @@ fn act(scenario: &Scenario, s: &mut Sampler, k: u32, p: &Params) -> u64 {
     0
 }
 
-/// What a call may have changed: lengths, write place, clock, and the last voice's speed and state.
+/// What a call may have changed: lengths, clock, write place, and the last voice's speed and state, each times another number, so that one isn't taken for
+/// another.
 fn told(c: &Channel) -> u64 {
-    let last = inside::voices(c).last().map_or(0, |v| u64::from(v.speed.to_bits()) + u64::from(v.finished));
+    let last = inside::voices(c).last().map_or(0, |v| u64::from(v.speed.to_bits()) + u64::from(v.finished) * 13);
     let write = inside::write_place(c).map_or(0, |at| at + 1);
-    last + (inside::voices(c).len() + inside::recording(c).len() + inside::clock(c) + write) as u64
+    last + (inside::voices(c).len() * 3 + inside::recording(c).len() * 5 + inside::clock(c) * 7 + write * 11) as u64
 }
 
 fn put_back(c: &mut Channel, was: &Channel, voices: u32, now: usize) {
