@@ -1,9 +1,12 @@
 //! Times the port beside the Rust that it is ported from, in one run and on the same scenarios, and compares the bits of all outputs (docs/BENCHMARKS.md).
+//! The Rust is there twice: as `-O` compiles it, and as one module.
 //!
-//!     bench [ROUNDS]                each scenario is played ROUNDS times by each side in turn (9 unless given)
-//!     bench names                   the names of the scenarios, a line each
-//!     bench count ROW FRAMES        the scenario of that line (from 1) is played once, so many frames of it, by the port alone, for a tool that counts instructions
+//!     bench [ROUNDS]                each scenario is played ROUNDS times by each side in turn (9 unless given); a table is printed
+//!     bench rows FRAMES             a line for each scenario: how many samples or calls so many turns of it are, and its name
+//!     bench count SIDE ROW FRAMES   the scenario of that line (from 0), so many turns, once by one side (0, 1 or 2), for a tool that counts instructions
+//!     bench idle SIDE ROW FRAMES    the same without what is to be counted
 
+mod clock;
 mod original;
 #[allow(dead_code)]
 #[path = "../oracle/shared/params.rs"]
@@ -22,90 +25,140 @@ mod values;
 
 use scenario::{Scenario, SCENARIOS};
 use std::process::ExitCode;
-use std::time::{Duration, Instant};
+use std::time::Duration;
 
-/// Of one side: the least time and the middle one, in nanoseconds a sample.
+extern "C" {
+    fn whole_played(row: u32, frames: u32, idle: bool) -> u64;
+}
+
+/// A row of the scenarios, how many turns of it, and whether what is timed is left out.
+#[derive(Clone, Copy)]
+struct Job {
+    row: u32,
+    frames: u32,
+    idle: bool,
+}
+
+impl Job {
+    fn scenario(&self) -> Scenario {
+        scenario::of(self.row, self.frames, self.idle)
+    }
+}
+
+/// The sum that a side gives, and the time that it took.
+type Side = fn(Job) -> Result<(u64, Duration), String>;
+
+const SIDES: [Side; 3] = [plain, whole, ported];
+
+fn plain(job: Job) -> Result<(u64, Duration), String> {
+    Ok(timed(|| original::played(&job.scenario())))
+}
+
+fn whole(job: Job) -> Result<(u64, Duration), String> {
+    Ok(timed(|| unsafe { whole_played(job.row, job.frames, job.idle) }))
+}
+
+fn ported(job: Job) -> Result<(u64, Duration), String> {
+    let scenario = job.scenario();
+    port::played(&scenario.bytes(), scenario.run > 1)
+}
+
+fn timed(played: impl Fn() -> u64) -> (u64, Duration) {
+    let begin = clock::now();
+    let sum = played();
+    (sum, clock::now() - begin)
+}
+
+/// Of one side, a time for each round: with what is timed, and without it.
+#[derive(Default)]
+struct Times {
+    all: Vec<Duration>,
+    idle: Vec<Duration>,
+}
+
+/// Of one side: the least time and the middle one, in nanoseconds a sample or a call.
 struct Figures {
     least: f64,
     middle: f64,
 }
 
-fn original(scenario: &Scenario) -> Result<(u64, Duration), String> {
-    let begin = Instant::now();
-    let sum = original::played(scenario);
-    Ok((sum, begin.elapsed()))
+impl Times {
+    fn figures(mut self, units: u32) -> Figures {
+        self.all.sort();
+        self.idle.sort();
+        let at = |k: usize| (self.all[k].as_nanos() as f64 - self.idle[k].as_nanos() as f64) / f64::from(units);
+        Figures { least: at(0), middle: at(self.all.len() / 2) }
+    }
 }
 
-fn ported(scenario: &Scenario) -> Result<(u64, Duration), String> {
-    port::played(&scenario.bytes())
+/// Each side once, and the sums of all of them.
+fn round(job: Job, times: &mut [Times; 3]) -> Result<Vec<[u64; 2]>, String> {
+    let mut sums = Vec::new();
+    for (side, times) in SIDES.iter().zip(times) {
+        let (sum, all) = side(job)?;
+        let (rest, idle) = side(Job { idle: true, ..job })?;
+        times.all.push(all);
+        times.idle.push(idle);
+        sums.push([sum, rest]);
+    }
+    Ok(sums)
 }
 
-/// What the frames alone take: a run without them is taken away.
-fn frames_alone(side: fn(&Scenario) -> Result<(u64, Duration), String>, scenario: &Scenario) -> Result<(u64, f64), String> {
-    let (sum, all) = side(scenario)?;
-    let (_, before) = side(&Scenario { frames: 0, ..*scenario })?;
-    let nanoseconds = all.saturating_sub(before).as_nanos() as f64;
-    Ok((sum, nanoseconds / f64::from(scenario.frames) / 2.0))
-}
-
-fn figures(mut times: Vec<f64>) -> Figures {
-    times.sort_by(f64::total_cmp);
-    Figures { least: times[0], middle: times[times.len() / 2] }
-}
-
-fn timed(scenario: &Scenario, rounds: u32) -> Result<(Figures, Figures), String> {
-    let (mut rust, mut port) = (Vec::new(), Vec::new());
+fn row_figures(row: u32, rounds: u32) -> Result<[Figures; 3], String> {
+    let scenario = &SCENARIOS[row as usize];
+    let mut times = [Times::default(), Times::default(), Times::default()];
     for _ in 0..rounds {
-        let (wanted, time) = frames_alone(original, scenario)?;
-        rust.push(time);
-        let (got, time) = frames_alone(ported, scenario)?;
-        port.push(time);
-        if got != wanted {
+        let sums = round(Job { row, frames: scenario.frames, idle: false }, &mut times)?;
+        if sums.iter().any(|sum| *sum != sums[0]) {
             return Err(format!("{}: the outputs differ", scenario.name));
         }
     }
-    Ok((figures(rust), figures(port)))
+    Ok(times.map(|t| t.figures(scenario.units())))
+}
+
+/// The port's time as a part of another side's. What is below a nanosecond is lost beside what is taken away.
+fn ratio(port: &Figures, side: &Figures) -> String {
+    if side.least < 1.0 {
+        return "-".into();
+    }
+    format!("{:.2}", port.least / side.least)
 }
 
 fn run(rounds: u32) -> Result<(), String> {
-    println!("{:<44}{:>9}{:>9}{:>8}{:>16}", "ns a sample", "Rust", "port", "ratio", "middle/least");
-    for (k, scenario) in SCENARIOS.iter().enumerate() {
-        eprint!("\r{} of {}: {:<50}", k + 1, SCENARIOS.len(), scenario.name);
-        let (rust, port) = timed(scenario, rounds)?;
+    println!("| {:<36} | Rust -O | Rust lto |    port | port / -O | port / lto | middle/least     |", "ns a sample or call");
+    println!("|{}|", ["---"; 7].join("|"));
+    for (row, scenario) in SCENARIOS.iter().enumerate() {
+        eprint!("\r{} of {}: {:<50}", row + 1, SCENARIOS.len(), scenario.name);
+        let [plain, whole, port] = row_figures(row as u32, rounds)?;
         eprint!("\r{:<70}\r", "");
-        println!(
-            "{:<44}{:>9.1}{:>9.1}{:>8.2}{:>9.2}{:>7.2}",
-            scenario.name,
-            rust.least,
-            port.least,
-            port.least / rust.least,
-            rust.middle / rust.least,
-            port.middle / port.least
-        );
+        print!("| {:<36} | {:>7.1} | {:>8.1} | {:>7.1} ", scenario.name, plain.least, whole.least, port.least);
+        print!("| {:>9} | {:>10} ", ratio(&port, &plain), ratio(&port, &whole));
+        println!("| {} |", [plain, whole, port].map(|f| format!("{:.2}", f.middle / f.least)).join(", "));
     }
-    println!("all outputs equal, bit for bit");
+    eprintln!("all outputs equal, bit for bit");
     Ok(())
 }
 
-fn names() -> Result<(), String> {
-    SCENARIOS.iter().for_each(|scenario| println!("{}", scenario.name));
+fn rows(frames: u32) -> Result<(), String> {
+    (0..SCENARIOS.len() as u32).map(|row| scenario::of(row, frames, false)).for_each(|s| println!("{} {}", s.units(), s.name));
     Ok(())
 }
 
-fn count(row: u32, frames: u32) -> Result<(), String> {
-    let scenario = SCENARIOS.get((row as usize).wrapping_sub(1)).ok_or("no such row")?;
-    ported(&Scenario { frames, ..*scenario }).map(|_| ())
+fn once(side: u32, job: Job) -> Result<(), String> {
+    let side = SIDES.get(side as usize).ok_or("no such side")?;
+    SCENARIOS.get(job.row as usize).ok_or("no such row")?;
+    side(job).map(|_| ())
 }
 
 fn main() -> ExitCode {
     let words: Vec<String> = std::env::args().skip(1).collect();
     let numbers: Vec<Option<u32>> = words.iter().map(|w| w.parse().ok()).collect();
-    let ended = match numbers[..] {
-        [] => run(9),
-        [Some(rounds)] if rounds > 0 => run(rounds),
-        [None] if words[0] == "names" => names(),
-        [None, Some(row), Some(frames)] if words[0] == "count" => count(row, frames),
-        _ => Err("usage: bench [ROUNDS], bench names or bench count ROW FRAMES".into()),
+    let ended = match (words.first().map(String::as_str), &numbers[..]) {
+        (None, _) => run(9),
+        (_, &[Some(rounds)]) if rounds > 0 => run(rounds),
+        (Some("rows"), &[_, Some(frames)]) => rows(frames),
+        (Some(word @ ("count" | "idle")), &[_, Some(side), Some(row), Some(frames)]) => once(side, Job { row, frames, idle: word == "idle" }),
+        _ => Err("usage: bench [ROUNDS], bench rows FRAMES, or bench count (or idle) SIDE ROW FRAMES".into()),
     };
     match ended {
         Ok(()) => ExitCode::SUCCESS,

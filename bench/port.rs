@@ -1,12 +1,15 @@
-//! The port's side: its program, compiled for this machine and linked in, reads its standard input and writes its standard output.
+//! The port's side: its program, compiled for this machine and linked in twice, to play frame by frame and in runs, reads its standard input and writes its
+//! standard output.
 
+use crate::clock;
 use std::fs::File;
 use std::io::{Seek, Write};
 use std::os::fd::AsRawFd;
-use std::time::{Duration, Instant};
+use std::time::Duration;
 
 extern "C" {
     fn port_main() -> i32;
+    fn runs_main() -> i32;
     fn dup(fd: i32) -> i32;
     fn dup2(fd: i32, as_fd: i32) -> i32;
     fn close(fd: i32) -> i32;
@@ -36,7 +39,7 @@ impl Drop for StandIn {
 }
 
 /// The sum that the program writes for this input, and the time that it took.
-pub fn played(bytes: &[u8]) -> Result<(u64, Duration), String> {
+pub fn played(bytes: &[u8], in_runs: bool) -> Result<(u64, Duration), String> {
     let path = std::env::temp_dir().join(format!("bench-{}", std::process::id()));
     let words = |e: std::io::Error| format!("{}: {e}", path.display());
     let open = || File::options().read(true).write(true).create(true).truncate(true).open(&path);
@@ -47,8 +50,9 @@ pub fn played(bytes: &[u8]) -> Result<(u64, Duration), String> {
     input.rewind().map_err(words)?;
     let (status, time) = {
         let _stand_ins = (StandIn::new(0, &input), StandIn::new(1, &output));
-        let begin = Instant::now();
-        (unsafe { port_main() }, begin.elapsed())
+        let begin = clock::now();
+        let status = unsafe { if in_runs { runs_main() } else { port_main() } };
+        (status, clock::now() - begin)
     };
     let text = std::fs::read_to_string(&path).map_err(words)?;
     std::fs::remove_file(&path).map_err(words)?;

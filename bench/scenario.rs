@@ -6,27 +6,86 @@ use audio_sampler_lib::common_types::Params;
 
 pub const SIZE: u32 = 4096;
 
+/// Frames between two calls of a scenario that makes some while it plays.
+pub const BEAT: u32 = 512;
+
+/// What a turn of a scenario is. The port reads its number.
+#[derive(Clone, Copy, PartialEq)]
+pub enum Act {
+    Nothing,
+    Frame,
+    Start,
+    Stop,
+    NoteSpeed,
+    StartRecording,
+    StopRecording,
+    Reset,
+}
+
 #[derive(Clone, Copy)]
 pub struct Scenario {
     pub name: &'static str,
+    pub act: Act,
+    /// After each turn the record is put back as it was, but for its clock, with so many voices, the last ones; 0: a turn goes on where the one before it
+    /// ended. What that takes is not timed.
+    pub put_back: u32,
     pub voices: u32,
     /// An index: 0 plays once, 1 loops, 2 goes to and fro.
     pub mode: u8,
+    pub speed: f32,
+    pub reverse: f32,
+    /// The loop's length as a part of the recording's.
+    pub ratio: f32,
     /// Samples of attack and of decay.
     pub ramp: u64,
-    pub stopped: bool,
+    pub auto_passthru: bool,
+    /// Voices whose number is a multiple of this are stopped before the first turn; 0 stops none.
+    pub stopped: u32,
     pub records: bool,
+    /// The recording isn't stopped before the first turn: each frame makes it longer.
+    pub grows: bool,
     /// Every second frame is played under other parameters: length, speed and mode.
     pub changes: bool,
+    /// Every 1,024 frames 16 keys are let go at once; 512 frames later they are started again.
+    pub leaves: bool,
     pub clock: u64,
+    /// How many turns: frames, or calls.
     pub frames: u32,
+    /// How many frames the port plays in one call: 1 by the frame call, more by the run's.
+    pub run: u32,
 }
 
+const ONCE: u8 = 0;
 const LOOP: u8 = 1;
 const PING_PONG: u8 = 2;
 const LONGEST_RAMP: u64 = 1 << 24;
 
-const PLAIN: Scenario = Scenario { name: "", voices: 8, mode: LOOP, ramp: 0, stopped: false, records: false, changes: false, clock: 10, frames: 50_000 };
+const PLAIN: Scenario = Scenario {
+    name: "",
+    act: Act::Frame,
+    put_back: 0,
+    voices: 8,
+    mode: LOOP,
+    speed: 0.75,
+    reverse: 1.0,
+    ratio: 0.3,
+    ramp: 0,
+    auto_passthru: false,
+    stopped: 0,
+    records: false,
+    grows: false,
+    changes: false,
+    leaves: false,
+    clock: 10,
+    frames: 50_000,
+    run: 1,
+};
+
+/// One frame of 32 voices, over and over.
+const LONE_FRAME: Scenario = Scenario { put_back: 32, voices: 32, frames: 20_000, ..PLAIN };
+
+/// A call while 8 voices are held, over and over.
+const CALL: Scenario = Scenario { put_back: 1, ramp: 100, auto_passthru: true, frames: 100_000, ..PLAIN };
 
 pub const SCENARIOS: &[Scenario] = &[
     Scenario { name: "no voices", voices: 0, frames: 500_000, ..PLAIN },
@@ -36,37 +95,73 @@ pub const SCENARIOS: &[Scenario] = &[
     Scenario { name: "8 voices, ping-pong", mode: PING_PONG, ..PLAIN },
     Scenario { name: "32 voices, loop", voices: 32, frames: 20_000, ..PLAIN },
     Scenario { name: "32 voices, ping-pong", voices: 32, mode: PING_PONG, frames: 20_000, ..PLAIN },
+    Scenario { name: "8 voices, reverse speed", reverse: -1.0, ..PLAIN },
+    Scenario { name: "8 voices, play-once", mode: ONCE, speed: 0.05, ratio: 1.0, ..PLAIN },
     Scenario { name: "8 voices, attack running", ramp: LONGEST_RAMP, ..PLAIN },
-    Scenario { name: "8 voices, decay running", ramp: LONGEST_RAMP, stopped: true, ..PLAIN },
+    Scenario { name: "8 voices, decay running", ramp: LONGEST_RAMP, stopped: 1, ..PLAIN },
     Scenario { name: "32 voices, attack running", voices: 32, ramp: LONGEST_RAMP, frames: 20_000, ..PLAIN },
     Scenario { name: "8 voices, recording", records: true, ..PLAIN },
     Scenario { name: "no voices, recording", voices: 0, records: true, frames: 500_000, ..PLAIN },
+    Scenario { name: "8 voices, growing recording", grows: true, ..PLAIN },
     Scenario { name: "8 voices, clock at 2^40", clock: 1 << 40, ..PLAIN },
     Scenario { name: "1 voice, parameters change", voices: 1, changes: true, frames: 200_000, ..PLAIN },
     Scenario { name: "8 voices, parameters change", changes: true, ..PLAIN },
     Scenario { name: "32 voices, parameters change", voices: 32, changes: true, frames: 20_000, ..PLAIN },
+    Scenario { name: "32 voices, 16 leave and come back", voices: 32, leaves: true, frames: 20_480, ..PLAIN },
+    Scenario { name: "a frame of 32 voices, 16 leave", stopped: 2, ..LONE_FRAME },
+    Scenario { name: "a frame of 32 voices, none leaves", ..LONE_FRAME },
+    Scenario { name: "no voices, runs of 64", voices: 0, frames: 500_000, run: 64, ..PLAIN },
+    Scenario { name: "1 voice, loop, runs of 64", voices: 1, frames: 200_000, run: 64, ..PLAIN },
+    Scenario { name: "8 voices, loop, runs of 64", run: 64, ..PLAIN },
+    Scenario { name: "32 voices, loop, runs of 64", voices: 32, frames: 20_000, run: 64, ..PLAIN },
     Scenario { name: "1 voice, loop, ten million frames", voices: 1, frames: 10_000_000, ..PLAIN },
+    Scenario { name: "call: start", act: Act::Start, ..CALL },
+    Scenario { name: "call: stop", act: Act::Stop, ..CALL },
+    Scenario { name: "call: note speed", act: Act::NoteSpeed, ..CALL },
+    Scenario { name: "call: start of recording", act: Act::StartRecording, ..CALL },
+    Scenario { name: "call: stop of recording", act: Act::StopRecording, grows: true, ..CALL },
+    Scenario { name: "call: reset", act: Act::Reset, ..CALL },
 ];
+
+/// The scenario of a row, with so many turns; an idle one has all but what is timed.
+pub fn of(row: u32, frames: u32, idle: bool) -> Scenario {
+    let scenario = Scenario { frames, ..SCENARIOS[row as usize] };
+    match (idle, scenario.put_back) {
+        (false, _) => scenario,
+        (true, 0) => Scenario { frames: 0, ..scenario },
+        (true, _) => Scenario { act: Act::Nothing, ..scenario },
+    }
+}
 
 pub fn input_at(i: u32) -> f32 {
     (i * 37 % 64) as f32 / 32.0 - 1.0
 }
 
 impl Scenario {
+    /// How many samples or calls its turns are.
+    pub fn units(&self) -> u32 {
+        if self.act == Act::Frame { self.frames * 2 } else { self.frames }
+    }
+
+    pub fn stops(&self, voice: u32) -> bool {
+        self.stopped > 0 && voice % self.stopped == 0
+    }
+
     fn settings(&self) -> Record {
         Record::new(1)
             .with_u8(params::KIND, 4)
             .with_u8(params::MODE, self.mode)
+            .with_u8(params::AUTO_PASSTHRU, self.auto_passthru.into())
             .with_u32(params::VOLUME, 1.0f32.to_bits())
-            .with_u32(params::VALUE, 0.3f32.to_bits())
+            .with_u32(params::VALUE, self.ratio.to_bits())
             .with_u32(params::RATE, 44100.0f32.to_bits())
             .with_u32(params::TEMPO, 120.0f32.to_bits())
             .with_u32(params::NUMERATOR, 4)
             .with_u32(params::DENOMINATOR, 4)
             .with_u64(params::ATTACK, self.ramp)
             .with_u64(params::DECAY, self.ramp)
-            .with_u32(params::SPEED, 0.75f32.to_bits())
-            .with_u32(params::REVERSE, 1.0f32.to_bits())
+            .with_u32(params::SPEED, self.speed.to_bits())
+            .with_u32(params::REVERSE, self.reverse.to_bits())
     }
 
     /// The parameters of every second frame.
@@ -93,10 +188,14 @@ impl Scenario {
         let plan = Record::new(0)
             .with_u32(0, self.frames)
             .with_u32(4, self.voices)
-            .with_u32(8, self.stopped.into())
+            .with_u32(8, self.stopped)
             .with_u32(12, self.records.into())
             .with_u64(16, self.clock)
-            .with_u32(24, self.changes.into());
+            .with_u32(24, self.changes.into())
+            .with_u32(32, self.grows.into())
+            .with_u32(36, self.leaves.into())
+            .with_u32(40, self.put_back)
+            .with_u32(44, self.act as u32);
         [self.settings().0, self.other_settings().0, plan.0].concat()
     }
 }

@@ -3,13 +3,14 @@
 //!     waveform [ROUNDS]                           each scenario is run ROUNDS times by each side in turn (9 unless given)
 //!     waveform SIDE SAMPLES COLUMNS SUMMARIES     the side, rust or port, alone and once, for a tool that counts instructions
 
+mod clock;
 mod port;
 
 use audio_sampler_lib::common_types::InitParams;
 use audio_sampler_lib::inside::recording_mut;
 use audio_sampler_lib::sampler::Sampler;
 use std::process::ExitCode;
-use std::time::{Duration, Instant};
+use std::time::Duration;
 
 #[derive(Clone, Copy)]
 struct Plan {
@@ -31,7 +32,7 @@ fn sample_at(i: u32) -> f32 {
 }
 
 fn rust(plan: Plan) -> Result<(u64, Duration), String> {
-    let begin = Instant::now();
+    let begin = clock::now();
     let mut sampler = Sampler::new(1, &InitParams { auto_passthru: false });
     recording_mut(&mut sampler.channels[0]).extend((0..plan.samples).map(sample_at));
     let mut values = vec![];
@@ -40,7 +41,7 @@ fn rust(plan: Plan) -> Result<(u64, Duration), String> {
         values = sampler.get_waveform_summary(plan.columns as usize).data;
     }
     let bits = |x: &f32| u64::from(if x.is_nan() { 0x7fc0_0000 } else { x.to_bits() });
-    Ok((values.iter().map(bits).sum(), begin.elapsed()))
+    Ok((values.iter().map(bits).sum(), clock::now() - begin))
 }
 
 fn ported(plan: Plan) -> Result<(u64, Duration), String> {
