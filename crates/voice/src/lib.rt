@@ -25,6 +25,7 @@ ghost use Rattle.voice.specs.Voices.{
   atSpeedOf,
   goodVoice,
 };
+ghost use Rattle.voice.specs.Plain.{Quickly};
 use clip::Clip;
 use clip::Mode;
 use clip::Sounding;
@@ -60,6 +61,12 @@ pub struct Tick {
     pub mode: Mode,
     pub once: bool,
     pub note_off_behavior: NoteOffBehaviour,
+}
+
+// A turn taken the quick way, where it is plain; elsewhere `voice` is not to be looked at.
+pub struct Quick {
+    pub voice: Voice,
+    pub plain: bool,
 }
 
 impl Tick {
@@ -333,6 +340,16 @@ impl Voice {
             return self.volume_stepped(t.now);
         }
         self.sounded(t, data).settled(t)
+    }
+
+    // Its whole sample, where that is plain: `turn`, quickly.
+    pub fn quick(self, t: Tick, data: &[u32]) -> Quick
+        ensures { λ r. ⌜ Quickly t (now («data» .entry)) self r ⌝ }
+    {
+        Quick {
+            voice: self,
+            plain: false,
+        }
     }
 
     // Whether the voice may stand in a record whose clock is at `now`.
