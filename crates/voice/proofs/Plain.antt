@@ -3,6 +3,8 @@ use mathlib.Core.Path.{_≡_, refl, sym, ap, _∙_, subst}
 use Prim.Native.Nat.{ℕ}
 use mathlib.Core.Bool.{Bool, true, false, not, _&&_, cond}
 use mathlib.Core.List.{List}
+use lib.Dec.{ltb, ltb→lt}
+use lib.Ieee.{binary32, mul}
 use lib.Ieee.Bits.{is-true}
 use lib.Ieee.Fits.{and-i, and-l, and-r}
 use borrow.Author.Tests.{not-true}
@@ -12,13 +14,13 @@ use Rattle.volume.specs.Levels.{keepsOf, steppedOf}
 use Rattle.volume.proofs.Ends.{stepped-keeps}
 use Rattle.clip.specs.declared.Clip.{Clip}
 use Rattle.clip.specs.Positions.{indexAt}
+use Rattle.clip.specs.Quick.{noIndex, QuickIndex}
 use Rattle.voice.specs.Voices.{movedOf, productOf, soundedOf, finishOf, playedOutOf, endedOf, shouldRemoveOf, volumeStepped, turnOf}
 use Rattle.voice.specs.Agreeing.{agreesOf}
-use Rattle.voice.specs.Plain.{plainOf, soundedAt, glidedOf, Quickly}
+use Rattle.voice.specs.Plain.{plainOf, soundedAt, glidedOf, goesOnOf, Quickly}
 use Rattle.voice.specs.declared.Voice.{Voice}
 use Rattle.voice.specs.declared.Tick.{Tick}
-use Rattle.voice.specs.declared.Quick.{Quick}
-use Rattle.voice.proofs.Unmoved.{unmoved}
+use Rattle.voice.proofs.Unmoved.{unmoved, agrees}
 
 module _ (t : Tick) (m : List ℕ) (v : Voice) where
   -- its clip stays, so it sounds at the index that it had
@@ -97,3 +99,32 @@ module _ (t : Tick) (m : List ℕ) (v : Voice) where
 
   pub holds : plainOf t m v ≡ true → Held (turnOf t m v)
   holds h = subst Held (sym (glides h .turn)) glided-holds
+
+  -- ---- the tests of a quick turn are enough
+  going : (index : ℕ) → agreesOf t v ≡ true → index ≡ indexAt (v .clip2) (t .now) → keepsOf (v .volume) (t .now) ≡ true → goesOnOf t v (soundedAt t m v index) ≡ true
+      → (plainOf t m v ≡ true) × (soundedAt t m v index ≡ turnOf t m v)
+  unfolding goesOnOf plainOf
+  going index a e k g =
+      let w : Voice = soundedAt t m v index in
+      let o : Bool = not (playedOutOf t w) in
+      let r : Bool = not (shouldRemoveOf t v) in
+      let s : Bool = not (shouldRemoveOf t w) in
+      let g₁ = yes g in
+      let g₂ = and-r o (r && s) g₁ in
+      let out : playedOutOf t (soundedOf t m v) ≡ false = out-at index ∙ not-true (playedOutOf t w) (is-true o (and-l o (r && s) g₁)) in
+      let stays : shouldRemoveOf t v ≡ false = not-true (shouldRemoveOf t v) (is-true r (and-l r s g₂)) in
+      let stays-after : shouldRemoveOf t w ≡ false = not-true (shouldRemoveOf t w) (is-true s (and-r r s g₂)) in
+      let turned : turnOf t m v ≡ w = turn-glides a k out stays ∙ ap (soundedAt t m v) (sym e) in
+      (simp (a, k, out, stays, turned, stays-after), sym turned)
+
+  -- an answer by these tests, with an index that may be none
+  pub answered : (index : ℕ) (w : Voice) (keeps goes : Bool) → QuickIndex (v .clip2) (t .now) (t .length) (mul binary32 (v .speed) (t .speed)) (t .«data_length») (t .mode) index
+      → w ≡ soundedAt t m v index → keeps ≡ keepsOf (v .volume) (t .now) → goes ≡ goesOnOf t v w → Quickly t m v (record { voice = w; plain = ltb index noIndex && keeps && goes })
+  answered index w keeps goes found is k g plain =
+      let some : Bool = ltb index noIndex in
+      let h = yes plain in
+      let at = found (ltb→lt index noIndex (and-l some keeps (and-l (some && keeps) goes h))) in
+      let kept : keepsOf (v .volume) (t .now) ≡ true = sym k ∙ is-true keeps (and-r some keeps (and-l (some && keeps) goes h)) in
+      let on : goesOnOf t v w ≡ true = sym g ∙ is-true goes (and-r (some && keeps) goes h) in
+      let all = going index (agrees t v (at .0)) (at .1) kept (subst (λ (z : Voice). goesOnOf t v z ≡ true) is on) in
+      (all .0, is ∙ all .1)

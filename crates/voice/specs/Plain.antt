@@ -45,6 +45,10 @@ soundedAt t m v index =
 abbrev pub glidedOf : Tick → List ℕ → Voice → Voice
 glidedOf t m v = soundedAt t m v (indexAt (v .clip2) (t .now))
 
+-- whether a turn that leaves the voice as w neither ends it nor finds it to be removed, before or after
+unfoldable pub goesOnOf : Tick → Voice → Voice → Bool
+goesOnOf t v w = not (playedOutOf t w) && (not (shouldRemoveOf t v) && not (shouldRemoveOf t w))
+
 -- What a quick turn promises: where it answers that the turn is plain, it is, and its voice is the voice after it.
 -- Elsewhere its voice is not to be looked at.
 abbrev pub Quickly : Tick → List ℕ → Voice → Quick → Type 0
