@@ -1,20 +1,18 @@
 -- A plain turn changes four fields of a voice, and the voice stays. Assumes nothing.
 use mathlib.Core.Path.{_≡_, refl, sym, ap, _∙_, subst}
 use Prim.Native.Nat.{ℕ, _<_}
-use mathlib.Core.Bool.{Bool, true, false, not, _&&_, cond}
+use mathlib.Core.Bool.{Bool, true, false, not, _&&_}
 use mathlib.Core.List.{List}
 use lib.Ieee.{binary32, mul}
 use lib.Ieee.Bits.{is-true}
-use lib.Ieee.Fits.{and-i, and-l, and-r}
+use lib.Ieee.Fits.{and-l, and-r}
 use borrow.Author.Tests.{not-true}
 use Rattle.binary32.proofs.Truth.{yes}
-use Rattle.volume.specs.declared.Volume.{Volume}
-use Rattle.volume.specs.Levels.{keepsOf, steppedOf}
+use Rattle.volume.specs.Levels.{keepsOf}
 use Rattle.volume.proofs.Ends.{stepped-keeps}
-use Rattle.clip.specs.declared.Clip.{Clip}
 use Rattle.clip.specs.Positions.{indexAt}
 use Rattle.clip.specs.Quick.{noIndex, QuickIndex}
-use Rattle.voice.specs.Voices.{movedOf, productOf, soundedOf, finishOf, playedOutOf, endedOf, shouldRemoveOf, volumeStepped, turnOf}
+use Rattle.voice.specs.Voices.{productOf, soundedOf, playedOutOf, endedOf, shouldRemoveOf, volumeStepped, turnOf}
 use Rattle.voice.specs.Agreeing.{agreesOf}
 use Rattle.voice.specs.Plain.{plainOf, soundedAt, glidedOf, goesOnOf, Quickly}
 use Rattle.voice.specs.declared.Voice.{Voice}
