@@ -7,7 +7,7 @@ use Prim.Native.Nat.{ℕ, zero, suc, _+_, _-_, _*_, _/_, _^_}
 use mathlib.Core.Bool.{Bool, true, false, not, _||_, Bool·beq, cond}
 use lib.IntN.{pos}
 use lib.Dec.{T, leb}
-use lib.Ieee.{Float, nan, inf, fin, binary32, up, down, size, round, rem, lt, le, eq, isNan, ofInt, toUnsigned, ofBits, toBits}
+use lib.Ieee.{Float, nan, inf, fin, binary32, up, down, size, round, lt, le, eq, isNan, ofInt, toUnsigned, ofBits, toBits}
 
 abbrev pub zero32 : Float
 zero32 = fin false 0 (pos 0)
@@ -61,10 +61,9 @@ unfoldable pub crossingOf : Float → Float → Bool
 crossingOf value last = isNan value || isNan last || not (Bool·beq (signOf value) (signOf last))
     || eq value (fin false 0 (pos 0))
 
--- What a remainder that may be left undone promises: an answer that isn't below 0 is x % y (reference, arithmetic
--- operators; C's fmodf, which is exact).
-abbrev pub RemOrLess : Float → Float → Float → Type 0
-RemOrLess x y r = T (le zero32 r) → r ≡ rem binary32 x y
+-- What a value v that may be left undone promises: an answer that isn't below 0, or NaN, is v.
+abbrev pub OrLess : Float → Float → Type 0
+OrLess v r = T (le zero32 r) → r ≡ v
 
 -- The bit pattern of a value, 7FC00000 for NaN, and the value of a bit pattern, NaN for every NaN pattern (754, 3.4;
 -- f32::to_bits, f32::from_bits).
