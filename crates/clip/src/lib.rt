@@ -38,9 +38,10 @@ ghost use Rattle.clip.specs.Updates.{
   withLength,
   withDataLength,
   withAll,
+  sameValues,
   sameAll,
 };
-ghost use Rattle.clip.specs.Quick.{QuickWhole, QuickIndex};
+ghost use Rattle.clip.specs.Quick.{QuickWrapped, QuickWhole, QuickIndex};
 ghost use Rattle.clip.specs.Refusals.{
   goodLength,
   goodClip,
@@ -193,12 +194,11 @@ fn placed(mode: Mode, x: f32, length: f32) -> f32
 fn quick_looped(x: f32, length: f32) -> f32
     ensures { λ r. ⌜ OrLess (loopedOf x length) r ⌝ }
 {
-    if x < 0.0 {
-        let y = binary32::rem_or_less(-x, length);
-        if y >= 0.0 { raised(-y, length) } else { y }
-    } else {
-        binary32::rem_or_less(x, length)
+    if x >= 0.0 {
+        return binary32::rem_or_less(x, length);
     }
+    let y = binary32::rem_or_less(-x, length);
+    if y >= 0.0 { raised(-y, length) } else { y }
 }
 
 fn quick_bounced(x: f32, length: f32) -> f32
@@ -208,12 +208,19 @@ fn quick_bounced(x: f32, length: f32) -> f32
     if y >= 0.0 { folded(y, length) } else { y }
 }
 
-fn quick_wrapped(mode: Mode, x: f32, length: f32) -> f32
-    ensures { λ r. ⌜ OrLess (wrappedOf mode x length) r ⌝ }
+// Where the modes differ it answers so too.
+fn quick_wrapped(mode: Mode, old: Mode, x: f32, length: f32) -> f32
+    ensures { λ r. ⌜ QuickWrapped mode old x length r ⌝ }
 {
     match mode {
-        Mode::Loop => quick_looped(x, length),
-        Mode::PingPong => quick_bounced(x, length),
+        Mode::Loop => match old {
+            Mode::Loop => quick_looped(x, length),
+            Mode::PingPong => -1.0,
+        },
+        Mode::PingPong => match old {
+            Mode::Loop => -1.0,
+            Mode::PingPong => quick_bounced(x, length),
+        },
     }
 }
 
@@ -393,9 +400,8 @@ impl Clip {
         self.standing_at(now).cut(data_length).clip
     }
 
-    // Whether each of the four parts of an update would be skipped.
-    fn same_all(self, length: f32, speed: f32, data_length: f32, mode: Mode) -> bool
-        ensures { λ r. ⌜ r ≡ sameAll self length speed «data_length» mode ⌝ }
+    fn same_values(self, length: f32, speed: f32, data_length: f32) -> bool
+        ensures { λ r. ⌜ r ≡ sameValues self length speed «data_length» ⌝ }
     {
         if length != self.length {
             return false;
@@ -403,11 +409,18 @@ impl Clip {
         if speed != self.speed {
             return false;
         }
-        if data_length != self.data_length {
-            return false;
+        data_length == self.data_length
+    }
+
+    // Whether each of the four parts of an update would be skipped.
+    fn same_all(self, length: f32, speed: f32, data_length: f32, mode: Mode) -> bool
+        ensures { λ r. ⌜ r ≡ sameAll self length speed «data_length» mode ⌝ }
+    {
+        if self.same_values(length, speed, data_length) {
+            let old = self.mode;
+            return same_mode(mode, old);
         }
-        let old = self.mode;
-        same_mode(mode, old)
+        false
     }
 
     // The four parts in their order. A clip that none of them changes, as it is at most samples, is told in front.
@@ -461,8 +474,9 @@ impl Clip {
     ) -> usize
         ensures { λ r. ⌜ QuickIndex self now length speed «data_length» mode r ⌝ }
     {
-        if self.same_all(length, speed, data_length, mode) & (length > 0.0) {
-            let y = quick_wrapped(mode, self.standing_at(now).travel(), length);
+        if self.same_values(length, speed, data_length) & (length > 0.0) {
+            let old = self.mode;
+            let y = quick_wrapped(mode, old, self.standing_at(now).travel(), length);
             if y >= 0.0 {
                 return quick_whole(self.start + binary32::min(y, length - 1.0), data_length);
             }

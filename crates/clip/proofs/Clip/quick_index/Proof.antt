@@ -5,11 +5,11 @@ use lib.Dec.{T}
 use native.Mathlib.Omega.{arith}
 use lib.Ieee.{Float, binary32, add, sub, rem, lt, ofBits}
 use lib.Ieee.Bits.{is-true}
-use lib.Ieee.Fits.{and-l, and-r}
+use lib.Ieee.Fits.{and-i, and-l, and-r}
 use Rattle.binary32.specs.Leaves.{zero32, one32, asWhole, floorOf, minOf}
 use Rattle.binary32.proofs.Truth.{yes}
 use Rattle.clip.specs.Positions.{travelAt, wrappedOf, standingOf}
-use Rattle.clip.specs.Updates.{sameAll}
+use Rattle.clip.specs.Updates.{sameMode, sameValues, sameAll}
 use Rattle.clip.specs.declared.Standing.{Standing}
 use Rattle.clip.proofs.Quick.{index-worked}
 use borrow.Author.Needs.{needs}
@@ -17,8 +17,8 @@ use Rattle.clip.proofs.Standings.{standing-stands}
 use Rattle.clip.proofs.Clip.quick_index.Statement.{statement}
 use Rattle.clip.proofs.Clip.quick_index.Tie as tie
 
-same-all-requires : tie.Need-same-all-requires
-same-all-requires c κs = search needs
+same-values-requires : tie.Need-same-values-requires
+same-values-requires c κs = search needs
 
 standing-at-requires : tie.Need-standing-at-requires
 standing-at-requires c κs = search needs
@@ -36,7 +36,7 @@ quick-whole-requires : tie.Need-quick-whole-requires
 quick-whole-requires c κs = search needs
 
 returns : tie.Need-returns
-unfolding standingOf ofBits
+unfolding sameAll standingOf ofBits
 returns c h =
     let d = c .before .before .before .before in
     let start = d .before .before .before .before .before in
@@ -45,19 +45,18 @@ returns c h =
     let s = a .self in
     let l = a .length in
     let m = a .data-length in
-    let all : Bool = sameAll s l (a .speed) m (a .mode) in
+    let all : Bool = sameValues s l (a .speed) m in
     let both : T (all && lt zero32 l) =
-    subst (λ (b : Bool). T (b && lt zero32 l)) (d .before .before .before .before .same-all .ensures) (yes (d .before .before .before .if1 .taken)) in
-    let same : all ≡ true = is-true all (and-l all (lt zero32 l) both) in
+    subst (λ (b : Bool). T (b && lt zero32 l)) (d .before .before .before .before .same-values .ensures) (yes (d .before .before .before .if1 .taken)) in
     let got = c .quick-whole .ensures h in
+    let y = d .quick-wrapped .ensures (yes (c .before .before .before .if2 .taken)) in
     let e : _ ≡ travelAt s (a .now) = d .before .travel .ensures ∙ ap (λ (z : Standing). travelAt (z .clip) (z .now)) (d .before .before .standing-at .ensures) in (
-      same,
+      is-true (all && sameMode (a .mode) (s .mode)) (and-i all (sameMode (a .mode) (s .mode)) (and-l all (lt zero32 l) both) (yes (y .0))),
       got .1
           ∙ ap (λ (y : Float). asWhole 64 (floorOf (rem binary32 (add binary32 (s .start) y) m)))
           (c .before .before .min .ensures
-          ∙ ap (λ (y : Float). minOf y (sub binary32 l one32))
-          (d .quick-wrapped .ensures (yes (c .before .before .before .if2 .taken)) ∙ ap (λ (x : Float). wrappedOf (a .mode) x l) e))
-          ∙ sym (index-worked s (a .now) l (a .speed) m (a .mode) same (search needs) (search needs) (yes (g .1 .1 .1 .1 .0 .1)) (yes (g .0 .1 .1 .1 .1 .1 .1 .0 .1)) (and-r all (lt zero32 l) both) (got .0)),
+          ∙ ap (λ (y : Float). minOf y (sub binary32 l one32)) (y .1 ∙ ap (λ (x : Float). wrappedOf (s .mode) x l) e))
+          ∙ sym (index-worked s (a .now) l (a .speed) m (and-l all (lt zero32 l) both) (search needs) (search needs) (yes (g .1 .1 .1 .1 .0 .1)) (yes (g .0 .1 .1 .1 .1 .1 .1 .0 .1)) (and-r all (lt zero32 l) both) (got .0)),
     )
 
 returns-2 : tie.Need-returns-2
@@ -70,7 +69,7 @@ pub quick-index-spec : {M : Type 1} → statement M
 quick-index-spec =
     tie.close
     (tie.spec
-    same-all-requires
+    same-values-requires
     standing-at-requires
     travel-requires
     quick-wrapped-requires
