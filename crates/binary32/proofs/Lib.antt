@@ -7,6 +7,7 @@ pub mod Sums
 pub mod Snap
 pub mod Between
 pub mod Remainders
+pub mod Quotients
 pub mod Wholes
 pub mod Halves
 pub mod Tops

@@ -5,7 +5,7 @@ ghost use mathlib.Core.Path.{_≡_};
 ghost use Prim.Native.Nat.{_+_, _*_, _^_, _≤_, _<_};
 ghost use lib.Dec.{T};
 ghost use mathlib.Core.Bool.{false};
-ghost use lib.Ieee.{nan, binary32, lt, ofBits, round};
+ghost use lib.Ieee.{nan, binary32, rem, lt, ofBits, round};
 ghost use lib.Ieee.Nearest.{closest};
 ghost use Rattle.binary32.specs.Leaves.{
   asFloat,
@@ -20,6 +20,7 @@ ghost use Rattle.binary32.specs.Leaves.{
   floatOf,
   isqrt,
   rootOf,
+  OrLess,
 };
 
 // `n as f32`. A number above 2^24 keeps the 24 digits from its top one on, and drops those below.
@@ -119,6 +120,31 @@ fn whole_part(x: f32) -> f32
 {
     let near = (x + 8388608.0) - 8388608.0;
     if x < near { near - 1.0 } else { near }
+}
+
+// `x % y` where it takes no more than a product, else a number below 0: x - q * y for a whole number q near x / y.
+// Whatever q is, that is x % y where it lies from 0 to below y. From 1.5 * 2^52 on an f64 has no room for a fraction,
+// so that q is whole; below 2^23 it has so few digits that q * y is exact.
+pub fn rem_or_less(x: f32, y: f32) -> f32
+    ensures { λ r. ⌜ OrLess (rem binary32 x y) r ⌝ }
+{
+    if (x >= 0.0) & (y > 0.0) {
+        let wide = x as f64;
+        let by = y as f64;
+        let near = wide * (1.0 / by) - 0.49999999 + 6755399441055744.0;
+        let left = wide - (near - 6755399441055744.0) * by;
+        if (near >= 6755399441055744.0)
+            & (near < 6755399449444352.0)
+            & (left >= 0.0)
+            & (left < by)
+        {
+            left as f32
+        } else {
+            -1.0
+        }
+    } else {
+        -1.0
+    }
 }
 
 // f32::min.
