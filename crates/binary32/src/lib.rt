@@ -14,7 +14,6 @@ ghost use Rattle.binary32.specs.Leaves.{
   minOf,
   maxOf,
   absOf,
-  signOf,
   crossingOf,
   bitsOf,
   floatOf,
@@ -210,19 +209,15 @@ fn not_a_number() -> f32
     0.0 / 0.0
 }
 
-// The sign bit, which NaN has not.
-fn negative(x: f32) -> bool
-    ensures { λ r. ⌜ r ≡ signOf x ⌝ }
-{
-    to_bits(x) / 0x8000_0000 == 1
-}
-
 // Whether the sound crosses zero from `last` to `value`. It is asked for every voice at every sample, of values that no
-// one foresees: so it has no branch, which a processor would take wrongly half of the time.
+// one foresees: so it has no branch, which a processor would take wrongly half of the time, but for NaN, which is rare.
 pub fn crossing(value: f32, last: f32) -> bool
     ensures { λ r. ⌜ r ≡ crossingOf value last ⌝ }
 {
-    (value != value) | (last != last) | (negative(value) != negative(last)) | (value == 0.0)
+    if (value != value) | (last != last) {
+        return true;
+    }
+    (f32::to_bits(value) / 0x8000_0000 != f32::to_bits(last) / 0x8000_0000) | (value == 0.0)
 }
 
 // f32::sqrt.
