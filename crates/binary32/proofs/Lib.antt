@@ -17,6 +17,7 @@ pub mod Sizes
 pub mod Signs
 pub mod Extremes
 pub mod Patterns
+pub mod SumPatterns
 pub mod WholeRoots
 pub mod Roots
 pub mod RootDigits

@@ -5,7 +5,7 @@ ghost use mathlib.Core.Path.{_≡_};
 ghost use Prim.Native.Nat.{_+_, _*_, _^_, _≤_, _<_};
 ghost use lib.Dec.{T};
 ghost use mathlib.Core.Bool.{false};
-ghost use lib.Ieee.{nan, binary32, rem, lt, ofBits, round};
+ghost use lib.Ieee.{nan, binary32, rem, lt, le, ofBits, round};
 ghost use lib.Ieee.Nearest.{closest};
 ghost use Rattle.binary32.specs.Leaves.{
   asFloat,
@@ -75,7 +75,7 @@ pub fn f32_to_usize(x: f32) -> usize
     ensures { λ r. ⌜ r ≡ asWhole 64 x ⌝ }
 {
     if x < 8388608.0 {
-        if x > 0.0 { whole_part(x) as usize } else { 0 }
+        if x >= 0.0 { low_whole(x) } else { 0 }
     } else if x < 18446744073709551616.0 {
         std::num::truncating_f32_to_u64(x) as usize
     } else if x != x {
@@ -83,6 +83,15 @@ pub fn f32_to_usize(x: f32) -> usize
     } else {
         usize::MAX
     }
+}
+
+// The sum with 2^28 in f64 has 24 digits of fraction, in which no float below 2^23 is rounded up to a whole number.
+fn low_whole(x: f32) -> usize
+    requires { ⌜ T (le (ofBits binary32 0) x) ⌝ }
+    requires { ⌜ T (lt x (ofBits binary32 0x4b00_0000)) ⌝ }
+    ensures { λ r. ⌜ r ≡ asWhole 64 x ⌝ }
+{
+    (f64::to_bits((x as f64) + 268435456.0) / 0x100_0000 % 0x1000_0000) as usize
 }
 
 // `x as u32`.

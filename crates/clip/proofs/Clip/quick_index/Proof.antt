@@ -1,6 +1,6 @@
 -- `Clip::quick_index` meets its contract, by those of its parts and by `index-worked`. Assumes nothing.
 use mathlib.Core.Path.{_≡_, ap, sym, _∙_, subst}
-use mathlib.Core.Bool.{Bool, true, _&&_}
+use mathlib.Core.Bool.{Bool, _&&_}
 use lib.Dec.{T}
 use native.Mathlib.Omega.{arith}
 use lib.Ieee.{Float, binary32, add, sub, rem, lt, ofBits}
