@@ -376,7 +376,8 @@ impl Voice {
             return otherwise;
         }
         let note = self.note;
-        let value = recorded(data, index) * volume.level(t.now);
+        let level = volume.level(t.now);
+        let value = recorded(data, index) * level;
         let next = Self {
             finished_at: self.finished_at,
             last_sample_index: index,

@@ -20,11 +20,11 @@ quick-index-requires c κs = search needs
 returns-2 : tie.Need-returns-2
 returns-2 c plain = absurd (true≢false (sym plain))
 
-recorded-requires : tie.Need-recorded-requires
-recorded-requires c κs = search needs
-
 level-requires : tie.Need-level-requires
 level-requires c κs = search needs
+
+recorded-requires : tie.Need-recorded-requires
+recorded-requires c κs = search needs
 
 crossing-requires : tie.Need-crossing-requires
 crossing-requires c κs = search needs
@@ -39,7 +39,7 @@ returns-3 c =
     let found = c .before .before .before .before .before .before .before .quick-index in
     let keeps = c .before .before .before .before .before .before .before .before .before .before .before .before .keeps in
     answered (a .t) (a .«data» .now) (a .self) (found .result) _ (keeps .result) (c .goes-on .result) (found .ensures)
-    (simp (c .before .crossing .ensures, c .before .before .before .level .ensures, c .before .before .before .before .recorded .ensures))
+    (simp (c .before .crossing .ensures, c .before .before .before .recorded .ensures, c .before .before .before .before .level .ensures))
     (keeps .ensures) (c .goes-on .ensures) (not-false (keeps .result) (c .before .before .before .before .before .before .before .before .before .before .before .if1 .left)) (c .before .before .before .before .before .before .if2 .left)
 
 pub quick-spec : {M : Type 1} → statement M
@@ -50,8 +50,8 @@ quick-spec =
     returns
     quick-index-requires
     returns-2
-    recorded-requires
     level-requires
+    recorded-requires
     crossing-requires
     goes-on-requires
     returns-3)
