@@ -16,6 +16,7 @@ pub mod Floors
 pub mod Sizes
 pub mod Signs
 pub mod Extremes
+pub mod BelowZero
 pub mod Patterns
 pub mod SumPatterns
 pub mod WholeRoots

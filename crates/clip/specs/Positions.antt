@@ -55,8 +55,11 @@ wrappedOf Loop x length = loopedOf x length
 wrappedOf PingPong x length = bouncedOf x length
 
 -- then the smaller of it and length - 1, where NaN yields the other
+abbrev pub clampedOf : Float → Float → Float
+clampedOf y length = minOf y (sub binary32 length one32)
+
 unfoldable pub placedOf : Mode → Float → Float → Float
-placedOf mode x length = minOf (wrappedOf mode x length) (sub binary32 length one32)
+placedOf mode x length = clampedOf (wrappedOf mode x length) length
 
 unfoldable pub clipOffsetAt : Clip → ℕ → Float
 clipOffsetAt c now = placedOf (c .mode) (travelAt c now) (c .length)

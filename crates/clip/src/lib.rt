@@ -3,8 +3,10 @@
 // time: they are for clips that are known to be good. `sounding` is `with_all` and `index_at` in one. Those under the
 // Rust's names, and `update_all`, first refuse bad arguments (number 7 of document 01), and then answer the same.
 ghost use mathlib.Core.Path.{_≡_};
-ghost use lib.Ieee.{binary32, rem};
-ghost use Rattle.binary32.specs.Leaves.{OrLess};
+ghost use mathlib.Core.Bool.{not};
+ghost use lib.Dec.{T};
+ghost use lib.Ieee.{binary32, add, rem, isNan};
+ghost use Rattle.binary32.specs.Leaves.{OrLess, asFloat};
 ghost use Rattle.clip.specs.Positions.{
   elapsedAt,
   leadOf,
@@ -16,6 +18,7 @@ ghost use Rattle.clip.specs.Positions.{
   foldedOf,
   bouncedOf,
   wrappedOf,
+  clampedOf,
   placedOf,
   clipOffsetAt,
   clipToDataOf,
@@ -140,6 +143,23 @@ fn raised(y: f32, length: f32) -> f32
     if y >= 0.0 { y } else { y + length }
 }
 
+// The samples since a clip's last change and `lead`, as the float that they add up to: up to 2^24 that is the float of a
+// whole number. A turn waits for floats more than for whole numbers.
+fn way(elapsed: usize, speed: f32) -> f32
+    requires { ⌜ T (not (isNan speed)) ⌝ }
+    ensures { λ r. ⌜ r ≡ add binary32 (asFloat elapsed) (leadOf speed) ⌝ }
+{
+    if elapsed < 0x100_0000 {
+        if f32::to_bits(speed) > 0x8000_0000 {
+            (elapsed + 1) as f32
+        } else {
+            elapsed as f32
+        }
+    } else {
+        binary32::usize_to_f32(elapsed) + lead(speed)
+    }
+}
+
 fn looped(x: f32, length: f32) -> f32
     ensures { λ r. ⌜ r ≡ loopedOf x length ⌝ }
 {
@@ -183,11 +203,16 @@ fn wrapped(mode: Mode, x: f32, length: f32) -> f32
     }
 }
 
+fn clamped(y: f32, length: f32) -> f32
+    ensures { λ r. ⌜ r ≡ clampedOf y length ⌝ }
+{
+    binary32::min(y, length - 1.0)
+}
+
 fn placed(mode: Mode, x: f32, length: f32) -> f32
     ensures { λ r. ⌜ r ≡ placedOf mode x length ⌝ }
 {
-    let y = wrapped(mode, x, length);
-    binary32::min(y, length - 1.0)
+    clamped(wrapped(mode, x, length), length)
 }
 
 // `looped`, `bounced` and `wrapped` by the remainder that may be left undone: where it is, they answer a number below 0.
@@ -462,6 +487,14 @@ impl Clip {
         }
     }
 
+    // `Standing::travel`, for a speed that is a number.
+    fn quick_travel(self, now: usize) -> f32
+        requires { ⌜ T (not (isNan (self .speed))) ⌝ }
+        ensures { λ r. ⌜ r ≡ travelAt self now ⌝ }
+    {
+        self.shift + way(self.elapsed_at(now), self.speed) * self.speed
+    }
+
     // The index now of a clip that none of the four parts of an update changes, where it is quickly worked out;
     // elsewhere NONE.
     pub fn quick_index(
@@ -476,9 +509,9 @@ impl Clip {
     {
         if self.same_values(length, speed, data_length) & (length > 0.0) {
             let old = self.mode;
-            let y = quick_wrapped(mode, old, self.standing_at(now).travel(), length);
+            let y = quick_wrapped(mode, old, self.quick_travel(now), length);
             if y >= 0.0 {
-                return quick_whole(self.start + binary32::min(y, length - 1.0), data_length);
+                return quick_whole(self.start + clamped(y, length), data_length);
             }
         }
         NONE
