@@ -1,6 +1,6 @@
 // What the engine needs of binary32 beyond the language's own operators: conversions, floor, minimum, maximum, size,
-// the crossing test, bit patterns and the square root. Each function takes every value of its arguments, and equals a
-// definition in specs/Leaves.antt.
+// the crossing test, bit patterns, the square root and a quick remainder. Each public function takes every value of its
+// arguments, and equals a definition in specs/Leaves.antt; the remainder may be left undone.
 ghost use mathlib.Core.Path.{_≡_};
 ghost use Prim.Native.Nat.{_+_, _*_, _^_, _≤_, _<_};
 ghost use lib.Dec.{T};
@@ -132,7 +132,7 @@ fn whole_part(x: f32) -> f32
 
 // `x % y` where it takes no more than a product, else a number below 0: x - q * y for a whole number q near x / y.
 // Whatever q is, that is x % y where it lies from 0 to below y. From 1.5 * 2^52 on an f64 has no room for a fraction,
-// so that q is whole; below 2^23 it has so few digits that q * y is exact.
+// so that q is whole; below 2^23 it has so few digits that q * y is exact; and below 0 it would leave y or more.
 pub fn rem_or_less(x: f32, y: f32) -> f32
     ensures { λ r. ⌜ OrLess (rem binary32 x y) r ⌝ }
 {
@@ -141,11 +141,7 @@ pub fn rem_or_less(x: f32, y: f32) -> f32
         let by = y as f64;
         let near = wide * (1.0 / by) - 0.49999999 + 6755399441055744.0;
         let left = wide - (near - 6755399441055744.0) * by;
-        if (near >= 6755399441055744.0)
-            & (near < 6755399449444352.0)
-            & (left >= 0.0)
-            & (left < by)
-        {
+        if (near < 6755399449444352.0) & (left >= 0.0) & (left < by) {
             left as f32
         } else {
             -1.0

@@ -96,7 +96,8 @@ pub record AnswerSkips (c : Clip) (now : ℕ) (l s d : Float) (m : Mode) : Type 
   pub data-length : eq d (c .«data_length») ≡ true
       → updateAllOf c now l s d m ≡ unlessRefused c now l d (withMode (withSpeed (withLength c now l) now s) now m)
   pub mode : sameMode m (c .mode) ≡ true
-      → updateAllOf c now l s d m ≡ unlessRefused c now l d (withDataLength (withSpeed (withLength c now l) now s) now d)
+      → updateAllOf c now l s d m
+      ≡ unlessRefused c now l d (withDataLength (withSpeed (withLength c now l) now s) now d)
 
 -- ---- the four public answers in turn: each is asked of the clip that the one before it left, and a refusal is carried on
 abbrev pub thenOf : ClipAnswer → (Clip → ClipAnswer) → ClipAnswer

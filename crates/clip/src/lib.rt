@@ -1,7 +1,8 @@
 // A clip: which part of a recording a voice plays, and where it is at a time. Each function equals a definition in
 // specs/. `made`, `good`, the functions that end in `_at` and those that begin with `with_` take every clip and every
-// time: they are for clips that are known to be good. `sounding` is `with_all` and `index_at` in one. Those under the
-// Rust's names, and `update_all`, first refuse bad arguments (number 7 of document 01), and then answer the same.
+// time: they are for clips that are known to be good. `sounding` is `with_all` and `index_at` in one, and `quick_index`
+// is `index_at` of a clip that `with_all` would not change, or no index. Those under the Rust's names, and
+// `update_all`, first refuse bad arguments (number 7 of document 01), and then answer the same.
 ghost use mathlib.Core.Path.{_≡_};
 ghost use mathlib.Core.Bool.{not};
 ghost use lib.Dec.{T};
@@ -143,8 +144,8 @@ fn raised(y: f32, length: f32) -> f32
     if y >= 0.0 { y } else { y + length }
 }
 
-// The samples since a clip's last change and `lead`, as the float that they add up to: up to 2^24 that is the float of a
-// whole number. A turn waits for floats more than for whole numbers.
+// The samples since a clip's last change and `lead`, as the float that they add up to: up to 2^24 that is the float of
+// a whole number. A turn waits for floats more than for whole numbers.
 fn way(elapsed: usize, speed: f32) -> f32
     requires { ⌜ T (not (isNan speed)) ⌝ }
     ensures { λ r. ⌜ r ≡ add binary32 (asFloat elapsed) (leadOf speed) ⌝ }
@@ -215,7 +216,8 @@ fn placed(mode: Mode, x: f32, length: f32) -> f32
     clamped(wrapped(mode, x, length), length)
 }
 
-// `looped`, `bounced` and `wrapped` by the remainder that may be left undone: where it is, they answer a number below 0.
+// `looped`, `bounced` and `wrapped` by the remainder that may be left undone: where it is, they answer a number below
+// 0, `quick_wrapped` also where the modes differ.
 fn quick_looped(x: f32, length: f32) -> f32
     ensures { λ r. ⌜ OrLess (loopedOf x length) r ⌝ }
 {
@@ -233,7 +235,6 @@ fn quick_bounced(x: f32, length: f32) -> f32
     if y >= 0.0 { folded(y, length) } else { y }
 }
 
-// Where the modes differ it answers so too.
 fn quick_wrapped(mode: Mode, old: Mode, x: f32, length: f32) -> f32
     ensures { λ r. ⌜ QuickWrapped mode old x length r ⌝ }
 {
