@@ -3,3 +3,5 @@ pub mod Starts
 pub mod Moves
 pub mod Kept
 pub mod Unmoved
+pub mod Plain
+pub mod Examples

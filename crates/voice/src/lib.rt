@@ -25,6 +25,7 @@ ghost use Rattle.voice.specs.Voices.{
   atSpeedOf,
   goodVoice,
 };
+ghost use Rattle.voice.specs.Plain.{goesOnOf, Quickly};
 use clip::Clip;
 use clip::Mode;
 use clip::Sounding;
@@ -60,6 +61,12 @@ pub struct Tick {
     pub mode: Mode,
     pub once: bool,
     pub note_off_behavior: NoteOffBehaviour,
+}
+
+// A turn taken the quick way, where it is plain; elsewhere `voice` is not to be looked at.
+pub struct Quick {
+    pub voice: Voice,
+    pub plain: bool,
 }
 
 impl Tick {
@@ -333,6 +340,61 @@ impl Voice {
             return self.volume_stepped(t.now);
         }
         self.sounded(t, data).settled(t)
+    }
+
+    // Whether a turn that leaves it as `next` neither ends it nor finds it to be removed, before or after.
+    fn goes_on(self, t: Tick, next: Self) -> bool
+        ensures { λ r. ⌜ r ≡ goesOnOf t self next ⌝ }
+    {
+        if next.played_out(t) {
+            return false;
+        }
+        if self.should_remove(t) {
+            return false;
+        }
+        !next.should_remove(t)
+    }
+
+    // Its whole sample, where that is plain: `turn`, quickly. The voice is made here and not by a call, which would copy
+    // all of it.
+    pub fn quick(self, t: Tick, data: &[u32]) -> Quick
+        ensures { λ r. ⌜ Quickly t (now («data» .entry)) self r ⌝ }
+    {
+        let otherwise = Quick {
+            voice: self,
+            plain: false,
+        };
+        let volume = self.volume;
+        if !volume.keeps(t.now) {
+            return otherwise;
+        }
+        let clip2 = self.clip2;
+        let mode = t.mode;
+        let speed = self.speed * t.speed;
+        let index = clip2.quick_index(t.now, t.length, speed, t.data_length, mode);
+        if clip::NONE <= index {
+            return otherwise;
+        }
+        let note = self.note;
+        let level = volume.level(t.now);
+        let value = recorded(data, index) * level;
+        let next = Self {
+            finished_at: self.finished_at,
+            last_sample_index: index,
+            clip2,
+            volume,
+            loop_start_percent: self.loop_start_percent,
+            played: self.played + speed,
+            last_sample_value: value,
+            speed: self.speed,
+            note,
+            finished: self.finished,
+            is_at_zero_crossing: binary32::crossing(value, self.last_sample_value),
+        };
+        Quick {
+            voice: next,
+            plain: self.goes_on(t, next),
+        }
     }
 
     // Whether the voice may stand in a record whose clock is at `now`.
