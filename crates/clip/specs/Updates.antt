@@ -137,7 +137,7 @@ abbrev pub withAll : Clip → ℕ → Float → Float → Float → Mode → Cli
 withAll c now length speed data-length mode =
     withMode (withDataLength (withSpeed (withLength c now length) now speed) now data-length) now mode
 
--- whether each of the four would be skipped
+-- whether each of the four would be skipped: the three floats' parts, and the mode's
 abbrev pub sameValues : Clip → Float → Float → Float → Bool
 sameValues c length speed data-length =
     eq length (c .length) && eq speed (c .speed) && eq data-length (c .«data_length»)
