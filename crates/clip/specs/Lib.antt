@@ -3,3 +3,4 @@ pub mod Updates
 pub mod Refusals
 pub mod Bounds
 pub mod Plain
+pub mod Quick

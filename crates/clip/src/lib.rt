@@ -36,6 +36,7 @@ ghost use Rattle.clip.specs.Updates.{
   withAll,
   sameAll,
 };
+ghost use Rattle.clip.specs.Quick.{QuickIndex};
 ghost use Rattle.clip.specs.Refusals.{
   goodLength,
   goodClip,
@@ -115,6 +116,9 @@ pub enum ReversingAnswer {
     Done(bool),
     Refused,
 }
+
+// The answer of `quick_index` that is no index.
+pub const NONE: usize = usize::MAX;
 
 // 2^48.
 const LAST_TIME: usize = 0x1_0000_0000_0000;
@@ -377,6 +381,25 @@ impl Clip {
         Sounding {
             clip,
             index: moved.index(),
+        }
+    }
+
+    // The index now of a clip that none of the four parts of an update changes, where it is quickly worked out;
+    // elsewhere NONE.
+    pub fn quick_index(
+        self,
+        now: usize,
+        length: f32,
+        speed: f32,
+        data_length: f32,
+        mode: Mode,
+    ) -> usize
+        ensures { λ r. ⌜ QuickIndex self now length speed «data_length» mode r ⌝ }
+    {
+        if self.same_all(length, speed, data_length, mode) {
+            self.index_at(now)
+        } else {
+            NONE
         }
     }
 

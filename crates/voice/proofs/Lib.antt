@@ -3,3 +3,4 @@ pub mod Starts
 pub mod Moves
 pub mod Kept
 pub mod Unmoved
+pub mod Plain

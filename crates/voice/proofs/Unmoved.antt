@@ -1,14 +1,14 @@
 -- A sample that agrees with a voice's clip leaves it: each of the four updates finds an equal value. Assumes nothing.
 use mathlib.Core.Path.{_≡_, ap, _∙_}
 use Prim.Native.Nat.{ℕ}
-use mathlib.Core.Bool.{Bool, true, _&&_}
+use mathlib.Core.Bool.{Bool, true, false, _&&_}
 use lib.Ieee.{Float, binary32, mul, eq}
 use lib.Ieee.Bits.{is-true}
 use lib.Ieee.Fits.{and-l, and-r}
 use Rattle.binary32.proofs.Truth.{yes}
 use Rattle.clip.specs.declared.Clip.{Clip}
 use Rattle.clip.specs.declared.Mode.{Mode}
-use Rattle.clip.specs.Updates.{sameMode, withLength, withSpeed, withDataLength, withMode}
+use Rattle.clip.specs.Updates.{sameMode, sameAll, withLength, withSpeed, withDataLength, withMode}
 use Rattle.clip.proofs.Equal.{with-length-equal, with-speed-equal, with-data-length-equal, with-mode-equal}
 use Rattle.voice.specs.Voices.{movedOf}
 use Rattle.voice.specs.Agreeing.{agreesOf}
@@ -37,3 +37,14 @@ unmoved t v h =
     let h₂ = and-r l (s && (d && m)) h₁ in
     let h₃ = and-r s (d && m) h₂ in
     all-equal c (t .now) (t .length) speed (t .«data_length») (t .mode) (is-true l (and-l l (s && (d && m)) h₁)) (is-true s (and-l s (d && m) h₂)) (is-true d (and-l d m h₃)) (is-true m (and-r d m h₃))
+
+-- the test of a clip's one update, and the sample's
+same-agrees : (a b c d : Bool) → (a && b && c && d) ≡ true → (a && (b && (c && d))) ≡ true
+same-agrees true true c d h = h
+same-agrees true false c d h = h
+same-agrees false b c d h = h
+
+pub agrees : (t : Tick) (v : Voice) → sameAll (v .clip2) (t .length) (mul binary32 (v .speed) (t .speed)) (t .«data_length») (t .mode) ≡ true → agreesOf t v ≡ true
+unfolding sameAll agreesOf
+agrees t v h =
+    same-agrees (eq (t .length) (v .clip2 .length)) (eq (mul binary32 (v .speed) (t .speed)) (v .clip2 .speed)) (eq (t .«data_length») (v .clip2 .«data_length»)) (sameMode (t .mode) (v .clip2 .mode)) h

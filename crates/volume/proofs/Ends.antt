@@ -6,10 +6,10 @@ use Prim.Native.Nat.{ℕ, zero, suc, _+_, _^_, _≤_, _<_}
 use native.Mathlib.Omega.{arith}
 use lib.IntN.{pos}
 use lib.Ieee.{Float, fin, eq}
-use borrow.Author.Tests.{le-leb, lt-leb}
+use borrow.Author.Tests.{le-leb, lt-leb, ltb-true, ltb-false}
 use Rattle.volume.specs.declared.Volume.{Volume}
 use Rattle.volume.specs.declared.Volume.the-variants.{Static, Linear}
-use Rattle.volume.specs.Levels.{isStaticOf, isStaticAndMuteOf, levelOf, towardOf, steppedOf}
+use Rattle.volume.specs.Levels.{isStaticOf, isStaticAndMuteOf, levelOf, towardOf, steppedOf, keepsOf}
 use Rattle.volume.proofs.Changes.{toward-at-once, toward-ramp}
 
 -- ---- steady
@@ -29,6 +29,17 @@ stepped-before a b x y now h = simp (lt-leb b now h)
 pub stepped-end : (a b : ℕ) (x y : Float) (now : ℕ) → b ≤ now → steppedOf (Linear a b x y) now ≡ Static y
 unfolding steppedOf
 stepped-end a b x y now h = simp (le-leb b now h)
+
+-- whether it keeps through a step is told by `keepsOf`, and only by it: where that fails, a ramp becomes steady
+pub stepped-keeps : (v : Volume) (now : ℕ) → keepsOf v now ≡ true → steppedOf v now ≡ v
+unfolding keepsOf
+stepped-keeps (Static x) now h = stepped-static x now
+stepped-keeps (Linear a b x y) now h = stepped-before a b x y now (ltb-true now b h)
+
+pub stepped-ends : (v : Volume) (now : ℕ) → keepsOf v now ≡ false → (isStaticOf v ≡ false) × (isStaticOf (steppedOf v now) ≡ true)
+unfolding keepsOf
+stepped-ends (Static x) now h = absurd (true≢false h)
+stepped-ends (Linear a b x y) now h = (refl, rw (stepped-end a b x y now (ltb-false now b h)))
 
 -- from when on a volume steps to a steady one
 abbrev pub endOf : Volume → ℕ

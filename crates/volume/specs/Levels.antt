@@ -55,6 +55,11 @@ unfoldable pub steppedOf : Volume → ℕ → Volume
 steppedOf (Static x) now = Static x
 steppedOf (Linear a b x y) now = cond (leb b now) (Static y) (Linear a b x y)
 
+-- whether that step changes nothing: it is steady, or its ramp isn't over yet
+unfoldable pub keepsOf : Volume → ℕ → Bool
+keepsOf (Static x) now = true
+keepsOf (Linear a b x y) now = ltb now b
+
 -- ---- refusals
 
 -- A ramp from a to b is good at a time that it has reached, if it is not empty and at most 2 ^ 24 samples long.

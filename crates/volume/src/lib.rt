@@ -12,6 +12,7 @@ ghost use Rattle.volume.specs.Levels.{
   laterOf,
   towardOf,
   steppedOf,
+  keepsOf,
   goodRamp,
   goodVolume,
   levelRefusedAt,
@@ -162,6 +163,16 @@ impl Volume {
                     }
                 }
             }
+        }
+    }
+
+    // Whether the step at that time changes nothing.
+    pub fn keeps(self, now: usize) -> bool
+        ensures { λ r. ⌜ r ≡ keepsOf self now ⌝ }
+    {
+        match self {
+            Volume::Static(_) => true,
+            Volume::Linear { time_end, .. } => now < time_end,
         }
     }
 

@@ -1,0 +1,55 @@
+-- Plain turns: those that change nothing of a voice but what it has just sounded and how far it has played. Most turns
+-- are plain, and there is a quick way for them. Definitions only. Assumes nothing.
+use mathlib.Core.Path.{_≡_}
+use Prim.Native.Nat.{ℕ}
+use mathlib.Core.Bool.{Bool, true, not, _&&_}
+use mathlib.Core.List.{List}
+use lib.Ieee.{Float, binary32, add, mul}
+use Rattle.binary32.specs.Leaves.{crossingOf}
+use Rattle.volume.specs.Levels.{levelOf, keepsOf}
+use Rattle.clip.specs.Positions.{indexAt}
+use Rattle.voice.specs.Voices.{recordedValueOf, soundedOf, playedOutOf, shouldRemoveOf, turnOf}
+use Rattle.voice.specs.Agreeing.{agreesOf}
+use Rattle.voice.specs.declared.Voice.{Voice}
+use Rattle.voice.specs.declared.Tick.{Tick}
+use Rattle.voice.specs.declared.Quick.{Quick}
+
+-- None of the four updates of the clip changes anything; the level is steady, or its ramp isn't over after the step;
+-- play-once doesn't finish the voice; and it isn't to be removed, neither before its turn nor after it.
+unfoldable pub plainOf : Tick → List ℕ → Voice → Bool
+plainOf t m v =
+    agreesOf t v
+    && (keepsOf (v .volume) (t .now)
+    && (not (playedOutOf t (soundedOf t m v))
+    && (not (shouldRemoveOf t v) && not (shouldRemoveOf t (turnOf t m v)))))
+
+-- the voice as it has sounded the sample at that index: four fields are new, and every other is what it was
+unfoldable pub soundedAt : Tick → List ℕ → Voice → ℕ → Voice
+soundedAt t m v index =
+    let value = mul binary32 (recordedValueOf m index) (levelOf (v .volume) (t .now)) in
+    record {
+      «finished_at» = v .«finished_at»;
+      «last_sample_index» = index;
+      clip2 = v .clip2;
+      volume = v .volume;
+      «loop_start_percent» = v .«loop_start_percent»;
+      played = add binary32 (v .played) (mul binary32 (v .speed) (t .speed));
+      «last_sample_value» = value;
+      speed = v .speed;
+      note = v .note;
+      finished = v .finished;
+      «is_at_zero_crossing» = crossingOf value (v .«last_sample_value»);
+    }
+
+-- and at its clip's own index: what a plain turn comes to
+abbrev pub glidedOf : Tick → List ℕ → Voice → Voice
+glidedOf t m v = soundedAt t m v (indexAt (v .clip2) (t .now))
+
+-- whether a turn that leaves the voice as w neither ends it nor finds it to be removed, before or after
+unfoldable pub goesOnOf : Tick → Voice → Voice → Bool
+goesOnOf t v w = not (playedOutOf t w) && (not (shouldRemoveOf t v) && not (shouldRemoveOf t w))
+
+-- What a quick turn promises: where it answers that the turn is plain, it is, and its voice is the voice after it.
+-- Elsewhere its voice is not to be looked at.
+abbrev pub Quickly : Tick → List ℕ → Voice → Quick → Type 0
+Quickly t m v r = r .plain ≡ true → (plainOf t m v ≡ true) × (r .voice ≡ turnOf t m v)
