@@ -43,6 +43,8 @@ pub enum Shown {
     Nothing,
     Record,
     Heard([f32; 3]),
+    /// The frames of a run that are done, and its entries.
+    Run(usize, Vec<f32>),
     Recordings,
     Count(usize),
     Flag(bool),
@@ -101,6 +103,7 @@ impl Engine {
             SAMPLE => self.sample(r),
             FRAME => self.frame(r, [float(r, FLOAT), float(r, FLOAT + 4), float(r, FLOAT + 8)]),
             FRAMES => self.frames(r),
+            RUN => self.run(r),
             PUT => {
                 self.put(r);
                 (0, Shown::Record)
@@ -207,6 +210,24 @@ impl Engine {
         last
     }
 
+    /// Plays a run frame by frame, and looks at the clocks before each.
+    fn run(&mut self, r: &Record) -> (u8, Shown) {
+        let mut entries = inputs(r);
+        let whole = |count: usize| count > 0 && entries.len() % count == 0;
+        let number = row(&[(9, self.broken() || self.short(r)), (10, !whole(self.count)), (4, beyond_limits(&self.params))]);
+        if number != 0 {
+            return (number, Shown::Run(0, entries));
+        }
+        let (count, asked) = (self.count, entries.len() / self.count);
+        let mut done = 0;
+        while done < asked && self.sampler.channels.iter().take(count).all(|c| inside::clock(c) < LAST_TIME) {
+            let mut frame: Vec<&mut f32> = entries[done * count..(done + 1) * count].iter_mut().collect();
+            self.dropping(0..count, |s, p| s.process_frame(&mut frame, p));
+            done += 1;
+        }
+        (if done < asked { 6 } else { 0 }, Shown::Run(done, entries))
+    }
+
     /// The lent memory is too short for the channels' parts.
     fn short(&self, r: &Record) -> bool {
         (r.u32_at(LENT) as usize).min(MEMORY) < self.count.saturating_mul(self.capacity)
@@ -290,6 +311,11 @@ impl Engine {
             Shown::Nothing => text.end(),
             Shown::Record => self.show_record(text),
             Shown::Heard(entries) => {
+                entries.iter().for_each(|x| text.float(*x));
+                self.show_record(text);
+            }
+            Shown::Run(done, entries) => {
+                text.put(8, done as u64);
                 entries.iter().for_each(|x| text.float(*x));
                 self.show_record(text);
             }

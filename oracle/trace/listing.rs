@@ -25,16 +25,19 @@ pub const ACTIVE_NOTES: u8 = 17;
 pub const VOICE_INFO: u8 = 18;
 pub const FRAMES: u8 = 19;
 pub const WAVEFORM: u8 = 20;
+pub const RUN: u8 = 21;
 
 /// The kinds by their numbers. Those in brackets are no calls.
-pub const NAMES: [&str; 21] = [
+pub const NAMES: [&str; 22] = [
     "set-up", "parameters", "start_playing", "stop_playing", "set_note_speed", "start_recording", "stop_recording", "reset", "process_sample",
     "process_frame", "(a field put)", "(recordings)", "get_frames_processed", "get_data_len", "is_recording", "get_last_recorded_offset",
-    "print_error_info", "iter_active_notes", "get_voice_info", "many of process_frame", "get_waveform_summary",
+    "print_error_info", "iter_active_notes", "get_voice_info", "many of process_frame", "get_waveform_summary", "process_frames",
 ];
 
 /// How many samples of memory the port has to lend.
 pub const MEMORY: usize = 65536;
+/// How many entries a run of frames has at most.
+pub const MOST_ENTRIES: usize = 2048;
 /// How many entries the lists for the error text, for the active notes and for the voice info have at most.
 pub const TEXT: usize = 64;
 pub const NOTES: usize = 34;
@@ -48,6 +51,7 @@ pub const NOTE_CHANNEL: usize = 2;
 pub const ENTRIES: usize = 1;
 pub const AUTO: usize = 1;
 pub const FLOAT: usize = 4;
+pub const SEED: usize = 4;
 pub const COUNT: usize = 4;
 pub const SECOND: usize = 8;
 pub const CHANNEL: usize = 8;
@@ -55,6 +59,7 @@ pub const SIZE: usize = 8;
 pub const COLUMNS: usize = 8;
 pub const ROOM: usize = 12;
 pub const TIMES: usize = 12;
+pub const RUN_LENGTH: usize = 12;
 pub const LENT: usize = 16;
 
 pub fn set_up(count: u32, auto: bool, memory: u32) -> Record {
@@ -81,6 +86,21 @@ pub fn frame(entries: u8, inputs: [u32; 3], lent: u32) -> Record {
 pub fn frames(entries: u8, first: u32, more: u32, times: u32, lent: u32) -> Record {
     let record = Record::new(FRAMES).with_u8(ENTRIES, entries).with_u32(LENT, lent);
     record.with_u32(FLOAT, first).with_u32(SECOND, more).with_u32(TIMES, times)
+}
+
+/// A run of so many entries, which both sides make from the seed.
+pub fn run(seed: u32, length: u32, lent: u32) -> Record {
+    Record::new(RUN).with_u32(SEED, seed).with_u32(RUN_LENGTH, length).with_u32(LENT, lent)
+}
+
+/// The entries of a run: each from the 24 high bits of a number that the one before it gives, from -1 to 1.
+pub fn inputs(r: &Record) -> Vec<f32> {
+    let mut x = r.u32_at(SEED);
+    let mut next = || {
+        x = x.wrapping_mul(1664525).wrapping_add(1013904223);
+        (x / 256) as f32 * 1.1920929e-7 - 1.0
+    };
+    (0..(r.u32_at(RUN_LENGTH) as usize).min(MOST_ENTRIES)).map(|_| next()).collect()
 }
 
 pub fn query(kind: u8, channel: u32, room: u32) -> Record {
@@ -118,6 +138,7 @@ pub fn describe(r: &Record) -> String {
             float(r, SECOND),
             r.u32_at(LENT)
         ),
+        RUN => format!("{} entries from the seed {}, {} samples lent", r.u32_at(RUN_LENGTH), r.u32_at(SEED), r.u32_at(LENT)),
         PUT => puts::describe(r),
         FRAMES_PROCESSED..=LAST_OFFSET => format!("channel {}", r.u32_at(CHANNEL)),
         ERROR_TEXT..=VOICE_INFO => format!("channel {}, room for {}", r.u32_at(CHANNEL), r.u32_at(ROOM)),

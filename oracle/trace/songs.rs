@@ -30,6 +30,7 @@ pub const STYLES: &[Style] = &[
     Style { name: "spoiled", share: 100, make: spoiled },
     Style { name: "late", share: 50, make: late },
     Style { name: "noise", share: 30, make: noise },
+    Style { name: "runs", share: 80, make: runs },
 ];
 
 const NOTES_USED: [(u8, u8); 4] = [(60, 0), (61, 0), (60, 1), (127, 15)];
@@ -334,6 +335,33 @@ fn late(s: &mut Song) {
     }
 }
 
+/// Runs of frames, with starts, stops and changes between them.
+fn runs(s: &mut Song) {
+    s.bad = s.r.pick(&[0, 0, 10]);
+    let room = s.r.pick(&[1, 8, 40, 100]);
+    s.begin(room);
+    if s.r.below(3) == 0 {
+        s.put_on();
+    }
+    s.call(START_RECORDING);
+    let n = s.r.below(2 * room);
+    s.run(n);
+    s.call(STOP_RECORDING);
+    for _ in 0..s.r.below(10) + 4 {
+        match s.r.below(5) {
+            0 => s.start(),
+            1 => s.single(),
+            _ => s.event(),
+        }
+        let n = s.r.below(9);
+        let n = s.r.pick(&[0, 1, 2, n, n, n, 64]);
+        s.run(n);
+    }
+    if s.r.below(20) == 0 {
+        s.run(1000);
+    }
+}
+
 /// Records of random bytes, with kinds that there are.
 fn noise(s: &mut Song) {
     let room = s.r.below(50) + 1;
@@ -352,6 +380,7 @@ fn noise(s: &mut Song) {
             PUT => s.put_on(),
             SAMPLE | FRAME => s.records.push(record.with_u32(LENT, MEMORY as u32)),
             FRAMES => s.records.push(record.with_u32(LENT, MEMORY as u32).with_u32(TIMES, 3)),
+            RUN => s.records.push(record.with_u32(LENT, MEMORY as u32).with_u32(RUN_LENGTH, 6)),
             _ => s.records.push(record),
         }
         s.frames(1);
@@ -484,6 +513,16 @@ impl Song {
         }
     }
 
+    /// A run of n frames; now and then of an entry more.
+    fn run(&mut self, n: u64) {
+        let more = (self.chance(self.bad) || self.r.below(24) == 0) as u64;
+        let (seed, lent) = (self.r.bits() as u32, self.lent());
+        self.records.push(run(seed, (n * self.count + more) as u32, lent));
+        for _ in 0..n {
+            self.stepped();
+        }
+    }
+
     fn stepped(&mut self) {
         if let Some(write) = self.recorder.as_mut().filter(|w| **w < self.room) {
             *write += 1;
@@ -593,7 +632,7 @@ impl Song {
 
     /// Every kind of call about equally often.
     fn any(&mut self) {
-        match self.r.below(16) {
+        match self.r.below(17) {
             0 => self.call(START_RECORDING),
             1 => self.call(STOP_RECORDING),
             2 => self.call(RESET),
@@ -604,6 +643,7 @@ impl Song {
             8 | 9 => self.start(),
             10 => self.settings(),
             11 => self.many(2),
+            12 => self.run(2),
             _ => {
                 let kind = FRAMES_PROCESSED + self.r.below(7) as u8;
                 self.query(kind);

@@ -11,7 +11,7 @@ const LENT_MEMORY: u32 = 16;
 const MOST_VOICES: usize = 32;
 
 pub fn listing() -> Vec<Record> {
-    [refused_set_ups(), rows(), full(), clock_end(), emptied(), broken(), broken_sizes(), judged(), waveforms()].concat()
+    [refused_set_ups(), rows(), full(), clock_end(), emptied(), broken(), broken_sizes(), judged(), waveforms(), runs(), runs_refused(), runs_at_the_end()].concat()
 }
 
 /// Row 9: after each refused set-up every call is refused.
@@ -133,6 +133,40 @@ fn waveforms() -> Vec<Record> {
     l
 }
 
+/// Runs of no frame to 1,000, with starts and stops between them, and a recording that reaches its capacity within one.
+fn runs() -> Vec<Record> {
+    let mut l = begun();
+    l.extend([press(0.0), run(1, 0, LENT_MEMORY), run(2, 2, LENT_MEMORY), press(0.5), run(3, 4, LENT_MEMORY), of_note(STOP, KEY)]);
+    l.extend([run(4, 128, LENT_MEMORY), plain(START_RECORDING), run(5, 8, LENT_MEMORY), run(6, 24, LENT_MEMORY), plain(STOP_RECORDING)]);
+    l.extend([plain(RECORDINGS), press(0.25), run(7, 2000, LENT_MEMORY), plain(RESET), run(8, 4, LENT_MEMORY)]);
+    l.extend([set_up(1, true, LENT_MEMORY), plain(START_RECORDING), run(9, 3, LENT_MEMORY), plain(STOP_RECORDING), press(0.0), run(10, 5, LENT_MEMORY)]);
+    l
+}
+
+/// 9, then 10, then 4, then 6: each with the rows behind it.
+fn runs_refused() -> Vec<Record> {
+    let mut l = begun();
+    l.extend([press(0.0), run(1, 3, LENT_MEMORY), run(1, 3, LENT_MEMORY - 1), run(1, 4, LENT_MEMORY - 1)]);
+    l.extend([settings(4.0, (1 << 24) + 1), run(1, 3, LENT_MEMORY), run(1, 4, LENT_MEMORY), run(1, 0, LENT_MEMORY), run(1, 0, LENT_MEMORY - 1)]);
+    l.extend([put(CLOCKS, u64::MAX), run(1, 4, LENT_MEMORY), settings(4.0, 0), run(1, 4, LENT_MEMORY), run(1, 3, LENT_MEMORY)]);
+    l.extend([run(1, 0, LENT_MEMORY), put(CHANNELS, 0), run(1, 4, LENT_MEMORY), run(1, 3, LENT_MEMORY)]);
+    l
+}
+
+/// The clock ends within a run: 2^48 - 3 on both channels, then 2^48 - 3 and 2^48 - 1.
+fn runs_at_the_end() -> Vec<Record> {
+    let before_end = |channel: u8, n: u64| of(channel, 0, put(CLOCK, n.wrapping_neg()));
+    let mut l = begun();
+    l.extend([press(0.0), before_end(0, 3), before_end(1, 3), run(1, 10, LENT_MEMORY), run(2, 2, LENT_MEMORY)]);
+    l.extend(begun());
+    l.extend([press(0.0), before_end(0, 3), before_end(1, 1), run(3, 10, LENT_MEMORY), sound(0), run(4, 4, LENT_MEMORY)]);
+    l.extend(begun());
+    l.extend([before_end(0, 1), before_end(1, 3), run(5, 6, LENT_MEMORY), plain(RECORDINGS)]);
+    l.extend(begun());
+    l.extend([before_end(0, 3), before_end(1, 3), run(6, 6, LENT_MEMORY), run(7, 0, LENT_MEMORY)]);
+    l
+}
+
 /// A voice that sounds and one that decays.
 fn sounding(channels: u32) -> Vec<Record> {
     let mut l = vec![set_up(channels, false, LENT_MEMORY), settings(4.0, 0).with_u64(params::DECAY, 1 << 24), plain(START_RECORDING)];
@@ -153,7 +187,7 @@ fn begun() -> Vec<Record> {
 /// Every call after set-up once; the reset comes last.
 fn each_call(note: (u8, u8), channel: u32, lent: u32) -> Vec<Record> {
     let mut l = vec![start(note, level(0.0), level(1.0)), of_note(NOTE_SPEED, note).with_u32(FLOAT, level(0.5))];
-    l.extend([plain(START_RECORDING), sample(channel, level(0.5), lent), whole_frame(1, lent), plain(STOP_RECORDING)]);
+    l.extend([plain(START_RECORDING), sample(channel, level(0.5), lent), whole_frame(1, lent), run(1, 2, lent), plain(STOP_RECORDING)]);
     l.extend((FRAMES_PROCESSED..=VOICE_INFO).map(|kind| query(kind, channel, 64)));
     l.extend([waveform(3, 3, lent), of_note(STOP, note), plain(RESET)]);
     l

@@ -55,7 +55,7 @@ impl Tally {
     pub fn call(&mut self, kind: u8, number: u8, before: &Census, after: &Census, params: &Params, length_kind: u8) {
         self.calls += 1;
         self.answers[kind as usize][number as usize] += 1;
-        if number != 0 {
+        if number != 0 && !(kind == RUN && number == 6) {
             return;
         }
         match kind {
@@ -70,7 +70,7 @@ impl Tally {
             NOTE_SPEED => self.met("voices", "there at a note speed", before.voices),
             STOP_RECORDING => self.met("recordings", "cut or emptied by a stop", (after.recorded < before.recorded) as usize),
             RESET => self.met("voices", "gone by a reset", before.voices),
-            SAMPLE | FRAME | FRAMES => self.samples(before, after, params, length_kind),
+            SAMPLE | FRAME | FRAMES | RUN => self.samples(before, after, params, length_kind),
             _ => (),
         }
     }
@@ -134,7 +134,7 @@ impl Tally {
     }
 
     pub fn print(&self) {
-        let numbers = [0, 1, 2, 3, 4, 5, 6, 8, 9, 11];
+        let numbers = [0, 1, 2, 3, 4, 5, 6, 8, 9, 10, 11];
         println!("{:<26}{}{:>10}", "answers", numbers.iter().map(|n| format!("{n:>10}")).collect::<String>(), "made");
         for ((name, counts), made) in NAMES.iter().zip(&self.answers).zip(self.times()) {
             let cells = numbers.iter().map(|n| counts[*n]).chain([made]);

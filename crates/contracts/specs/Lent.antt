@@ -119,7 +119,7 @@ pub record Lent (m : List ℕ) : Type 2 where
   pub process-frame : Ensures process-frame.ended process-frame-code.routine
       (λ κs (s, (entries, (params, (memory, _)))) r (left, (played, (_, (written, _)))).
       Allows (on (lying (now s) (now memory)) (frame (now entries) params))
-      (record { answer = answer (now left) r; frame = now played; memory = now written }))
+      (record { answer = record { sampler = now left; number = r }; frame = now played; memory = now written }))
   pub get-frames-processed : Ensures get-frames-processed.ended get-frames-processed-code.routine
       (λ κs (s, (channel, _)) r _. Allows (on (lying (now s) m) (asks (getFramesProcessed channel))) r)
   pub get-data-len : Ensures get-data-len.ended get-data-len-code.routine

@@ -23,7 +23,7 @@ ghost use Rattle.promises.specs.Runs.{
   frame as frameCall,
   asks,
 };
-ghost use Rattle.promises.specs.Outcomes.{new as setUpCall, on, Allows};
+ghost use Rattle.promises.specs.Outcomes.{new as setUpCall, on, along, Allows};
 use channel::Change;
 use common_types::InitParams;
 use common_types::Note;
@@ -34,6 +34,8 @@ use questions::Told;
 use questions::VoiceInfos;
 use questions::WaveformSummary;
 use sampler::Answer;
+use sampler::FrameAnswer;
+use sampler::RunAnswer;
 use sampler::SampleAnswer;
 use sampler::Sampler;
 
@@ -99,12 +101,25 @@ pub fn process_sample(
     s.process_sample(channel, input, params, memory)
 }
 
-pub fn process_frame(s: Sampler, frame: &mut [f32], params: Params, memory: &mut [u32]) -> Answer
+pub fn process_frame(
+    s: Sampler,
+    frame: &mut [f32],
+    params: Params,
+    memory: &mut [u32],
+) -> FrameAnswer
     ensures { λ r. ⌜ Allows
         (on (record { sampler = s; memory = now (memory .entry) }) (frameCall (now (frame .entry)) params))
         (record { answer = r; frame = now (frame .exit); memory = now (memory .exit) }) ⌝ }
 {
     s.process_frame(frame, params, memory)
+}
+
+pub fn process_frames(s: Sampler, run: &mut [f32], params: Params, memory: &mut [u32]) -> RunAnswer
+    ensures { λ r. ⌜ Allows
+        (along (record { sampler = s; memory = now (memory .entry) }) (now (run .entry)) params)
+        (record { answer = r; run = now (run .exit); memory = now (memory .exit) }) ⌝ }
+{
+    s.process_frames(run, params, memory)
 }
 
 pub fn get_frames_processed(s: Sampler, channel: usize) -> Counted

@@ -27,6 +27,9 @@ use Rattle.channel.proofs.Head as E
 use Rattle.channel.proofs.Head.Laws as E′
 use Rattle.channel.proofs.Channel as C
 use Rattle.channel.proofs.Channel.Laws as C′
+use Rattle.lent_channel.specs.declared.Heard.{Heard}
+use Rattle.lent_channel.proofs.Heard as Y
+use Rattle.lent_channel.proofs.Heard.Laws as Y′
 use Rattle.lent_channel.proofs.Bytes.{voice-bytes}
 
 -- the machine values
@@ -38,6 +41,9 @@ vv v = LL.val R.the-type R′.the-laws v
 
 abbrev pub ev : Head → Val
 ev t = LL.val E.the-type E′.the-laws t
+
+abbrev pub yv : Heard → Val
+yv r = LL.val Y.the-type Y′.the-laws r
 
 -- where voice i of a channel at o stands
 abbrev pub spot : ℕ → ℕ → ℕ

@@ -3,6 +3,7 @@ use Prim.Native.Nat.{ℕ, min}
 use mathlib.Core.Bool.{Bool, false, _&&_, cond}
 use mathlib.Core.List.{List}
 use lib.Dec.{leb, eqb}
+use lib.Ieee.{Float}
 use Rattle.common_types.specs.declared.Params.{Params}
 use Rattle.common_types.specs.declared.NoteOffBehaviour.the-variants.{Decay}
 use Rattle.clip.specs.declared.Mode.the-variants.{Loop}
@@ -12,9 +13,10 @@ use Rattle.voice.specs.Voices.{tickOf}
 use Rattle.channel.specs.declared.Head.{Head}
 use Rattle.channel.specs.declared.Channel.{Channel}
 use Rattle.channel.specs.declared.Played.{Played}
-use Rattle.channel.specs.Heads.{goodHead}
+use Rattle.channel.specs.Heads.{goodHead, mixedOf}
 use Rattle.channel.specs.Channels.{playedOf}
 use Rattle.lent_channel.specs.declared.Start.{Start}
+use Rattle.lent_channel.specs.declared.Heard.{Heard}
 
 -- how many voices take a turn: none if the recording is empty, otherwise as many as there are, and never more than
 -- there are places
@@ -48,6 +50,14 @@ voicesLeftOf turns kept count = cond (eqb turns 0) count kept
 -- its head doesn't have yet
 unfoldable pub playedBy : Params → ℕ → ℕ → List ℕ → Channel → Played
 playedBy p time len m c = cond (eqb len 0) (record { channel = c; output = zero32 }) (playedOf (tickOf p time len) m c)
+
+-- what of a channel's sample goes up to the frame: all but the channel
+abbrev pub heardOf : Played → Heard
+heardOf r = record { output = r .output }
+
+-- what the voices gave, mixed with the input as the head says
+abbrev pub mixedWith : Head → Float → Heard → Heard
+mixedWith t x h = record { output = mixedOf x (h .output) t }
 
 -- what of a good channel isn't said of its voices
 unfoldable pub headGoodOf : ℕ → Head → ℕ → Bool

@@ -12,7 +12,16 @@ ghost use Rattle.channel.specs.Channels.{
   goodVoicesOf,
   goodChannel,
 };
-ghost use Rattle.lent_channel.specs.Turns.{unusedTick, turnCountOf, sharedOf, voicesLeftOf, playedBy, headGoodOf};
+ghost use Rattle.lent_channel.specs.Turns.{
+  unusedTick,
+  turnCountOf,
+  sharedOf,
+  voicesLeftOf,
+  playedBy,
+  headGoodOf,
+  heardOf,
+  mixedWith,
+};
 use channel::Channel;
 use channel::Head;
 use clip::Mode;
@@ -25,6 +34,11 @@ use voice::Voice;
 pub struct Start {
     pub tick: Tick,
     pub turns: usize,
+}
+
+// What a sample of a channel hands up to the frame.
+pub struct Heard {
+    pub output: f32,
 }
 
 // What stands where no voice takes a turn: no voice sees it, and nothing is worked out for it.
@@ -141,8 +155,8 @@ pub fn good(c: &Channel, capacity: usize) -> bool
 // Each voice takes its turn if the recording isn't empty; those that are then to be removed leave, and the others move
 // up in order. The clock and the recording's length are those that the head will have: it is stored once, at the
 // sample's end.
-fn play(c: &mut Channel, time: usize, data_len: usize, params: Params, data: &[u32]) -> f32
-    ensures { λ r. ⌜ (r ≡ playedBy params time «data_len» (now («data» .entry)) (now (c .entry)) .output)
+fn play(c: &mut Channel, time: usize, data_len: usize, params: Params, data: &[u32]) -> Heard
+    ensures { λ r. ⌜ (r ≡ heardOf (playedBy params time «data_len» (now («data» .entry)) (now (c .entry))))
         × (now (c .exit) ≡ playedBy params time «data_len» (now («data» .entry)) (now (c .entry)) .channel) ⌝ }
 {
     let b = begun(time, data_len, c.count, params);
@@ -163,11 +177,20 @@ fn play(c: &mut Channel, time: usize, data_len: usize, params: Params, data: &[u
         i = i + 1;
     }
     c.count = counted(n, k, c.count);
-    output
+    Heard { output }
 }
 
-pub fn with_sample(c: &mut Channel, params: Params, input: f32, data: &mut [u32]) -> f32
-    ensures { λ r. ⌜ (r ≡ processSampleOf params input (now (c .entry)) (now («data» .entry)) .output)
+// What the voices gave, mixed with the input.
+fn mixed(head: Head, input: f32, heard: Heard) -> Heard
+    ensures { λ r. ⌜ r ≡ mixedWith head input heard ⌝ }
+{
+    Heard {
+        output: head.mixed(input, heard.output),
+    }
+}
+
+pub fn with_sample(c: &mut Channel, params: Params, input: f32, data: &mut [u32]) -> Heard
+    ensures { λ r. ⌜ (r ≡ heardOf (processSampleOf params input (now (c .entry)) (now («data» .entry))))
         × (now (c .exit) ≡ processSampleOf params input (now (c .entry)) (now («data» .entry)) .channel)
         × (now («data» .exit) ≡ memoryOf input (now (c .entry)) (now («data» .entry))) ⌝ }
 {
@@ -176,5 +199,5 @@ pub fn with_sample(c: &mut Channel, params: Params, input: f32, data: &mut [u32]
     let played = play(c, recorded.now, recorded.data_len, params, data);
     let unfinished = any_unfinished(c, false);
     c.head = recorded.closed(params, unfinished);
-    recorded.mixed(input, played)
+    mixed(recorded, input, played)
 }

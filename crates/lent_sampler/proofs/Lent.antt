@@ -1,7 +1,8 @@
 -- The sampler and what its calls answer, as rows of `Rows.antt`.
 use mathlib.Core.Path.{_≡_, refl, ap}
 use Prim.Native.Nat.{ℕ}
-use mir.Syntax.{w8}
+use mir.Syntax.{w8, tnil}
+use mir.Val.{vnil}
 use denote.Steps.{only}
 use denote.Struct.Laws as LL
 use Rattle.sampler.proofs.Sampler as T
@@ -30,10 +31,12 @@ use Rattle.questions.proofs.VoiceInfos as L
 use Rattle.questions.proofs.VoiceInfos.Laws as L′
 use Rattle.questions.proofs.WaveformSummary as Q
 use Rattle.questions.proofs.WaveformSummary.Laws as Q′
+use Rattle.lent_channel.proofs.Heard as Up
+use Rattle.lent_channel.proofs.Heard.Laws as Up′
 use Rattle.channel.specs.declared.Change.{Change}
 use Rattle.sampler.specs.declared.Sampler.{Sampler}
 use Rattle.sampler.specs.Samplers.{changeOf}
-use Rattle.lent_channel.proofs.Rows.{Datum, struct, enum, word, Answering}
+use Rattle.lent_channel.proofs.Rows.{Datum, struct, enum, word, Answering, Sounding}
 
 abbrev pub sampler : Datum
 sampler = struct T.the-type T′.the-laws T′.the-plain
@@ -92,6 +95,19 @@ sampling = record {
   tells = λ r v is. ap only (LL.tells Z.the-type Z′.the-laws r _ is);
   owed = λ r v is. (LL.owed Z.the-type Z′.the-laws r _ is .0, LL.owed Z.the-type Z′.the-laws r _ is .1 .0);
   typed = λ 𝓤 H A W r v is. LL.lawful Z.the-type Z′.the-laws 𝓤 H A W .typed r _ is .0;
+}
+
+-- what a channel's sample hands up: a field more of it is one more in `others` and `behind`
+abbrev pub sounded : Sounding
+sounded = record {
+  like = Up.the-row;
+  name = Up.struct .name;
+  others = tnil;
+  output = λ r. r .output;
+  behind = λ r. vnil;
+  tells = λ r v is. ap only (LL.tells Up.the-type Up′.the-laws r _ is);
+  owed = λ r v is. LL.owed Up.the-type Up′.the-laws r _ is .0;
+  typed = λ 𝓤 H A W r v is. LL.lawful Up.the-type Up′.the-laws 𝓤 H A W .typed r _ is .0;
 }
 
 -- what `change` ensures: the record at entry, the change, the number and the record at exit

@@ -57,13 +57,13 @@ use Rattle.walks.proofs.Steps.Rounds.{rounds}
 use Rattle.lent_channel.proofs.Bytes.{channel-bytes}
 use Rattle.sampler.proofs.Parts.{starts-at}
 use Rattle.lent_sampler.proofs.Bytes.{capacity-at}
-use Rattle.lent_channel.proofs.Rows.{Datum, row, lies}
+use Rattle.lent_channel.proofs.Rows.{Datum, row, lies, Sounding, sounding-ty, sounding-row}
 use Rattle.lent_sampler.proofs.Seats.{Seats, seat}
 
-pub record Turning (T C P : Datum) (S : Seats T C) : Type 1 where
+pub record Turning (T C P : Datum) (Y : Sounding) (S : Seats T C) : Type 1 where
   pub numberOf : T .like .Denot → ℕ → P .like .Denot → ℕ → ℕ
   pub stepsOf : ℕ → ℕ → ℕ
-  pub sounds : P .like .Denot → Float → C .like .Denot → List ℕ → Float
+  pub sounds : P .like .Denot → Float → C .like .Denot → List ℕ → Y .like .Denot
   pub plays : P .like .Denot → Float → C .like .Denot → List ℕ → C .like .Denot
   pub records : Float → C .like .Denot → List ℕ → List ℕ
   pub Leaves : T .like .Denot → List Float → P .like .Denot → List ℕ → T .like .Denot → List Float → List ℕ → Type 0
@@ -77,11 +77,11 @@ pub record Turning (T C P : Datum) (S : Seats T C) : Type 1 where
   pub keeps : (x : Float) (c : C .like .Denot) (k : List ℕ) → length (records x c k) ≡ length k
   pub on : (s : T .like .Denot) (l : List Float) (p : P .like .Denot) (m : List ℕ) (i : ℕ) (t : T .like .Denot) (io : List Float) (k : List ℕ) → Turned s l p m i t io k → i < stepsOf (numberOf s (length l) p (length m)) (length l)
       → (a : ℕ) → a ≡ i * S .capacity s
-      → Turned s l p m (suc i) (S .changed t i (plays p (getD io i nan) (S .channel t i) (midOf a (a + S .capacity s - a) k))) (set io i (sounds p (getD io i nan) (S .channel t i) (midOf a (a + S .capacity s - a) k)))
+      → Turned s l p m (suc i) (S .changed t i (plays p (getD io i nan) (S .channel t i) (midOf a (a + S .capacity s - a) k))) (set io i (Y .output (sounds p (getD io i nan) (S .channel t i) (midOf a (a + S .capacity s - a) k))))
       (putMid a (a + S .capacity s - a) k (records (getD io i nan) (S .channel t i) (midOf a (a + S .capacity s - a) k)))
   pub ends : (s : T .like .Denot) (l : List Float) (p : P .like .Denot) (m : List ℕ) (i : ℕ) (t : T .like .Denot) (io : List Float) (k : List ℕ) → Turned s l p m i t io k → i ≡ stepsOf (numberOf s (length l) p (length m)) (length l) → Leaves s l p m t io k
 
-module _ (T C P : Datum) (S : Seats T C) (#number #steps #start #sample : Name) (Z : Turning T C P S) where
+module _ (T C P : Datum) (Y : Sounding) (S : Seats T C) (#number #steps #start #sample : Name) (Z : Turning T C P Y S) where
   abbrev Tr : RattleType
   Tr = row T
 
@@ -106,7 +106,7 @@ module _ (T C P : Datum) (S : Seats T C) (#number #steps #start #sample : Name) 
       seq (call #sample (copy (place 19 []) ∷ copy (place 3 []) ∷ copy (place 22 []) ∷ copy (place 24 []) ∷ copy (place 10 []) ∷ copy (place 11 []) ∷ []) (place 15 [])) (
       seq (assign (place 25 []) (op2 (mul unsigned) (copy (place 9 [])) (int w64 4))) (
       seq (assign (place 26 []) (op2 offset (copy (place 2 (field 0 ∷ []))) (copy (place 25 [])))) (
-      seq (assign (place 26 (deref (tyFloat binary32) ∷ [])) (rvOpd (copy (place 15 [])))) (
+      seq (assign (place 26 (deref (tyFloat binary32) ∷ [])) (rvOpd (copy (place 15 (field 0 ∷ []))))) (
       assign (place 9 []) (op2 (add unsigned) (copy (place 9 [])) (int w64 1)))))))))))))))))))
 
   abbrev after : Body
@@ -118,7 +118,7 @@ module _ (T C P : Datum) (S : Seats T C) (#number #steps #start #sample : Name) 
     lifetimes = 3;
     outlives = [];
     params = 4;
-    locals = local (tyInt w8) valueLocal ∷ local (tyRef (named 0) mut (pointee (T .like .written))) valueLocal ∷ local (sliceTy (tyRef (named 1) mut (tyFloat binary32))) valueLocal ∷ local (P .ty) valueLocal ∷ local (sliceTy (tyRef (named 2) mut (tyInt w32))) valueLocal ∷ local (tyInt w64) valueLocal ∷ local (tyInt w8) valueLocal ∷ local (tyInt w64) valueLocal ∷ local (tyInt w64) valueLocal ∷ local (tyInt w64) valueLocal ∷ local (tyInt w64) valueLocal ∷ local (tyInt w64) valueLocal ∷ local (tyRef erased imm (pointee (T .like .written))) valueLocal ∷ local (tyInt w64) valueLocal ∷ local (tyBool) valueLocal ∷ local (tyFloat binary32) valueLocal ∷ local (tyInt w64) valueLocal ∷ local (tyPtr) valueLocal ∷ local (tyPtr) valueLocal ∷ local (tyRef erased mut (pointee (C .like .written))) valueLocal ∷ local (tyInt w64) valueLocal ∷ local (tyPtr) valueLocal ∷ local (tyFloat binary32) valueLocal ∷ local (tyRef erased mut (tyInt w32)) valueLocal ∷ local (sliceTy (tyRef erased mut (tyInt w32))) valueLocal ∷ local (tyInt w64) valueLocal ∷ local (tyPtr) valueLocal ∷ [];
+    locals = local (tyInt w8) valueLocal ∷ local (tyRef (named 0) mut (pointee (T .like .written))) valueLocal ∷ local (sliceTy (tyRef (named 1) mut (tyFloat binary32))) valueLocal ∷ local (P .ty) valueLocal ∷ local (sliceTy (tyRef (named 2) mut (tyInt w32))) valueLocal ∷ local (tyInt w64) valueLocal ∷ local (tyInt w8) valueLocal ∷ local (tyInt w64) valueLocal ∷ local (tyInt w64) valueLocal ∷ local (tyInt w64) valueLocal ∷ local (tyInt w64) valueLocal ∷ local (tyInt w64) valueLocal ∷ local (tyRef erased imm (pointee (T .like .written))) valueLocal ∷ local (tyInt w64) valueLocal ∷ local (tyBool) valueLocal ∷ local (sounding-ty Y) valueLocal ∷ local (tyInt w64) valueLocal ∷ local (tyPtr) valueLocal ∷ local (tyPtr) valueLocal ∷ local (tyRef erased mut (pointee (C .like .written))) valueLocal ∷ local (tyInt w64) valueLocal ∷ local (tyPtr) valueLocal ∷ local (tyFloat binary32) valueLocal ∷ local (tyRef erased mut (tyInt w32)) valueLocal ∷ local (sliceTy (tyRef erased mut (tyInt w32))) valueLocal ∷ local (tyInt w64) valueLocal ∷ local (tyPtr) valueLocal ∷ [];
     body =
         seq (assign (place 5 []) (rvOpd (copy (place 2 (field 1 ∷ []))))) (
         seq (assign (place 12 []) (addrOf (place 1 (deref (T .ty) ∷ [])))) (
@@ -169,12 +169,12 @@ module _ (T C P : Datum) (S : Seats T C) (#number #steps #start #sample : Name) 
 
   abbrev sample-ended : Ended
   sample-ended = record {
-    signature = record { lifetimes = 2; outlives = []; params = RefMutOf (0 ∷ []) tt (plain (λ _. Cr)) (λ _. tt) ∷ plain (λ _. row P) ∷ plain (λ _. f32) ∷ SliceRefMutOf (1 ∷ []) tt (plain (λ _. u32)) (λ _. tt) ∷ plain (λ _. usize) ∷ plain (λ _. usize) ∷ []; result = plain (λ _. f32) };
+    signature = record { lifetimes = 2; outlives = []; params = RefMutOf (0 ∷ []) tt (plain (λ _. Cr)) (λ _. tt) ∷ plain (λ _. row P) ∷ plain (λ _. f32) ∷ SliceRefMutOf (1 ∷ []) tt (plain (λ _. u32)) (λ _. tt) ∷ plain (λ _. usize) ∷ plain (λ _. usize) ∷ []; result = plain (λ _. sounding-row Y) };
     kept = (yes, (yes, (yes, (yes, (yes, (yes, tt))))));
   }
 
   -- what `#sample` leaves of a channel c, of the memory k and of the entry x, on the part from a to e
-  abbrev Sampled : P .like .Denot → Float → C .like .Denot → List ℕ → ℕ → ℕ → Float → C .like .Denot → List ℕ → Type 0
+  abbrev Sampled : P .like .Denot → Float → C .like .Denot → List ℕ → ℕ → ℕ → Y .like .Denot → C .like .Denot → List ℕ → Type 0
   Sampled p x c k a e r c′ k′ = (r ≡ Z .sounds p x c (midOf a (e - a) k)) × (c′ ≡ Z .plays p x c (midOf a (e - a) k)) × (k′ ≡ putMid a (e - a) k (Z .records x c (midOf a (e - a) k)))
 
   abbrev sample-clauses : {M : Type 1} (𝓤 : URA M) → Clauses 𝓤 sample-ended
@@ -323,7 +323,7 @@ module _ (T C P : Datum) (S : Seats T C) (#number #steps #start #sample : Name) 
         abbrev En : Env 𝓤 H
         En = (tyInt w8, l₀) ∷ (tyRef (named 0) mut (pointee (T .like .written)), l₁) ∷ (sliceTy (tyRef (named 1) mut (tyFloat binary32)), l₂) ∷ (P .ty, l₃) ∷ (sliceTy (tyRef (named 2) mut (tyInt w32)), l₄) ∷
             (tyInt w64, l₅) ∷ (tyInt w8, l₆) ∷ (tyInt w64, l₇) ∷ (tyInt w64, l₈) ∷ (tyInt w64, l₉) ∷ (tyInt w64, l₁₀) ∷ (tyInt w64, l₁₁) ∷ (tyRef erased imm (pointee (T .like .written)), l₁₂) ∷
-            (tyInt w64, l₁₃) ∷ (tyBool, l₁₄) ∷ (tyFloat binary32, l₁₅) ∷ (tyInt w64, l₁₆) ∷ (tyPtr, l₁₇) ∷ (tyPtr, l₁₈) ∷ (tyRef erased mut (pointee (C .like .written)), l₁₉) ∷
+            (tyInt w64, l₁₃) ∷ (tyBool, l₁₄) ∷ (sounding-ty Y, l₁₅) ∷ (tyInt w64, l₁₆) ∷ (tyPtr, l₁₇) ∷ (tyPtr, l₁₈) ∷ (tyRef erased mut (pointee (C .like .written)), l₁₉) ∷
             (tyInt w64, l₂₀) ∷ (tyPtr, l₂₁) ∷ (tyFloat binary32, l₂₂) ∷ (tyRef erased mut (tyInt w32), l₂₃) ∷ (sliceTy (tyRef erased mut (tyInt w32)), l₂₄) ∷ (tyInt w64, l₂₅) ∷
             (tyPtr, l₂₆) ∷ []
 
@@ -337,7 +337,7 @@ module _ (T C P : Datum) (S : Seats T C) (#number #steps #start #sample : Name) 
             ‵ (fobs γ₁ (codedHoleys f32 .code (heres f32 l))) ∷ ‵ (fauth γ₁ (codedHoleys f32 .code (heres f32 l))) ∷ ‵ ftrue ∷ ‵ (fdies (tyInt w8) l₀) ∷ ‵ (fdies (tyRef (named 0) mut (pointee (T .like .written))) l₁) ∷
             ‵ (fdies (sliceTy (tyRef (named 1) mut (tyFloat binary32))) l₂) ∷ ‵ (fdies (P .ty) l₃) ∷ ‵ (fdies (sliceTy (tyRef (named 2) mut (tyInt w32))) l₄) ∷ ‵ (fdies (tyInt w64) l₅) ∷
             ‵ (fdies (tyInt w8) l₆) ∷ ‵ (fdies (tyInt w64) l₇) ∷ ‵ (fdies (tyInt w64) l₈) ∷ ‵ (fdies (tyInt w64) l₉) ∷ ‵ (fdies (tyInt w64) l₁₀) ∷ ‵ (fdies (tyInt w64) l₁₁) ∷
-            ‵ (fdies (tyRef erased imm (pointee (T .like .written))) l₁₂) ∷ ‵ (fdies (tyInt w64) l₁₃) ∷ ‵ (fdies tyBool l₁₄) ∷ ‵ (fdies (tyFloat binary32) l₁₅) ∷ ‵ (fdies (tyInt w64) l₁₆) ∷
+            ‵ (fdies (tyRef erased imm (pointee (T .like .written))) l₁₂) ∷ ‵ (fdies (tyInt w64) l₁₃) ∷ ‵ (fdies tyBool l₁₄) ∷ ‵ (fdies (sounding-ty Y) l₁₅) ∷ ‵ (fdies (tyInt w64) l₁₆) ∷
             ‵ (fdies tyPtr l₁₇) ∷ ‵ (fdies tyPtr l₁₈) ∷ ‵ (fdies (tyRef erased mut (pointee (C .like .written))) l₁₉) ∷ ‵ (fdies (tyInt w64) l₂₀) ∷ ‵ (fdies tyPtr l₂₁) ∷
             ‵ (fdies (tyFloat binary32) l₂₂) ∷ ‵ (fdies (tyRef erased mut (tyInt w32)) l₂₃) ∷ ‵ (fdies (sliceTy (tyRef erased mut (tyInt w32))) l₂₄) ∷ ‵ (fdies (tyInt w64) l₂₅) ∷
             ‵ (fdies tyPtr l₂₆) ∷ []
@@ -345,7 +345,7 @@ module _ (T C P : Datum) (S : Seats T C) (#number #steps #start #sample : Name) 
         -- what stands after i turns
         abbrev At : ℕ → T .like .Denot → List Float → List ℕ → List (Item 𝓤)
         At i t io k = ‵ (partAt Tr fullShare t b o) ∷ ‵ (cells-row f32 fullShare io b₁ o₁) ∷ Mem k ∷ ‵ (flft κ₂ q₂) ∷ ‵ (fat fullShare (tyInt w64) l₉ 0 (vint w64 i)) ∷ ‵ (froom (tyInt w64) l₁₀ 0) ∷
-            ‵ (froom (tyInt w64) l₁₁ 0) ∷ ‵ (froom tyBool l₁₄ 0) ∷ ‵ (froom (tyFloat binary32) l₁₅ 0) ∷ ‵ (froom (tyInt w64) l₁₆ 0) ∷ ‵ (froom tyPtr l₁₇ 0) ∷ ‵ (froom tyPtr l₁₈ 0) ∷
+            ‵ (froom (tyInt w64) l₁₁ 0) ∷ ‵ (froom tyBool l₁₄ 0) ∷ ‵ (froom (sounding-ty Y) l₁₅ 0) ∷ ‵ (froom (tyInt w64) l₁₆ 0) ∷ ‵ (froom tyPtr l₁₇ 0) ∷ ‵ (froom tyPtr l₁₈ 0) ∷
             ‵ (froom (tyRef erased mut (pointee (C .like .written))) l₁₉ 0) ∷ ‵ (froom (tyInt w64) l₂₀ 0) ∷ ‵ (froom tyPtr l₂₁ 0) ∷ ‵ (froom (tyFloat binary32) l₂₂ 0) ∷
             ‵ (froom (tyRef erased mut (tyInt w32)) l₂₃ 0) ∷ ‵ (froom (sliceTy (tyRef erased mut (tyInt w32))) l₂₄ 0) ∷ ‵ (froom (tyInt w64) l₂₅ 0) ∷ ‵ (froom tyPtr l₂₆ 0) ∷ Frame
 
@@ -386,7 +386,7 @@ module _ (T C P : Datum) (S : Seats T C) (#number #steps #start #sample : Name) 
           place-fits : i * 4 < 2 ^ 64
           place-fits = omega (arith, ready .0)
 
-          more : (X : SProp 𝓤) → ((a : ℕ) → a ≡ i * size → ent 𝓤 (⋆ 𝓤 H A (At (suc i) (S .changed t i (Z .plays p x c (midOf a (a + size - a) k))) (set io i (Z .sounds p x c (midOf a (a + size - a) k))) (putMid a (a + size - a) k (Z .records x c (midOf a (a + size - a) k))))) X)
+          more : (X : SProp 𝓤) → ((a : ℕ) → a ≡ i * size → ent 𝓤 (⋆ 𝓤 H A (At (suc i) (S .changed t i (Z .plays p x c (midOf a (a + size - a) k))) (set io i (Y .output (Z .sounds p x c (midOf a (a + size - a) k)))) (putMid a (a + size - a) k (Z .records x c (midOf a (a + size - a) k))))) X)
               → ent 𝓤 (⋆ 𝓤 H A (At i t io k)) (Wp 𝓤 H Cs Λ En turn (afterTurn 𝓤 H X Left))
           unfolding afterTurn
           more X go =
@@ -416,12 +416,12 @@ module _ (T C P : Datum) (S : Seats T C) (#number #steps #start #sample : Name) 
               use2 W (later (some (λ (ε : GName). ‵ (MutSlice (named 1) (β ∷ []) u32 .own (xm ε k) (sliceVal (b₂, o₂) (length k) ∷ [])) ⊛ ‵ (LentAgain u32 κ₂ (β ∷ []) q₂ γ₂ b₂ o₂ ε k)))) (lends-again u32 κ₂ (β ∷ []) q₂ γ₂ b₂ o₂ 𝓤 H A W (named 2) (named 1) k) $ await ! tt $ pick ! (λ ε. split ! $
               rewrite ! 0 (λ (j : ℕ). ‵ (MutSlice (named 1) (β ∷ []) u32 .own (xm ε k) (sliceVal (b₂, o₂) j ∷ []))) long refl $ move ! (5 ∷ 2 ∷ 3 ∷ 0 ∷ []) $ join ! $ use3 W (raw (Samples 𝓤 H A .pre (to-sample c (seat o i) x k a (a + size) α β δ ε))) (goes-sample c (seat o i) x k a (a + size) α β δ ε isx (isa .1) (end-fits a e) (omega arith, ends a e)) $
               calls-at ! (fmOf 𝓤 H (W .laws) 𝓣) (Samples 𝓤 H A) known-sample (to-sample c (seat o i) x k a (a + size) α β δ ε) (and-then ! (load ! (from ! (stop !)) (look ! 13 refl)) (and-then ! (load ! (from ! (stop !)) (look ! 23 refl)) (and-then ! (load ! (from ! (stop !)) (look ! 16 refl)) (and-then ! (load ! (from ! (stop !)) (look ! 18 refl)) (and-then ! (load ! (from ! (stop !)) (look ! 6 refl)) (and-then ! (load ! (from ! (stop !)) (look ! 7 refl)) (no-more !))))))) (λ w′.
-              use1 W (later (some (λ (r : Float). ((‵ (flft (α ∷ []) fullShare) ⊛ ‵ (flft (β ∷ []) fullShare) ⊛ ‵ ftrue) ⊛ ‵ (f32 .own r (w′ ∷ []))) ⊛ raw (ensured 𝓤 H A sample-ended (sample-clauses 𝓤) (α ∷ [], (β ∷ [], tt)) (given-sample c (seat o i) x k a (a + size) α β δ ε) tt r)))) (id⊢ 𝓤 _) $ await ! tt $ pick ! (λ r.
+              use1 W (later (some (λ (r : Y .like .Denot). ((‵ (flft (α ∷ []) fullShare) ⊛ ‵ (flft (β ∷ []) fullShare) ⊛ ‵ ftrue) ⊛ ‵ (Y .like .own r (w′ ∷ []))) ⊛ raw (ensured 𝓤 H A sample-ended (sample-clauses 𝓤) (α ∷ [], (β ∷ [], tt)) (given-sample c (seat o i) x k a (a + size) α β δ ε) tt r)))) (id⊢ 𝓤 _) $ await ! tt $ pick ! (λ r.
               split ! $ move ! (1 ∷ []) $ use1 W (some (λ (zs : C .like .Denot × (Unit {0} × (Unit {0} × (List ℕ × (Unit {0} × (Unit {0} × Unit {0})))))). ‵ (lasts sample-ended (α ∷ [], (β ∷ [], tt)) (given-sample c (seat o i) x k a (a + size) α β δ ε) zs) ⊛ raw (fact 𝓤 (Sampled p x c k a (a + size) r (zs .0) (zs .1 .1 .1 .0))))) (id⊢ 𝓤 _) $ pick ! (λ zs. split ! $ move ! (1 ∷ []) $ heard ! (Sampled p x c k a (a + size) r (zs .0) (zs .1 .1 .1 .0)) (λ is.
               fsplit ! $ move ! (1 ∷ []) $ fsplit ! $ move ! (1 ∷ []) $ fsplit ! $ move ! (1 ∷ []) $ fsplit ! $ fsplit ! $ move ! (1 ∷ []) $ feqL ! (λ _.
               rewrite ! 4 (λ (y : C .like .Denot). ‵ (fres δ (C .like .coded .code y))) (is .1) refl $ rewrite ! 0 (λ (j : List ℕ). ‵ (finally u32 ε j)) (is .2) refl $
-              move ! (5 ∷ []) $ split ! $ move ! (1 ∷ []) $ peeks ! f32 (Is f32) (shows 𝓤 H A f32) r (w′ ∷ []) (λ isr.
-              land ! (from ! (stop !)) (init ! 15 refl (float-lawful 𝓤 H A W binary32 .typed r _ isr .0)) $
+              move ! (5 ∷ []) $ split ! $ move ! (1 ∷ []) $ peeks ! (sounding-row Y) (Is (sounding-row Y)) (shows 𝓤 H A (sounding-row Y)) r (w′ ∷ []) (λ isr. drop ! $ owned ! f32 (Is f32) (float-makes 𝓤 H A W binary32) (Y .output r) _ (Y .owed r w′ isr) $
+              land ! (from ! (stop !)) (init ! 15 refl (Y .typed 𝓤 H A W r w′ isr)) $ rewrite ! 15 (λ (u : Val). ‵ (fat fullShare (sounding-ty Y) l₁₅ 0 u)) (Y .tells r w′ isr) refl $
               move ! (1 ∷ []) $ split ! $ move ! (1 ∷ []) $ split ! $ lft-end ! tt $ move ! (0 ∷ 9 ∷ 4 ∷ []) $
               use3 W (later (‵ (MutSlice (named 2) κ₂ u32 .own (xm γ₂ (left a)) (sliceVal (b₂, o₂) (length k) ∷ [])) ⊛ ‵ (flft κ₂ q₂))) (comes-back u32 κ₂ (β ∷ []) q₂ γ₂ b₂ o₂ 𝓤 H A W (named 2) (named 1) k ε (left a) (subst (Room u32) (sym long) room₂) (left-long a)) $ await ! tt $ split ! $
               rewrite ! 0 (λ (j : ℕ). ‵ (MutSlice (named 2) κ₂ u32 .own (xm γ₂ (left a)) (sliceVal (b₂, o₂) j ∷ []))) long refl $
@@ -431,8 +431,8 @@ module _ (T C P : Datum) (S : Seats T C) (#number #steps #start #sample : Name) 
               assigns ! (bin ! (load ! (from ! (stop !)) (look ! 9 refl)) (lit ! tt) (record { fits = place-fits })) (from ! (stop !)) (init ! 23 refl (tt, record { fits = place-fits })) $
               assigns ! (bin ! (load ! (from ! (fld ! refl (stop !))) (look-in ! 26 (sub ! 0 refl (whole !)))) (load ! (from ! (stop !)) (look ! 23 refl)) tt) (from ! (stop !)) (init ! 24 refl (tt, tt)) $ rewrite ! 24 (λ (u : ℕ). ‵ (fat fullShare tyPtr l₂₆ 0 (vptr b₁ u))) (sym (place-is 4 o₁ i)) refl $
               move ! (8 ∷ []) $ elem-out ! f32 (Is f32) (shows 𝓤 H A f32) (float-vals binary32) (float-tells binary32) fullShare io i nan b₁ o₁ within (λ _.
-              assigns ! (of-opd ! (load ! (from ! (stop !)) (look ! 15 refl))) (from ! (hop ! (look ! 26 refl) (stop !))) (store ! 0 refl (float-lawful 𝓤 H A W binary32 .typed r _ isr .0)) $
-              move ! (1 ∷ []) $ drop ! $ move ! (0 ∷ 6 ∷ 1 ∷ []) $ elem-put ! f32 fullShare io i r (w′ ∷ []) b₁ o₁ within $ rewrite ! 0 (λ (y : Float). ‵ (cells-row f32 fullShare (set io i y) b₁ o₁)) (is .0) refl $
+              assigns ! (of-opd ! (load ! (from ! (fld ! refl (stop !))) (look-in ! 15 (sub ! 0 refl (whole !))))) (from ! (hop ! (look ! 26 refl) (stop !))) (store ! 0 refl (float-lawful 𝓤 H A W binary32 .typed (Y .output r) _ (Y .owed r w′ isr) .0)) $
+              move ! (1 ∷ []) $ drop ! $ move ! (0 ∷ 6 ∷ 1 ∷ []) $ elem-put ! f32 fullShare io i (Y .output r) (vfloat binary32 (Y .output r) ∷ []) b₁ o₁ within $ rewrite ! 0 (λ (y : Y .like .Denot). ‵ (cells-row f32 fullShare (set io i (Y .output y)) b₁ o₁)) (is .0) refl $
               assigns-last ! (bin ! (load ! (from ! (stop !)) (look ! 8 refl)) (lit ! tt) (record { fits = next-fits })) (from ! (stop !)) (store ! 8 refl (tt, record { fits = next-fits })) $ rewrite ! 8 (λ (j : ℕ). ‵ (fat fullShare (tyInt w64) l₉ 0 (vint w64 j))) (add-one i) refl $
               forget ! 9 refl $ forget ! 10 refl $ forget ! 11 refl $ forget ! 12 refl $ forget ! 13 refl $ forget ! 14 refl $ forget ! 15 refl $ forget ! 16 refl $ forget ! 17 refl $ forget ! 18 refl $ forget ! 19 refl $ forget ! 20 refl $ forget ! 21 refl $ forget ! 22 refl $ forget ! 23 refl $
               keep ! (1 ∷ 0 ∷ 2 ∷ 3 ∷ 8 ∷ 9 ∷ 10 ∷ 11 ∷ 12 ∷ 13 ∷ 14 ∷ 15 ∷ 16 ∷ 17 ∷ 18 ∷ 19 ∷ 20 ∷ 21 ∷ 22 ∷ 23 ∷ 24 ∷ 25 ∷ 26 ∷ 27 ∷ 28 ∷ 29 ∷ 30 ∷ 31 ∷ 32 ∷ 33 ∷ 34 ∷ 35 ∷ 36 ∷ 37 ∷ 38 ∷ 39 ∷ 40 ∷ 41 ∷ 42 ∷ 43 ∷ 44 ∷ 45 ∷ 46 ∷ 47 ∷ 48 ∷ 49 ∷ 50 ∷ 51 ∷ 52 ∷ 53 ∷ 54 ∷ 55 ∷ 56 ∷ 57 ∷ 58 ∷ 59 ∷ 60 ∷ 61 ∷ 62 ∷ 63 ∷ 64 ∷ 65 ∷ 66 ∷ 67 ∷ 68 ∷ []) $ by ! (go a e)))))))))))))))))

@@ -21,7 +21,6 @@ ghost use Prim.Native.Nat.{_*_, _-_, _≤_, _<_};
 ghost use mathlib.Core.Bool.{_&&_, cond};
 ghost use mathlib.Core.List.{[], _∷_, _++_};
 ghost use lib.Dec.{leb, eqb};
-ghost use lib.Ieee.{binary32, mul};
 ghost use lib.ListN.{length, getD, take, drop};
 ghost use Rattle.questions.specs.Questions.{
   getFramesProcessedOf,
@@ -36,12 +35,15 @@ ghost use Rattle.questions.specs.Questions.{
 };
 ghost use Rattle.questions.specs.Waveforms.{getWaveformSummaryOf, waveformAfter};
 ghost use Rattle.lent_sampler.specs.Lists.{countedOf, listedOf, voiceInfoCounted, voiceInfoAfter};
+ghost use Rattle.lent_channel.specs.Turns.{heardOf};
 ghost use Rattle.lent_sampler.specs.Numbers.{allGood, anyEnded, numberOf};
+ghost use Rattle.lent_sampler.specs.Hearing.{atVolume};
 use channel::Change;
 use channel::Channel;
 use channel::HeadChange;
 use common_types::Note;
 use common_types::Params;
+use lent_channel::Heard;
 use questions::Counted;
 use questions::OffsetAnswer;
 use questions::Told;
@@ -368,10 +370,12 @@ fn steps(number: u8, entries: usize) -> usize
     if number == 0 { entries } else { 0 }
 }
 
-fn at_volume(params: Params, output: f32) -> f32
-    ensures { λ r. ⌜ r ≡ mul binary32 (params .volume) output ⌝ }
+fn at_volume(params: Params, heard: Heard) -> Heard
+    ensures { λ r. ⌜ r ≡ atVolume params heard ⌝ }
 {
-    params.volume * output
+    Heard {
+        output: params.volume * heard.output,
+    }
 }
 
 // A sample of a channel on the part of the memory from `start` to `end`, at the parameters' volume.
@@ -382,11 +386,11 @@ fn part_sample(
     memory: &mut [u32],
     start: usize,
     end: usize,
-) -> f32
+) -> Heard
     requires { ⌜ (start ≤ end) × (end ≤ length (now memory)) ⌝ }
     ensures { λ r. ⌜ (r
-        ≡ mul binary32 (params .volume)
-        (processSampleOf params input (now (c .entry)) (take (end - start) (drop start (now (memory .entry)))) .output))
+        ≡ atVolume params (heardOf (processSampleOf params input (now (c .entry))
+        (take (end - start) (drop start (now (memory .entry)))))))
         × (now (c .exit)
         ≡ processSampleOf params input (now (c .entry))
         (take (end - start) (drop start (now (memory .entry)))) .channel)
@@ -394,8 +398,8 @@ fn part_sample(
         ++ (memoryOf input (now (c .entry)) (take (end - start) (drop start (now (memory .entry))))
         ++ drop (end - start) (drop start (now (memory .entry))))) ⌝ }
 {
-    let output = lent_channel::with_sample(c, params, input, &mut memory[start..end]);
-    at_volume(params, output)
+    let heard = lent_channel::with_sample(c, params, input, &mut memory[start..end]);
+    at_volume(params, heard)
 }
 
 // A sample of each channel in turn, each entry of the frame replaced by its output.
@@ -413,7 +417,7 @@ pub fn process_frame(s: &mut Sampler, frame: &mut [f32], params: Params, memory:
     while j < n {
         let start = sampler::part_start(j, capacity);
         let end = start + capacity;
-        frame[j] = part_sample(&mut s.channels[j], params, frame[j], memory, start, end);
+        frame[j] = part_sample(&mut s.channels[j], params, frame[j], memory, start, end).output;
         j += 1;
     }
     number

@@ -10,6 +10,7 @@ use oracle_lines::field::u32_at;
 use oracle_lines::field::wide;
 use oracle_show::replies::lent;
 use sampler::Answer;
+use sampler::RunAnswer;
 use sampler::Sampler;
 
 // What a sample or a frame leaves, with the entries of the frame. A sample is the first.
@@ -129,4 +130,30 @@ fn frame_of(h: Heard, i: u32, p: Params, fields: &[u8], memory: &mut [u32]) -> H
     let s = h.sampler;
     let x = f32_at(fields, 4) + binary32::u32_to_f32(i) * f32_at(fields, 8);
     stepped(s, [x, -x, x], p, fields, memory)
+}
+
+// Kind 20: a run of frames on these entries, which are made from the seed at 4; the samples of memory lent at 16.
+pub fn run_of(run: Run, fields: &[u8], entries: &mut [f32], memory: &mut [u32]) -> RunAnswer
+    requires { ⌜ 64 ≤ length (now fields) ⌝ }
+{
+    let p = run.params;
+    let s = run.sampler;
+    fill(entries, u32_at(fields, 4));
+    let n = lent(u32_at(fields, 16) as usize, memory.len());
+    s.process_frames(entries, p, &mut memory[..n])
+}
+
+// Entries from -1 to 1, each from the 24 high bits of a number that the one before it gives.
+fn fill(entries: &mut [f32], seed: u32) {
+    let mut x = seed;
+    let mut i = 0;
+    while i < entries.len() {
+        x = next(x);
+        entries[i] = binary32::u32_to_f32(x / 256) * 0.00000011920929 - 1.0;
+        i += 1;
+    }
+}
+
+fn next(x: u32) -> u32 {
+    ((x as u64 * 1664525 + 1013904223) % 0x1_0000_0000) as u32
 }

@@ -1,6 +1,7 @@
 // What a run holds between two records, and the text of what a record answers and leaves.
 ghost use mathlib.Core.Path.{_≡_};
-ghost use Prim.Native.Nat.{_+_, _≤_, _<_};
+ghost use Prim.Native.Nat.{_+_, _*_, _≤_, _<_};
+ghost use lib.ListN.{length};
 use crate::calls::Heard;
 use common_types::InitParams;
 use common_types::Params;
@@ -12,6 +13,7 @@ use oracle_lines::line::write;
 use oracle_show::record::put_sampler;
 use oracle_show::replies::put_number;
 use sampler::Answer;
+use sampler::RunAnswer;
 use sampler::Sampler;
 
 // The sampler and the parameters of its calls; how much text waits to be written; and whether the listing goes on.
@@ -68,6 +70,21 @@ fn put_entries(out: &mut [u8; 65536], at: usize, h: Heard) -> usize
     put_f32(out, second, h.entries[2])
 }
 
+// The entries of a run of frames.
+fn put_run(out: &mut [u8; 65536], at: usize, entries: &[f32]) -> usize
+    requires { ⌜ length (now entries) ≤ 2048 ⌝ }
+    requires { ⌜ at + 18432 ≤ 65536 ⌝ }
+    ensures { λ r. ⌜ r ≤ at + 18432 ⌝ }
+{
+    let mut place = at;
+    let mut i = 0;
+    while i < entries.len() {
+        place = put_f32(out, place, entries[i]);
+        i += 1;
+    }
+    place
+}
+
 impl Run {
     // Goes on with another sampler, and text up to `at`.
     pub fn on(self, sampler: Sampler, at: usize) -> Self
@@ -101,6 +118,28 @@ impl Run {
         let second = put_entries(out, first, h);
         let third = put_record(out, second, sampler);
         self.on(sampler, third)
+    }
+
+    // The frames that are done, and every entry.
+    pub fn ran(
+        self,
+        kind: u8,
+        a: RunAnswer,
+        entries: &[f32],
+        out: &mut [u8; 65536],
+        at: usize,
+    ) -> Self
+        requires { ⌜ at ≤ 32768 ⌝ }
+        requires { ⌜ length (now entries) ≤ 2048 ⌝ }
+        ensures { λ r. ⌜ r .at ≤ 65536 ⌝ }
+    {
+        let sampler = a.sampler;
+        let ran = a.ran;
+        let first = put_number(out, at, kind, ran.number);
+        let second = put_u32(out, first, (ran.frames % 0x1_0000_0000) as u32);
+        let third = put_run(out, second, entries);
+        let fourth = put_record(out, third, sampler);
+        self.on(sampler, fourth)
     }
 
     // A line with no more than the kind, for a record that leaves the sampler as it is.

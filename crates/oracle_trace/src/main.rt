@@ -6,7 +6,7 @@
 // Kinds: 0 set-up; 1 parameters; 2 start, 3 stop, 4 note speed, 5 and 6 start and stop of recording, 7 reset; 8 sample
 // of one channel; 9 frame; 10 clocks put on, or a field put; 11 the recordings; 12 frames processed, 13 data length, 14
 // is recording, 15 last recorded offset, 16 error text, 17 active notes, 18 voice info; 19 many frames; 20 waveform
-// summary. A set-up takes back the parameters to the defaults.
+// summary; 21 a run of frames. A set-up takes back the parameters to the defaults.
 ghost use mathlib.Core.Path.{_≡_};
 ghost use Prim.Native.Nat.{_+_, _*_, _≤_, _<_};
 ghost use lib.ListN.{length};
@@ -17,10 +17,12 @@ use oracle_acts::recording::recordings;
 use oracle_acts::run::Run;
 use oracle_acts::run::begun;
 use oracle_acts::run::room;
+use oracle_lines::field::u32_at;
 use oracle_lines::line::end;
 use oracle_lines::line::tag;
 use oracle_lines::line::write;
 use oracle_lines::settings::params_of;
+use oracle_show::replies::lent;
 use oracle_show::replies::query;
 use oracle_show::replies::waveform;
 
@@ -97,8 +99,37 @@ fn record(run: Run, fields: &[u8], memory: &mut [u32], out: &mut [u8; 65536]) ->
         11 => recordings(run.told(kind, out, at), memory, out),
         19 => run.heard(kind, calls::frames(run, fields, memory), out, at),
         20 => run.on(run.sampler, waveform(run.sampler, fields, memory, out, at)),
+        21 => ran(run, fields, memory, out, at),
         _ => plain(run, fields, out, at),
     }
+}
+
+// A run of as many entries as the number at 12 says, and of 2,048 at most.
+fn ran(run: Run, fields: &[u8], memory: &mut [u32], out: &mut [u8; 65536], at: usize) -> Run
+    requires { ⌜ at ≤ 32768 ⌝ }
+    requires { ⌜ 64 ≤ length (now fields) ⌝ }
+    ensures { λ r. ⌜ r .at ≤ 65536 ⌝ }
+{
+    let mut entries = [0.0f32; 2048];
+    let n = lent(u32_at(fields, 12) as usize, 2048);
+    ran_on(run, fields, &mut entries[..n], memory, out, at)
+}
+
+fn ran_on(
+    run: Run,
+    fields: &[u8],
+    entries: &mut [f32],
+    memory: &mut [u32],
+    out: &mut [u8; 65536],
+    at: usize,
+) -> Run
+    requires { ⌜ at ≤ 32768 ⌝ }
+    requires { ⌜ 64 ≤ length (now fields) ⌝ }
+    requires { ⌜ length (now entries) ≤ 2048 ⌝ }
+    ensures { λ r. ⌜ r .at ≤ 65536 ⌝ }
+{
+    let a = calls::run_of(run, fields, entries, memory);
+    run.ran(fields[0], a, entries, out, at)
 }
 
 // The records that need no memory.

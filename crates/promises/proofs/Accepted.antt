@@ -34,13 +34,13 @@ use Rattle.promises.proofs.Calls.{Standing}
 
 -- ---- none of a list
 module _ {A : Type 0} (p : A → Bool) where
-  any-at : (l : List A) (j : ℕ) (d : A) → any p l ≡ false → j < length l → p (getD l j d) ≡ false
+  pub any-at : (l : List A) (j : ℕ) (d : A) → any p l ≡ false → j < length l → p (getD l j d) ≡ false
   unfolding any
   any-at [] j d h k = absurd (omega arith)
   any-at (x ∷ xs) zero d h k = neither (p x) (any p xs) h .0
   any-at (x ∷ xs) (suc j) d h k = any-at xs j d (neither (p x) (any p xs) h .1) (omega arith)
 
-  any-none : (l : List A) (d : A) → ((j : ℕ) → j < length l → p (getD l j d) ≡ false) → any p l ≡ false
+  pub any-none : (l : List A) (d : A) → ((j : ℕ) → j < length l → p (getD l j d) ≡ false) → any p l ≡ false
   unfolding any
   any-none [] d h = refl
   any-none (x ∷ xs) d h = rw (h 0 (omega arith)) (any-none xs d (λ j k. h (suc j) (omega arith)))

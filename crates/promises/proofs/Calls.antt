@@ -22,6 +22,7 @@ use Rattle.sampler.specs.declared.Sampler.{Sampler}
 use Rattle.sampler.specs.Refusals.{present, channelAt, goodSizes, capacityOf, setUpNumber, sampleNumber, frameNumber}
 use Rattle.sampler.specs.Samplers.{samplerOf, setUpOf, eachOf, answerOf, partOf, playedAt, channelSteppedOf, processSampleOf, Framed, framed, entryOf, entriesOf, framedOf}
 use Rattle.sampler.proofs.Rows.{sizes-count, frame-steps}
+use Rattle.sampler.proofs.Entries.{Kept, kept-refl, kept-trans, kept-step, kept-entries}
 use Rattle.fates.specs.Events.{idle, changes, sounds, act, acts}
 use Rattle.fates.specs.Places.{Housed}
 use Rattle.promises.specs.Runs.{World, setUp, Call, change, sample, frame, asks, questionNumber, code, after, run, chan, doneTo, event, events}
@@ -115,17 +116,6 @@ module _ (w : World) (two : length (w .sampler .channels) ≡ 2) (few : w .sampl
   chan-after (asks q) = nothing (eqb (questionNumber w q) 0)
 
 -- ---- what no call changes
-pub record Kept (s r : Sampler) : Type 0 where
-  pub channels : length (r .channels) ≡ length (s .channels)
-  pub count : r .count ≡ s .count
-  pub capacity : r .capacity ≡ s .capacity
-
-kept-refl : (s : Sampler) → Kept s s
-kept-refl s = record { channels = refl; count = refl; capacity = refl }
-
-kept-trans : (s r q : Sampler) → Kept s r → Kept r q → Kept s q
-kept-trans s r q h k = record { channels = k .channels ∙ h .channels; count = k .count ∙ h .count; capacity = k .capacity ∙ h .capacity }
-
 kept-if : (s r q : Sampler) (b : Bool) → Kept s r → Kept s q → Kept s (cond b r q)
 kept-if s r q true h k = h
 kept-if s r q false h k = k
@@ -134,16 +124,6 @@ kept-answer : (number : ℕ) (d : Change) (s : Sampler) → Kept s (answerOf num
 unfolding answerOf eachOf
 kept-answer number d s =
     kept-if s (eachOf d s) s (eqb number 0) (record { channels = length-sets (s .channels) 0 (map (changedOf d) (present s)); count = refl; capacity = refl }) (kept-refl s)
-
-kept-step : (s : Sampler) (j : ℕ) (p : Params) (x : Float) (m : List ℕ) → Kept s (channelSteppedOf s j p x m)
-unfolding channelSteppedOf
-kept-step s j p x m = record { channels = length-set (s .channels) j (playedAt s j p x m .channel); count = refl; capacity = refl }
-
-kept-entries : (p : Params) (n j : ℕ) (f : Framed) → Kept (f .sampler) (entriesOf p n j f .sampler)
-unfolding entriesOf entryOf
-kept-entries p zero j f = kept-refl (f .sampler)
-kept-entries p (suc n) j f =
-    kept-trans (f .sampler) (entryOf p j f .sampler) _ (kept-step (f .sampler) j p (getD (f .frame) j zero32) (f .memory)) (kept-entries p n (j + 1) (entryOf p j f))
 
 pub kept : (w : World) (c : Call) → Kept (w .sampler) (after w c .sampler)
 unfolding after processSampleOf framedOf

@@ -219,7 +219,7 @@ left-in w st j k n v s (c ∷ cs) g =
     (subst (λ (d : Channel). followAll (events (after w c) cs j) d i ≡ gone) (sym moved) h))
 
 -- ---- the whole
-standing-demand3 : (w : World) → Standing w → (j : ℕ) → j < w .sampler .count → Demand3 w j
+pub standing-demand3 : (w : World) → Standing w → (j : ℕ) → j < w .sampler .count → Demand3 w j
 unfolding events
 standing-demand3 w st j k = record {
   counts = counts w st j k;

@@ -30,8 +30,9 @@ use Rattle.channel.specs.declared.Change.{Change}
 use Rattle.channel.specs.Channels.{live, recordingOf}
 use Rattle.sampler.specs.declared.Sampler.{Sampler}
 use Rattle.sampler.specs.declared.Answer.{Answer}
-use Rattle.sampler.specs.Refusals.{channelAt, goodSizes, goodSampler, capacityOf, goodWith, noChannel, row, setUpNumber, startNumber, stopNumber, speedNumber, plainNumber, sampleNumber, frameNumber, channelNumber}
-use Rattle.sampler.specs.Samplers.{samplerOf, setUpOf, eachOf, answerOf, processSampleOf, sampleMemory, channelSteppedOf, memoryAt, Framed, framed, entriesOf, framedOf}
+use Rattle.sampler.specs.declared.Ran.{Ran}
+use Rattle.sampler.specs.Refusals.{channelAt, goodSizes, goodSampler, capacityOf, goodWith, noChannel, row, setUpNumber, startNumber, stopNumber, speedNumber, plainNumber, sampleNumber, frameNumber, runNumber, channelNumber}
+use Rattle.sampler.specs.Samplers.{samplerOf, setUpOf, eachOf, answerOf, processSampleOf, sampleMemory, channelSteppedOf, memoryAt, Framed, framed, entriesOf, framedOf, runAnswer}
 use Rattle.questions.specs.Questions.{recorderAt, notesOf, inFront, listNumber, listAfter, infoNumber, answered, noInfos, infosWith, getVoiceInfoOf}
 use Rattle.questions.specs.declared.VoiceInfos.{VoiceInfos}
 use Rattle.questions.specs.Waveforms.{columnOf, columnsFrom, smallestOf, largestOf, summaryWith, waveformNumber, waveformOf, getWaveformSummaryOf, waveformAfter}
@@ -71,17 +72,18 @@ use Rattle.promises.specs.Runs.{
 }
 use Rattle.promises.specs.Outcomes.{on, Outcome, Allows, Untouched}
 use Rattle.promises.specs.Demands.{waveform, Demand1, Demand2, Demands}
-use Rattle.promises.proofs.Calls.{count-kept, capacity-kept}
 use Rattle.promises.proofs.Memory.{part-unwritten, part-written}
-use Rattle.promises.proofs.Outcomes.{settled, one-outcome, number-code, left-after, output-answered, chain-run, run-chain}
+use Rattle.promises.proofs.Outcomes.{settled, one-outcome, number-code, left-after, output-answered, chain-makes, makes-chain}
 use Rattle.promises.proofs.Infos.{infos-given, infos-counted, infos-listed}
 use Rattle.promises.proofs.Table.{table-holds}
 use Rattle.promises.proofs.Broken.{row-nine}
 use Rattle.promises.proofs.Rows.{row-tests}
 use Rattle.promises.proofs.SmallParts.{row-seven}
-use Rattle.promises.proofs.Demand3.{demand3}
 use Rattle.promises.proofs.TruePositions.{true-positions}
-use Rattle.promises.proofs.Whole.{memory-after, no-panic, whole}
+use Rattle.promises.proofs.Whole.{memory-after}
+use Rattle.promises.proofs.Turns.{in-turn}
+use Rattle.promises.proofs.Makes.{no-panic, third, spreads, count-makes, capacity-makes, whole}
+use Rattle.promises.proofs.RunEnds.{run-held, run-done, run-ends}
 
 -- ---- a refusal
 
@@ -191,7 +193,7 @@ summary-given w columns list n =
     (sym (done .0), sym (done .1) ∙ ap (λ (k : ℕ). waveform w columns ++ drop k list) count)
 
 demand1 : Demand1
-unfolding setUpOf setUpNumber code questionNumber startNumber stopNumber speedNumber sampleNumber frameNumber infoNumber listNumber waveformNumber
+unfolding setUpOf setUpNumber code questionNumber startNumber stopNumber speedNumber sampleNumber frameNumber infoNumber listNumber waveformNumber runNumber runAnswer
 demand1 = record {
   takes = settled;
   one = one-outcome;
@@ -208,6 +210,7 @@ demand1 = record {
   speed-rows = λ w note s. refl;
   sample-rows = λ w j x p. refl;
   frame-rows = λ w xs p. refl;
+  run-rows = λ w xs p r h. ap (λ (a : Ran). a .number) (h .0);
   info-rows = λ w j p room. refl;
   fill-rows = λ w j p list. refl;
   notes-rows = λ w j notes. refl;
@@ -217,6 +220,9 @@ demand1 = record {
   plain-rows = plain-rows;
   set-up-rows = λ count p m r h. ap (λ (a : Answer). a .number) h;
   held = λ w c r h n. (left-after w c r h ∙ after-held w c n, untouched w c r h n);
+  run-held = run-held;
+  run-done = run-done;
+  run-ends = run-ends;
   tests = row-tests;
   small-parts = row-seven;
   broken = row-nine;
@@ -281,12 +287,14 @@ demands = record {
   first = demand1;
   no-panic = no-panic;
   second = demand2;
-  third = demand3;
+  third = third;
   true-positions = true-positions;
-  count-stays = count-kept;
-  capacity-stays = capacity-kept;
+  in-turn = in-turn;
+  spreads = spreads;
+  count-stays = count-makes;
+  capacity-stays = capacity-makes;
   whole = whole;
   answers = output-answered;
-  runs = run-chain;
-  no-other = λ w u cs h. chain-run h;
+  runs = makes-chain;
+  no-other = λ w u hs h. chain-makes h;
 }

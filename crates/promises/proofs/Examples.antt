@@ -2,9 +2,9 @@
 use mathlib.Core.Path.{_≡_, refl, ap}
 use mathlib.Core.Bool.{true, false}
 use mathlib.Core.Logic.{_⊎_, inl, inr}
-use mathlib.Core.List.{List, [], _∷_, _++_}
+use mathlib.Core.List.{List, [], _∷_, _++_, map}
 use mathlib.Core.Option.{some}
-use Prim.Native.Nat.{ℕ, zero, suc, _+_, _^_, _<_}
+use Prim.Native.Nat.{ℕ, zero, suc, _+_, _-_, _^_, _<_}
 use native.Mathlib.Omega.{arith}
 use lib.IntN.{pos, negsuc}
 use lib.Dec.{lit<, lit≤}
@@ -37,18 +37,20 @@ use Rattle.channel.specs.declared.Head.{Head}
 use Rattle.channel.specs.Soundness.{FittingChange}
 use Rattle.channel.specs.Heads.{headChangedOf, nextTime, headOf, rampOf, passthruOf, closedOf, goodHead}
 use Rattle.channel.specs.Channels.{live, withHead, channelOf, resetOf, anyUnfinishedOf, handledOf, pushedOf, startPlayingOf, wantedOf, findOf, finishedAtOf, stopPlayingOf, spedOf, setNoteSpeedOf, keptOf, addedOf, heardOf, playedOf, playedIfOf, takenOf, memoryOf, processSampleOf, changedOf, fullOf, goodVoicesOf, goodChannel}
-use Rattle.sampler.specs.Refusals.{goodSizes, goodSampler, capacityOf, goodWith, setUpNumber, startNumber, stopNumber, speedNumber, plainNumber, sampleNumber, frameNumber, channelNumber}
+use Rattle.sampler.specs.Refusals.{goodSizes, goodSampler, capacityOf, goodWith, setUpNumber, startNumber, stopNumber, speedNumber, plainNumber, sampleNumber, frameNumber, latestOf, roomOf, runNumber, doneOf, channelNumber}
+use Rattle.sampler.specs.declared.Sampler.{Sampler}
+use Rattle.sampler.specs.declared.Ran.{Ran}
 use Rattle.questions.specs.declared.VoiceInfo.{VoiceInfo}
 use Rattle.questions.specs.declared.Counted.the-variants as counted
 use Rattle.questions.specs.Questions.{notesOf, listNumber, voiceInfoOf, infoNumber}
 use Rattle.questions.specs.Waveforms.{waveformNumber}
-use Rattle.sampler.specs.Samplers.{withChannels, setUpOf, eachOf, answerOf, partOf, playedAt, channelSteppedOf as sampledOf, outputOf, memoryAt, processSampleOf as sampleOf, sampleMemory, entryOf, entriesOf, framedOf}
+use Rattle.sampler.specs.Samplers.{withChannels, setUpOf, eachOf, answerOf, partOf, playedAt, channelSteppedOf as sampledOf, outputOf, memoryAt, processSampleOf as sampleOf, sampleMemory, entryOf, entriesOf, framedOf, framesOf, ranOf, runAnswer}
 use Rattle.fates.specs.Engine.{begunOf, passesOver, heardBy, turnedOf, letsGo, leavesOf, leftOf, turnsOf, stepOf}
 use Rattle.fates.specs.Events.{tickAt, act, isReset, isSample, decayOf}
 use Rattle.fates.specs.Sounding.{termsOf}
 use Rattle.fates.specs.Steady.{disagrees, alters, alteredIn}
 use Rattle.fates.specs.Places.{voiceAt, at, gone, fateOf, follow, stops, becomes, addedBy, outOf, playsOut, followAll, stoppedIn, finishedIn}
-use Rattle.promises.specs.Runs.{World, Call, start, stop, speed, startRecording, stopRecording, sample, frame, getDataLen, iterActiveNotes, fillVoiceInfo, getWaveformSummary, asks, FittingCall, chan, ownPart, setUp, questionNumber, code, after, run, doneTo, event, events, isResetCall, output, before}
+use Rattle.promises.specs.Runs.{World, Call, start, stop, speed, startRecording, stopRecording, sample, frame, getDataLen, iterActiveNotes, fillVoiceInfo, getWaveformSummary, asks, FittingCall, chan, ownPart, setUp, questionNumber, code, after, run, doneTo, event, events, isResetCall, output, before, one, makes}
 use lib.Ieee.{Float, nan, fin, binary32, fits, add, sub, mul, div, rem, neg, lt, le, eq, ofInt, toUnsigned, isNan, ofBits, toBits, nanBits, ofFields}
 use Rattle.promises.specs.Outcomes.{on, leftBy}
 use Rattle.promises.specs.Demands.{Plays, Asked, AllPlaced, Leaves, SoundsIn, FirstIn, termsWith, Demand3, Undisturbed, OnTheBeat, Shows, TruePositions}
@@ -60,7 +62,7 @@ use Rattle.promises.proofs.TruePositions.{true-positions}
 
 -- whatever a run computes by
 unfoldable pub computing : Unit {0}
-unfolding floorOf minOf maxOf crossingOf any every without fold seek speedOf timeLengthOf lengthOf loopLengthOf lengthBeyond beyondLimits progressOf levelOf towardOf steppedOf goodRamp goodVolume raised inState misusedOf skippedOf startOf stopOf recordedOf dataAfter goodRecorder leadOf travelAt loopedOf roundTripOf mirroredOf bouncedOf wrappedOf placedOf clipOffsetAt clipToDataOf offsetAt indexAt madeOf backOf foundAt reversingAt shiftFor settledOf withSpeed withMode withLength withDataLength goodLength goodClip tickOf lateOf overOf shouldRemoveOf movedOf productOf soundedOf finishOf playedOutOf endedOf volumeStepped turnOf freshOf blankVoice atSpeedOf goodVoice nextTime headOf rampOf passthruOf closedOf goodHead channelOf resetOf anyUnfinishedOf handledOf pushedOf startPlayingOf wantedOf findOf finishedAtOf stopPlayingOf spedOf setNoteSpeedOf headChangedOf keptOf addedOf heardOf playedOf playedIfOf takenOf begunOf passesOver heardBy turnedOf letsGo leavesOf leftOf turnsOf stepOf memoryOf processSampleOf changedOf fullOf goodVoicesOf goodChannel goodSizes goodSampler capacityOf goodWith setUpNumber startNumber stopNumber speedNumber plainNumber sampleNumber frameNumber channelNumber notesOf listNumber setUpOf eachOf answerOf partOf playedAt sampledOf outputOf memoryAt sampleOf sampleMemory entryOf entriesOf framedOf act isReset isSample decayOf fateOf follow stops becomes addedBy outOf playsOut followAll stoppedIn finishedIn agreesOf disagrees alters alteredIn setUp questionNumber code after run doneTo event events isResetCall output before add sub mul div rem neg lt le eq ofInt toUnsigned isNan ofBits toBits nanBits ofFields
+unfolding floorOf minOf maxOf crossingOf any every without fold seek speedOf timeLengthOf lengthOf loopLengthOf lengthBeyond beyondLimits progressOf levelOf towardOf steppedOf goodRamp goodVolume raised inState misusedOf skippedOf startOf stopOf recordedOf dataAfter goodRecorder leadOf travelAt loopedOf roundTripOf mirroredOf bouncedOf wrappedOf placedOf clipOffsetAt clipToDataOf offsetAt indexAt madeOf backOf foundAt reversingAt shiftFor settledOf withSpeed withMode withLength withDataLength goodLength goodClip tickOf lateOf overOf shouldRemoveOf movedOf productOf soundedOf finishOf playedOutOf endedOf volumeStepped turnOf freshOf blankVoice atSpeedOf goodVoice nextTime headOf rampOf passthruOf closedOf goodHead channelOf resetOf anyUnfinishedOf handledOf pushedOf startPlayingOf wantedOf findOf finishedAtOf stopPlayingOf spedOf setNoteSpeedOf headChangedOf keptOf addedOf heardOf playedOf playedIfOf takenOf begunOf passesOver heardBy turnedOf letsGo leavesOf leftOf turnsOf stepOf memoryOf processSampleOf changedOf fullOf goodVoicesOf goodChannel goodSizes goodSampler capacityOf goodWith setUpNumber startNumber stopNumber speedNumber plainNumber sampleNumber frameNumber channelNumber notesOf listNumber setUpOf eachOf answerOf partOf playedAt sampledOf outputOf memoryAt sampleOf sampleMemory entryOf entriesOf framedOf act isReset isSample decayOf fateOf follow stops becomes addedBy outOf playsOut followAll stoppedIn finishedIn agreesOf disagrees alters alteredIn setUp questionNumber code after run doneTo event events isResetCall output before add sub mul div rem neg lt le eq ofInt toUnsigned isNan ofBits toBits nanBits ofFields latestOf roomOf runNumber doneOf framesOf ranOf runAnswer
 computing = tt
 
 -- ---- parameters, keys, calls
@@ -383,9 +385,9 @@ abbrev left : World
 left = run (setUp 2 init cells) leaving
 
 -- two channels on 5 cells have 2 each, after those calls as before them
-pub sizes-met : (run (setUp 2 init (0 ∷ cells)) leaving .sampler .count ≡ 2) × (run (setUp 2 init (0 ∷ cells)) leaving .sampler .capacity ≡ 2)
+pub sizes-met : (makes (setUp 2 init (0 ∷ cells)) (map one leaving) .sampler .count ≡ 2) × (makes (setUp 2 init (0 ∷ cells)) (map one leaving) .sampler .capacity ≡ 2)
 unfolding computing
-sizes-met = (demands .count-stays 2 init (0 ∷ cells) refl leaving, demands .capacity-stays 2 init (0 ∷ cells) refl leaving)
+sizes-met = (demands .count-stays 2 init (0 ∷ cells) refl (map one leaving), demands .capacity-stays 2 init (0 ∷ cells) refl (map one leaving))
 
 fitting-joined : (cs ds : List Call) → Each FittingCall cs → Each FittingCall ds → Each FittingCall (cs ++ ds)
 unfolding Each
@@ -503,12 +505,12 @@ filled-met =
     demands .first .filled shown 1 halved (rest ∷ rest ∷ []) (r .outcome) (r .allowed) refl refl
 
 -- ---- each number of the table, given
-abbrev far : Head → Head
-far h = record { now = 2 ^ 48; «data_len» = h .«data_len»; «passthru_volume» = h .«passthru_volume»; recorder = h .recorder; «passthru_on» = h .«passthru_on» }
+abbrev timed : ℕ → Head → Head
+timed n h = record { now = n; «data_len» = h .«data_len»; «passthru_volume» = h .«passthru_volume»; recorder = h .recorder; «passthru_on» = h .«passthru_on» }
 
 -- channel 0's clock at its end
 abbrev late : World
-late = record { sampler = withChannels (withHead (far (chan older 0 .head)) (chan older 0) ∷ chan older 1 ∷ []) (older .sampler); memory = older .memory }
+late = record { sampler = withChannels (withHead (timed (2 ^ 48) (chan older 0 .head)) (chan older 0) ∷ chan older 1 ∷ []) (older .sampler); memory = older .memory }
 
 pub numbers-met : (code older (quiet plain) ≡ 0)
     × (code older (sample 2 zero32 plain) ≡ 1)
@@ -537,3 +539,42 @@ unfolding computing
 held-met =
     let g = on older (start nan (key 60) one32 plain) in
     demands .first .held older (start nan (key 60) one32 plain) (settled g .outcome) (settled g .allowed) (λ e. omega arith) .0
+
+-- ---- a run of frames
+
+-- two entries a frame, each channel's in its place
+pub run-met : ranOf (older .sampler) (zero32 ∷ zero32 ∷ zero32 ∷ zero32 ∷ []) plain (older .memory) .frame ≡ half ∷ one32 ∷ one32 ∷ half ∷ []
+unfolding computing
+run-met = refl
+
+-- set-up's record with the clocks at a and b
+abbrev clocked : ℕ → ℕ → Sampler
+clocked a b =
+    let w = setUp 2 init cells in
+    withChannels (withHead (timed a (chan w 0 .head)) (chan w 0) ∷ withHead (timed b (chan w 1 .head)) (chan w 1) ∷ []) (w .sampler)
+
+abbrev answers : ℕ → ℕ → Ran
+answers frames number = record { frames = frames; number = number }
+
+-- as many frames as the largest clock has left; none asked for is done at the clock's end too
+pub run-ends-met : (runAnswer (clocked (2 ^ 48 - 5) 7) 10 plain 4 ≡ answers 5 0)
+    × (runAnswer (clocked (2 ^ 48 - 3) (2 ^ 48 - 3)) 10 plain 4 ≡ answers 3 6)
+    × (runAnswer (clocked (2 ^ 48 - 3) (2 ^ 48 - 1)) 10 plain 4 ≡ answers 1 6)
+    × (runAnswer (clocked (2 ^ 48 - 1) (2 ^ 48 - 3)) 10 plain 4 ≡ answers 1 6)
+    × (runAnswer (clocked (2 ^ 48) 0) 2 plain 4 ≡ answers 0 6)
+    × (runAnswer (clocked (2 ^ 48) (2 ^ 48)) 0 plain 4 ≡ answers 0 0)
+unfolding computing
+run-ends-met = (refl, refl, refl, refl, refl, refl)
+
+-- 9, then 10, then 4, then 6, each where those behind it hold too
+pub run-rows-met : (runAnswer (clocked (2 ^ 48) 0) 3 (with 16777217 loop.Loop off.Decay) 3 ≡ answers 0 9)
+    × (runAnswer (clocked (2 ^ 48) 0) 3 (with 16777217 loop.Loop off.Decay) 4 ≡ answers 0 10)
+    × (runAnswer (clocked (2 ^ 48) 0) 2 (with 16777217 loop.Loop off.Decay) 4 ≡ answers 0 4)
+    × (runAnswer (clocked (2 ^ 48) 0) 0 (with 16777217 loop.Loop off.Decay) 4 ≡ answers 0 4)
+unfolding computing
+run-rows-met = (refl, refl, refl, refl)
+
+-- the rest of the run is as it came in
+pub run-rest-met : ranOf (clocked (2 ^ 48 - 1) 0) (half ∷ half ∷ half ∷ two ∷ []) plain cells .frame ≡ zero32 ∷ zero32 ∷ half ∷ two ∷ []
+unfolding computing
+run-rest-met = refl

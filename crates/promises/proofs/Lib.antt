@@ -6,6 +6,9 @@ pub mod Accepted
 pub mod Demand3
 pub mod TruePositions
 pub mod Whole
+pub mod Turns
+pub mod Makes
+pub mod RunEnds
 pub mod Outcomes
 pub mod Infos
 pub mod Table

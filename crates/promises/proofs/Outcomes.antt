@@ -13,7 +13,8 @@ use Rattle.channel.specs.Channels.{live}
 use Rattle.sampler.specs.declared.Answer.{Answer}
 use Rattle.sampler.specs.declared.SampleAnswer.{SampleAnswer}
 use Rattle.sampler.specs.Refusals.{channelAt, frameNumber}
-use Rattle.sampler.specs.Samplers.{answerOf, processSampleOf, sampleMemory, framedOf}
+use Rattle.common_types.specs.declared.Params.{Params}
+use Rattle.sampler.specs.Samplers.{answerOf, processSampleOf, sampleMemory, framedOf, ranOf, runAnswer}
 use Rattle.questions.specs.declared.VoiceInfos.{VoiceInfos}
 use Rattle.questions.specs.declared.Counted.the-variants as counted
 use Rattle.lent_sampler.specs.Lists.{countedOf, voiceInfoCounted, voiceInfoAfter}
@@ -40,10 +41,14 @@ use Rattle.promises.specs.Runs.{
   asks,
   code,
   after,
-  run,
   output,
+  Made,
+  one,
+  frames,
+  made,
+  makes,
 }
-use Rattle.promises.specs.Outcomes.{Given, new, on, Outcome, Allows, Settled, numberIn, leftBy, outputIn, Chain, ended, called}
+use Rattle.promises.specs.Outcomes.{Given, new, on, along, RunOutcome, Outcome, Allows, Settled, numberIn, leftBy, leftAlong, outputIn, Chain, ended, called, ran}
 
 -- ---- one outcome
 pub settled : (g : Given) → Settled g
@@ -64,6 +69,17 @@ settled (on w (frame xs p)) =
       };
       allowed = (refl, record { sampler = refl; frame = refl; memory = refl });
       only = λ r h t. record { answer = record { sampler = (h .1 .sampler) t; number = (h .0) t }; frame = (h .1 .frame) t; memory = (h .1 .memory) t };
+    }
+settled (along w xs p) =
+    let f = ranOf (w .sampler) xs p (w .memory) in
+    record {
+      outcome = record {
+        answer = record { sampler = f .sampler; ran = runAnswer (w .sampler) (length xs) p (length (w .memory)) };
+        run = f .frame;
+        memory = f .memory;
+      };
+      allowed = (refl, record { sampler = refl; frame = refl; memory = refl });
+      only = λ r h t. record { answer = record { sampler = (h .1 .sampler) t; ran = (h .0) t }; run = (h .1 .frame) t; memory = (h .1 .memory) t };
     }
 settled (on w (asks (getFramesProcessed j))) = record { outcome = _; allowed = refl; only = λ r h. h }
 settled (on w (asks (getDataLen j))) = record { outcome = _; allowed = refl; only = λ r h. h }
@@ -135,16 +151,25 @@ output-answered w (sample i x p) r h j = ap (λ (a : SampleAnswer). a .output) (
 output-answered w (frame xs p) r h j = λ t. outputIn w (frame xs p) (record { answer = r .answer; frame = (h .1 .frame) t; memory = r .memory }) j
 output-answered w (asks q) r h j = refl
 
--- the contracts leave no other record and memory than `run` gives
-pub chain-run : {w u : World} {cs : List Call} → Chain w cs u → u ≡ run w cs
-unfolding run
-chain-run ended = refl
-chain-run (called {w} {u} {c} {cs} r h k) = chain-run k ∙ ap (λ (v : World). run v cs) (left-after w c r h)
+pub left-along : (w : World) (xs : List Float) (p : Params) (r : RunOutcome) → Allows (along w xs p) r → leftAlong r ≡ made w (frames xs p)
+unfolding made
+left-along w xs p r h = λ t. record { sampler = (h .1 .sampler) t; memory = (h .1 .memory) t }
+
+-- the contracts leave no other record and memory than `makes` gives
+pub chain-makes : {w u : World} {hs : List Made} → Chain w hs u → u ≡ makes w hs
+unfolding makes made
+chain-makes ended = refl
+chain-makes (called {w} {u} {c} {hs} r h k) = chain-makes k ∙ ap (λ (v : World). makes v hs) (left-after w c r h)
+chain-makes (ran {w} {u} {xs} {p} {hs} r h k) = chain-makes k ∙ ap (λ (v : World). makes v hs) (left-along w xs p r h)
 
 -- and they do leave that
-pub run-chain : (w : World) (cs : List Call) → Chain w cs (run w cs)
-unfolding run
-run-chain w [] = ended
-run-chain w (c ∷ cs) =
+pub makes-chain : (w : World) (hs : List Made) → Chain w hs (makes w hs)
+unfolding makes made
+makes-chain w [] = ended
+makes-chain w (one c ∷ hs) =
     let s = settled (on w c) in
-    called (s .outcome) (s .allowed) (subst (λ (v : World). Chain v cs (run (after w c) cs)) (sym (left-after w c (s .outcome) (s .allowed))) (run-chain (after w c) cs))
+    called (s .outcome) (s .allowed) (subst (λ (v : World). Chain v hs (makes (after w c) hs)) (sym (left-after w c (s .outcome) (s .allowed))) (makes-chain (after w c) hs))
+makes-chain w (frames xs p ∷ hs) =
+    let s = settled (along w xs p) in
+    ran (s .outcome) (s .allowed)
+    (subst (λ (v : World). Chain v hs (makes (made w (frames xs p)) hs)) (sym (left-along w xs p (s .outcome) (s .allowed))) (makes-chain (made w (frames xs p)) hs))

@@ -1,13 +1,13 @@
 -- No record that set-up and calls reach is broken, what a voice sounds by is recorded, and a start that nothing refuses is accepted. Assumes nothing.
 use mathlib.Core.Path.{_≡_, refl, sym, ap, _∙_, subst}
 use mathlib.Core.Logic.{_≢_}
-use mathlib.Core.Bool.{Bool, true, false}
+use mathlib.Core.Bool.{Bool, true, false, not}
 use mathlib.Core.List.{List, [], _∷_}
-use Prim.Native.Nat.{ℕ, _^_, _≤_, _<_}
+use Prim.Native.Nat.{ℕ, _/_, _%_, _^_, _≤_, _<_}
 use native.Mathlib.Nat.{le-trans, le-of-eq}
 use native.Mathlib.Omega.{arith}
 use borrow.Author.Tests.{eqb-false}
-use lib.Dec.{ltb}
+use lib.Dec.{ltb, eqb}
 use lib.ListN.{length, getD}
 use lib.Seq.{getD-take}
 use lib.IntN.{pos}
@@ -36,7 +36,7 @@ use Rattle.channel.specs.Soundness.{FittingChange, SoundChannel}
 use Rattle.channel.proofs.Parts.{data-within, voice-at}
 use Rattle.channel.proofs.Samples.{taken-sound, memory-kept, voice-recorded}
 use Rattle.sampler.specs.declared.Sampler.{Sampler}
-use Rattle.sampler.specs.Refusals.{channelAt, goodSampler, goodWith, noChannel, setUpNumber, frameNumber, channelNumber}
+use Rattle.sampler.specs.Refusals.{channelAt, goodSampler, goodWith, noChannel, setUpNumber, frameNumber, channelNumber, row, roomOf, runNumber}
 use Rattle.sampler.specs.Soundness.{SoundSampler, Reached, Unbroken}
 use Rattle.sampler.proofs.Entries.{part-length, sample-memory-length, frame-memory-length}
 use Rattle.sampler.proofs.Kept.{small, channel-sound}
@@ -106,6 +106,17 @@ no-nine w h u (change d) = u .change d
 no-nine w h u (sample j x p) = u .sample j p
 no-nine w h u (frame xs p) = u .frame (length xs) p
 no-nine w h u (asks q) = asked-nine w (h .good) (good-with (w .sampler) (length (w .memory)) u) q
+
+-- a run is tested for row 9 as a frame is
+run-nine : (w : World) → Unbroken (w .sampler) (length (w .memory)) → (xs : List Float) (p : Params) → runNumber (w .sampler) (length xs) p (length (w .memory)) ≢ 9
+unfolding frameNumber runNumber
+run-nine w u xs p =
+    passes (goodWith (w .sampler) (length (w .memory))) _ (good (goodWith (w .sampler) (length (w .memory))) _ (u .frame 0 p))
+    (another (not (eqb (length xs % w .sampler .count) 0)) 10 _ tt (another (beyondLimits p) 4 _ tt (another (ltb (roomOf (w .sampler)) (length xs / w .sampler .count)) 6 0 tt none)))
+  where
+    good : (b : Bool) (rest : ℕ) → row (not b) 9 rest ≢ 9 → b ≡ true
+    good true rest h = refl
+    good false rest h = absurd (h refl)
 
 -- ---- what a voice sounds by
 module _ (w : World) (st : Standing w) (h : SoundSampler (w .sampler)) (j n : ℕ) (v : Voice) (c : Call) (p : Params) (x : Float) (m : List ℕ) (y : Plays w j n v c p x m) where
@@ -210,7 +221,9 @@ whole count q m z cs f =
     let st = standing-run (setUp count q m) cs (standing-new count q m) in
     let r = reached-run (length m) (setUp count q m) cs f (Reached.new count q z) in
     let h = reached-sound (length m) (w .sampler) r in
+    let u = reached-unbroken (length m) (w .sampler) r (length (w .memory)) (le-of-eq (sym (memory-run (setUp count q m) cs))) in
     record {
-      unbroken = no-nine w h (reached-unbroken (length m) (w .sampler) r (length (w .memory)) (le-of-eq (sym (memory-run (setUp count q m) cs))));
+      unbroken = no-nine w h u;
+      unbroken-run = λ xs p. run-nine w u xs p;
       opens = λ position note velocity p a b d u. start-opens w st position note velocity p (h .good) a b d u;
     }

@@ -7,6 +7,8 @@
 -- channel j: nothing where it is refused, a change, or `sounds p x m`, a sample with the parameters p, the input x and
 -- the channel's part m of the memory. `live c` are a channel's voices, `voiceAt c n` is the one at place n, and
 -- `follow` says where it is after an event: `at` a place, or `gone`. `ownPart w j` is channel j's part of the memory.
+-- A host's call (`Made`) is one of these or a run of frames: `makes w hs` is what several of them leave, `spread` the
+-- frame calls of a run.
 mod Names
 use Rattle.promises.specs.Demands.Names.*
 
@@ -79,6 +81,13 @@ pub record Demand1 : Type 0 where
       ≡ row (not (goodWith (w .sampler) (length (w .memory)))) 9
       (row (ltb (w .sampler .count) (length xs)) 1
       (row (beyondLimits p) 4 (row (any atEnd (take (length xs) (w .sampler .channels))) 6 0)))
+  -- A run of frames (request 3/12): "9, then 10 for a length that isn't a whole number of frames, then 4, then 6 with
+  -- the count done." `roomOf` is what the largest clock of the channels in use has left.
+  pub run-rows : (w : World) (xs : List Float) (p : Params) (r : RunOutcome) → Allows (along w xs p) r
+      → r .answer .ran .number
+      ≡ row (not (goodWith (w .sampler) (length (w .memory)))) 9
+      (row (not (eqb (length xs % w .sampler .count) 0)) 10
+      (row (beyondLimits p) 4 (row (ltb (roomOf (w .sampler)) (length xs / w .sampler .count)) 6 0)))
   -- Voice info: 1, 4, 8.
   pub info-rows : (w : World) (j : ℕ) (p : Params) (room : ℕ) → code w (asks (getVoiceInfo j p room))
       ≡ row (not (goodSampler (w .sampler))) 9
@@ -112,6 +121,20 @@ pub record Demand1 : Type 0 where
   -- "and state, sample memory and frame hold what they held." So do lent lists.
   pub held : (w : World) (c : Call) (r : Outcome (on w c)) → Allows (on w c) r → code w c ≢ 0
       → (leftBy w c r ≡ w) × Untouched w c r
+  -- So they do after a run with 9, 10 or 4, of which no frame is done.
+  pub run-held : (w : World) (xs : List Float) (p : Params) (r : RunOutcome) → Allows (along w xs p) r
+      → r .answer .ran .number ≢ 0 → r .answer .ran .number ≢ 6
+      → (r .answer .ran .frames ≡ 0) × (leftAlong r ≡ w) × (r .run ≡ xs)
+  -- "The answer says how many frames were done." With 0 all of them;
+  pub run-done : (w : World) (xs : List Float) (p : Params) (r : RunOutcome) → Allows (along w xs p) r
+      → r .answer .ran .number ≡ 0 → r .answer .ran .frames * w .sampler .count ≡ length xs
+  -- "If the clock ends within the run, the frames before it stand and the rest of the lent run is as it came in; that
+  -- is the one refusal after work has begun." With 6 all is as after the run of these frames alone, which is done.
+  pub run-ends : (w : World) (xs : List Float) (p : Params) (r : RunOutcome) → Allows (along w xs p) r
+      → r .answer .ran .number ≡ 6 → (done : ℕ) → done ≡ r .answer .ran .frames * w .sampler .count
+      → (q : RunOutcome) → Allows (along w (take done xs) p) q
+      → (q .answer .ran .number ≡ 0) × (q .answer .ran .frames ≡ r .answer .ran .frames) × (leftAlong r ≡ leftAlong q)
+      × (r .run ≡ q .run ++ drop done xs)
   -- The tests of rows 1 to 6, "given exactly when", in document 01's words; row 7, of the small parts; and row 9, with
   -- what a broken record is.
   pub tests : RowTests
@@ -300,6 +323,20 @@ pub record FirstIn (w : World) (s : Call) (j : ℕ) (p : Params) (x : Float) (m 
     pub since : voice .clip2 .since ≡ chan w j .head .now
     pub sounds : SoundsIn w s j p x m n voice
 
+-- A run of frames (request 3/12): "One call should do them all and equal the frame call made on each in turn under the
+-- same parameters."
+pub record InTurn (w : World) (xs : List Float) (p : Params) : Type 0 where
+  -- Record and memory are those after the frame calls of the part that is done, each with its own entries;
+  pub leaves : made w (frames xs p) ≡ run w (spread w (frames xs p))
+  -- the entries of the run are those that these calls leave, one after the other, and then the rest as it was.
+  pub entries : ranOf (w .sampler) xs p (w .memory) .frame
+      ≡ playedBy w (spread w (frames xs p)) ++ drop (framesDone w xs p * w .sampler .count) xs
+  -- Record, memory and parameters are tested once. That equals a test at each frame: each of these calls is accepted,
+  pub accepted : Accepted w (spread w (frames xs p))
+  -- and with 6 the frame call on the next entries would be refused 6.
+  pub next : runNumber (w .sampler) (length xs) p (length (w .memory)) ≡ 6 → (ys : List Float)
+      → length ys ≡ w .sampler .count → code (run w (spread w (frames xs p))) (frame ys p) ≡ 6
+
 pub record Demand3 (w : World) (j : ℕ) : Type 0 where
   -- What is done: each call does its event to the channel, and nothing else.
   pub does : (c : Call) → chan (after w c) j ≡ act (event w c j) (chan w j)
@@ -456,6 +493,7 @@ pub record TruePositions (w : World) (j : ℕ) : Type 0 where
 pub record Whole (w : World) : Type 0 where
   -- Row 9 answers no call.
   pub unbroken : (c : Call) → code w c ≢ 9
+  pub unbroken-run : (xs : List Float) (p : Params) → runNumber (w .sampler) (length xs) p (length (w .memory)) ≢ 9
   -- "an accepted start can take the place": a start that rows 2 to 4 let through is accepted where no channel in use is
   -- full.
   pub opens : (position : Float) (note : Note) (velocity : Float) (p : Params) → badNote note ≡ false
@@ -466,27 +504,34 @@ pub record Whole (w : World) : Type 0 where
 
 pub record Demands : Type 0 where
   pub first : Demand1
-  pub no-panic : (count : ℕ) (p : InitParams) (m : List ℕ) → setUpNumber count (length m) ≡ 0 → (cs : List Call)
-      → Each FittingCall cs → NoPanic (run (setUp count p m) cs)
+  pub no-panic : (count : ℕ) (p : InitParams) (m : List ℕ) → setUpNumber count (length m) ≡ 0 → (hs : List Made)
+      → Each FittingMade hs → NoPanic (makes (setUp count p m) hs)
   pub second : Demand2
-  -- of every record and memory that set-up and any calls leave, for each channel of those that set-up was asked for
+  -- of every record and memory that set-up and any calls leave, runs of frames among them, for each channel of those
+  -- that set-up was asked for
   pub third : (count : ℕ) (p : InitParams) (m : List ℕ) → setUpNumber count (length m) ≡ 0
-      → (cs : List Call) (j : ℕ) → j < count → Demand3 (run (setUp count p m) cs) j
+      → (hs : List Made) (j : ℕ) → j < count → Demand3 (makes (setUp count p m) hs) j
   -- of the same records and channels
   pub true-positions : (count : ℕ) (p : InitParams) (m : List ℕ) → setUpNumber count (length m) ≡ 0
       → (cs : List Call) (j : ℕ) → j < count → TruePositions (run (setUp count p m) cs) j
+  -- "Demand 3 counts each frame of a run as a sample." What demand 3 says of calls it says of a run's frames: the run is
+  -- its frame calls, each one event on the channel, and so are any calls of a host, runs among them.
+  pub in-turn : (w : World) → FittingSampler (w .sampler) → (xs : List Float) (p : Params) → FittingParams p → InTurn w xs p
+  pub spreads : (count : ℕ) (p : InitParams) (m : List ℕ) → setUpNumber count (length m) ≡ 0 → (hs ks : List Made)
+      → Each FittingMade hs → Each FittingMade ks
+      → makes (makes (setUp count p m) hs) ks ≡ run (makes (setUp count p m) hs) (spreadAll (makes (setUp count p m) hs) ks)
   -- Their count stays, and so does the capacity: "the lent memory's length divided by the channel count, rounded down,
   -- at most 2^22."
   pub count-stays : (count : ℕ) (p : InitParams) (m : List ℕ) → setUpNumber count (length m) ≡ 0
-      → (cs : List Call) → run (setUp count p m) cs .sampler .count ≡ count
+      → (hs : List Made) → makes (setUp count p m) hs .sampler .count ≡ count
   pub capacity-stays : (count : ℕ) (p : InitParams) (m : List ℕ) → setUpNumber count (length m) ≡ 0
-      → (cs : List Call) → run (setUp count p m) cs .sampler .capacity ≡ min (length m / count) (2 ^ 22)
+      → (hs : List Made) → makes (setUp count p m) hs .sampler .capacity ≡ min (length m / count) (2 ^ 22)
   -- and that this isn't met by an engine whose records break
-  pub whole : (count : ℕ) (p : InitParams) (m : List ℕ) → setUpNumber count (length m) ≡ 0 → (cs : List Call)
-      → Each FittingCall cs → Whole (run (setUp count p m) cs)
+  pub whole : (count : ℕ) (p : InitParams) (m : List ℕ) → setUpNumber count (length m) ≡ 0 → (hs : List Made)
+      → Each FittingMade hs → Whole (makes (setUp count p m) hs)
   -- The output that demand 3 speaks of is the one that the call answers.
   pub answers : (w : World) (c : Call) (r : Outcome (on w c)) → Allows (on w c) r
       → (j : ℕ) → outputIn w c r j ≡ output w c j
   -- What calls leave, one after the other, is what their contracts allow them to leave, and nothing else is.
-  pub runs : (w : World) (cs : List Call) → Chain w cs (run w cs)
-  pub no-other : (w u : World) (cs : List Call) → Chain w cs u → u ≡ run w cs
+  pub runs : (w : World) (hs : List Made) → Chain w hs (makes w hs)
+  pub no-other : (w u : World) (hs : List Made) → Chain w hs u → u ≡ makes w hs

@@ -12,6 +12,9 @@ use Rattle.common_types.specs.declared.InitParams.{InitParams}
 use Rattle.binary32.specs.Leaves.{zero32}
 use Rattle.sampler.specs.declared.Answer.{Answer}
 use Rattle.sampler.specs.declared.SampleAnswer.{SampleAnswer}
+use Rattle.sampler.specs.declared.FrameAnswer.{FrameAnswer}
+use Rattle.sampler.specs.declared.RunAnswer.{RunAnswer}
+use Rattle.common_types.specs.declared.Params.{Params}
 use Rattle.sampler.specs.Refusals.{frameNumber}
 use Rattle.sampler.specs.Samplers.{
   setUpOf,
@@ -20,6 +23,8 @@ use Rattle.sampler.specs.Samplers.{
   sampleMemory,
   Frames,
   framedOf,
+  ranOf,
+  runAnswer,
 }
 use Rattle.questions.specs.declared.Counted.{Counted}
 use Rattle.questions.specs.declared.Told.{Told}
@@ -59,13 +64,18 @@ use Rattle.promises.specs.Runs.{
   sample,
   frame,
   asks,
+  Made,
+  one,
+  frames,
   withSampler,
 }
 
--- set-up on a memory; and every call on a record, with the memory that is lent to a sample, a frame and a waveform
+-- set-up on a memory; every call on a record, with the memory that is lent to a sample, a frame and a waveform; and a
+-- run of frames on them
 pub data Given : Type 0 where
   new : (count : ℕ) (p : InitParams) (memory : List ℕ) → Given
   on : (w : World) (c : Call) → Given
+  along : (w : World) (xs : List Float) (p : Params) → Given
 
 -- ---- outcomes
 pub record SampleOutcome : Type 0 where
@@ -73,8 +83,13 @@ pub record SampleOutcome : Type 0 where
   pub memory : List ℕ
 
 pub record FrameOutcome : Type 0 where
-  pub answer : Answer
+  pub answer : FrameAnswer
   pub frame : List Float
+  pub memory : List ℕ
+
+pub record RunOutcome : Type 0 where
+  pub answer : RunAnswer
+  pub run : List Float
   pub memory : List ℕ
 
 -- of a question that is answered in a lent list
@@ -95,6 +110,7 @@ Outcome (new count p m) = Answer
 Outcome (on w (change d)) = Answer
 Outcome (on w (sample j x p)) = SampleOutcome
 Outcome (on w (frame xs p)) = FrameOutcome
+Outcome (along w xs p) = RunOutcome
 Outcome (on w (asks (getFramesProcessed j))) = Counted
 Outcome (on w (asks (getDataLen j))) = Counted
 Outcome (on w (asks (isRecording j))) = Told
@@ -114,6 +130,9 @@ Allows (on w (sample j x p)) r = (r .answer ≡ processSampleOf (w .sampler) j x
 Allows (on w (frame xs p)) r =
     (r .answer .number ≡ frameNumber (w .sampler) (length xs) p (length (w .memory)))
     × Frames (framedOf (w .sampler) xs p (w .memory)) (r .answer .sampler) (r .frame) (r .memory)
+Allows (along w xs p) r =
+    (r .answer .ran ≡ runAnswer (w .sampler) (length xs) p (length (w .memory)))
+    × Frames (ranOf (w .sampler) xs p (w .memory)) (r .answer .sampler) (r .run) (r .memory)
 Allows (on w (asks (getFramesProcessed j))) r = r ≡ getFramesProcessedOf (w .sampler) j
 Allows (on w (asks (getDataLen j))) r = r ≡ getDataLenOf (w .sampler) j
 Allows (on w (asks (isRecording j))) r = r ≡ isRecordingOf (w .sampler) j
@@ -143,6 +162,7 @@ numberIn (new count p m) r = r .number
 numberIn (on w (change d)) r = r .number
 numberIn (on w (sample j x p)) r = r .answer .number
 numberIn (on w (frame xs p)) r = r .answer .number
+numberIn (along w xs p) r = r .answer .ran .number
 numberIn (on w (asks (getFramesProcessed j))) r = countedNumber r
 numberIn (on w (asks (getDataLen j))) r = countedNumber r
 numberIn (on w (asks (isRecording j))) r = toldNumber r
@@ -159,6 +179,10 @@ leftBy w (change d) r = withSampler (r .sampler) w
 leftBy w (sample j x p) r = record { sampler = r .answer .sampler; memory = r .memory }
 leftBy w (frame xs p) r = record { sampler = r .answer .sampler; memory = r .memory }
 leftBy w (asks q) r = w
+
+-- the same after a run
+abbrev pub leftAlong : RunOutcome → World
+leftAlong r = record { sampler = r .answer .sampler; memory = r .memory }
 
 -- the output for channel j, where the call is a sample of it
 abbrev pub outputIn : (w : World) (c : Call) → Outcome (on w c) → ℕ → Float
@@ -182,8 +206,10 @@ Untouched w (asks (getVoiceInfo j p room)) r = Unit {0}
 Untouched w (asks (fillVoiceInfo j p list)) r = r .lent ≡ list
 Untouched w (asks (getWaveformSummary columns list)) r = r .lent ≡ list
 
--- ---- runs by the contracts alone: each call leaves what some outcome that its contract allows leaves
-pub data Chain : World → List Call → World → Type 0 where
+-- ---- what a host calls by the contracts alone: each call leaves what some outcome that its contract allows leaves
+pub data Chain : World → List Made → World → Type 0 where
   ended : {w : World} → Chain w [] w
-  called : {w u : World} {c : Call} {cs : List Call} (r : Outcome (on w c)) → Allows (on w c) r
-      → Chain (leftBy w c r) cs u → Chain w (c ∷ cs) u
+  called : {w u : World} {c : Call} {hs : List Made} (r : Outcome (on w c)) → Allows (on w c) r
+      → Chain (leftBy w c r) hs u → Chain w (one c ∷ hs) u
+  ran : {w u : World} {xs : List Float} {p : Params} {hs : List Made} (r : RunOutcome) → Allows (along w xs p) r
+      → Chain (leftAlong r) hs u → Chain w (frames xs p ∷ hs) u

@@ -1,11 +1,12 @@
 -- Runs of calls: the record and the memory lent with it, as each call leaves them for the next, and what each call does
 -- to one channel. A call changes them by the very definitions that its contract cites. Definitions only. Assumes
 -- nothing.
-use Prim.Native.Nat.{ℕ}
+use mathlib.Core.Path.{_≡_}
+use Prim.Native.Nat.{ℕ, zero, suc}
 use mathlib.Core.Bool.{Bool, true, false, cond}
-use mathlib.Core.List.{List, [], _∷_}
+use mathlib.Core.List.{List, [], _∷_, _++_}
 use lib.Dec.{eqb, ltb}
-use lib.ListN.{length, getD}
+use lib.ListN.{length, take, drop, getD}
 use lib.Ieee.{Float}
 use Rattle.common_types.specs.declared.InitParams.{InitParams}
 use Rattle.common_types.specs.declared.Params.{Params}
@@ -20,7 +21,7 @@ use Rattle.channel.specs.Soundness.{FittingChange}
 use Rattle.sampler.specs.declared.Sampler.{Sampler}
 use Rattle.recorder.specs.ErrorText.{errorText}
 use Rattle.channel.specs.Channels.{live}
-use Rattle.sampler.specs.Refusals.{channelAt, changeNumber, sampleNumber, frameNumber, channelNumber}
+use Rattle.sampler.specs.Refusals.{channelAt, changeNumber, sampleNumber, frameNumber, channelNumber, doneOf}
 use Rattle.sampler.specs.Samplers.{
   setUpOf,
   changeOf,
@@ -28,6 +29,7 @@ use Rattle.sampler.specs.Samplers.{
   processSampleOf,
   sampleMemory,
   framedOf,
+  ranOf,
 }
 use Rattle.questions.specs.declared.VoiceInfo.{VoiceInfo}
 use Rattle.questions.specs.Questions.{recorderAt, notesOf, listNumber, infoNumber}
@@ -174,3 +176,59 @@ FittingCall (change d) = FittingChange d
 FittingCall (sample j x p) = FittingParams p
 FittingCall (frame xs p) = FittingParams p
 FittingCall (asks q) = Unit {0}
+
+-- ---- a host's calls: those above, and a run of frames (request 3/12), whose entries are lent frame after frame
+pub data Made : Type 0 where
+  one : (c : Call) → Made
+  frames : (xs : List Float) (p : Params) → Made
+
+-- the frames that a run does
+abbrev pub framesDone : World → List Float → Params → ℕ
+framesDone w xs p = doneOf (w .sampler) (length xs) p (length (w .memory))
+
+-- k frames of n entries each, as calls
+unfoldable pub frameCalls : Params → ℕ → ℕ → List Float → List Call
+frameCalls p n zero xs = []
+frameCalls p n (suc k) xs = frame (take n xs) p ∷ frameCalls p n k (drop n xs)
+
+-- what a host's call is spread into: a run, into the frame calls of the part that is done, each with its own entries
+unfoldable pub spread : World → Made → List Call
+spread w (one c) = c ∷ []
+spread w (frames xs p) = frameCalls p (w .sampler .count) (framesDone w xs p) xs
+
+-- what it leaves, by the definitions that its contract cites
+unfoldable pub made : World → Made → World
+made w (one c) = after w c
+made w (frames xs p) =
+    record {
+      sampler = ranOf (w .sampler) xs p (w .memory) .sampler;
+      memory = ranOf (w .sampler) xs p (w .memory) .memory;
+    }
+
+unfoldable pub makes : World → List Made → World
+makes w [] = w
+makes w (h ∷ hs) = makes (made w h) hs
+
+unfoldable pub spreadAll : World → List Made → List Call
+spreadAll w [] = []
+spreadAll w (h ∷ hs) = spread w h ++ spreadAll (made w h) hs
+
+-- the entries that frame calls leave in what is lent to them, one call after the other
+unfoldable pub playedIn : World → Call → List Float
+playedIn w (change d) = []
+playedIn w (sample j x p) = []
+playedIn w (frame xs p) = framedOf (w .sampler) xs p (w .memory) .frame
+playedIn w (asks q) = []
+
+unfoldable pub playedBy : World → List Call → List Float
+playedBy w [] = []
+playedBy w (c ∷ cs) = playedIn w c ++ playedBy (after w c) cs
+
+-- each of the calls is accepted
+unfoldable pub Accepted : World → List Call → Type 0
+Accepted w [] = Unit {0}
+Accepted w (c ∷ cs) = (code w c ≡ 0) × Accepted (after w c) cs
+
+unfoldable pub FittingMade : Made → Type 0
+FittingMade (one c) = FittingCall c
+FittingMade (frames xs p) = FittingParams p

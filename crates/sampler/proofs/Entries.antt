@@ -7,7 +7,7 @@ use native.Mathlib.Nat.{le-trans, le-of-eq, mul-le-mul-right, suc-mul, zero-add}
 use native.Mathlib.Omega.{arith}
 use borrow.Author.Tests.{ltb-true, ltb-false}
 use lib.Dec.{T, ltb, eqb, eqb→eq}
-use lib.ListN.{length, take, drop, getD, length-append, length-take, length-drop}
+use lib.ListN.{length, take, drop, getD, length-set, length-append, length-take, length-drop}
 use lib.Ieee.{Float}
 use Rattle.binary32.proofs.Truth.{no, cond-split}
 use Rattle.binary32.specs.Leaves.{zero32}
@@ -16,9 +16,31 @@ use Rattle.common_types.specs.Settings.{beyondLimits}
 use Rattle.channel.specs.Channels.{memoryOf}
 use Rattle.channel.proofs.Samples.{memory-kept}
 use Rattle.sampler.specs.Refusals.{channelAt, goodWith, noChannel, sampleNumber, frameNumber}
-use Rattle.sampler.specs.Samplers.{partOf, channelSteppedOf, memoryAt, sampleMemory, Framed, framed, entryOf, entriesOf, framedOf}
+use Rattle.sampler.specs.Samplers.{partOf, playedAt, channelSteppedOf, memoryAt, sampleMemory, Framed, framed, entryOf, entriesOf, framedOf}
 use Rattle.sampler.specs.declared.Sampler.{Sampler}
 use Rattle.sampler.proofs.Rows.{passed, is-true, sample-ready, frame-steps}
+
+-- ---- what no call changes
+pub record Kept (s r : Sampler) : Type 0 where
+  pub channels : length (r .channels) ≡ length (s .channels)
+  pub count : r .count ≡ s .count
+  pub capacity : r .capacity ≡ s .capacity
+
+pub kept-refl : (s : Sampler) → Kept s s
+kept-refl s = record { channels = refl; count = refl; capacity = refl }
+
+pub kept-trans : (s r q : Sampler) → Kept s r → Kept r q → Kept s q
+kept-trans s r q h k = record { channels = k .channels ∙ h .channels; count = k .count ∙ h .count; capacity = k .capacity ∙ h .capacity }
+
+pub kept-step : (s : Sampler) (j : ℕ) (p : Params) (x : Float) (m : List ℕ) → Kept s (channelSteppedOf s j p x m)
+unfolding channelSteppedOf
+kept-step s j p x m = record { channels = length-set (s .channels) j (playedAt s j p x m .channel); count = refl; capacity = refl }
+
+pub kept-entries : (p : Params) (n j : ℕ) (f : Framed) → Kept (f .sampler) (entriesOf p n j f .sampler)
+unfolding entriesOf entryOf
+kept-entries p zero j f = kept-refl (f .sampler)
+kept-entries p (suc n) j f =
+    kept-trans (f .sampler) (entryOf p j f .sampler) _ (kept-step (f .sampler) j p (getD (f .frame) j zero32) (f .memory)) (kept-entries p n (j + 1) (entryOf p j f))
 
 -- channel j is present, and its part lies within memory of that size
 pub record Reaches (s : Sampler) (j size : ℕ) : Type 0 where
@@ -66,7 +88,7 @@ sample-memory-length s j x p m =
 
 -- ---- a frame
 module _ (P : Framed → Type 0) (p : Params) (keeps : T (not (beyondLimits p)) → (j : ℕ) (f : Framed) → Reaches (f .sampler) j (length (f .memory)) → P f → P (entryOf p j f)) where
-  entries-keep : T (not (beyondLimits p)) → (n j : ℕ) (f : Framed) → j + n ≤ f .sampler .count → (j + n) * f .sampler .capacity ≤ length (f .memory) → P f → P (entriesOf p n j f)
+  pub entries-keep : T (not (beyondLimits p)) → (n j : ℕ) (f : Framed) → j + n ≤ f .sampler .count → (j + n) * f .sampler .capacity ≤ length (f .memory) → P f → P (entriesOf p n j f)
   unfolding entriesOf entryOf channelSteppedOf
   entries-keep k zero j f a b h = h
   entries-keep k (suc n) j f a b h =

@@ -3,5 +3,7 @@ pub mod Rows
 pub mod Parts
 pub mod Framing
 pub mod Entries
+pub mod Running
+pub mod RunRows
 pub mod Kept
 pub mod Reach

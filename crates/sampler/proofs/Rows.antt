@@ -23,29 +23,34 @@ is-true true h = refl
 is-true false h = absurd (true≢false h)
 
 -- ---- good sizes
-one-or-two : (n : ℕ) (a b : Bool) → eqb n 1 ≡ a → eqb n 2 ≡ b → (a || b) ≡ true → n ≤ 2
-one-or-two n true b e f h = let k : n ≡ 1 = eqb-true n 1 e in omega arith
-one-or-two n false true e f h = let k : n ≡ 2 = eqb-true n 2 f in omega arith
+one-or-two : (n : ℕ) (a b : Bool) → eqb n 1 ≡ a → eqb n 2 ≡ b → (a || b) ≡ true → (1 ≤ n) × (n ≤ 2)
+one-or-two n true b e f h = let k : n ≡ 1 = eqb-true n 1 e in (omega arith, omega arith)
+one-or-two n false true e f h = let k : n ≡ 2 = eqb-true n 2 f in (omega arith, omega arith)
 one-or-two n false false e f h = absurd (true≢false (sym h))
 
-pub sizes-count : (n capacity : ℕ) → goodSizes n capacity ≡ true → n ≤ 2
+counts : (n capacity : ℕ) → goodSizes n capacity ≡ true → (1 ≤ n) × (n ≤ 2)
 unfolding goodSizes
-sizes-count n capacity h =
+counts n capacity h =
     one-or-two n (eqb n 1) (eqb n 2) refl refl (both (eqb n 1 || eqb n 2) (leb 1 capacity) (both ((eqb n 1 || eqb n 2) && leb 1 capacity) (leb capacity 4194304) h .0) .0)
+
+pub sizes-count : (n capacity : ℕ) → goodSizes n capacity ≡ true → n ≤ 2
+sizes-count n capacity h = counts n capacity h .1
 
 pub good-sizes : (s : Sampler) → goodSampler s ≡ true → goodSizes (s .count) (s .capacity) ≡ true
 unfolding goodSampler
 good-sizes s h = both (goodSizes (s .count) (s .capacity)) _ h .0
 
-record Fitting (s : Sampler) (size : ℕ) : Type 0 where
-  few : s .count ≤ 2
-  fits : s .count * s .capacity ≤ size
+pub record Fitting (s : Sampler) (size : ℕ) : Type 0 where
+  pub some : 1 ≤ s .count
+  pub few : s .count ≤ 2
+  pub fits : s .count * s .capacity ≤ size
 
-fitting : (s : Sampler) (size : ℕ) → goodWith s size ≡ true → Fitting s size
+pub fitting : (s : Sampler) (size : ℕ) → goodWith s size ≡ true → Fitting s size
 unfolding goodWith
 fitting s size h =
     let g = both (goodSampler s) (leb (s .count * s .capacity) size) h in
-    record { few = sizes-count (s .count) (s .capacity) (good-sizes s (g .0)); fits = leb-true _ _ (g .1) }
+    let n = counts (s .count) (s .capacity) (good-sizes s (g .0)) in
+    record { some = n .0; few = n .1; fits = leb-true _ _ (g .1) }
 
 -- ---- the steps
 pub sample-ready : (s : Sampler) (j : ℕ) (p : Params) (size : ℕ) → sampleNumber s j p size ≡ 0 → Ready s j size

@@ -1,12 +1,12 @@
 -- Document 01's table: which number each call answers, in the table's order, and 0 where none of its rows holds.
 -- Definitions only.
-use Prim.Native.Nat.{ℕ, _*_, _/_, _^_, min}
+use Prim.Native.Nat.{ℕ, _-_, _*_, _/_, _%_, _^_, min, max}
 use mathlib.Core.Bool.{Bool, false, not, _&&_, _||_, cond}
 use mathlib.Core.List.{List}
 use lib.Dec.{leb, ltb, eqb}
 use lib.ListN.{take, getD}
 use lib.Ieee.{Float, le}
-use Rattle.walks.specs.Walks.{any, every}
+use Rattle.walks.specs.Walks.{any, every, fold}
 use Rattle.binary32.specs.Leaves.{zero32, one32}
 use Rattle.common_types.specs.declared.Params.{Params}
 use Rattle.common_types.specs.declared.Note.{Note}
@@ -98,6 +98,32 @@ unfoldable pub frameNumber : Sampler → ℕ → Params → ℕ → ℕ
 frameNumber s n p size =
     row (not (goodWith s size)) 9
     (row (ltb (s .count) n) 1 (row (beyondLimits p) 4 (row (any atEnd (take n (s .channels))) 6 0)))
+
+-- ---- a run of frames (request 3/12): each entry of it is one channel's, frame after frame
+
+-- the largest clock of these channels
+abbrev pub laterOf : ℕ → Channel → ℕ
+laterOf time c = max time (c .head .now)
+
+unfoldable pub latestOf : List Channel → ℕ
+latestOf cs = fold laterOf 0 cs
+
+-- the frames that are left until the clock of a channel in use stands at its end
+unfoldable pub roomOf : Sampler → ℕ
+roomOf s = lastTime - latestOf (present s)
+
+-- a run of n entries: "9, then 10 for a length that isn't a whole number of frames, then 4, then 6"
+unfoldable pub runNumber : Sampler → ℕ → Params → ℕ → ℕ
+runNumber s n p size =
+    row (not (goodWith s size)) 9
+    (row (not (eqb (n % s .count) 0)) 10 (row (beyondLimits p) 4 (row (ltb (roomOf s) (n / s .count)) 6 0)))
+
+-- the frames of it that are done: with 6, "the one refusal after work has begun", those that there is room for; with 9,
+-- 10 and 4 none
+unfoldable pub doneOf : Sampler → ℕ → Params → ℕ → ℕ
+doneOf s n p size =
+    let number = runNumber s n p size in
+    cond (eqb number 0 || eqb number 6) (min (n / s .count) (roomOf s)) 0
 
 -- a question of one channel
 unfoldable pub channelNumber : Sampler → ℕ → ℕ

@@ -27,10 +27,13 @@ use Rattle.sampler.specs.Refusals.{
   changeNumber,
   sampleNumber,
   frameNumber,
+  runNumber,
+  doneOf,
 }
 use Rattle.sampler.specs.declared.Sampler.{Sampler}
 use Rattle.sampler.specs.declared.Answer.{Answer}
 use Rattle.sampler.specs.declared.SampleAnswer.{SampleAnswer}
+use Rattle.sampler.specs.declared.Ran.{Ran}
 
 abbrev pub withChannels : List Channel → Sampler → Sampler
 withChannels cs s = record { channels = cs; count = s .count; capacity = s .capacity }
@@ -87,6 +90,11 @@ pub record Ready (s : Sampler) (j size : ℕ) : Type 0 where
 pub record Steps (s : Sampler) (n size : ℕ) : Type 0 where
   pub below : n ≤ 2
   pub parts : n * s .capacity ≤ size
+
+-- what k frames of a run of n entries ask: so many entries and, if there are frames, the steps of every channel in use
+pub record Turns (s : Sampler) (k n size : ℕ) : Type 0 where
+  pub steps : 0 < k → Steps s (s .count) size
+  pub entries : k * s .count ≤ n
 
 -- the j-th part of the memory, of the capacity's size
 unfoldable pub partOf : Sampler → ℕ → List ℕ → List ℕ
@@ -149,3 +157,22 @@ unfoldable pub framedOf : Sampler → List Float → Params → List ℕ → Fra
 framedOf s frame p m =
     let f = framed s frame m in
     cond (eqb (frameNumber s (length frame) p (length m)) 0) (entriesOf p (length frame) 0 f) f
+
+-- ---- a run of frames (request 3/12): the front entries, one for each channel in use, as a frame, then the rest
+
+-- k frames, and what stands behind them as it was
+unfoldable pub framesOf : Params → ℕ → Framed → Framed
+framesOf p zero f = f
+framesOf p (suc k) f =
+    let n = f .sampler .count in
+    let g = entriesOf p n 0 (framed (f .sampler) (take n (f .frame)) (f .memory)) in
+    let rest = framesOf p k (framed (g .sampler) (drop n (f .frame)) (g .memory)) in
+    framed (rest .sampler) (g .frame ++ rest .frame) (rest .memory)
+
+-- the run as the call leaves it, with the record and the memory
+unfoldable pub ranOf : Sampler → List Float → Params → List ℕ → Framed
+ranOf s run p m = framesOf p (doneOf s (length run) p (length m)) (framed s run m)
+
+-- what the call answers for a run of n entries
+unfoldable pub runAnswer : Sampler → ℕ → Params → ℕ → Ran
+runAnswer s n p size = record { frames = doneOf s n p size; number = runNumber s n p size }

@@ -1,7 +1,7 @@
 // The sampler by value: every public call, with the refusals of document 01's table. Each takes every value of its
 // arguments, and equals a definition in specs/. On a refusal the record and what is lent with it hold what they held.
 ghost use mathlib.Core.Path.{_≡_};
-ghost use Prim.Native.Nat.{_+_, _*_, _≤_, _<_, min};
+ghost use Prim.Native.Nat.{_+_, _*_, _≤_, _<_, min, max};
 ghost use mathlib.Core.Bool.{_&&_};
 ghost use lib.Dec.{leb};
 ghost use lib.Ieee.{le};
@@ -26,6 +26,9 @@ ghost use Rattle.sampler.specs.Refusals.{
   changeNumber,
   sampleNumber,
   frameNumber,
+  latestOf,
+  roomOf,
+  runNumber,
   channelNumber,
 };
 ghost use Rattle.sampler.specs.Samplers.{
@@ -50,6 +53,10 @@ ghost use Rattle.sampler.specs.Samplers.{
   framed,
   entriesOf,
   framedOf,
+  Turns,
+  framesOf,
+  ranOf,
+  runAnswer,
 };
 use channel::Change;
 use channel::Channel;
@@ -79,6 +86,24 @@ pub struct SampleAnswer {
     pub sampler: Sampler,
     pub output: f32,
     pub number: u8,
+}
+
+// What a frame leaves, and its number.
+pub struct FrameAnswer {
+    pub sampler: Sampler,
+    pub number: u8,
+}
+
+// The frames of a run that are done, and its number.
+pub struct Ran {
+    pub frames: usize,
+    pub number: u8,
+}
+
+// What a run of frames leaves, and what it answers.
+pub struct RunAnswer {
+    pub sampler: Sampler,
+    pub ran: Ran,
 }
 
 struct Stepped {
@@ -208,6 +233,32 @@ impl Sampler {
         false
     }
 
+    // The largest clock of the channels in use.
+    fn latest(self) -> usize
+        ensures { λ r. ⌜ r ≡ latestOf (present self) ⌝ }
+    {
+        let n = places(self.count);
+        let mut time = 0;
+        let mut j = 0;
+        while j < n {
+            time = later(time, self.channels[j].head.now);
+            j += 1;
+        }
+        time
+    }
+
+    // The frames that are left until a clock stands at its end.
+    fn room(self) -> usize
+        ensures { λ r. ⌜ r ≡ roomOf self ⌝ }
+    {
+        let latest = self.latest();
+        if latest < channel::LAST_TIME {
+            channel::LAST_TIME - latest
+        } else {
+            0
+        }
+    }
+
     fn each(mut self, change: Change) -> Sampler
         ensures { λ r. ⌜ r ≡ eachOf change self ⌝ }
     {
@@ -308,6 +359,34 @@ impl Sampler {
             9,
             first_of(self.count < entries, 1, beyond),
         )
+    }
+
+    // A broken record may say that it has no channels, so that nothing is divided before row 9.
+    fn run_number(self, entries: usize, params: Params, size: usize) -> u8
+        ensures { λ r. ⌜ r ≡ runNumber self entries params size ⌝ }
+    {
+        if !self.good_with(size) {
+            return 9;
+        }
+        let count = self.count;
+        let end = first_of(self.room() < entries / count, 6, 0);
+        let beyond = first_of(params.beyond_limits(), 4, end);
+        first_of(entries % count != 0, 10, beyond)
+    }
+
+    fn ran(self, entries: usize, params: Params, size: usize) -> Ran
+        ensures { λ r. ⌜ r ≡ runAnswer self entries params size ⌝ }
+    {
+        let number = self.run_number(entries, params, size);
+        if (number == 0) | (number == 6) {
+            let count = self.count;
+            Ran {
+                frames: smaller(entries / count, self.room()),
+                number,
+            }
+        } else {
+            Ran { frames: 0, number }
+        }
     }
 
     fn change_number(self, change: Change) -> u8
@@ -442,7 +521,7 @@ impl Sampler {
         self
     }
 
-    pub fn process_frame(self, frame: &mut [f32], params: Params, memory: &mut [u32]) -> Answer
+    pub fn process_frame(self, frame: &mut [f32], params: Params, memory: &mut [u32]) -> FrameAnswer
         ensures { λ r. ⌜ r .number
             ≡ frameNumber self (length (now (frame .entry))) params (length (now (memory .entry))) ⌝ }
         ensures { λ r. ⌜ Frames (framedOf self (now (frame .entry)) params (now (memory .entry))) (r .sampler)
@@ -450,16 +529,57 @@ impl Sampler {
     {
         let number = self.frame_number(frame.len(), params, memory.len());
         if number != 0 {
-            return Answer {
+            return FrameAnswer {
                 sampler: self,
                 number,
             };
         }
-        Answer {
+        FrameAnswer {
             sampler: self.entries(frame, params, memory),
             number: 0,
         }
     }
+
+    // The first k frames of a run in turn, each entry replaced by its output.
+    fn frames(mut self, k: usize, run: &mut [f32], params: Params, memory: &mut [u32]) -> Sampler
+        requires { ⌜ Turns self k (length (now run)) (length (now memory)) ⌝ }
+        ensures { λ r. ⌜ Frames (framesOf params k (framed self (now (run .entry)) (now (memory .entry)))) r
+            (now (run .exit)) (now (memory .exit)) ⌝ }
+    {
+        let count = self.count;
+        let mut a = 0;
+        let mut i = 0;
+        while i < k {
+            let b = a + count;
+            self = self.entries(&mut run[a..b], params, memory);
+            a = b;
+            i += 1;
+        }
+        self
+    }
+
+    // Entry i * count + j of the run is channel j's of frame i. Record, memory and parameters are tested once.
+    pub fn process_frames(self, run: &mut [f32], params: Params, memory: &mut [u32]) -> RunAnswer
+        ensures { λ r. ⌜ r .ran ≡ runAnswer self (length (now (run .entry))) params (length (now (memory .entry))) ⌝ }
+        ensures { λ r. ⌜ Frames (ranOf self (now (run .entry)) params (now (memory .entry))) (r .sampler)
+            (now (run .exit)) (now (memory .exit)) ⌝ }
+    {
+        let ran = self.ran(run.len(), params, memory.len());
+        let sampler = self.frames(ran.frames, run, params, memory);
+        RunAnswer { sampler, ran }
+    }
+}
+
+fn later(a: usize, b: usize) -> usize
+    ensures { λ r. ⌜ r ≡ max a b ⌝ }
+{
+    if a < b { b } else { a }
+}
+
+fn smaller(a: usize, b: usize) -> usize
+    ensures { λ r. ⌜ r ≡ min a b ⌝ }
+{
+    if a < b { a } else { b }
 }
 
 // A row of the table: its number where its test holds, else what the rows after it give.

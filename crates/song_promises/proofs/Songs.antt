@@ -34,7 +34,7 @@ use Rattle.fates.specs.Events.{Event, idle, changes, sounds, isReset, isSample,
 use Rattle.fates.specs.Places.{stoppedIn}
 use Rattle.promises.specs.Runs.{World, setUp, Call, change, start, stop, frame, code, withSampler, after, run, chan, doneTo, event, events, isResetCall}
 use Rattle.promises.specs.Demands.{isEmpty, FirstIn, Demand3}
-use Rattle.promises.proofs.Demands.{demands}
+use Rattle.promises.proofs.Demand3.{demand3}
 use Rattle.song_promises.specs.Songs.{startOf, handOf, hands, leftIn, dueIn, Rising, played, hosted, woven, SongByHand, SongOnTime, SongInTurn, Songs}
 
 -- ---- by hand
@@ -168,14 +168,14 @@ module _ (count : ℕ) (q : InitParams) (m : List ℕ) (good : setUpNumber count
       let w = run (setUp count q m) cs in
       let due = dueIn list next at in
       ap (λ (v : World). chan v j .head .now) (plays w list next at p)
-      ∙ demands .third count q m good cs j k .stands (hands p due) (no-reset p due) (no-sample p w due j)
+      ∙ demand3 count q m good cs j k .stands (hands p due) (no-reset p due) (no-sample p w due j)
 
   module _ (p : Params) (w : World) (from : w ≡ run (setUp count q m) cs) (earlier : List Cue) (c : Cue) (later : List Cue) (split : dueIn list next (c .frame) ≡ earlier ++ (c ∷ later)) (starts : c .starts ≡ true) (u : World) (then : u ≡ run w (hands p earlier)) where
     holds : Demand3 u j
     holds =
         subst (λ (v : World). Demand3 v j)
         (run-more (setUp count q m) cs (hands p earlier) ∙ ap (λ (v : World). run v (hands p earlier)) (sym from) ∙ sym then)
-        (demands .third count q m good (cs ++ hands p earlier) j k)
+        (demand3 count q m good (cs ++ hands p earlier) j k)
 
     reached : run u (startOf p c ∷ hands p later) ≡ played w list next (c .frame) p
     reached =

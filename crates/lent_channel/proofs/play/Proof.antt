@@ -25,7 +25,7 @@ use contract.Monad.{Fun, fact}
 use contract.Running.{givenOf, tables, tablesOf}
 use sound.WpLaws.{fmOf, WpFn-mono}
 use types.Kit.{Given, Item, ‵, raw, _⊛_, some, later, ⋆, anyQ, atRet, _$_, _∵_, !, qed, by, move, keep, use1, use2, drop, split, join, pick, rewrite, fsplit, fsplit3, fjoin, fjoin3, feqI, suffices, frame, await, done}
-use types.Part.{whole, sub, look-in, store-in}
+use types.Part.{agg, whole, sub, look-in, store-in}
 use types.Mut.{close-ref}
 use types.SemTy.{Body}
 use types.Run.{look, store, init, forget, stop, hop, fld, from, load, addr, lit, float-lit, of-opd, bin, un, and-then, no-more, first, branches, skips, assigns, assigns-last, land, stays, leaves-loop, returns, enter, alloc1, alloc0, params1, pass1, pass0, free1, free0, exec}
@@ -87,13 +87,16 @@ use Rattle.channel.proofs.sound.Symbol as sounds-def
 use Rattle.channel.proofs.sound.Symbol.{name as #channel·sound}
 use Rattle.channel.proofs.sound.Met as sounds-thm
 use Rattle.lent_channel.specs.declared.Start.{Start}
-use Rattle.lent_channel.specs.Turns.{sharedOf, voicesLeftOf, playedBy}
+use Rattle.lent_channel.specs.declared.Heard.{Heard}
+use Rattle.lent_channel.specs.Turns.{sharedOf, voicesLeftOf, playedBy, heardOf}
 use Rattle.lent_channel.proofs.Bytes.{voice-bytes, count-at}
 use Rattle.walks.proofs.Tests.{holds, fails, denied}
 use Rattle.lent_channel.proofs.Turns.{turns-few, begins-there, ended-output, ended-channel}
-use Rattle.lent_channel.proofs.Places.{cv, vv, spot, places-are, reads-voice, sets-voice}
+use Rattle.lent_channel.proofs.Places.{cv, vv, yv, spot, places-are, reads-voice, sets-voice}
 use Rattle.lent_channel.proofs.Start as S
 use Rattle.lent_channel.proofs.Start.Laws as S′
+use Rattle.lent_channel.proofs.Heard as Y
+use Rattle.lent_channel.proofs.Heard.Laws as Y′
 use Rattle.lent_channel.proofs.begun as begun
 use Rattle.lent_channel.proofs.begun.Symbol as begun-def
 use Rattle.lent_channel.proofs.begun.Symbol.{name as #lent-channel·begun}
@@ -141,6 +144,9 @@ tick = ty (pointee (K.the-row .written))
 abbrev voiced : Ty
 voiced = ty (pointee (R.the-row .written))
 
+abbrev sounded : Ty
+sounded = ty (pointee (Y.the-row .written))
+
 abbrev voices : Ty
 voices = ty (pointee (Array R.the-row 32 .written))
 
@@ -183,6 +189,13 @@ record State : Type 0 where
   k : ℕ
   voices : List Voice
   out : Float
+
+-- what is handed up
+abbrev given : State → Heard
+given s = record { output = s .out }
+
+is-given : (s : State) → T (fitsF binary32 (s .out)) → Is Y.the-row (given s) (yv (given s) ∷ [])
+is-given s fits = LL.owes Y.the-type Y′.the-laws (given s) ((refl, is-true (fitsF binary32 (s .out)) fits), tt)
 
 module _ {M : Type 1} (𝓤 : URA M) (H : Heap 𝓤) (A : Atoms 𝓤) (W : Given 𝓤 H A) (at-mem : Memory → SProp 𝓤) (run : Routine → Fun 𝓤) (κ κ₁ : Lft) (q q₁ : Share)
     (b o : ℕ) (γ : GName) (h : Channel) (time len : ℕ) (p : Params) (b₁ o₁ : ℕ) (γ₁ : GName) (ms : List ℕ) (time-fits : time < 2 ^ 64) (len-fits : len < 2 ^ 64) (room : Room u32 (length ms)) (isp : Is P.the-row p (pv p ∷ [])) where
@@ -240,15 +253,15 @@ module _ {M : Type 1} (𝓤 : URA M) (H : Heap 𝓤) (A : Atoms 𝓤) (W : Given
   last s = withVoices (s .voices) (voicesLeftOf n (s .k) (h .count)) h
 
   abbrev Done : State → Type 0
-  Done s = (s .out ≡ playedBy p time len ms h .output) × (last s ≡ playedBy p time len ms h .channel)
+  Done s = (given s ≡ heardOf (playedBy p time len ms h)) × (last s ≡ playedBy p time len ms h .channel)
 
-  exits : (s : State) → T (fitsF binary32 (s .out)) → Done s → ent 𝓤 (⋆ 𝓤 H A (‵ (fobs γ (C.the-row .coded .code (last s))) ∷ ‵ (fbor κ (Body (mem C.the-row) b o γ)) ∷ ‵ (flft κ q) ∷ Tok ∷ [])) (Post (vfloat binary32 (s .out)))
+  exits : (s : State) → T (fitsF binary32 (s .out)) → Done s → ent 𝓤 (⋆ 𝓤 H A (‵ (fobs γ (C.the-row .coded .code (last s))) ∷ ‵ (fbor κ (Body (mem C.the-row) b o γ)) ∷ ‵ (flft κ q) ∷ Tok ∷ [])) (Post (yv (given s)))
   exits s fits said =
       qed W (‵ (fobs γ (C.the-row .coded .code (last s))) ∷ ‵ (fbor κ (Body (mem C.the-row) b o γ)) ∷ ‵ (flft κ q) ∷ Tok ∷ []) ∵
-      suffices ! _ (ends-at 𝓤 H A play.ended stayed (play.clauses 𝓤 H A at-mem run) W (((κ, (κ₁, tt)), (q, (q₁, tt)), tt, a, vals), tt) (vfloat binary32 (s .out)) (s .out) (last s, (tt, (tt, (tt, (tt, tt))))) (tt, (tt, (tt, (tt, (tt, tt)))))) $ says ! said $
+      suffices ! _ (ends-at 𝓤 H A play.ended stayed (play.clauses 𝓤 H A at-mem run) W (((κ, (κ₁, tt)), (q, (q₁, tt)), tt, a, vals), tt) (yv (given s)) (given s) (last s, (tt, (tt, (tt, (tt, tt))))) (tt, (tt, (tt, (tt, (tt, tt)))))) $ says ! said $
       move ! (2 ∷ 3 ∷ []) $ join ! $ frame ! $ feqI ! (List Val) (vptr b o ∷ []) (vptr b o ∷ []) refl $ fjoin3 ! $
       nothing ! $ nothing ! $ fjoin ! $ owned ! P.the-row (Is P.the-row) (LL.makes P.the-type P′.the-plain 𝓤 H A) p _ isp $ fjoin ! $ owned ! usize (Is usize) (uint-makes 𝓤 H A W w64) len _ (refl, len-fits) $ fjoin ! $ owned ! usize (Is usize) (uint-makes 𝓤 H A W w64) time _ (refl, time-fits) $ fjoin ! $ move ! (1 ∷ 0 ∷ []) $ fjoin ! $ frame ! $
-      owned ! f32 (Is f32) (float-makes 𝓤 H A W binary32) (s .out) _ (refl, is-true (fitsF binary32 (s .out)) fits) $ done !
+      owned ! Y.the-row (Is Y.the-row) (LL.makes Y.the-type Y′.the-plain 𝓤 H A) (given s) _ (is-given s fits) $ done !
 
   -- ---- the calls
   abbrev to-begun : Begun 𝓤 H A at-mem run .Ghost
@@ -321,7 +334,7 @@ module _ {M : Type 1} (𝓤 : URA M) (H : Heap 𝓤) (A : Atoms 𝓤) (W : Given
     Λ = 𝓣 .Λ
 
     abbrev En : Env 𝓤 H
-    En = (float, l₀) ∷ (ref, l₁) ∷ (word, l₂) ∷ (word, l₃) ∷ (params, l₄) ∷ (slice, l₅) ∷ (start, l₆) ∷ (tick, l₇) ∷ (word, l₈) ∷ (float, l₉) ∷ (word, l₁₀) ∷ (word, l₁₁) ∷ (voiced, l₁₂) ∷ (voiced, l₁₃) ∷ (truth, l₁₄) ∷ (word, l₁₅) ∷ (truth, l₁₆) ∷ (word, l₁₇) ∷ (ptr, l₁₈) ∷ (ptr, l₁₉) ∷ (voiced, l₂₀) ∷ (word, l₂₁) ∷ (ptr, l₂₂) ∷ (ptr, l₂₃) ∷ (word, l₂₄) ∷ []
+    En = (sounded, l₀) ∷ (ref, l₁) ∷ (word, l₂) ∷ (word, l₃) ∷ (params, l₄) ∷ (slice, l₅) ∷ (start, l₆) ∷ (tick, l₇) ∷ (word, l₈) ∷ (float, l₉) ∷ (word, l₁₀) ∷ (word, l₁₁) ∷ (voiced, l₁₂) ∷ (voiced, l₁₃) ∷ (truth, l₁₄) ∷ (word, l₁₅) ∷ (truth, l₁₆) ∷ (word, l₁₇) ∷ (ptr, l₁₈) ∷ (ptr, l₁₉) ∷ (voiced, l₂₀) ∷ (word, l₂₁) ∷ (ptr, l₂₂) ∷ (ptr, l₂₃) ∷ (word, l₂₄) ∷ []
 
     few : n ≤ 32
     few = turns-few p time len (h .count)
@@ -329,9 +342,9 @@ module _ {M : Type 1} (𝓤 : URA M) (H : Heap 𝓤) (A : Atoms 𝓤) (W : Given
     -- what no turn touches
     abbrev Frame : List (Item 𝓤)
     Frame = ‵ (fat fullShare ref l₁ 0 (vptr b o)) ∷ ‵ (fat fullShare word l₂ 0 (vint w64 time)) ∷ ‵ (fat fullShare word l₃ 0 (vint w64 len)) ∷ ‵ (fat fullShare params l₄ 0 (pv p)) ∷ ‵ (fat fullShare slice l₅ 0 sl) ∷ ‵ (fat fullShare tick l₇ 0 (kv t)) ∷ ‵ (fat fullShare word l₈ 0 (vint w64 n))
-        ∷ ‵ (froom float l₀ 0) ∷ ‵ (froom start l₆ 0) ∷ ‵ (froom word l₁₅ 0) ∷ ‵ (froom word l₂₄ 0)
+        ∷ ‵ (froom sounded l₀ 0) ∷ ‵ (froom start l₆ 0) ∷ ‵ (froom word l₁₅ 0) ∷ ‵ (froom word l₂₄ 0)
         ∷ ‵ (fobor κ q (Body (mem C.the-row) b o γ)) ∷ ‵ (fobs γ (C.the-row .coded .code h)) ∷ ‵ (fauth γ (C.the-row .coded .code h))
-        ∷ ‵ (fdies float l₀) ∷ ‵ (fdies ref l₁) ∷ ‵ (fdies word l₂) ∷ ‵ (fdies word l₃) ∷ ‵ (fdies params l₄) ∷ ‵ (fdies slice l₅) ∷ ‵ (fdies start l₆) ∷ ‵ (fdies tick l₇) ∷ ‵ (fdies word l₈) ∷ ‵ (fdies float l₉) ∷ ‵ (fdies word l₁₀) ∷ ‵ (fdies word l₁₁) ∷ ‵ (fdies voiced l₁₂) ∷ ‵ (fdies voiced l₁₃) ∷ ‵ (fdies truth l₁₄) ∷ ‵ (fdies word l₁₅) ∷ ‵ (fdies truth l₁₆) ∷ ‵ (fdies word l₁₇) ∷ ‵ (fdies ptr l₁₈) ∷ ‵ (fdies ptr l₁₉) ∷ ‵ (fdies voiced l₂₀) ∷ ‵ (fdies word l₂₁) ∷ ‵ (fdies ptr l₂₂) ∷ ‵ (fdies ptr l₂₃) ∷ ‵ (fdies word l₂₄) ∷ []
+        ∷ ‵ (fdies sounded l₀) ∷ ‵ (fdies ref l₁) ∷ ‵ (fdies word l₂) ∷ ‵ (fdies word l₃) ∷ ‵ (fdies params l₄) ∷ ‵ (fdies slice l₅) ∷ ‵ (fdies start l₆) ∷ ‵ (fdies tick l₇) ∷ ‵ (fdies word l₈) ∷ ‵ (fdies float l₉) ∷ ‵ (fdies word l₁₀) ∷ ‵ (fdies word l₁₁) ∷ ‵ (fdies voiced l₁₂) ∷ ‵ (fdies voiced l₁₃) ∷ ‵ (fdies truth l₁₄) ∷ ‵ (fdies word l₁₅) ∷ ‵ (fdies truth l₁₆) ∷ ‵ (fdies word l₁₇) ∷ ‵ (fdies ptr l₁₈) ∷ ‵ (fdies ptr l₁₉) ∷ ‵ (fdies voiced l₂₀) ∷ ‵ (fdies word l₂₁) ∷ ‵ (fdies ptr l₂₂) ∷ ‵ (fdies ptr l₂₃) ∷ ‵ (fdies word l₂₄) ∷ []
 
     -- where a turn begins
     abbrev At : State → List (Item 𝓤)
@@ -477,7 +490,7 @@ module _ {M : Type 1} (𝓤 : URA M) (H : Heap 𝓤) (A : Atoms 𝓤) (W : Given
       done-so : Done s
       done-so =
           let e = ends-there (g .walk) (omega (arith, g .left)) in
-          (ended-output p time len ms h all (s .voices) (s .k) (s .out) e, ended-channel p time len ms h all (s .voices) (s .k) (s .out) e)
+          (ap (λ (y : Float). record { output = y }) (ended-output p time len ms h all (s .voices) (s .k) (s .out) e), ended-channel p time len ms h all (s .voices) (s .k) (s .out) e)
 
       k-fits : s .k < 2 ^ 64
       k-fits = omega (arith, g .less, at-end, few)
@@ -505,7 +518,7 @@ module _ {M : Type 1} (𝓤 : URA M) (H : Heap 𝓤) (A : Atoms 𝓤) (W : Given
           move ! (1 ∷ []) $ drop ! $ owned ! C.the-row (Is C.the-row) (LL.makes C.the-type C′.the-plain 𝓤 H A) (withVoices (s .voices) m h) _ (changed m (is-m .1) is) $ move ! (1 ∷ 0 ∷ []) $
           use2 W (‵ (partAt C.the-row fullShare (withVoices (s .voices) m h) b o)) (part-in 𝓤 H A W C.the-row refl fullShare (withVoices (s .voices) m h) b o (cv (withVoices (s .voices) m h))) $
           rewrite ! 0 (λ (y : ℕ). ‵ (partAt C.the-row fullShare (withVoices (s .voices) y h) b o)) (e-m) refl $
-          assigns ! (of-opd ! (load ! (from ! (stop !)) (look ! 3 refl))) (from ! (stop !)) (init ! 24 refl (tt, g .fits)) $ move ! (0 ∷ 28 ∷ 29 ∷ 30 ∷ []) $
+          assigns ! (agg ! (and-then ! (load ! (from ! (stop !)) (look ! 3 refl)) (no-more !))) (from ! (stop !)) (init ! 24 refl (LL.lawful Y.the-type Y′.the-laws 𝓤 H A W .typed (given s) _ (is-given s (g .fits)) .0)) $ move ! (0 ∷ 28 ∷ 29 ∷ 30 ∷ []) $
           close-ref ! tt (mem C.the-row) (last s) {b = b} {o = o} $ returns ! (look ! 26 refl) $ forget ! 26 refl $ forget ! 19 refl $ forget ! 20 refl $ forget ! 21 refl $ forget ! 22 refl $
           forget ! 23 refl $ forget ! 24 refl $ forget ! 25 refl $ forget ! 5 refl $ forget ! 4 refl $ forget ! 3 refl $ forget ! 28 refl $ forget ! 11 refl $ forget ! 29 refl $
           move ! (26 ∷ 30 ∷ []) $ free1 ! $ move ! (19 ∷ 29 ∷ []) $ free1 ! $ move ! (19 ∷ 28 ∷ []) $ free1 ! $ move ! (19 ∷ 27 ∷ []) $ free1 ! $ move ! (19 ∷ 26 ∷ []) $ free1 ! $

@@ -3,6 +3,7 @@ use contract.Running.{givenOf, tables, tablesOf}
 use denote.Triple.Spec.{tripleOf}
 use denote.Triple.Table.{entered, cited}
 use mathlib.Core.List.{[], _∷_}
+use mir.Syntax.{w8}
 use Rattle.channel.specs.Channels.{goodChannel}
 use Rattle.sampler.specs.Refusals.{frameNumber}
 use Rattle.lent_channel.proofs.good as g
@@ -11,6 +12,7 @@ use Rattle.lent_channel.proofs.good.Symbol.{name as #g}
 use Rattle.lent_channel.proofs.good.Met as g-thm
 use Rattle.lent_sampler.specs.Numbers.{numberOf}
 use Rattle.lent_sampler.proofs.Numbers.{number-is}
+use Rattle.lent_channel.proofs.Rows.{word}
 use Rattle.lent_channel.proofs.Holding.{channel}
 use Rattle.lent_sampler.proofs.Lent.{sampler, params}
 use Rattle.lent_sampler.proofs.Seats.{seats}
@@ -29,7 +31,7 @@ unfolding code.routine tablesOf
 frame-number-spec 𝓤 H 𝓜 𝓖 𝓡 =
     entered 𝓤 H (tripleOf 𝓤 H (𝓖 .A) f.signature (f.spec 𝓤 H (𝓖 .A) (𝓜 .mem) (𝓡 .run)))
     (tables 𝓤 H 𝓜 𝓡 code.env .C) (tables 𝓤 H 𝓜 𝓡 code.env .Λ) #f code.function (code.unfolded 𝓤 H 𝓜 𝓡)
-    (judges sampler channel params seats #g #n goodChannel (λ count capacity first second time other. numberOf count capacity (first ∷ second ∷ []) (time ∷ other ∷ [])) frameNumber number-is
+    (judges sampler channel params (word w8) seats #g #n goodChannel (λ count capacity first second time other. numberOf count capacity (first ∷ second ∷ []) (time ∷ other ∷ [])) frameNumber number-is
     𝓤 H (𝓖 .A) (givenOf 𝓤 H 𝓜 𝓖) (tablesOf 𝓤 H 𝓜 (tables 𝓤 H 𝓜 𝓡 code.env))
     (cited 𝓤 H (tripleOf 𝓤 H (𝓖 .A) g.signature (g.spec 𝓤 H (𝓖 .A) (𝓜 .mem) (𝓡 .run))) 𝓜 𝓡 code.env #g g-def.routine code.calls-lent-channel·good (g-thm.met 𝓤 H 𝓜 𝓖 𝓡))
     (cited 𝓤 H (tripleOf 𝓤 H (𝓖 .A) n.signature (n.spec 𝓤 H (𝓖 .A) (𝓜 .mem) (𝓡 .run))) 𝓜 𝓡 code.env #n n-def.routine code.calls-lent-sampler·number-of (n-thm.met 𝓤 H 𝓜 𝓖 𝓡)))

@@ -52,6 +52,9 @@ pub use Rattle.voice.specs.Voices.{movedOf, recordedValueOf, productOf, freshOf
 pub use Rattle.channel.specs.declared.Channel.{Channel}
 pub use Rattle.channel.specs.Channels.{live, fullOf, memoryOf, recordingOf}
 pub use Rattle.sampler.specs.declared.Answer.{Answer}
+pub use Rattle.sampler.specs.Samplers.{ranOf}
+pub use Rattle.sampler.specs.Soundness.{FittingSampler}
+pub use Rattle.voice.specs.Soundness.{FittingParams}
 pub use Rattle.sampler.specs.Refusals.{
   channelAt,
   goodSizes,
@@ -65,6 +68,8 @@ pub use Rattle.sampler.specs.Refusals.{
   atEnd,
   row,
   setUpNumber,
+  roomOf,
+  runNumber,
 }
 pub use Rattle.questions.specs.declared.VoiceInfo.{VoiceInfo}
 pub use Rattle.questions.specs.declared.VoiceInfos.{VoiceInfos}
@@ -111,11 +116,23 @@ pub use Rattle.promises.specs.Runs.{
   final,
   before,
   FittingCall,
+  Made,
+  frames,
+  framesDone,
+  spread,
+  made,
+  makes,
+  spreadAll,
+  playedBy,
+  Accepted,
+  FittingMade,
 }
 pub use Rattle.promises.specs.Outcomes.{
   Given,
   new,
   on,
+  along,
+  RunOutcome,
   InfoOutcome,
   WaveformOutcome,
   Outcome,
@@ -123,6 +140,7 @@ pub use Rattle.promises.specs.Outcomes.{
   Settled,
   numberIn,
   leftBy,
+  leftAlong,
   outputIn,
   Untouched,
   Chain,
