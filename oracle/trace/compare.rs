@@ -61,8 +61,13 @@ fn compare(seed: u64, count: u64, calls: Calls, mut output: impl Read) -> Result
     let mut rest = String::new();
     output.read_to_string(&mut rest).map_err(|e| e.to_string())?;
     let made = if calls == Calls::Lent { tally.made() } else { String::new() };
-    if rest != made {
-        return Err(format!("after the last listing the port writes '{rest}', not '{made}'"));
+    let told = tally.ways(&rest);
+    if told != made {
+        return Err(format!("after the last listing the port writes '{told}', not '{made}'"));
+    }
+    if let Some(way) = tally.seldom().filter(|_| calls == Calls::Lent) {
+        tally.print();
+        return Err(format!("too few samples of a channel on a lent record go this way: {way}"));
     }
     tally.styles(STYLES.iter().map(|s| s.name).zip(styles));
     Ok((tally, None))

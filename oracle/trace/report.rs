@@ -77,12 +77,11 @@ fn difference(records: &[Record], port: &Port) -> Result<Option<Difference>, Str
     if port.calls == Calls::Lent {
         text.bytes.extend(tally.made().bytes());
     }
-    let (rust, port) = (text.bytes, port.answer(bytes(records))?);
+    let words = |bytes: Vec<u8>| String::from_utf8_lossy(&bytes).into_owned();
+    let (rust, port) = (words(text.bytes), tally.ways(&words(port.answer(bytes(records))?)));
     if rust == port {
         return Ok(None);
     }
-    let words = |bytes: Vec<u8>| String::from_utf8_lossy(&bytes).into_owned();
-    let (rust, port) = (words(rust), words(port));
     let (mut rusts, mut ports) = (rust.lines(), port.lines());
     let mut line = 0;
     loop {

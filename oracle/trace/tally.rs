@@ -48,6 +48,7 @@ pub struct Tally {
     pub fields: u64,
     answers: [[u64; 12]; NAMES.len()],
     frames_of_many: u64,
+    ways: [u64; WAYS.len()],
     met: BTreeMap<(&'static str, &'static str), u64>,
 }
 
@@ -95,6 +96,24 @@ impl Tally {
         lines.map(|(kind, times)| format!("T {kind:02X} {times:016X}\n")).collect()
     }
 
+    /// Takes what the program over the lent calls writes at its end apart: which way channels went through the samples of frames, and the rest.
+    pub fn ways(&mut self, told: &str) -> String {
+        let (ways, rest): (Vec<&str>, Vec<&str>) = told.split_inclusive('\n').partition(|line| line.starts_with("W "));
+        for line in ways {
+            let words: Vec<u64> = line.split_whitespace().skip(1).filter_map(|w| u64::from_str_radix(w, 16).ok()).collect();
+            if let [way, times] = words[..] {
+                self.ways[way as usize] += times;
+            }
+        }
+        rest.concat()
+    }
+
+    /// The first way that so many listings should have met more often.
+    pub fn seldom(&self) -> Option<&'static str> {
+        let many = self.listings >= MANY_LISTINGS;
+        self.ways.iter().zip(WAYS).find(|(times, _)| many && **times <= OFTEN).map(|(_, way)| way)
+    }
+
     fn samples(&mut self, before: &Census, after: &Census, params: &Params, length_kind: u8) {
         self.met("recordings", "samples appended", after.recorded - before.recorded);
         self.met("recordings", "of 10,000 samples or more, in a sample", (after.recorded >= 10_000) as usize);
@@ -140,6 +159,10 @@ impl Tally {
             let cells = numbers.iter().map(|n| counts[*n]).chain([made]);
             println!("  {name:<24}{}", cells.map(|n| if n == 0 { format!("{:>10}", ".") } else { format!("{n:>10}") }).collect::<String>());
         }
+        if self.ways.iter().any(|times| *times > 0) {
+            println!("samples of a channel with voices, in frames");
+            WAYS.iter().zip(self.ways).for_each(|(way, times)| println!("  {way:<40}{times:>14}"));
+        }
         let mut last = "";
         for ((what, which), times) in &self.met {
             if *what != last {
@@ -150,6 +173,12 @@ impl Tally {
         }
     }
 }
+
+/// As the program over the lent calls numbers them.
+const WAYS: [&str; 5] = ["all voices quickly", "all slowly", "some quickly, then the rest slowly", "slow after a quick one", "quick after a slow one"];
+/// From so many listings on each way has to be met more often than this.
+const MANY_LISTINGS: u64 = 5000;
+const OFTEN: u64 = 1000;
 
 const LOOP_MODES: [&str; 3] = ["PlayOnce", "Loop", "PingPong"];
 const NOTE_OFF_MODES: [&str; 3] = ["Decay", "ZeroCrossing", "DecayAndZeroCrossing"];

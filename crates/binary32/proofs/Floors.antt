@@ -1,24 +1,23 @@
 -- What `floorOf` is worth: the whole number at or below x, exactly. And a cast to an unsigned type sees no fraction. Assumes nothing.
 use mathlib.Core.Path.{_≡_, refl, sym, ap, _∙_, subst}
 use Prim.Native.Nat.{ℕ, zero, suc, _+_, _-_, _*_, _/_, _%_, _^_, _≤_, _<_, min}
-use native.Mathlib.Nat.{le-trans, le-of-eq, le-of-lt, lt-of-lt-of-le, lt-of-le-of-lt, mul-one, mul-le-mul-left, mul-div-cancel, mul-add-div-right, div-eq-of-lt, div-lt-iff-lt-mul, zero-lt-suc, add-zero, le-of-suc-le-suc, le-antisymm, lt-div-mul-add, div-eq-of-lt-le, div-mul-le-self, add-mul, mul-right-comm, suc-mul, zero-mul}
+use native.Mathlib.Nat.{le-trans, le-of-eq, le-of-lt, lt-of-lt-of-le, mul-one, mul-le-mul-left, mul-div-cancel, mul-add-div-right, div-eq-of-lt, div-lt-iff-lt-mul, zero-lt-suc, add-zero, le-of-suc-le-suc, le-antisymm, lt-div-mul-add, div-eq-of-lt-le, div-mul-le-self, add-mul, mul-right-comm, suc-mul, zero-mul}
 use native.Mathlib.Omega.{arith}
 use mathlib.Core.Bool.{Bool, true, false, _&&_, cond, true≢false}
 use borrow.Author.Tests.{leb-true, leb-false, ltb-true, ltb-false}
 use lib.IntN.{ℤ, pos, negsuc}
-use lib.Dec.{T, leb, ltb, eqb, ltb→lt, lt→ltb, lit≤, lit<}
+use lib.Dec.{T, leb, ltb, eqb, ltb→lt, lt→ltb, lit≤}
 use lib.Pow.{pow-pos, pow-mono}
-use lib.Ieee.{Float, nan, inf, fin, Format, binary32, binary64, prec, emax, low, up, down, round, lt, neg, add, sum, fits, ofInt, toUnsigned, inUnsigned}
+use lib.Ieee.{Float, nan, inf, fin, Format, binary32, binary64, prec, emax, low, up, down, round, lt, neg, add, sum, fits, toUnsigned}
 use lib.Ieee.Fits.{and-l, and-r, down-pos}
 use lib.Ieee.Exact.{HasValue}
-use lib.Ieee.Back.{round-whole, unsigned-back}
+use lib.Ieee.Back.{round-whole}
 use lib.Ieee.Nearest.{div-same}
 use Rattle.binary32.specs.Leaves.{floorOf}
 use Rattle.binary32.proofs.Truth.{yes}
 use Rattle.binary32.proofs.Values.{lt-value, add-value}
 use Rattle.binary32.proofs.Units.{Units, on-grid, lt-units, power-units}
 use Rattle.binary32.proofs.Rounding.{round-held, round-neg}
-use Rattle.binary32.proofs.Halves.{castable}
 use Rattle.binary32.proofs.Snap.{floored, floor-is as whole-is}
 
 -- ---- a value of 2 ^ (prec - 1) or more is whole, in any format
@@ -224,14 +223,3 @@ small-floor (fin false m e) f h k =
     let p : Units binary32 (fin false m e) n = record { sign = false; is = v .is; null = λ t. absurd t } in
     let small : n < 2 ^ 23 * 2 ^ 149 = ltb→lt n (2 ^ 23 * 2 ^ 149) (subst T (lt-units p (power-units binary32 23)) k) in
     whole-is p small ∙ ap (λ (z : ℕ). round binary32 false z 1) (div-same n (2 ^ 149) (m * up e) (down e) (pow-pos 149) (down-pos e) (sym (v .is .1))) ∙ sym (floor-is false m e)
-
-pub small-castable : (x : Float) → T (fits binary32 x) → T (lt (fin false 0 (pos 0)) x) → T (lt x (fin false 1 (pos 23))) → T (inUnsigned binary32 64 (floorOf x))
-unfolding lt ofInt
-small-castable nan f h k = absurd h
-small-castable (inf true) f h k = absurd h
-small-castable (inf false) f h k = absurd k
-small-castable (fin true m e) f h k = absurd h
-small-castable (fin false m e) f h k =
-    let c = m * up e / down e in
-    let small : c ≤ 8388608 = cut-small false (m * up e) (down e) 8388608 (down-pos e) (simp mul-one at (ltb→lt (m * up e * 1) (1 * 8388608 * down e) k)) in
-    subst (λ (z : Float). T (inUnsigned binary32 64 z)) (sym (floor-is false m e)) (unsigned-back binary32 64 c (castable binary32 c (le-trans small (lit≤ tt))) (lt-of-le-of-lt small (lit< tt)) .0)

@@ -7,6 +7,7 @@ pub mod Sums
 pub mod Snap
 pub mod Between
 pub mod Remainders
+pub mod Quotients
 pub mod Wholes
 pub mod Halves
 pub mod Tops
@@ -15,7 +16,9 @@ pub mod Floors
 pub mod Sizes
 pub mod Signs
 pub mod Extremes
+pub mod BelowZero
 pub mod Patterns
+pub mod SumPatterns
 pub mod WholeRoots
 pub mod Roots
 pub mod RootDigits

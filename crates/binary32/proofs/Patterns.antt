@@ -100,7 +100,7 @@ module _ (f : Format) (q j : ℕ) (few : q ≤ 2 ^ prec f) (full : 0 < j → hid
   pattern : Pattern
   pattern = elim (eq-or-lt-of-le few) [ inl e ↦ carried e | inr l ↦ plain l ]
 
-  units-bits : (x : Float) → HasValue x false (q * 2 ^ j) (2 ^ low f) → toBits f x ≡ j * hid f + q
+  pub units-bits : (x : Float) → HasValue x false (q * 2 ^ j) (2 ^ low f) → toBits f x ≡ j * hid f + q
   unfolding toBits
   units-bits nan v = absurd v
   units-bits (inf s) v = absurd v

@@ -12,7 +12,7 @@ use lib.Ieee.{Float, nan, inf, fin, Format, binary32, eq, ne, le, up, down, prec
 use lib.Ieee.Fits.{down-pos}
 use lib.Ieee.Bits.{ofBits-toBits, toBits-lt}
 use Rattle.binary32.specs.Leaves.{signOf, crossingOf}
-use Rattle.binary32.proofs.Nans.{nan-test, tells-nan}
+use Rattle.binary32.proofs.Nans.{no-nan, nan-test}
 use Rattle.binary32.proofs.Values.{le-value}
 
 odd-sign : (d : ℕ) (s : Bool) (q k l : ℕ) → signOf (odd d s q k l) ≡ s
@@ -54,21 +54,34 @@ sign-bit f x F N =
     upper-half b (top f) (top-pos f) (toBits-lt f x F)
     ∙ ap (λ (t : Bool). cond t 1 0) (sym (pattern-sign f b (ap isNan back ∙ N)) ∙ ap signOf back)
 
--- the test by the highest bit, for NaN too, whose pattern has it clear
-pub sign-tells : (x : Float) → T (fits binary32 x) → eqb (toBits binary32 x / 0x8000_0000) 1 ≡ signOf x
-sign-tells x F = go (isNan x) refl
+-- ---- the tests of a crossing: NaN first
+pub neither : (x y : Float) → (ne x x || ne y y) ≡ false → (isNan x ≡ false) × (isNan y ≡ false)
+neither x y h = go (ne x x) (ne y y) refl refl h
   where
-    one : (s : Bool) → eqb (cond s 1 0) 1 ≡ s
-    one true = refl
-    one false = refl
+    go : (a b : Bool) → ne x x ≡ a → ne y y ≡ b → (a || b) ≡ false → (isNan x ≡ false) × (isNan y ≡ false)
+    go false false p q e = (no-nan x p, no-nan y q)
+    go false true p q e = absurd (true≢false e)
+    go true b p q e = absurd (true≢false e)
 
-    go : (n : Bool) → isNan x ≡ n → eqb (toBits binary32 x / 0x8000_0000) 1 ≡ signOf x
-    go true N = simp (tells-nan x N) (unfold toBits in refl)
-    go false N = simp (sign-bit binary32 x F N) (one (signOf x))
+pub crossing-nan : (x y : Float) → (ne x x || ne y y) ≡ true → true ≡ crossingOf x y
+unfolding crossingOf
+crossing-nan x y h =
+    let k : (isNan x || isNan y) ≡ true = simp (nan-test x, nan-test y) at h in
+    simp k
 
-pub crossing-tests : (x y : Float) (a b : Bool) → a ≡ signOf x → b ≡ signOf y → (((ne x x || ne y y) || not (Bool·beq a b)) || eq x (ofBits binary32 0)) ≡ crossingOf x y
+-- then the highest bits
+pub crossing-signs : (x y : Float) → T (fits binary32 x) → T (fits binary32 y) → (ne x x || ne y y) ≡ false
+    → (not (eqb (toBits binary32 x / 0x8000_0000) (toBits binary32 y / 0x8000_0000)) || eq x (ofBits binary32 0)) ≡ crossingOf x y
 unfolding crossingOf ofBits
-crossing-tests x y a b p q = simp (nan-test x, nan-test y, p, q)
+crossing-signs x y F G h =
+    let n = neither x y h in
+    simp (sign-bit binary32 x F (n .0), sign-bit binary32 y G (n .1), n .0, n .1, alike (signOf x) (signOf y))
+  where
+    alike : (s t : Bool) → eqb (cond s 1 0) (cond t 1 0) ≡ Bool·beq s t
+    alike true true = refl
+    alike true false = refl
+    alike false true = refl
+    alike false false = refl
 
 -- with no sign bit a value is not below zero
 pub unsigned : (x : Float) → T (not (isNan x)) → signOf x ≡ false → T (le (fin false 0 (pos 0)) x)

@@ -335,3 +335,36 @@ value-bits f (fin u m e) s a c C h =
 pub value-unique : (f : Format) (x y : Float) (s : Bool) (a c : ℕ) → 0 < c → T (fits f x) → T (fits f y) → HasValue x s a c → HasValue y s a c → x ≡ y
 value-unique f x y s a c C p q h g =
     sym (ofBits-toBits f x p) ∙ ap (ofBits f) (value-bits f x s a c C h ∙ sym (value-bits f y s a c C g)) ∙ ofBits-toBits f y q
+
+-- ---- a value other than zero equals itself alone
+like-sign : (s t : Bool) (a : ℕ) → 0 < a → T (Bool·beq s t || eqb a 0) → s ≡ t
+like-sign true true a p h = refl
+like-sign true false a p h = absurd (lt-irrefl 0 (subst (λ (n : ℕ). 0 < n) (eqb→eq a 0 h) p))
+like-sign false true a p h = absurd (lt-irrefl 0 (subst (λ (n : ℕ). 0 < n) (eqb→eq a 0 h) p))
+like-sign false false a p h = refl
+
+finite-same : (f : Format) (x y : Float) → T (finite x) → T (finite y) → T (fits f x) → T (fits f y) → T (not (eq x (fin false 0 (pos 0)))) → T (eq x y) → x ≡ y
+finite-same f x y p q t u n h =
+    let c = common x y p q in
+    let a = c .left in
+    let b = c .right in
+    let k = c .over in
+    let signs : Bool = Bool·beq (signOf x) (signOf y) || eqb a 0 in
+    let told : T (eqb a b && signs) = subst T (eq-value x y (signOf x) a (signOf y) b k (c .over-pos) (c .is-left) (c .is-right)) h in
+    let A : 0 < a = value-nonzero x (signOf x) a k (c .over-pos) (c .is-left) n in
+    value-unique f x y (signOf x) a k (c .over-pos) t u (c .is-left)
+    (subst (λ (s : Bool). HasValue y s a k) (sym (like-sign (signOf x) (signOf y) a A (and-r (eqb a b) signs told)))
+    (subst (λ (m : ℕ). HasValue y (signOf y) m k) (sym (eqb→eq a b (and-l (eqb a b) signs told))) (c .is-right)))
+
+pub equal-same : (f : Format) (x y : Float) → T (fits f x) → T (fits f y) → T (not (eq x (fin false 0 (pos 0)))) → T (eq x y) → x ≡ y
+unfolding eq
+equal-same f nan y t u n h = absurd h
+equal-same f (inf s) nan t u n h = absurd h
+equal-same f (inf true) (inf true) t u n h = refl
+equal-same f (inf true) (inf false) t u n h = absurd h
+equal-same f (inf false) (inf true) t u n h = absurd h
+equal-same f (inf false) (inf false) t u n h = refl
+equal-same f (inf s) (fin v k d) t u n h = absurd h
+equal-same f (fin s m e) nan t u n h = absurd h
+equal-same f (fin s m e) (inf v) t u n h = absurd h
+equal-same f (fin s m e) (fin v k d) t u n h = finite-same f (fin s m e) (fin v k d) tt tt t u n h

@@ -9,8 +9,9 @@ use mathlib.Core.Bool.{Bool, true, false, not, _&&_, _||_, Bool·beq, true≢fal
 use lib.Dec.{T, leb, ltb, eqb, leb→le, le→leb, ltb→lt, lt→ltb, eqb→eq, lit≤}
 use borrow.Author.Tests.{le-ltb}
 use lib.Pow.{pow-pos}
+use lib.IntN.{pos}
 use lib.Ieee.{Float, nan, inf, fin, Format, binary32, low, unlike, round, add, sub, mul, rem, lt, le, eq, isNan, toUnsigned, ofInt}
-use lib.Ieee.Fits.{eq→eqb, and-i, and-l, and-r}
+use lib.Ieee.Fits.{eq→eqb, and-i, and-l, and-r, add-fits, ofInt-fits}
 use lib.Ieee.Bits.{is-true, is-false}
 use lib.Ieee.Back.{round-whole}
 use lib.Ieee.Exact.{HasValue}
@@ -19,9 +20,9 @@ use Rattle.binary32.specs.Leaves.{zero32, one32, asFloat, asWhole, signO
 use Rattle.binary32.specs.Wholes.{Is, wholeIn}
 use Rattle.binary32.proofs.Truth.{yes, same-test}
 use Rattle.binary32.proofs.Values.{finite-not-nan, value-same, value-cross, value-toUnsigned, negative-toUnsigned, Common, common, eq-value, mul-value, rem-value}
-use Rattle.binary32.proofs.Units.{Grid, grid-multiple, whole-under, Units, lt-units, le-units, eq-units, units-sign, units-finite, zero-units, one-units, whole-units}
-use Rattle.binary32.proofs.Rounding.{round-grid}
-use Rattle.binary32.proofs.Sums.{add-exact, sub-round}
+use Rattle.binary32.proofs.Units.{Grid, grid-multiple, whole-under, Units, lt-units, le-units, eq-units, units-sign, units-finite, units-unique, zero-units, one-units, whole-units}
+use Rattle.binary32.proofs.Rounding.{round-grid, round-sign}
+use Rattle.binary32.proofs.Sums.{add-exact, add-sign, sub-round}
 
 -- ---- what equals n units is n units
 equal-finite : (x y : Float) → T (finite y) → eq x y ≡ true → T (finite x)
@@ -219,3 +220,16 @@ in-whole lo hi {x} n p l h k =
     let e : asWhole 64 x ≡ n = cast-is n (le-trans h k) p in
     subst (λ (m : ℕ). T (eq x (asFloat m) && (leb lo m && leb m hi))) (sym e)
     (and-i (eq x (asFloat n)) (leb lo n && leb n hi) (yes (p .equal)) (and-i (leb lo n) (leb n hi) (le→leb lo n l) (le→leb n hi h)))
+
+-- ---- the sum of two whole numbers' floats is the float of their sum
+float-sign : (n : ℕ) → signOf (asFloat n) ≡ false
+unfolding ofInt
+float-sign n = round-sign binary32 false n 1
+
+pub float-sum : (a b : ℕ) → a + b ≤ 2 ^ 24 → add binary32 (asFloat a) (asFloat b) ≡ asFloat (a + b)
+float-sum a b h =
+    let A : a ≤ 2 ^ 24 = omega (arith, h) in
+    let B : b ≤ 2 ^ 24 = omega (arith, h) in
+    units-unique (add-fits binary32 (asFloat a) (asFloat b)) (ofInt-fits binary32 (pos (a + b)))
+    (add-sign (float-is-units a A) (float-is-units b B) ∙ ap (λ (s : Bool). s && signOf (asFloat b)) (float-sign a) ∙ sym (float-sign (a + b)))
+    (is-units (a + b) h (add-is a b (float-is a A) (float-is b B) h)) (float-is-units (a + b) h)

@@ -2,11 +2,12 @@
 -- chapter on operator expressions ("numeric cast") and the page of the primitive type f32. A float is the kit's
 -- (`lib.Ieee`): `nan`, `inf s`, or `fin s m e`, the number m * 2 ^ e, negative where s is true. There is one `nan`; `≡`
 -- on floats is identity, so -0 is not +0. Definitions only.
+use mathlib.Core.Path.{_≡_}
 use Prim.Native.Nat.{ℕ, zero, suc, _+_, _-_, _*_, _/_, _^_}
 use mathlib.Core.Bool.{Bool, true, false, not, _||_, Bool·beq, cond}
 use lib.IntN.{pos}
-use lib.Dec.{leb}
-use lib.Ieee.{Float, nan, inf, fin, binary32, up, down, size, round, lt, eq, isNan, ofInt, toUnsigned, ofBits, toBits}
+use lib.Dec.{T, leb}
+use lib.Ieee.{Float, nan, inf, fin, binary32, up, down, size, round, lt, le, eq, isNan, ofInt, toUnsigned, ofBits, toBits}
 
 abbrev pub zero32 : Float
 zero32 = fin false 0 (pos 0)
@@ -59,6 +60,10 @@ signOf (fin s m e) = s
 unfoldable pub crossingOf : Float → Float → Bool
 crossingOf value last = isNan value || isNan last || not (Bool·beq (signOf value) (signOf last))
     || eq value (fin false 0 (pos 0))
+
+-- What a value v that may be left undone promises: an answer that isn't below 0, or NaN, is v.
+abbrev pub OrLess : Float → Float → Type 0
+OrLess v r = T (le zero32 r) → r ≡ v
 
 -- The bit pattern of a value, 7FC00000 for NaN, and the value of a bit pattern, NaN for every NaN pattern (754, 3.4;
 -- f32::to_bits, f32::from_bits).

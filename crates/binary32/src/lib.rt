@@ -1,11 +1,11 @@
 // What the engine needs of binary32 beyond the language's own operators: conversions, floor, minimum, maximum, size,
-// the crossing test, bit patterns and the square root. Each function takes every value of its arguments, and equals a
-// definition in specs/Leaves.antt.
+// the crossing test, bit patterns, the square root and a quick remainder. Each public function takes every value of its
+// arguments, and equals a definition in specs/Leaves.antt; the remainder may be left undone.
 ghost use mathlib.Core.Path.{_≡_};
 ghost use Prim.Native.Nat.{_+_, _*_, _^_, _≤_, _<_};
 ghost use lib.Dec.{T};
 ghost use mathlib.Core.Bool.{false};
-ghost use lib.Ieee.{nan, binary32, lt, ofBits, round};
+ghost use lib.Ieee.{nan, binary32, rem, lt, le, ofBits, round};
 ghost use lib.Ieee.Nearest.{closest};
 ghost use Rattle.binary32.specs.Leaves.{
   asFloat,
@@ -14,12 +14,12 @@ ghost use Rattle.binary32.specs.Leaves.{
   minOf,
   maxOf,
   absOf,
-  signOf,
   crossingOf,
   bitsOf,
   floatOf,
   isqrt,
   rootOf,
+  OrLess,
 };
 
 // `n as f32`. A number above 2^24 keeps the 24 digits from its top one on, and drops those below.
@@ -75,7 +75,7 @@ pub fn f32_to_usize(x: f32) -> usize
     ensures { λ r. ⌜ r ≡ asWhole 64 x ⌝ }
 {
     if x < 8388608.0 {
-        if x > 0.0 { whole_part(x) as usize } else { 0 }
+        if x >= 0.0 { low_whole(x) } else { 0 }
     } else if x < 18446744073709551616.0 {
         std::num::truncating_f32_to_u64(x) as usize
     } else if x != x {
@@ -83,6 +83,15 @@ pub fn f32_to_usize(x: f32) -> usize
     } else {
         usize::MAX
     }
+}
+
+// The sum with 2^28 in f64 has 24 digits of fraction, in which no float below 2^23 is rounded up to a whole number.
+fn low_whole(x: f32) -> usize
+    requires { ⌜ T (le (ofBits binary32 0) x) ⌝ }
+    requires { ⌜ T (lt x (ofBits binary32 0x4b00_0000)) ⌝ }
+    ensures { λ r. ⌜ r ≡ asWhole 64 x ⌝ }
+{
+    (f64::to_bits((x as f64) + 268435456.0) / 0x100_0000 % 0x1000_0000) as usize
 }
 
 // `x as u32`.
@@ -119,6 +128,27 @@ fn whole_part(x: f32) -> f32
 {
     let near = (x + 8388608.0) - 8388608.0;
     if x < near { near - 1.0 } else { near }
+}
+
+// `x % y` where it takes no more than a product, else a number below 0: x - q * y for a whole number q near x / y.
+// Whatever q is, that is x % y where it lies from 0 to below y. From 1.5 * 2^52 on an f64 has no room for a fraction,
+// so that q is whole; below 2^23 it has so few digits that q * y is exact; and below 0 it would leave y or more.
+pub fn rem_or_less(x: f32, y: f32) -> f32
+    ensures { λ r. ⌜ OrLess (rem binary32 x y) r ⌝ }
+{
+    if (x >= 0.0) & (y > 0.0) {
+        let wide = x as f64;
+        let by = y as f64;
+        let near = wide * (1.0 / by) - 0.49999999 + 6755399441055744.0;
+        let left = wide - (near - 6755399441055744.0) * by;
+        if (near < 6755399449444352.0) & (left >= 0.0) & (left < by) {
+            left as f32
+        } else {
+            -1.0
+        }
+    } else {
+        -1.0
+    }
 }
 
 // f32::min.
@@ -184,19 +214,15 @@ fn not_a_number() -> f32
     0.0 / 0.0
 }
 
-// The sign bit, which NaN has not.
-fn negative(x: f32) -> bool
-    ensures { λ r. ⌜ r ≡ signOf x ⌝ }
-{
-    to_bits(x) / 0x8000_0000 == 1
-}
-
 // Whether the sound crosses zero from `last` to `value`. It is asked for every voice at every sample, of values that no
-// one foresees: so it has no branch, which a processor would take wrongly half of the time.
+// one foresees: so it has no branch, which a processor would take wrongly half of the time, but for NaN, which is rare.
 pub fn crossing(value: f32, last: f32) -> bool
     ensures { λ r. ⌜ r ≡ crossingOf value last ⌝ }
 {
-    (value != value) | (last != last) | (negative(value) != negative(last)) | (value == 0.0)
+    if (value != value) | (last != last) {
+        return true;
+    }
+    (f32::to_bits(value) / 0x8000_0000 != f32::to_bits(last) / 0x8000_0000) | (value == 0.0)
 }
 
 // f32::sqrt.

@@ -10,7 +10,7 @@ use Rattle.binary32.specs.Leaves.{zero32}
 use Rattle.binary32.proofs.Truth.{yes, cond-split}
 use Rattle.clip.specs.Positions.{offsetAt}
 use Rattle.clip.specs.Updates.{atSpeed, atMode, atLength, atDataLength, resumed, settledOf, sameMode, withSpeed, withMode, withLength, withDataLength, withAll, sameAll}
-use Rattle.clip.specs.Refusals.{goodLength, goodClip, clipRefusedAt, updateSpeedOf, updateModeOf, updateLengthOf, updateDataLengthOf, updateAllOf, thenOf, fourOf}
+use Rattle.clip.specs.Refusals.{goodLength, goodClip, clipRefusedAt, updateSpeedOf, updateModeOf, updateLengthOf, updateDataLengthOf, unlessRefused, updateAllOf, AnswerSkips, thenOf, fourOf}
 use Rattle.clip.specs.declared.Mode.{Mode}
 use Rattle.clip.specs.declared.Clip.{Clip}
 use Rattle.clip.specs.declared.ClipAnswer.{ClipAnswer}
@@ -116,6 +116,20 @@ module _ (c : Clip) (now : ℕ) (length speed data-length : Float) (mode : Mode)
       ∙ ap (λ (d : Clip). withMode (withDataLength d now data-length) now mode) (speed-skipped c now speed (is-true b (and-r a b (and-l (a && b) p (and-l (a && b && p) q t)))))
       ∙ ap (λ (d : Clip). withMode d now mode) (data-length-skipped c now data-length (is-true p (and-r (a && b) p (and-l (a && b && p) q t))))
       ∙ mode-skipped c now mode (is-true q (and-r (a && b && p) q t))
+
+-- the same of the public answer, refused or not
+pub answer-skips : (c : Clip) (now : ℕ) (length speed data-length : Float) (mode : Mode) → AnswerSkips c now length speed data-length mode
+unfolding updateAllOf
+answer-skips c now length speed data-length mode =
+    record {
+      length = λ e. ap answer (skips-length c now length speed data-length mode e);
+      speed = λ e. ap answer (skips-speed c now length speed data-length mode e);
+      data-length = λ e. ap answer (skips-data-length c now length speed data-length mode e);
+      mode = λ e. ap answer (skips-mode c now length speed data-length mode e);
+    }
+  where
+    answer : Clip → ClipAnswer
+    answer = unlessRefused c now length data-length
 
 -- ---- a clip that isn't refused is not refused after an update with good values, whatever its floats are
 settled-good : (c : Clip) (offset : Float) (now : ℕ) → T (goodClip c) → T (goodClip (settledOf c offset now))

@@ -1,15 +1,19 @@
--- Plain clips, computed beside `plainIndex`, and the first count at which a position is no longer true. Assumes nothing.
-use mathlib.Core.Path.{_≡_, refl}
-use Prim.Native.Nat.{ℕ, _^_}
-use mathlib.Core.Bool.{true, false}
+-- Plain clips, computed beside `plainIndex`, and the first count at which a position is no longer true; what a quick index may answer. Assumes nothing.
+use mathlib.Core.Path.{_≡_, refl, sym}
+use Prim.Native.Nat.{ℕ, _^_, _<_}
+use mathlib.Core.Bool.{true, false, true≢false}
+use native.Mathlib.Nat.{lt-irrefl}
+use native.Mathlib.Omega.{arith}
+use lib.Dec.{lit<}
 use mathlib.Core.List.{List, [], _∷_, map}
 use lib.IntN.{negsuc}
 use lib.Ieee.{fin, neg, ofInt, add, sub, mul, rem, lt, le, eq, isNan, toUnsigned}
 use Rattle.binary32.specs.Leaves.{asFloat, floorOf, minOf}
 use Rattle.binary32.specs.Wholes.{wholeIn}
 use Rattle.clip.specs.Positions.{leadOf, travelAt, loopedOf, wrappedOf, placedOf, clipOffsetAt, clipToDataOf, offsetAt, indexAt}
-use Rattle.clip.specs.Updates.{madeOf, atSpeed, atLength}
+use Rattle.clip.specs.Updates.{madeOf, atSpeed, atLength, sameAll}
 use Rattle.clip.specs.Plain.{plainIndex, isPlain, plainAt}
+use Rattle.clip.specs.Quick.{noIndex, QuickIndex}
 use Rattle.clip.specs.declared.Mode.the-variants.{Loop}
 use Rattle.clip.specs.declared.Clip.{Clip}
 
@@ -69,3 +73,17 @@ pub test-edges : (isPlain (madeOf 0 (neg (asFloat 0)) (asFloat 1) (asFloat 7) (a
     × (isPlain (atSpeed (clipOf 0 4 10) (asFloat 2)) ≡ false)
 unfolding computing
 test-edges = (refl, refl, refl, refl, refl)
+
+apart : {n : ℕ} → n ≡ 0 → 0 < n → ⊥
+apart e h = omega arith
+
+-- a quick answer is the clip's index or none: past the end of the data, where 2 samples are elapsed, it may be 0 and not the place before it comes round
+pub quick-or-none : QuickIndex (clipOf 8 4 10) 2 (asFloat 4) (asFloat 1) (asFloat 10) Loop 0 × QuickIndex (clipOf 8 4 10) 2 (asFloat 4) (asFloat 1) (asFloat 10) Loop noIndex
+    × (QuickIndex (clipOf 8 4 10) 2 (asFloat 4) (asFloat 1) (asFloat 10) Loop 10 → ⊥)
+unfolding computing sameAll
+quick-or-none = (λ h. (refl, refl), λ h. absurd (lt-irrefl noIndex h), λ q. apart (q (lit< tt) .1) (lit< tt))
+
+-- and none where a part of the update would not be skipped, at which the index may be the same
+pub quick-of-another-length : QuickIndex (clipOf 8 4 10) 2 (asFloat 5) (asFloat 1) (asFloat 10) Loop 0 → ⊥
+unfolding computing sameAll
+quick-of-another-length q = true≢false (sym (q (lit< tt) .0))

@@ -7,6 +7,7 @@ pub mod Answers
 pub mod Indices
 pub mod Equal
 pub mod Plain
+pub mod Quick
 pub mod Examples
 pub mod Standings
 pub mod AtOnce

@@ -29,8 +29,11 @@ travelAt c now =
     add binary32 (c .shift) (mul binary32 (add binary32 (asFloat (elapsedAt c now)) (leadOf (c .speed))) (c .speed))
 
 -- loop: x % length, plus length if that isn't >= 0
+abbrev pub raisedOf : Float → Float → Float
+raisedOf y length = cond (le zero32 y) y (add binary32 y length)
+
 unfoldable pub loopedOf : Float → Float → Float
-loopedOf x length = let y = rem binary32 x length in cond (le zero32 y) y (add binary32 y length)
+loopedOf x length = raisedOf (rem binary32 x length) length
 
 -- |x| % (2 * length): how far on a way of 2 * length, there and back
 unfoldable pub roundTripOf : Float → Float → Float
@@ -41,16 +44,22 @@ unfoldable pub mirroredOf : Float → Float → Float
 mirroredOf y length = sub binary32 (sub binary32 (mul binary32 two32 length) y) one32
 
 -- ping-pong: y on the way there, otherwise (NaN too) its mirror place, at least 0
+abbrev pub foldedOf : Float → Float → Float
+foldedOf y length = cond (lt y length) y (maxOf (mirroredOf y length) zero32)
+
 unfoldable pub bouncedOf : Float → Float → Float
-bouncedOf x length = let y = roundTripOf x length in cond (lt y length) y (maxOf (mirroredOf y length) zero32)
+bouncedOf x length = foldedOf (roundTripOf x length) length
 
 unfoldable pub wrappedOf : Mode → Float → Float → Float
 wrappedOf Loop x length = loopedOf x length
 wrappedOf PingPong x length = bouncedOf x length
 
 -- then the smaller of it and length - 1, where NaN yields the other
+abbrev pub clampedOf : Float → Float → Float
+clampedOf y length = minOf y (sub binary32 length one32)
+
 unfoldable pub placedOf : Mode → Float → Float → Float
-placedOf mode x length = minOf (wrappedOf mode x length) (sub binary32 length one32)
+placedOf mode x length = clampedOf (wrappedOf mode x length) length
 
 unfoldable pub clipOffsetAt : Clip → ℕ → Float
 clipOffsetAt c now = placedOf (c .mode) (travelAt c now) (c .length)

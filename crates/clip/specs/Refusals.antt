@@ -1,13 +1,14 @@
 -- Document 01's number 7 for a clip, and each call under the Rust's name: refused, or what the definitions of Positions
 -- and Updates say. Definitions only. Assumes nothing.
+use mathlib.Core.Path.{_≡_}
 use Prim.Native.Nat.{ℕ, _^_}
-use mathlib.Core.Bool.{Bool, false, not, _&&_, _||_, cond}
+use mathlib.Core.Bool.{Bool, true, false, not, _&&_, _||_, cond}
 use lib.Dec.{leb}
 use lib.IntN.{pos}
-use lib.Ieee.{Float, fin, le, lt}
+use lib.Ieee.{Float, fin, le, lt, eq}
 use Rattle.binary32.specs.Leaves.{zero32, one32}
 use Rattle.clip.specs.Positions.{elapsedAt, clipOffsetAt, offsetAt}
-use Rattle.clip.specs.Updates.{madeOf, foundAt, reversingAt, withSpeed, withMode, withLength, withDataLength, withAll}
+use Rattle.clip.specs.Updates.{madeOf, foundAt, reversingAt, sameMode, withSpeed, withMode, withLength, withDataLength, withAll}
 use Rattle.clip.specs.declared.Mode.{Mode}
 use Rattle.clip.specs.declared.Clip.{Clip}
 use Rattle.clip.specs.declared.ClipAnswer.{ClipAnswer}
@@ -77,10 +78,26 @@ updateDataLengthOf c now length = cond (clipRefusedAt c now || not (goodLength l
     (clip.Done (withDataLength c now length))
 
 -- the four at once: if either length is bad none of them is applied
+abbrev pub unlessRefused : Clip → ℕ → Float → Float → Clip → ClipAnswer
+unlessRefused c now length data-length d =
+    cond (clipRefusedAt c now || not (goodLength length) || not (goodLength data-length)) clip.Refused (clip.Done d)
+
 unfoldable pub updateAllOf : Clip → ℕ → Float → Float → Float → Mode → ClipAnswer
 updateAllOf c now length speed data-length mode =
-    cond (clipRefusedAt c now || not (goodLength length) || not (goodLength data-length)) clip.Refused
-    (clip.Done (withAll c now length speed data-length mode))
+    unlessRefused c now length data-length (withAll c now length speed data-length mode)
+
+-- a value that is equal to the clip's skips its own part alone: an answer that is no refusal is the clip by the other
+-- three in their order
+pub record AnswerSkips (c : Clip) (now : ℕ) (l s d : Float) (m : Mode) : Type 0 where
+  pub length : eq l (c .length) ≡ true
+      → updateAllOf c now l s d m ≡ unlessRefused c now l d (withMode (withDataLength (withSpeed c now s) now d) now m)
+  pub speed : eq s (c .speed) ≡ true
+      → updateAllOf c now l s d m ≡ unlessRefused c now l d (withMode (withDataLength (withLength c now l) now d) now m)
+  pub data-length : eq d (c .«data_length») ≡ true
+      → updateAllOf c now l s d m ≡ unlessRefused c now l d (withMode (withSpeed (withLength c now l) now s) now m)
+  pub mode : sameMode m (c .mode) ≡ true
+      → updateAllOf c now l s d m
+      ≡ unlessRefused c now l d (withDataLength (withSpeed (withLength c now l) now s) now d)
 
 -- ---- the four public answers in turn: each is asked of the clip that the one before it left, and a refusal is carried on
 abbrev pub thenOf : ClipAnswer → (Clip → ClipAnswer) → ClipAnswer

@@ -138,6 +138,9 @@ withAll c now length speed data-length mode =
     withMode (withDataLength (withSpeed (withLength c now length) now speed) now data-length) now mode
 
 -- whether each of the four would be skipped
+abbrev pub sameValues : Clip → Float → Float → Float → Bool
+sameValues c length speed data-length =
+    eq length (c .length) && eq speed (c .speed) && eq data-length (c .«data_length»)
+
 unfoldable pub sameAll : Clip → Float → Float → Float → Mode → Bool
-sameAll c length speed data-length mode =
-    eq length (c .length) && eq speed (c .speed) && eq data-length (c .«data_length») && sameMode mode (c .mode)
+sameAll c length speed data-length mode = sameValues c length speed data-length && sameMode mode (c .mode)

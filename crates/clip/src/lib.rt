@@ -1,17 +1,25 @@
 // A clip: which part of a recording a voice plays, and where it is at a time. Each function equals a definition in
 // specs/. `made`, `good`, the functions that end in `_at` and those that begin with `with_` take every clip and every
-// time: they are for clips that are known to be good. `sounding` is `with_all` and `index_at` in one. Those under the
-// Rust's names, and `update_all`, first refuse bad arguments (number 7 of document 01), and then answer the same.
+// time: they are for clips that are known to be good. `sounding` is `with_all` and `index_at` in one, and `quick_index`
+// is `index_at` of a clip that `with_all` would not change, or no index. Those under the Rust's names, and
+// `update_all`, first refuse bad arguments (number 7 of document 01), and then answer the same.
 ghost use mathlib.Core.Path.{_≡_};
+ghost use mathlib.Core.Bool.{not};
+ghost use lib.Dec.{T};
+ghost use lib.Ieee.{binary32, add, rem, isNan};
+ghost use Rattle.binary32.specs.Leaves.{OrLess, asFloat};
 ghost use Rattle.clip.specs.Positions.{
   elapsedAt,
   leadOf,
   travelAt,
+  raisedOf,
   loopedOf,
   roundTripOf,
   mirroredOf,
+  foldedOf,
   bouncedOf,
   wrappedOf,
+  clampedOf,
   placedOf,
   clipOffsetAt,
   clipToDataOf,
@@ -34,9 +42,10 @@ ghost use Rattle.clip.specs.Updates.{
   withLength,
   withDataLength,
   withAll,
+  sameValues,
   sameAll,
 };
-ghost use Rattle.clip.specs.Quick.{QuickIndex};
+ghost use Rattle.clip.specs.Quick.{QuickWrapped, QuickWhole, QuickIndex};
 ghost use Rattle.clip.specs.Refusals.{
   goodLength,
   goodClip,
@@ -129,11 +138,33 @@ fn lead(speed: f32) -> f32
     if speed < 0.0 { 1.0 } else { 0.0 }
 }
 
+fn raised(y: f32, length: f32) -> f32
+    ensures { λ r. ⌜ r ≡ raisedOf y length ⌝ }
+{
+    if y >= 0.0 { y } else { y + length }
+}
+
+// The samples since a clip's last change and `lead`, as the float that they add up to: up to 2^24 that is the float of
+// a whole number. A turn waits for floats more than for whole numbers.
+fn way(elapsed: usize, speed: f32) -> f32
+    requires { ⌜ T (not (isNan speed)) ⌝ }
+    ensures { λ r. ⌜ r ≡ add binary32 (asFloat elapsed) (leadOf speed) ⌝ }
+{
+    if elapsed < 0x100_0000 {
+        if f32::to_bits(speed) > 0x8000_0000 {
+            (elapsed + 1) as f32
+        } else {
+            elapsed as f32
+        }
+    } else {
+        binary32::usize_to_f32(elapsed) + lead(speed)
+    }
+}
+
 fn looped(x: f32, length: f32) -> f32
     ensures { λ r. ⌜ r ≡ loopedOf x length ⌝ }
 {
-    let y = x % length;
-    if y >= 0.0 { y } else { y + length }
+    raised(x % length, length)
 }
 
 fn round_trip(x: f32, length: f32) -> f32
@@ -148,15 +179,20 @@ fn mirrored(y: f32, length: f32) -> f32
     2.0 * length - y - 1.0
 }
 
-fn bounced(x: f32, length: f32) -> f32
-    ensures { λ r. ⌜ r ≡ bouncedOf x length ⌝ }
+fn folded(y: f32, length: f32) -> f32
+    ensures { λ r. ⌜ r ≡ foldedOf y length ⌝ }
 {
-    let y = round_trip(x, length);
     if y < length {
         y
     } else {
         binary32::max(mirrored(y, length), 0.0)
     }
+}
+
+fn bounced(x: f32, length: f32) -> f32
+    ensures { λ r. ⌜ r ≡ bouncedOf x length ⌝ }
+{
+    folded(round_trip(x, length), length)
 }
 
 fn wrapped(mode: Mode, x: f32, length: f32) -> f32
@@ -168,11 +204,73 @@ fn wrapped(mode: Mode, x: f32, length: f32) -> f32
     }
 }
 
+fn clamped(y: f32, length: f32) -> f32
+    ensures { λ r. ⌜ r ≡ clampedOf y length ⌝ }
+{
+    binary32::min(y, length - 1.0)
+}
+
 fn placed(mode: Mode, x: f32, length: f32) -> f32
     ensures { λ r. ⌜ r ≡ placedOf mode x length ⌝ }
 {
-    let y = wrapped(mode, x, length);
-    binary32::min(y, length - 1.0)
+    clamped(wrapped(mode, x, length), length)
+}
+
+// `looped`, `bounced` and `wrapped` by the remainder that may be left undone: where it is, they answer a number below
+// 0, `quick_wrapped` also where the modes differ.
+fn quick_looped(x: f32, length: f32) -> f32
+    ensures { λ r. ⌜ OrLess (loopedOf x length) r ⌝ }
+{
+    if x >= 0.0 {
+        return binary32::rem_or_less(x, length);
+    }
+    let y = binary32::rem_or_less(-x, length);
+    if y >= 0.0 { raised(-y, length) } else { y }
+}
+
+fn quick_bounced(x: f32, length: f32) -> f32
+    ensures { λ r. ⌜ OrLess (bouncedOf x length) r ⌝ }
+{
+    let y = binary32::rem_or_less(binary32::abs(x), 2.0 * length);
+    if y >= 0.0 { folded(y, length) } else { y }
+}
+
+fn quick_wrapped(mode: Mode, old: Mode, x: f32, length: f32) -> f32
+    ensures { λ r. ⌜ QuickWrapped mode old x length r ⌝ }
+{
+    match mode {
+        Mode::Loop => match old {
+            Mode::Loop => quick_looped(x, length),
+            Mode::PingPong => -1.0,
+        },
+        Mode::PingPong => match old {
+            Mode::Loop => -1.0,
+            Mode::PingPong => quick_bounced(x, length),
+        },
+    }
+}
+
+// s % length, for an s from 0 to below twice the length: there the difference is exact.
+fn quick_rem(s: f32, length: f32) -> f32
+    ensures { λ r. ⌜ OrLess (rem binary32 s length) r ⌝ }
+{
+    if s < length {
+        return s;
+    }
+    let t = s - length;
+    if t < length { t } else { -1.0 }
+}
+
+// The index of the place s in data of that length.
+fn quick_whole(s: f32, length: f32) -> usize
+    ensures { λ r. ⌜ QuickWhole s length r ⌝ }
+{
+    let t = quick_rem(s, length);
+    if t >= 0.0 {
+        binary32::f32_to_usize(t)
+    } else {
+        NONE
+    }
 }
 
 fn same_mode(a: Mode, b: Mode) -> bool
@@ -328,9 +426,8 @@ impl Clip {
         self.standing_at(now).cut(data_length).clip
     }
 
-    // Whether each of the four parts of an update would be skipped.
-    fn same_all(self, length: f32, speed: f32, data_length: f32, mode: Mode) -> bool
-        ensures { λ r. ⌜ r ≡ sameAll self length speed «data_length» mode ⌝ }
+    fn same_values(self, length: f32, speed: f32, data_length: f32) -> bool
+        ensures { λ r. ⌜ r ≡ sameValues self length speed «data_length» ⌝ }
     {
         if length != self.length {
             return false;
@@ -338,11 +435,18 @@ impl Clip {
         if speed != self.speed {
             return false;
         }
-        if data_length != self.data_length {
-            return false;
+        data_length == self.data_length
+    }
+
+    // Whether each of the four parts of an update would be skipped.
+    fn same_all(self, length: f32, speed: f32, data_length: f32, mode: Mode) -> bool
+        ensures { λ r. ⌜ r ≡ sameAll self length speed «data_length» mode ⌝ }
+    {
+        if self.same_values(length, speed, data_length) {
+            let old = self.mode;
+            return same_mode(mode, old);
         }
-        let old = self.mode;
-        same_mode(mode, old)
+        false
     }
 
     // The four parts in their order. A clip that none of them changes, as it is at most samples, is told in front.
@@ -384,6 +488,14 @@ impl Clip {
         }
     }
 
+    // `Standing::travel`, for a speed that is a number.
+    fn quick_travel(self, now: usize) -> f32
+        requires { ⌜ T (not (isNan (self .speed))) ⌝ }
+        ensures { λ r. ⌜ r ≡ travelAt self now ⌝ }
+    {
+        self.shift + way(self.elapsed_at(now), self.speed) * self.speed
+    }
+
     // The index now of a clip that none of the four parts of an update changes, where it is quickly worked out;
     // elsewhere NONE.
     pub fn quick_index(
@@ -396,11 +508,14 @@ impl Clip {
     ) -> usize
         ensures { λ r. ⌜ QuickIndex self now length speed «data_length» mode r ⌝ }
     {
-        if self.same_all(length, speed, data_length, mode) {
-            self.index_at(now)
-        } else {
-            NONE
+        if self.same_values(length, speed, data_length) & (length > 0.0) {
+            let old = self.mode;
+            let y = quick_wrapped(mode, old, self.quick_travel(now), length);
+            if y >= 0.0 {
+                return quick_whole(self.start + clamped(y, length), data_length);
+            }
         }
+        NONE
     }
 
     pub fn new(

@@ -4,3 +4,4 @@ pub mod Moves
 pub mod Kept
 pub mod Unmoved
 pub mod Plain
+pub mod Examples

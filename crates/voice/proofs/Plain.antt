@@ -1,21 +1,18 @@
 -- A plain turn changes four fields of a voice, and the voice stays. Assumes nothing.
 use mathlib.Core.Path.{_≡_, refl, sym, ap, _∙_, subst}
-use Prim.Native.Nat.{ℕ}
-use mathlib.Core.Bool.{Bool, true, false, not, _&&_, cond}
+use Prim.Native.Nat.{ℕ, _<_}
+use mathlib.Core.Bool.{Bool, true, false, not, _&&_}
 use mathlib.Core.List.{List}
-use lib.Dec.{ltb, ltb→lt}
 use lib.Ieee.{binary32, mul}
 use lib.Ieee.Bits.{is-true}
-use lib.Ieee.Fits.{and-i, and-l, and-r}
+use lib.Ieee.Fits.{and-l, and-r}
 use borrow.Author.Tests.{not-true}
 use Rattle.binary32.proofs.Truth.{yes}
-use Rattle.volume.specs.declared.Volume.{Volume}
-use Rattle.volume.specs.Levels.{keepsOf, steppedOf}
+use Rattle.volume.specs.Levels.{keepsOf}
 use Rattle.volume.proofs.Ends.{stepped-keeps}
-use Rattle.clip.specs.declared.Clip.{Clip}
 use Rattle.clip.specs.Positions.{indexAt}
 use Rattle.clip.specs.Quick.{noIndex, QuickIndex}
-use Rattle.voice.specs.Voices.{movedOf, productOf, soundedOf, finishOf, playedOutOf, endedOf, shouldRemoveOf, volumeStepped, turnOf}
+use Rattle.voice.specs.Voices.{productOf, soundedOf, playedOutOf, endedOf, shouldRemoveOf, volumeStepped, turnOf}
 use Rattle.voice.specs.Agreeing.{agreesOf}
 use Rattle.voice.specs.Plain.{plainOf, soundedAt, glidedOf, goesOnOf, Quickly}
 use Rattle.voice.specs.declared.Voice.{Voice}
@@ -117,14 +114,11 @@ module _ (t : Tick) (m : List ℕ) (v : Voice) where
       let turned : turnOf t m v ≡ w = turn-glides a k out stays ∙ ap (soundedAt t m v) (sym e) in
       (simp (a, k, out, stays, turned, stays-after), sym turned)
 
-  -- an answer by these tests, with an index that may be none
+  -- each as a call answers it, and of a voice that is the one sounded at that index
   pub answered : (index : ℕ) (w : Voice) (keeps goes : Bool) → QuickIndex (v .clip2) (t .now) (t .length) (mul binary32 (v .speed) (t .speed)) (t .«data_length») (t .mode) index
-      → w ≡ soundedAt t m v index → keeps ≡ keepsOf (v .volume) (t .now) → goes ≡ goesOnOf t v w → Quickly t m v (record { voice = w; plain = ltb index noIndex && keeps && goes })
-  answered index w keeps goes found is k g plain =
-      let some : Bool = ltb index noIndex in
-      let h = yes plain in
-      let at = found (ltb→lt index noIndex (and-l some keeps (and-l (some && keeps) goes h))) in
-      let kept : keepsOf (v .volume) (t .now) ≡ true = sym k ∙ is-true keeps (and-r some keeps (and-l (some && keeps) goes h)) in
-      let on : goesOnOf t v w ≡ true = sym g ∙ is-true goes (and-r (some && keeps) goes h) in
-      let all = going index (agrees t v (at .0)) (at .1) kept (subst (λ (z : Voice). goesOnOf t v z ≡ true) is on) in
+      → w ≡ soundedAt t m v index → keeps ≡ keepsOf (v .volume) (t .now) → goes ≡ goesOnOf t v w → keeps ≡ true → index < noIndex → Quickly t m v (record { voice = w; plain = goes })
+  answered index w keeps goes found is k g kept some plain =
+      let at = found some in
+      let on : goesOnOf t v w ≡ true = sym g ∙ plain in
+      let all = going index (agrees t v (at .0)) (at .1) (sym k ∙ kept) (subst (λ (z : Voice). goesOnOf t v z ≡ true) is on) in
       (all .0, is ∙ all .1)

@@ -4,7 +4,7 @@ use mathlib.Core.Path.{_≡_}
 use Prim.Native.Nat.{ℕ}
 use mathlib.Core.Bool.{Bool, true, not, _&&_}
 use mathlib.Core.List.{List}
-use lib.Ieee.{Float, binary32, add, mul}
+use lib.Ieee.{binary32, add, mul}
 use Rattle.binary32.specs.Leaves.{crossingOf}
 use Rattle.volume.specs.Levels.{levelOf, keepsOf}
 use Rattle.clip.specs.Positions.{indexAt}

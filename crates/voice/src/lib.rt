@@ -25,7 +25,7 @@ ghost use Rattle.voice.specs.Voices.{
   atSpeedOf,
   goodVoice,
 };
-ghost use Rattle.voice.specs.Plain.{soundedAt, goesOnOf, Quickly};
+ghost use Rattle.voice.specs.Plain.{goesOnOf, Quickly};
 use clip::Clip;
 use clip::Mode;
 use clip::Sounding;
@@ -342,29 +342,6 @@ impl Voice {
         self.sounded(t, data).settled(t)
     }
 
-    // The voice as it has sounded the sample at that index: what a plain turn comes to.
-    fn sounded_at(self, t: Tick, index: usize, data: &[u32]) -> Self
-        ensures { λ r. ⌜ r ≡ soundedAt t (now («data» .entry)) self index ⌝ }
-    {
-        let clip2 = self.clip2;
-        let volume = self.volume;
-        let note = self.note;
-        let value = recorded(data, index) * volume.level(t.now);
-        Self {
-            finished_at: self.finished_at,
-            last_sample_index: index,
-            clip2,
-            volume,
-            loop_start_percent: self.loop_start_percent,
-            played: self.played + self.speed * t.speed,
-            last_sample_value: value,
-            speed: self.speed,
-            note,
-            finished: self.finished,
-            is_at_zero_crossing: binary32::crossing(value, self.last_sample_value),
-        }
-    }
-
     // Whether a turn that leaves it as `next` neither ends it nor finds it to be removed, before or after.
     fn goes_on(self, t: Tick, next: Self) -> bool
         ensures { λ r. ⌜ r ≡ goesOnOf t self next ⌝ }
@@ -378,18 +355,45 @@ impl Voice {
         !next.should_remove(t)
     }
 
-    // Its whole sample, where that is plain: `turn`, quickly. Its clip and its level are only read.
+    // Its whole sample, where that is plain: `turn`, quickly. The voice is made here and not by a call, which would copy
+    // all of it.
     pub fn quick(self, t: Tick, data: &[u32]) -> Quick
         ensures { λ r. ⌜ Quickly t (now («data» .entry)) self r ⌝ }
     {
+        let otherwise = Quick {
+            voice: self,
+            plain: false,
+        };
+        let volume = self.volume;
+        if !volume.keeps(t.now) {
+            return otherwise;
+        }
         let clip2 = self.clip2;
         let mode = t.mode;
-        let index = clip2.quick_index(t.now, t.length, self.speed * t.speed, t.data_length, mode);
-        let volume = self.volume;
-        let next = self.sounded_at(t, index, data);
+        let speed = self.speed * t.speed;
+        let index = clip2.quick_index(t.now, t.length, speed, t.data_length, mode);
+        if clip::NONE <= index {
+            return otherwise;
+        }
+        let note = self.note;
+        let level = volume.level(t.now);
+        let value = recorded(data, index) * level;
+        let next = Self {
+            finished_at: self.finished_at,
+            last_sample_index: index,
+            clip2,
+            volume,
+            loop_start_percent: self.loop_start_percent,
+            played: self.played + speed,
+            last_sample_value: value,
+            speed: self.speed,
+            note,
+            finished: self.finished,
+            is_at_zero_crossing: binary32::crossing(value, self.last_sample_value),
+        };
         Quick {
             voice: next,
-            plain: (index < clip::NONE) & volume.keeps(t.now) & self.goes_on(t, next),
+            plain: self.goes_on(t, next),
         }
     }
 

@@ -1,35 +1,31 @@
--- `binary32::f32_to_usize` meets its contract: below 2^23 the whole part casts as it stands (`floor-cast`), and beyond each end of the range the laws of `Casts` hold.
+-- `binary32::f32_to_usize` meets its contract: from 0 to below 2^23 by that of `low_whole`, and beyond each end of the range the laws of `Casts` hold.
 -- Assumes nothing.
-use mathlib.Core.Path.{sym, ap, subst, _∙_}
-use lib.Dec.{T}
-use lib.Ieee.{Float, ofBits, binary32, toUnsigned, inUnsigned}
+use lib.Dec.{T, T-not, not-T}
+use lib.Ieee.{lt, le, ofBits}
+use lib.Ieee.Bits.{is-false}
 use borrow.Author.Needs.{needs}
-use Rattle.binary32.proofs.Truth.{yes}
+use Rattle.binary32.proofs.Truth.{yes, no}
 use Rattle.binary32.proofs.Casts.{past-end, before-start, above-minus-one, nan-cast}
-use Rattle.binary32.proofs.Floors.{floor-cast, small-castable}
+use Rattle.binary32.specs.Leaves.{zero32}
+use Rattle.binary32.proofs.Between.{lt→le}
 use Rattle.binary32.proofs.f32_to_usize.Statement.{statement}
 use Rattle.binary32.proofs.f32_to_usize.Tie as tie
 
-whole-part-requires : tie.Need-whole-part-requires
-whole-part-requires c κs = search needs
-
-float-to-int-result : tie.Need-float-to-int-result
-unfolding ofBits
-float-to-int-result c =
-    let b = c .before .before in
-    subst (λ (z : Float). T (inUnsigned binary32 64 z)) (sym (c .before .whole-part .ensures))
-    (small-castable (b .before .before .args .x) (search needs) (yes (b .if2 .taken)) (yes (b .before .if1 .taken)))
+low-whole-requires : tie.Need-low-whole-requires
+low-whole-requires c κs = search needs
 
 truncating-f32-to-u64-requires : tie.Need-truncating-f32-to-u64-requires
 unfolding ofBits
 truncating-f32-to-u64-requires c κs = (above-minus-one 23 (c .before .before .args .x) _ (c .before .if1 .left) (c .if3 .taken), yes (c .if3 .taken))
 
 returns : tie.Need-returns
-returns c = ap (toUnsigned 64) (c .before .whole-part .ensures) ∙ floor-cast 64 (c .before .before .before .before .args .x) (search needs)
+returns c = search needs
 
 returns-2 : tie.Need-returns-2
 unfolding ofBits
-returns-2 c = before-start 64 (c .before .before .args .x) (c .if2 .left)
+returns-2 c =
+    let x = c .before .before .args .x in
+    before-start 64 x (is-false (lt zero32 x) (not-T (lt zero32 x) (λ (h : T (lt zero32 x)). T-not (le zero32 x) (no (c .if2 .left)) (lt→le zero32 x h))))
 
 returns-3 : tie.Need-returns-3
 returns-3 c = search needs
@@ -45,8 +41,7 @@ pub f32-to-usize-spec : {M : Type 1} → statement M
 f32-to-usize-spec =
     tie.close
     (tie.spec
-    whole-part-requires
-    float-to-int-result
+    low-whole-requires
     truncating-f32-to-u64-requires
     returns
     returns-2

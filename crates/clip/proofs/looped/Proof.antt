@@ -1,16 +1,15 @@
--- `looped` meets its contract. Assumes nothing.
-use lib.Ieee.{ofBits}
+-- `looped` meets its contract, by that of `raised`. Assumes nothing.
+use borrow.Author.Needs.{needs}
 use Rattle.clip.specs.Positions.{loopedOf}
 use Rattle.clip.proofs.looped.Statement.{statement}
 use Rattle.clip.proofs.looped.Tie as tie
 
-returns : tie.Need-returns
-unfolding loopedOf ofBits
-returns c = simp (c .if1 .taken)
+raised-requires : tie.Need-raised-requires
+raised-requires c κs = search needs
 
-returns-2 : tie.Need-returns-2
-unfolding loopedOf ofBits
-returns-2 c = simp (c .if1 .left)
+returns : tie.Need-returns
+unfolding loopedOf
+returns c = search needs
 
 pub looped-spec : {M : Type 1} → statement M
-looped-spec = tie.close (tie.spec returns returns-2)
+looped-spec = tie.close (tie.spec raised-requires returns)

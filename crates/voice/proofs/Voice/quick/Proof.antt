@@ -1,28 +1,57 @@
--- `Voice::quick` meets its contract: its tests are those that a plain turn is known by. Assumes nothing.
+-- `Voice::quick` meets its contract: its tests are those that a plain turn is known by, and where one fails it doesn't answer. Assumes nothing.
+use mathlib.Core.Path.{sym}
+use mathlib.Core.Bool.{true≢false}
 use borrow.Author.Needs.{needs}
+use borrow.Author.Tests.{not-false}
+use Rattle.voice.specs.Plain.{soundedAt}
 use Rattle.voice.proofs.Plain.{answered}
 use Rattle.voice.proofs.Voice.quick.Statement.{statement}
 use Rattle.voice.proofs.Voice.quick.Tie as tie
 
+keeps-requires : tie.Need-keeps-requires
+keeps-requires c κs = search needs
+
+returns : tie.Need-returns
+returns c plain = absurd (true≢false (sym plain))
+
 quick-index-requires : tie.Need-quick-index-requires
 quick-index-requires c κs = search needs
 
-sounded-at-requires : tie.Need-sounded-at-requires
-sounded-at-requires c κs = search needs
+returns-2 : tie.Need-returns-2
+returns-2 c plain = absurd (true≢false (sym plain))
 
-keeps-requires : tie.Need-keeps-requires
-keeps-requires c κs = search needs
+level-requires : tie.Need-level-requires
+level-requires c κs = search needs
+
+recorded-requires : tie.Need-recorded-requires
+recorded-requires c κs = search needs
+
+crossing-requires : tie.Need-crossing-requires
+crossing-requires c κs = search needs
 
 goes-on-requires : tie.Need-goes-on-requires
 goes-on-requires c κs = search needs
 
-returns : tie.Need-returns
-returns c =
-    let a = c .before .before .before .before .before .before .before .before .args in
-    answered (a .t) (a .«data» .now) (a .self) (c .before .before .before .quick-index .result) (c .before .before .sounded-at .result) (c .before .keeps .result) (c .goes-on .result)
-    (c .before .before .before .quick-index .ensures) (c .before .before .sounded-at .ensures) (c .before .keeps .ensures) (c .goes-on .ensures)
+returns-3 : tie.Need-returns-3
+unfolding soundedAt
+returns-3 c =
+    let a = c .before .before .before .before .before .before .before .before .before .before .before .before .before .before .args in
+    let found = c .before .before .before .before .before .before .before .quick-index in
+    let keeps = c .before .before .before .before .before .before .before .before .before .before .before .before .keeps in
+    answered (a .t) (a .«data» .now) (a .self) (found .result) _ (keeps .result) (c .goes-on .result) (found .ensures)
+    (simp (c .before .crossing .ensures, c .before .before .before .recorded .ensures, c .before .before .before .before .level .ensures))
+    (keeps .ensures) (c .goes-on .ensures) (not-false (keeps .result) (c .before .before .before .before .before .before .before .before .before .before .before .if1 .left)) (c .before .before .before .before .before .before .if2 .left)
 
 pub quick-spec : {M : Type 1} → statement M
 quick-spec =
     tie.close
-    (tie.spec quick-index-requires sounded-at-requires keeps-requires goes-on-requires returns)
+    (tie.spec
+    keeps-requires
+    returns
+    quick-index-requires
+    returns-2
+    level-requires
+    recorded-requires
+    crossing-requires
+    goes-on-requires
+    returns-3)

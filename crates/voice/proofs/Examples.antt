@@ -1,0 +1,105 @@
+-- Turns on either side of each condition of a plain one, computed. Assumes nothing.
+use mathlib.Core.Path.{_≡_, refl}
+use Prim.Native.Nat.{ℕ}
+use mathlib.Core.Bool.{Bool, true, false}
+use mathlib.Core.List.{List, [], _∷_, map}
+use lib.Ieee.{Float, nan, neg, ofInt, ofBits, add, sub, mul, div, rem, lt, le, eq, isNan, toUnsigned}
+use Rattle.binary32.specs.Leaves.{zero32, one32, asFloat, floorOf, minOf, crossingOf}
+use Rattle.common_types.specs.declared.NoteOffBehaviour.{NoteOffBehaviour}
+use Rattle.common_types.specs.declared.NoteOffBehaviour.the-variants as off
+use Rattle.volume.specs.declared.Volume.{Volume}
+use Rattle.volume.specs.declared.Volume.the-variants.{Static, Linear}
+use Rattle.volume.specs.Levels.{levelOf, steppedOf, keepsOf}
+use Rattle.clip.specs.declared.Mode.{Mode}
+use Rattle.clip.specs.declared.Mode.the-variants.{Loop, PingPong}
+use Rattle.clip.specs.Positions.{leadOf, travelAt, loopedOf, wrappedOf, placedOf, clipOffsetAt, clipToDataOf, offsetAt, indexAt}
+use Rattle.clip.specs.Updates.{madeOf, withLength, withSpeed, withDataLength, withMode}
+use Rattle.voice.specs.Voices.{lateOf, overOf, shouldRemoveOf, movedOf, productOf, soundedOf, playedOutOf, endedOf, volumeStepped, turnOf}
+use Rattle.voice.specs.Agreeing.{agreesOf}
+use Rattle.voice.specs.Plain.{plainOf, soundedAt}
+use Rattle.voice.specs.declared.Voice.{Voice}
+use Rattle.voice.specs.declared.Tick.{Tick}
+
+-- whatever a turn computes by
+unfoldable computing : Unit {0}
+unfolding plainOf soundedAt agreesOf keepsOf turnOf volumeStepped endedOf playedOutOf shouldRemoveOf overOf lateOf soundedOf productOf movedOf withLength withSpeed withDataLength withMode madeOf indexAt offsetAt clipToDataOf clipOffsetAt placedOf wrappedOf loopedOf travelAt leadOf levelOf steppedOf floorOf minOf crossingOf ofInt ofBits neg add sub mul div rem lt le eq isNan toUnsigned
+computing = tt
+
+-- at the clock 4, with a decay of 3, a loop length of 4 and 10 samples recorded, each of them 1
+abbrev tickWith : NoteOffBehaviour → Bool → Float → Float → Mode → Tick
+tickWith behaviour once length total mode = record {
+  now = 4;
+  «decay_samples» = 3;
+  length = length;
+  «whole_length» = asFloat 4;
+  «data_length» = total;
+  speed = one32;
+  mode = mode;
+  once = once;
+  «note_off_behavior» = behaviour;
+}
+
+abbrev tick : NoteOffBehaviour → Bool → Tick
+tick behaviour once = tickWith behaviour once (asFloat 4) (asFloat 10) Loop
+
+abbrev ones : List ℕ
+ones = map (λ (n : ℕ). 1065353216) (0 ∷ 1 ∷ 2 ∷ 3 ∷ [])
+
+-- a voice in a loop of 4, with so much played; its value before was 1
+abbrev voiceWith : Volume → Float → Float → Bool → ℕ → Bool → Voice
+voiceWith volume played speed finished time crossing = record {
+  «finished_at» = time;
+  «last_sample_index» = 0;
+  clip2 = madeOf 0 zero32 one32 (asFloat 4) (asFloat 10) Loop;
+  volume = volume;
+  «loop_start_percent» = zero32;
+  played = played;
+  «last_sample_value» = one32;
+  speed = speed;
+  note = record { note = 60; channel = 0 };
+  finished = finished;
+  «is_at_zero_crossing» = crossing;
+}
+
+abbrev sounding : Volume → Voice
+sounding volume = voiceWith volume one32 one32 false 0 false
+
+abbrev finished : Volume → ℕ → Bool → Voice
+finished volume time crossing = voiceWith volume one32 one32 true time crossing
+
+-- a ramp that isn't over after the step, and one that is
+pub ramps : (plainOf (tick off.Decay false) ones (sounding (Static one32)) ≡ true)
+    × (plainOf (tick off.Decay false) ones (sounding (Linear 0 5 one32 zero32)) ≡ true)
+    × (plainOf (tick off.Decay false) ones (sounding (Linear 0 4 one32 zero32)) ≡ false)
+unfolding computing
+ramps = (refl, refl, refl)
+
+-- each of the four updates, and a speed that is not a number
+pub updates : (plainOf (tickWith off.Decay false (asFloat 5) (asFloat 10) Loop) ones (sounding (Static one32)) ≡ false)
+    × (plainOf (tickWith off.Decay false (asFloat 4) (asFloat 9) Loop) ones (sounding (Static one32)) ≡ false)
+    × (plainOf (tickWith off.Decay false (asFloat 4) (asFloat 10) PingPong) ones (sounding (Static one32)) ≡ false)
+    × (plainOf (tick off.Decay false) ones (voiceWith (Static one32) one32 zero32 false 0 false) ≡ false)
+    × (plainOf (tick off.Decay false) ones (voiceWith (Static one32) one32 nan false 0 false) ≡ false)
+unfolding computing
+updates = (refl, refl, refl, refl, refl)
+
+-- play-once: a whole loop length is played after the turn, or not; a voice that is finished already isn't finished by it
+pub once : (plainOf (tick off.Decay true) ones (voiceWith (Static one32) (asFloat 2) one32 false 0 false) ≡ true)
+    × (plainOf (tick off.Decay true) ones (voiceWith (Static one32) (asFloat 3) one32 false 0 false) ≡ false)
+    × (plainOf (tick off.Decay true) ones (voiceWith (Static one32) (asFloat 3) one32 true 0 false) ≡ true)
+unfolding computing
+once = (refl, refl, refl)
+
+-- a finished voice that waits for its level: plain until it is mute, whatever the clock and crossings say
+pub in-decay : (plainOf (tick off.Decay false) ones (finished (Linear 3 6 one32 zero32) 0 true) ≡ true) × (plainOf (tick off.Decay false) ones (finished (Static zero32) 0 true) ≡ false)
+unfolding computing
+in-decay = (refl, refl)
+
+-- one that waits for a crossing: plain until its decay is over by the clock, or it stands at one before its turn or after it
+pub to-a-crossing : (plainOf (tick off.ZeroCrossing false) ones (finished (Static one32) 2 false) ≡ true)
+    × (plainOf (tick off.ZeroCrossing false) ones (finished (Static one32) 1 false) ≡ false)
+    × (plainOf (tick off.ZeroCrossing false) ones (finished (Static one32) 2 true) ≡ false)
+    × (plainOf (tick off.ZeroCrossing false) [] (finished (Static one32) 2 false) ≡ false)
+    × (plainOf (tick off.Decay false) [] (finished (Static one32) 2 false) ≡ true)
+unfolding computing
+to-a-crossing = (refl, refl, refl, refl, refl)
