@@ -3,4 +3,5 @@ pub mod Rows
 pub mod Places
 pub mod Holding
 pub mod Fold
+pub mod Tails
 pub mod Turns

@@ -1,22 +1,28 @@
 -- What the steps around the loops over a lent channel work out. Definitions only.
-use Prim.Native.Nat.{ℕ, min}
+use mathlib.Core.Path.{_≡_}
+use Prim.Native.Nat.{ℕ, _+_, _≤_, min}
 use mathlib.Core.Bool.{Bool, false, _&&_, cond}
 use mathlib.Core.List.{List}
 use lib.Dec.{leb, eqb}
+use lib.ListN.{length, take}
+use lib.Seq.{sets, slice}
 use lib.Ieee.{Float}
 use Rattle.common_types.specs.declared.Params.{Params}
 use Rattle.common_types.specs.declared.NoteOffBehaviour.the-variants.{Decay}
 use Rattle.clip.specs.declared.Mode.the-variants.{Loop}
 use Rattle.binary32.specs.Leaves.{zero32}
+use Rattle.walks.specs.Walks.{fold}
+use Rattle.voice.specs.declared.Voice.{Voice}
 use Rattle.voice.specs.declared.Tick.{Tick}
-use Rattle.voice.specs.Voices.{tickOf}
+use Rattle.voice.specs.Voices.{tickOf, shouldRemoveOf, productOf}
 use Rattle.channel.specs.declared.Head.{Head}
 use Rattle.channel.specs.declared.Channel.{Channel}
 use Rattle.channel.specs.declared.Played.{Played}
 use Rattle.channel.specs.Heads.{goodHead, mixedOf}
-use Rattle.channel.specs.Channels.{playedOf}
+use Rattle.channel.specs.Channels.{withVoices, keptOf, addedOf, playedOf}
 use Rattle.lent_channel.specs.declared.Start.{Start}
 use Rattle.lent_channel.specs.declared.Heard.{Heard}
+use Rattle.lent_channel.specs.declared.Glided.{Glided}
 
 -- how many voices take a turn: none if the recording is empty, otherwise as many as there are, and never more than
 -- there are places
@@ -50,6 +56,22 @@ voicesLeftOf turns kept count = cond (eqb turns 0) count kept
 -- its head doesn't have yet
 unfoldable pub playedBy : Params → ℕ → ℕ → List ℕ → Channel → Played
 playedBy p time len m c = cond (eqb len 0) (record { channel = c; output = zero32 }) (playedOf (tickOf p time len) m c)
+
+-- what the turns of the voices vs give, where k voices before them took theirs and stayed, and `out` was heard of those:
+-- the voices that stay stand behind the k, and what is heard is added
+abbrev pub restFrom : Tick → List ℕ → Channel → ℕ → Float → List Voice → Played
+restFrom t m c k out vs = record {
+  channel = withVoices (sets (c .voices) k (keptOf t m vs)) (k + length (keptOf t m vs)) c;
+  output = fold (λ (out : Float) (v : Voice). addedOf (shouldRemoveOf t v) out (productOf t m v)) out vs;
+}
+
+-- What plain turns promise, from channel c to d: what the turns of the voices from `upto` on give on d, with the output
+-- so far, is what all of them give on c; and the count is as it was. How far they go is left open.
+pub record Glides (s : Start) (m : List ℕ) (c d : Channel) (g : Glided) : Type 0 where
+  pub few : g .upto ≤ min (s .turns) 32
+  pub count : d .count ≡ c .count
+  pub same : restFrom (s .tick) m d (g .upto) (g .output) (slice (g .upto) (min (s .turns) 32) (d .voices))
+      ≡ restFrom (s .tick) m c 0 zero32 (take (min (s .turns) 32) (c .voices))
 
 -- what of a channel's sample goes up to the frame: all but the channel
 abbrev pub heardOf : Played → Heard

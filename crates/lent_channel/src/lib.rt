@@ -3,6 +3,7 @@
 // are proved by hand.
 ghost use mathlib.Core.Path.{_≡_};
 ghost use mathlib.Core.Bool.{_&&_, _||_};
+ghost use lib.Ieee.{binary32, add};
 ghost use Rattle.voice.specs.Voices.{goodVoice};
 ghost use Rattle.channel.specs.Channels.{
   unfinishedOf,
@@ -18,6 +19,7 @@ ghost use Rattle.lent_channel.specs.Turns.{
   sharedOf,
   voicesLeftOf,
   playedBy,
+  Glides,
   headGoodOf,
   heardOf,
   mixedWith,
@@ -152,9 +154,43 @@ pub fn good(c: &Channel, capacity: usize) -> bool
     good_voices(c, head_good(c.head, c.count, capacity))
 }
 
+// How many voices took a plain turn, from the first on, and what was heard of them.
+pub struct Glided {
+    pub upto: usize,
+    pub output: f32,
+}
+
+fn added(output: f32, w: Voice) -> f32
+    ensures { λ r. ⌜ r ≡ add binary32 output (w .«last_sample_value») ⌝ }
+{
+    output + w.last_sample_value
+}
+
+// Voices take their turns in place, up to the first whose turn isn't plain.
+fn glide(c: &mut Channel, b: Start, data: &[u32]) -> Glided
+    ensures { λ r. ⌜ Glides b (now («data» .entry)) (now (c .entry)) (now (c .exit)) r ⌝ }
+{
+    let t = b.tick;
+    let n = channel::places(b.turns);
+    let mut output = 0.0;
+    let mut i: usize = 0;
+    while i < n {
+        let v = c.voices[i];
+        let q = v.quick(t, data);
+        if !q.plain {
+            return Glided { upto: i, output };
+        }
+        let w = q.voice;
+        c.voices[i] = w;
+        output = added(output, w);
+        i = i + 1;
+    }
+    Glided { upto: i, output }
+}
+
 // Each voice takes its turn if the recording isn't empty; those that are then to be removed leave, and the others move
-// up in order. The clock and the recording's length are those that the head will have: it is stored once, at the
-// sample's end.
+// up in order. Plain turns go first, as far as they go. The clock and the recording's length are those that the head
+// will have: it is stored once, at the sample's end.
 fn play(c: &mut Channel, time: usize, data_len: usize, params: Params, data: &[u32]) -> Heard
     ensures { λ r. ⌜ (r ≡ heardOf (playedBy params time «data_len» (now («data» .entry)) (now (c .entry))))
         × (now (c .exit) ≡ playedBy params time «data_len» (now («data» .entry)) (now (c .entry)) .channel) ⌝ }
@@ -162,9 +198,10 @@ fn play(c: &mut Channel, time: usize, data_len: usize, params: Params, data: &[u
     let b = begun(time, data_len, c.count, params);
     let t = b.tick;
     let n = b.turns;
-    let mut output = 0.0;
-    let mut k: usize = 0;
-    let mut i: usize = 0;
+    let g = glide(c, b, data);
+    let mut output = g.output;
+    let mut k = g.upto;
+    let mut i = g.upto;
     while i < n {
         let v = c.voices[i];
         let w = v.turn(t, data);
