@@ -4,3 +4,4 @@ pub mod Places
 pub mod Holding
 pub mod Fold
 pub mod Turns
+pub mod Passes
