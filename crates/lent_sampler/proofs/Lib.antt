@@ -12,3 +12,5 @@ pub mod Seats
 pub mod Judging
 pub mod Turned
 pub mod Stepping
+pub mod Numbering
+pub mod Changing
