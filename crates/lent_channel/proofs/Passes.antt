@@ -216,7 +216,7 @@ module _ (h : Channel) (all : length (h .voices) ≡ 32) where
         let below : j < n = subst (λ (m : ℕ). j < m) (length-take-le n l within) lt in
         let w : Voice = finishOf (h .head .now) (q .«decay_samples») (getD l j blankVoice) in
         let out : outsOf (p false false) vs ≡ take n (set l j w)
-              = outs ∙ ap (λ (u : Voice). set vs j (finishOf (h .head .now) (q .«decay_samples») u)) (getD-take n l j blankVoice below) ∙ sym (take-set-lt n l j w below) in
+        = outs ∙ ap (λ (u : Voice). set vs j (finishOf (h .head .now) (q .«decay_samples») u)) (getD-take n l j blankVoice below) ∙ sym (take-set-lt n l j w below) in
         let u : Bool = any unfinishedOf (outsOf (p false false) vs) in
         ap (λ (r : Pass). made (r .fresh) (r .count) (r .found) (r .unfinished) (sets l 0 (outsOf (p false false) vs))) last
         ∙ ap (λ (b : List Voice). made false (h .count) true (any unfinishedOf b) (sets l 0 b)) out

@@ -13,6 +13,7 @@ ghost use Rattle.channel.specs.Channels.{
   goodChannel,
 };
 ghost use Rattle.lent_channel.specs.Turns.{unusedTick, turnCountOf, sharedOf, voicesLeftOf, playedBy, headGoodOf};
+
 pub mod changes;
 
 use channel::Channel;

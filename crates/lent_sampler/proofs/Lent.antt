@@ -1,13 +1,10 @@
 -- The sampler and what its calls answer, as rows of `Rows.antt`.
 use mathlib.Core.Path.{_≡_, refl, ap}
 use Prim.Native.Nat.{ℕ}
-use mir.Syntax.{w8}
 use denote.Steps.{only}
 use denote.Struct.Laws as LL
 use Rattle.sampler.proofs.Sampler as T
 use Rattle.sampler.proofs.Sampler.Laws as T′
-use Rattle.sampler.proofs.Answer as S
-use Rattle.sampler.proofs.Answer.Laws as S′
 use Rattle.lent_sampler.proofs.Sampled as Y
 use Rattle.lent_sampler.proofs.Sampled.Laws as Y′
 use Rattle.lent_sampler.proofs.Sampling as Z
@@ -33,7 +30,7 @@ use Rattle.questions.proofs.WaveformSummary.Laws as Q′
 use Rattle.channel.specs.declared.Change.{Change}
 use Rattle.sampler.specs.declared.Sampler.{Sampler}
 use Rattle.sampler.specs.Samplers.{changeOf}
-use Rattle.lent_channel.proofs.Rows.{Datum, struct, enum, word, Answering}
+use Rattle.lent_channel.proofs.Rows.{Datum, struct, enum, Answering}
 
 abbrev pub sampler : Datum
 sampler = struct T.the-type T′.the-laws T′.the-plain
@@ -64,19 +61,6 @@ infos = struct L.the-type L′.the-laws L′.the-plain
 
 abbrev pub summary : Datum
 summary = struct Q.the-type Q′.the-laws Q′.the-plain
-
-abbrev pub answer : Answering sampler (word w8)
-answer = record {
-  like = S.the-row;
-  name = S.struct .name;
-  record-of = λ r. r .sampler;
-  answer-of = λ r. r .number;
-  make = λ s n. record { sampler = s; number = n };
-  eta = λ r. refl;
-  tells = λ r v is. ap only (LL.tells S.the-type S′.the-laws r _ is);
-  owed = λ r v is. (LL.owed S.the-type S′.the-laws r _ is .0, LL.owed S.the-type S′.the-laws r _ is .1 .0);
-  typed = λ 𝓤 H A W r v is. LL.lawful S.the-type S′.the-laws 𝓤 H A W .typed r _ is .0;
-}
 
 abbrev pub sampled : Datum
 sampled = struct Y.the-type Y′.the-laws Y′.the-plain

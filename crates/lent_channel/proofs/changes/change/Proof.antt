@@ -224,15 +224,14 @@ module _ {M : Type 1} (𝓤 : URA M) (H : Heap 𝓤) (A : Atoms 𝓤) (W : Given
 
   -- ---- the calls
   abbrev to-pass : Begins 𝓤 H A at-mem run .Ghost
-  to-pass  = ((tt, tt, tt, (x, ((h .head), ((h .count), tt))), (xv x ∷ [], (ev (h .head) ∷ [], (vint w64 (h .count) ∷ [], tt)))), tt)
+  to-pass = ((tt, tt, tt, (x, ((h .head), ((h .count), tt))), (xv x ∷ [], (ev (h .head) ∷ [], (vint w64 (h .count) ∷ [], tt)))), tt)
 
   goes-pass : h .count < 2 ^ 64 → Is E.the-row (h .head) (ev (h .head) ∷ []) → ent 𝓤 (sem 𝓤 H A ftrue) (Begins 𝓤 H A at-mem run .pre to-pass)
   goes-pass fits is =
       qed W (‵ ftrue ∷ []) ∵ nothing ! $ owned ! usize (Is usize) (uint-makes 𝓤 H A W w64) (h .count) _ (refl, fits) $ fjoin ! $ owned ! E.the-row (Is E.the-row) (LL.makes E.the-type E′.the-plain 𝓤 H A) (h .head) _ is $ fjoin ! $ owned ! X.the-row (Is X.the-row) (changing .makes 𝓤 H A W) x _ isx $ fjoin ! $ move ! (1 ∷ 0 ∷ []) $ join ! $ nothing ! $ move ! (1 ∷ 0 ∷ []) $ join ! $ done !
 
   pass-of : (r : Pass) → ent 𝓤 (ensured 𝓤 H A pass.ended (pass.clauses 𝓤 H A at-mem run) tt (x, ((h .head), ((h .count), tt))) tt r) (fact 𝓤 (r ≡ p₀))
-  pass-of  r = exE 𝓤 _ (λ ws. snd∗ 𝓤 (sem 𝓤 H A (lasts pass.ended tt (x, ((h .head), ((h .count), tt))) ws)) (fact 𝓤 (r ≡ p₀)))
-
+  pass-of r = exE 𝓤 _ (λ ws. snd∗ 𝓤 (sem 𝓤 H A (lasts pass.ended tt (x, ((h .head), ((h .count), tt))) ws)) (fact 𝓤 (r ≡ p₀)))
 
   abbrev to-hits : (p : Pass) (v : Voice) → Hits 𝓤 H A at-mem run .Ghost
   to-hits p v = ((tt, tt, tt, (p, (v, tt)), (sv p ∷ [], (vv v ∷ [], tt))), tt)
@@ -244,7 +243,6 @@ module _ {M : Type 1} (𝓤 : URA M) (H : Heap 𝓤) (A : Atoms 𝓤) (W : Given
   hits-of : (p : Pass) (v : Voice) → (r : Bool) → ent 𝓤 (ensured 𝓤 H A hits.ended (hits.clauses 𝓤 H A at-mem run) tt (p, (v, tt)) tt r) (fact 𝓤 (r ≡ hitsOf p v))
   hits-of p v r = exE 𝓤 _ (λ ws. snd∗ 𝓤 (sem 𝓤 H A (lasts hits.ended tt (p, (v, tt)) ws)) (fact 𝓤 (r ≡ hitsOf p v)))
 
-
   abbrev to-remade : (p : Pass) (v : Voice) → Remakes 𝓤 H A at-mem run .Ghost
   to-remade p v = ((tt, tt, tt, (p, (v, tt)), (sv p ∷ [], (vv v ∷ [], tt))), tt)
 
@@ -254,7 +252,6 @@ module _ {M : Type 1} (𝓤 : URA M) (H : Heap 𝓤) (A : Atoms 𝓤) (W : Given
 
   remade-of : (p : Pass) (v : Voice) → (r : Voice) → ent 𝓤 (ensured 𝓤 H A remade.ended (remade.clauses 𝓤 H A at-mem run) tt (p, (v, tt)) tt r) (fact 𝓤 (r ≡ remadeOf p v))
   remade-of p v r = exE 𝓤 _ (λ ws. snd∗ 𝓤 (sem 𝓤 H A (lasts remade.ended tt (p, (v, tt)) ws)) (fact 𝓤 (r ≡ remadeOf p v)))
-
 
   abbrev to-passed : (p : Pass) (v : Voice) (hit : Bool) → Passes 𝓤 H A at-mem run .Ghost
   to-passed p v hit = ((tt, tt, tt, (p, (v, (hit, tt))), (sv p ∷ [], (vv v ∷ [], (vbool hit ∷ [], tt)))), tt)
@@ -266,17 +263,15 @@ module _ {M : Type 1} (𝓤 : URA M) (H : Heap 𝓤) (A : Atoms 𝓤) (W : Given
   passed-of : (p : Pass) (v : Voice) (hit : Bool) → (r : Pass) → ent 𝓤 (ensured 𝓤 H A passed.ended (passed.clauses 𝓤 H A at-mem run) tt (p, (v, (hit, tt))) tt r) (fact 𝓤 (r ≡ passedOf p v hit))
   passed-of p v hit r = exE 𝓤 _ (λ ws. snd∗ 𝓤 (sem 𝓤 H A (lasts passed.ended tt (p, (v, (hit, tt))) ws)) (fact 𝓤 (r ≡ passedOf p v hit)))
 
-
   abbrev to-opened : Opens 𝓤 H A at-mem run .Ghost
-  to-opened  = ((tt, tt, tt, (x, ((h .head), tt)), (xv x ∷ [], (ev (h .head) ∷ [], tt))), tt)
+  to-opened = ((tt, tt, tt, (x, ((h .head), tt)), (xv x ∷ [], (ev (h .head) ∷ [], tt))), tt)
 
   goes-opened : Is E.the-row (h .head) (ev (h .head) ∷ []) → ent 𝓤 (sem 𝓤 H A ftrue) (Opens 𝓤 H A at-mem run .pre to-opened)
-  goes-opened  is =
+  goes-opened is =
       qed W (‵ ftrue ∷ []) ∵ nothing ! $ owned ! E.the-row (Is E.the-row) (LL.makes E.the-type E′.the-plain 𝓤 H A) (h .head) _ is $ fjoin ! $ owned ! X.the-row (Is X.the-row) (changing .makes 𝓤 H A W) x _ isx $ fjoin ! $ move ! (1 ∷ 0 ∷ []) $ join ! $ nothing ! $ move ! (1 ∷ 0 ∷ []) $ join ! $ done !
 
   opened-of : (r : Voice) → ent 𝓤 (ensured 𝓤 H A opened.ended (opened.clauses 𝓤 H A at-mem run) tt (x, ((h .head), tt)) tt r) (fact 𝓤 (r ≡ openedOf x (h .head)))
-  opened-of  r = exE 𝓤 _ (λ ws. snd∗ 𝓤 (sem 𝓤 H A (lasts opened.ended tt (x, ((h .head), tt)) ws)) (fact 𝓤 (r ≡ openedOf x (h .head))))
-
+  opened-of r = exE 𝓤 _ (λ ws. snd∗ 𝓤 (sem 𝓤 H A (lasts opened.ended tt (x, ((h .head), tt)) ws)) (fact 𝓤 (r ≡ openedOf x (h .head))))
 
   abbrev to-ended : (p : Pass) → Ends 𝓤 H A at-mem run .Ghost
   to-ended p = ((tt, tt, tt, (p, (x, ((h .head), tt))), (sv p ∷ [], (xv x ∷ [], (ev (h .head) ∷ [], tt)))), tt)
@@ -287,7 +282,6 @@ module _ {M : Type 1} (𝓤 : URA M) (H : Heap 𝓤) (A : Atoms 𝓤) (W : Given
 
   ended-of : (p : Pass) → (r : Head) → ent 𝓤 (ensured 𝓤 H A ended.ended (ended.clauses 𝓤 H A at-mem run) tt (p, (x, ((h .head), tt))) tt r) (fact 𝓤 (r ≡ endedOf p x (h .head)))
   ended-of p r = exE 𝓤 _ (λ ws. snd∗ 𝓤 (sem 𝓤 H A (lasts ended.ended tt (p, (x, ((h .head), tt))) ws)) (fact 𝓤 (r ≡ endedOf p x (h .head))))
-
 
   module _ (𝓣 : Tables 𝓤 H) (known-Hits : Triple 𝓤 (𝓣 .C #hits) (Hits 𝓤 H A at-mem run)) (known-Remakes : Triple 𝓤 (𝓣 .C #remade) (Remakes 𝓤 H A at-mem run)) (known-Passes : Triple 𝓤 (𝓣 .C #passed) (Passes 𝓤 H A at-mem run)) (known-Opens : Triple 𝓤 (𝓣 .C #opened) (Opens 𝓤 H A at-mem run)) (known-Ends : Triple 𝓤 (𝓣 .C #ended) (Ends 𝓤 H A at-mem run))
       (all : length (h .voices) ≡ 32) (ish : Is E.the-row (h .head) (ev (h .head) ∷ [])) (l₀ l₁ l₂ l₃ l₄ l₅ l₆ l₇ l₈ l₉ l₁₀ l₁₁ l₁₂ l₁₃ l₁₄ l₁₅ l₁₆ l₁₇ l₁₈ l₁₉ l₂₀ l₂₁ l₂₂ l₂₃ l₂₄ l₂₅ l₂₆ : ℕ) where
