@@ -161,7 +161,7 @@ impl Head {
         self.with_recorded(recorder.stop(self.data_len))
     }
 
-    fn changed(self, change: HeadChange) -> Self
+    pub fn changed(self, change: HeadChange) -> Self
         ensures { λ r. ⌜ r ≡ headChangedOf change self ⌝ }
     {
         match change {
@@ -203,7 +203,7 @@ impl Head {
     }
 
     // The input passes while it is asked for and no voice is unfinished. A change of that begins a ramp.
-    fn handle_passthru(self, params: Params, unfinished: bool) -> Self
+    pub fn handle_passthru(self, params: Params, unfinished: bool) -> Self
         ensures { λ r. ⌜ r ≡ passthruOf params unfinished self ⌝ }
     {
         let wanted = passes(params, unfinished);
@@ -284,7 +284,7 @@ fn next_time(now: usize) -> usize
     if now < LAST_TIME { now + 1 } else { now }
 }
 
-fn same_note(a: Note, b: Note) -> bool
+pub fn same_note(a: Note, b: Note) -> bool
     ensures { λ r. ⌜ r ≡ sameNote a b ⌝ }
 {
     if a.note == b.note {
@@ -294,7 +294,7 @@ fn same_note(a: Note, b: Note) -> bool
     }
 }
 
-fn wanted(v: Voice, note: Note) -> bool
+pub fn wanted(v: Voice, note: Note) -> bool
     ensures { λ r. ⌜ r ≡ wantedOf note v ⌝ }
 {
     let own = v.note;
@@ -577,7 +577,7 @@ impl Channel {
     }
 }
 
-fn sped(v: Voice, note: Note, speed: f32) -> Voice
+pub fn sped(v: Voice, note: Note, speed: f32) -> Voice
     ensures { λ r. ⌜ r ≡ spedOf note speed v ⌝ }
 {
     let own = v.note;

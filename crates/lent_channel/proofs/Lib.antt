@@ -5,3 +5,4 @@ pub mod Holding
 pub mod Fold
 pub mod Tails
 pub mod Turns
+pub mod Passes

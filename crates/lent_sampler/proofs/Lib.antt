@@ -14,3 +14,5 @@ pub mod Turned
 pub mod RunTurns
 pub mod RunTurned
 pub mod Stepping
+pub mod Numbering
+pub mod Changing

@@ -1,6 +1,6 @@
 // The sampler's calls on one record that its host lends, with the definitions of the calls by value in their contracts.
-// A frame is played where the record stands. The other calls hand a copy of it to the call by value. What takes a
-// record, a channel or a list of records lent is proved by hand.
+// A frame is played where the record stands, and a change is made there. The other calls hand a copy of it to the call
+// by value. What takes a record, a channel or a list of records lent is proved by hand.
 ghost use mathlib.Core.Path.{_≡_};
 ghost use Rattle.sampler.specs.Samplers.{
   startPlayingOf,
@@ -51,6 +51,15 @@ ghost use Rattle.lent_sampler.specs.Numbers.{
   runSeat,
 };
 ghost use Rattle.lent_sampler.specs.Hearing.{atVolume};
+ghost use Rattle.lent_sampler.specs.ChangeNumbers.{
+  placesTaken,
+  anyTaken,
+  startRows,
+  stopRows,
+  changeRows,
+  rowsOf,
+  changeNumberBy,
+};
 use channel::Change;
 use channel::Channel;
 use channel::HeadChange;
@@ -67,14 +76,123 @@ use sampler::Ran;
 use sampler::Sampler;
 use sampler::first_of;
 
-// The call that makes a change of every channel, all or none. The six names are it, each at the change that a function
-// makes of the name's arguments.
+// How many voices stand in the way of one more: none where there is no recording.
+fn places_taken(data_len: usize, count: usize) -> usize
+    ensures { λ r. ⌜ r ≡ placesTaken «data_len» count ⌝ }
+{
+    if data_len == 0 { 0 } else { count }
+}
+
+fn any_full(n: usize, taken: usize, other: usize) -> bool
+    ensures { λ r. ⌜ r ≡ anyTaken n (taken ∷ other ∷ []) ⌝ }
+{
+    if n == 0 {
+        return false;
+    }
+    if n == 1 {
+        return 32 <= taken;
+    }
+    (32 <= taken) | (32 <= other)
+}
+
+fn start_rows(position: f32, note: Note, params: Params, full: bool) -> u8
+    ensures { λ r. ⌜ r ≡ startRows position note params full ⌝ }
+{
+    let full = first_of(full, 5, 0);
+    let beyond = first_of(params.beyond_limits(), 4, full);
+    let position = first_of(!sampler::in_range(position), 3, beyond);
+    first_of(note.channel > 15, 2, position)
+}
+
+fn stop_rows(note: Note, params: Params) -> u8
+    ensures { λ r. ⌜ r ≡ stopRows note params ⌝ }
+{
+    let beyond = first_of(params.beyond_limits(), 4, 0);
+    first_of(note.channel > 15, 2, beyond)
+}
+
+// The rows of a change but for the record's own.
+fn change_rows(full: bool, change: Change) -> u8
+    ensures { λ r. ⌜ r ≡ changeRows full change ⌝ }
+{
+    match change {
+        Change::Start {
+            params,
+            position,
+            note,
+            ..
+        } => start_rows(position, note, params, full),
+        Change::Stop { params, note } => stop_rows(note, params),
+        Change::Speed { note, .. } => first_of(note.channel > 15, 2, 0),
+        Change::Head(_) => 0,
+        Change::Reset => 0,
+    }
+}
+
+// The rows of a change's number, from what is asked of the two channels: whether each is good, and how many of its
+// places are taken. The clocks are read for a frame, whose number has the same walk, and not looked at.
+fn rows_of(
+    count: usize,
+    capacity: usize,
+    first: bool,
+    second: bool,
+    _time: usize,
+    _other: usize,
+    taken: usize,
+    change: Change,
+    other_taken: usize,
+) -> u8
+    ensures { λ r. ⌜ r ≡ rowsOf count capacity (first ∷ second ∷ []) (taken ∷ «other_taken» ∷ []) change ⌝ }
+{
+    let rows = change_rows(any_full(count, taken, other_taken), change);
+    let good = sampler::good_sizes(count, capacity) & all_good(count, first, second);
+    first_of(!good, 9, rows)
+}
+
+// The number of a change, with no channel copied; `taken` and `other_taken` are the channels' places taken.
+fn change_number(s: &Sampler, taken: usize, change: Change, other_taken: usize) -> u8
+    ensures { λ r. ⌜ r ≡ changeNumberBy (now (s .entry)) taken change «other_taken» ⌝ }
+{
+    let capacity = s.capacity;
+    let first = lent_channel::good(&s.channels[0], capacity);
+    let second = lent_channel::good(&s.channels[1], capacity);
+    let time = s.channels[0].head.now;
+    let other = s.channels[1].head.now;
+    rows_of(
+        s.count,
+        capacity,
+        first,
+        second,
+        time,
+        other,
+        taken,
+        change,
+        other_taken,
+    )
+}
+
+// How many channels there are to change: the count, and never more than the array has.
+fn most(count: usize) -> usize
+    ensures { λ r. ⌜ r ≡ min count 2 ⌝ }
+{
+    if count < 2 { count } else { 2 }
+}
+
+// The call that makes a change of every channel, all or none, where the record stands. The six names are it, each at
+// the change that a function makes of the name's arguments.
 pub fn change(s: &mut Sampler, change: Change) -> u8
     ensures { λ r. ⌜ record { sampler = now (s .exit); number = r } ≡ changeOf (now (s .entry)) change ⌝ }
 {
-    let r = Sampler::changed(*s, change);
-    *s = r.sampler;
-    r.number
+    let taken = places_taken(s.channels[0].head.data_len, s.channels[0].count);
+    let other = places_taken(s.channels[1].head.data_len, s.channels[1].count);
+    let number = change_number(s, taken, change, other);
+    let n = steps(number, most(s.count));
+    let mut j: usize = 0;
+    while j < n {
+        lent_channel::changes::change(&mut s.channels[j], change);
+        j = j + 1;
+    }
+    number
 }
 
 fn start_of(position: f32, note: Note, velocity: f32, params: Params) -> Change

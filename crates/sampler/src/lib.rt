@@ -590,7 +590,7 @@ pub fn first_of(test: bool, number: u8, rest: u8) -> u8
 }
 
 // From 0 to 1, which NaN is not.
-fn in_range(position: f32) -> bool
+pub fn in_range(position: f32) -> bool
     ensures { λ r. ⌜ r ≡ (le zero32 position && le position one32) ⌝ }
 {
     (0.0 <= position) & (position <= 1.0)

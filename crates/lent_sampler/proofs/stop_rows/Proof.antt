@@ -1,0 +1,27 @@
+-- `stop_rows` meets its contract. Assumes nothing.
+use Rattle.lent_sampler.specs.ChangeNumbers.{stopRows}
+use borrow.Author.Needs.{needs}
+use Rattle.lent_sampler.proofs.stop_rows.Statement.{statement}
+use Rattle.lent_sampler.proofs.stop_rows.Tie as tie
+
+beyond-limits-requires : tie.Need-beyond-limits-requires
+beyond-limits-requires c κs = search needs
+
+first-of-requires : tie.Need-first-of-requires
+first-of-requires c κs = search needs
+
+first-of-requires-2 : tie.Need-first-of-requires-2
+first-of-requires-2 c κs = search needs
+
+returns : tie.Need-returns
+unfolding stopRows
+returns c = simp (c .first-of2 .ensures, c .before .before .first-of .ensures, c .before .before .before .beyond-limits .ensures)
+
+pub stop-rows-spec : {M : Type 1} → statement M
+stop-rows-spec =
+    tie.close
+    (tie.spec
+    beyond-limits-requires
+    first-of-requires
+    first-of-requires-2
+    returns)
