@@ -57,8 +57,8 @@ voicesLeftOf turns kept count = cond (eqb turns 0) count kept
 unfoldable pub playedBy : Params → ℕ → ℕ → List ℕ → Channel → Played
 playedBy p time len m c = cond (eqb len 0) (record { channel = c; output = zero32 }) (playedOf (tickOf p time len) m c)
 
--- what the turns of the voices vs give, where k voices before them took theirs and stayed, and `out` was heard of those:
--- the voices that stay stand behind the k, and what is heard is added
+-- what the turns of the voices vs give, where k voices before them took theirs and stayed, and `out` was heard of them:
+-- those that stay stand behind the k, and what is heard is added
 abbrev pub restFrom : Tick → List ℕ → Channel → ℕ → Float → List Voice → Played
 restFrom t m c k out vs = record {
   channel = withVoices (sets (c .voices) k (keptOf t m vs)) (k + length (keptOf t m vs)) c;

@@ -1,10 +1,10 @@
 -- `glide` meets its contract: a walk of its MIR, by hand, of a loop that is left by a `return` where a turn isn't plain. In the loop the whole channel lies in memory, with some list of voices for
 -- which the rest of the walk gives what the whole walk gives, as in `play`; a turn takes voice i out, to be copied and then to be overwritten. Assumes nothing.
 use mathlib.Core.Path.{_≡_, refl, sym, _∙_, ap, subst}
-use Prim.Native.Nat.{ℕ, zero, suc, _+_, _*_, _<_, _≤_, _^_, min, zero-le}
+use Prim.Native.Nat.{ℕ, suc, _+_, _*_, _<_, _≤_, _^_, min, zero-le}
 use native.Mathlib.Nat.{lt-irrefl, le-refl}
 use native.Mathlib.Omega.{arith}
-use mathlib.Core.Bool.{Bool, true, false, not}
+use mathlib.Core.Bool.{Bool, not}
 use mathlib.Core.List.{List, [], _∷_}
 use lib.ListN.{length, getD, set, take}
 use lib.Dec.{T, ltb, lt→ltb, ltb→lt, lit<}
@@ -32,7 +32,7 @@ use denote.Exit.{yes}
 use denote.RattleType.{owns}
 use denote.Memory.{mem, cellAt, partAt, pointee}
 use denote.Laws.{Is, shows}
-use denote.Plain.{uint-makes, uint-lawful, bool-lawful}
+use denote.Plain.{uint-makes, uint-lawful}
 use denote.Floats.{float-makes, float-lawful, passes, is-true}
 use denote.Ref.{RefT, MutRef, ptr-vals, mut-tells}
 use denote.Slice.{sliceTy, sliceVal, ShrSlice, Room, slice-vals, shr-slice-tells, shr-slice-copy}
