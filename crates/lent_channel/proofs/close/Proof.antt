@@ -291,7 +291,7 @@ module _ {M : Type 1} (𝓤 : URA M) (H : Heap 𝓤) (A : Atoms 𝓤) (W : Given
         assigns-last ! (of-opd ! (load ! (from ! (stop !)) (look ! 7 refl))) (from ! (hop ! (look ! 25 refl) (fld ! {τ = headed} {d = head-at} refl (stop !)))) (store-in ! 1 (sub ! 2 {τ = headed} {d = head-at} refl (whole !)) (LL.lawful E.the-type E′.the-laws 𝓤 H A W .typed (closedOf p u t) _ is .0)) $
         drop ! $ owned ! C.the-row (Is C.the-row) (LL.makes C.the-type C′.the-plain 𝓤 H A) (withHead (closedOf p u t) h) _ (with-head h (closedOf p u t) g is) $ move ! (1 ∷ 0 ∷ []) $
         use2 W (‵ (partAt C.the-row fullShare (withHead (closedOf p u t) h) b o)) (part-in 𝓤 H A W C.the-row refl fullShare (withHead (closedOf p u t) h) b o (cv (withHead (closedOf p u t) h))) $
-         forget ! 24 refl $ forget ! 22 refl $ forget ! 20 refl $ forget ! 12 refl $ forget ! 10 refl $ forget ! 6 refl $ keep ! (0 ∷ 1 ∷ 2 ∷ 3 ∷ 26 ∷ 24 ∷ 22 ∷ 20 ∷ 18 ∷ 16 ∷ 14 ∷ 12 ∷ 10 ∷ 8 ∷ 6 ∷ 27 ∷ 25 ∷ 23 ∷ 21 ∷ 19 ∷ 17 ∷ 15 ∷ 13 ∷ 11 ∷ 9 ∷ 7 ∷ []) $
+        forget ! 24 refl $ forget ! 22 refl $ forget ! 20 refl $ forget ! 12 refl $ forget ! 10 refl $ forget ! 6 refl $ keep ! (0 ∷ 1 ∷ 2 ∷ 3 ∷ 26 ∷ 24 ∷ 22 ∷ 20 ∷ 18 ∷ 16 ∷ 14 ∷ 12 ∷ 10 ∷ 8 ∷ 6 ∷ 27 ∷ 25 ∷ 23 ∷ 21 ∷ 19 ∷ 17 ∷ 15 ∷ 13 ∷ 11 ∷ 9 ∷ 7 ∷ []) $
         by ! (shuts 𝓣 known-Mixed ist l₀ l₁ l₂ l₃ l₄ l₅ l₆ l₇ l₈ l₉ l₁₀)))))))))))))))))))))))))))
 
 module _ {M : Type 1} (𝓤 : URA M) (H : Heap 𝓤) (A : Atoms 𝓤) (W : Given 𝓤 H A) (at-mem : Memory → SProp 𝓤) (run : Routine → Fun 𝓤) (𝓣 : Tables 𝓤 H) (known-Passes : Triple 𝓤 (𝓣 .C #passed) (Passes 𝓤 H A at-mem run)) (known-Rests : Triple 𝓤 (𝓣 .C #resting) (Rests 𝓤 H A at-mem run)) (known-Clocked : Triple 𝓤 (𝓣 .C #clocked) (Clocked 𝓤 H A at-mem run)) (known-Closed : Triple 𝓤 (𝓣 .C #closed) (Closed 𝓤 H A at-mem run)) (known-Mixed : Triple 𝓤 (𝓣 .C #mixed) (Mixed 𝓤 H A at-mem run)) where
