@@ -7,7 +7,7 @@ use lib.Ieee.{Float, binary32, add, mul}
 use Rattle.common_types.specs.declared.Params.{Params}
 use Rattle.volume.specs.declared.Volume.{Volume}
 use Rattle.volume.specs.declared.Volume.the-variants.{Static}
-use Rattle.volume.specs.Levels.{levelOf, towardOf, steppedOf, goodVolume}
+use Rattle.volume.specs.Levels.{isStaticOf, levelOf, towardOf, steppedOf, goodVolume}
 use Rattle.binary32.specs.Leaves.{zero32, one32}
 use Rattle.recorder.specs.declared.Recorded.{Recorded}
 use Rattle.recorder.specs.Recording.{newRecorderOf, startOf, stopOf, goodRecorder}
@@ -94,6 +94,10 @@ clockedOf h =
 unfoldable pub closedOf : Params → Bool → Head → Head
 closedOf p unfinished h = clockedOf
     (passthruOf p unfinished (withPassthru (h .«passthru_on») (steppedOf (h .«passthru_volume») (h .now)) h))
+
+-- pass-through rests: its level is steady, and it is as wanted, so that the end of a sample moves the clock alone
+unfoldable pub restsOf : Bool → Head → Bool
+restsOf wanted h = isStaticOf (h .«passthru_volume») && Bool·beq wanted (h .«passthru_on»)
 
 -- ---- a head that may stand in a record of that capacity
 unfoldable pub goodHead : ℕ → Head → Bool

@@ -8,7 +8,7 @@ ghost use Prim.Native.Nat.{min};
 ghost use mathlib.Core.Bool.{cond};
 ghost use lib.ListN.{length};
 ghost use Rattle.binary32.specs.Leaves.{bitsOf, zero32, one32};
-ghost use Rattle.recorder.specs.Recording.{recordedOf, dataAfter};
+ghost use Rattle.recorder.specs.Recording.{recordedOf, dataAfter, isRecordingOf};
 ghost use Rattle.voice.specs.Voices.{shouldRemoveOf};
 ghost use Rattle.channel.specs.declared.HeadChange.the-variants.{StartRecording, StopRecording};
 ghost use Rattle.channel.specs.Heads.{
@@ -21,6 +21,7 @@ ghost use Rattle.channel.specs.Heads.{
   withPassthru,
   rampOf,
   passthruOf,
+  restsOf,
   mixedOf,
   closedOf,
   goodHead,
@@ -241,6 +242,29 @@ impl Head {
         }
     }
 
+    // Whether the end of a sample, with pass-through wanted so, changes nothing but the clock.
+    pub fn rests(self, wanted: bool) -> bool
+        ensures { λ r. ⌜ r ≡ restsOf wanted self ⌝ }
+    {
+        let volume = self.passthru_volume;
+        volume.is_static() & (wanted == self.passthru_on)
+    }
+
+    pub fn is_recording(self) -> bool
+        ensures { λ r. ⌜ r ≡ isRecordingOf (self .recorder) ⌝ }
+    {
+        let recorder = self.recorder;
+        recorder.is_recording()
+    }
+
+    // A sample later.
+    pub fn clocked(mut self) -> Self
+        ensures { λ r. ⌜ r ≡ clockedOf self ⌝ }
+    {
+        self.now = next_time(self.now);
+        self
+    }
+
     pub fn good(self, capacity: usize) -> bool
         ensures { λ r. ⌜ r ≡ goodHead capacity self ⌝ }
     {
@@ -256,7 +280,7 @@ impl Head {
     }
 }
 
-fn passes(params: Params, unfinished: bool) -> bool
+pub fn passes(params: Params, unfinished: bool) -> bool
     ensures { λ r. ⌜ r ≡ passesOf params unfinished ⌝ }
 {
     params.auto_passthru & !unfinished

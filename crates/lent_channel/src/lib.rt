@@ -5,9 +5,12 @@ ghost use mathlib.Core.Path.{_≡_};
 ghost use mathlib.Core.Bool.{_&&_, _||_};
 ghost use lib.Ieee.{binary32, add};
 ghost use Rattle.voice.specs.Voices.{goodVoice};
+ghost use Rattle.channel.specs.Heads.{closedOf};
 ghost use Rattle.channel.specs.Channels.{
   unfinishedOf,
   anyUnfinishedOf,
+  withHead,
+  takenOf,
   memoryOf,
   processSampleOf,
   goodVoicesOf,
@@ -227,6 +230,32 @@ fn mixed(head: Head, input: f32, heard: Heard) -> Heard
     Heard {
         output: head.mixed(input, heard.output),
     }
+}
+
+// The sample is recorded. While nothing is, neither the head nor the memory is stored.
+fn record(c: &mut Channel, input: f32, data: &mut [u32])
+    ensures { λ r. ⌜ (now (c .exit) ≡ takenOf (now («data» .entry)) (now (c .entry)))
+        × (now («data» .exit) ≡ memoryOf input (now (c .entry)) (now («data» .entry))) ⌝ }
+{
+    let head = c.head;
+    if head.is_recording() {
+        c.head = head.recorded(input, data);
+    }
+}
+
+// The end of a sample. Where pass-through rests only the clock is new.
+fn close(c: &mut Channel, params: Params, unfinished: bool, input: f32, played: Heard) -> Heard
+    ensures { λ r. ⌜ (r ≡ mixedWith (now (c .entry) .head) input played)
+        × (now (c .exit) ≡ withHead (closedOf params unfinished (now (c .entry) .head)) (now (c .entry))) ⌝ }
+{
+    let head = c.head;
+    let wanted = channel::passes(params, unfinished);
+    if head.rests(wanted) {
+        c.head = head.clocked();
+    } else {
+        c.head = head.closed(params, unfinished);
+    }
+    mixed(head, input, played)
 }
 
 pub fn with_sample(c: &mut Channel, params: Params, input: f32, data: &mut [u32]) -> Heard

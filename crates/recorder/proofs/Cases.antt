@@ -1,6 +1,6 @@
 -- What each call does in each state of the recorder. Assumes nothing.
-use mathlib.Core.Path.{_≡_, refl, sym}
-use mathlib.Core.Bool.{Bool, true, false, cond, _&&_}
+use mathlib.Core.Path.{_≡_, refl, sym, _∙_}
+use mathlib.Core.Bool.{Bool, true, false, cond, _&&_, true≢false}
 use mathlib.Core.List.{List}
 use Prim.Native.Nat.{ℕ, _+_, max, min, _≤_, _<_}
 use lib.Dec.{leb, ltb}
@@ -10,7 +10,7 @@ use borrow.Author.Tests.{lt-ltb, le-ltb, ltb-true, ltb-false}
 use Rattle.recorder.specs.declared.State.{State}
 use Rattle.recorder.specs.declared.State.the-variants.{Triggered, Idle}
 use Rattle.recorder.specs.declared.Recorder.{Recorder}
-use Rattle.recorder.specs.Recording.{inState, misusedOf, skippedOf, startOf, stopOf, recordedOf, dataAfter, goodRecorder}
+use Rattle.recorder.specs.Recording.{inState, misusedOf, skippedOf, startOf, stopOf, recordedOf, dataAfter, isRecordingOf, goodRecorder}
 
 -- a recorder is idle or records at some place
 pub by-state : (r : Recorder) {P : Type 0} → (r .state ≡ Idle → P) → ((w : ℕ) → r .state ≡ Triggered w → P) → P
@@ -19,6 +19,14 @@ by-state r {P} idle recording = go (r .state) refl
     go : (s : State) → r .state ≡ s → P
     go Idle e = idle e
     go (Triggered w) e = recording w e
+
+-- one that doesn't record is idle
+pub not-recording : (r : Recorder) → isRecordingOf r ≡ false → r .state ≡ Idle
+unfolding isRecordingOf
+not-recording r e = by-state r (λ idle. idle) (λ w recording. absurd (true≢false (sym (records w recording) ∙ e)))
+  where
+    records : (w : ℕ) → r .state ≡ Triggered w → isRecordingOf r ≡ true
+    records w recording = simp (recording, isRecordingOf)
 
 -- a sample: idle, with room at the write place, or none there
 pub by-room : (r : Recorder) (capacity : ℕ) {P : Type 0} → (r .state ≡ Idle → P) → ((w : ℕ) → r .state ≡ Triggered w → w < capacity → P)

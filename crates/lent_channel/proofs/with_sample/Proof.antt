@@ -78,7 +78,7 @@ use Rattle.lent_channel.specs.declared.Heard.{Heard}
 use Rattle.lent_channel.specs.Turns.{playedBy, heardOf, mixedWith}
 use Rattle.lent_channel.proofs.Bytes.{head-at}
 use Rattle.lent_channel.proofs.Turns.{sample-by}
-use Rattle.lent_channel.proofs.Places.{cv, ev, yv}
+use Rattle.lent_channel.proofs.Places.{cv, ev, yv, with-head}
 use Rattle.lent_channel.proofs.Heard as Y
 use Rattle.lent_channel.proofs.Heard.Laws as Y′
 use Rattle.lent_channel.proofs.play as play
@@ -140,10 +140,6 @@ module _ {M : Type 1} (𝓤 : URA M) (H : Heap 𝓤) (A : Atoms 𝓤) (mem : Mem
 
   abbrev Mixed : Contract 𝓤
   Mixed = tripleOf 𝓤 H A mixed.signature (mixed.spec 𝓤 H A mem run)
-
--- a channel with another head
-with-head : (h : Channel) (t : Head) → Is C.the-row h (cv h ∷ []) → Is E.the-row t (ev t ∷ []) → Is C.the-row (withHead t h) (cv (withHead t h) ∷ [])
-with-head h t g is = LL.owes C.the-type C′.the-laws (withHead t h) (LL.owed C.the-type C′.the-laws h _ g .0, (LL.owed C.the-type C′.the-laws h _ g .1 .0, (is, tt)))
 
 module _ {M : Type 1} (𝓤 : URA M) (H : Heap 𝓤) (A : Atoms 𝓤) (W : Given 𝓤 H A) (at-mem : Memory → SProp 𝓤) (run : Routine → Fun 𝓤) (κ κ₁ : Lft) (q q₁ : Share)
     (b o : ℕ) (γ : GName) (h : Channel) (p : Params) (x : Float) (b₁ o₁ : ℕ) (γ₁ : GName) (ms : List ℕ) (room : Room u32 (length ms)) (isp : Is P.the-row p (pv p ∷ [])) (x-fits : fitsF binary32 x ≡ true) where
