@@ -22,7 +22,7 @@ use Rattle.voice.proofs.Voice as R
 use Rattle.voice.proofs.Voice.Laws as R′
 use Rattle.channel.specs.declared.Head.{Head}
 use Rattle.channel.specs.declared.Channel.{Channel}
-use Rattle.channel.specs.Channels.{withVoices}
+use Rattle.channel.specs.Channels.{withHead, withVoices}
 use Rattle.channel.proofs.Head as E
 use Rattle.channel.proofs.Head.Laws as E′
 use Rattle.channel.proofs.Channel as C
@@ -51,6 +51,10 @@ spot o i = place voice-bytes (o + 0) i
 
 pub places-are : (h : Channel) → Is C.the-row h (cv h ∷ []) → length (h .voices) ≡ 32
 places-are h g = sym (length-map (h .voices) _) ∙ LL.owed C.the-type C′.the-laws h _ g .0 .1 .0 .1
+
+-- a channel with another head
+pub with-head : (h : Channel) (t : Head) → Is C.the-row h (cv h ∷ []) → Is E.the-row t (ev t ∷ []) → Is C.the-row (withHead t h) (cv (withHead t h) ∷ [])
+with-head h t g is = LL.owes C.the-type C′.the-laws (withHead t h) (LL.owed C.the-type C′.the-laws h _ g .0, (LL.owed C.the-type C′.the-laws h _ g .1 .0, (is, tt)))
 
 module _ {M : Type 1} (𝓤 : URA M) (H : Heap 𝓤) (A : Atoms 𝓤) (W : Given 𝓤 H A) (q : Share) (h : Channel) where
   module _ (i : ℕ) (d : Voice) (b o : ℕ) (lt : i < length (h .voices)) where
