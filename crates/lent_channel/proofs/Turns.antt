@@ -124,23 +124,23 @@ module _ (p : Params) (time len : ℕ) (ms : List ℕ) (h : Channel) (all : leng
       pub ended-channel : withVoices l (voicesLeftOf n k (d .count)) d ≡ playedBy p time len ms h .channel
       ended-channel = ap (λ (c : Channel). withVoices l (voicesLeftOf n k (c .count)) c) back ∙ ap (λ (r : Played). r .channel) ends-so
 
--- ---- a sample, once it is recorded: the voices play whatever head stands in the channel, which is overwritten at the end
-module _ (p : Params) (time len : ℕ) (m : List ℕ) (t : Head) (c : Channel) where
-  other-head : record { channel = withHead t (playedBy p time len m c .channel); output = playedBy p time len m c .output } ≡ playedBy p time len m (withHead t c)
+-- ---- a sample, once it is recorded: the voices play and leave the head as it was, which is closed
+module _ (p : Params) (time len : ℕ) (m : List ℕ) (c : Channel) where
+  same-head : playedBy p time len m c .channel .head ≡ c .head
   unfolding playedBy playedOf
-  other-head = go (eqb len 0)
+  same-head = go (eqb len 0)
     where
-      go : (z : Bool) → record {
-        channel = withHead t (cond z (record { channel = c; output = zero32 }) (playedOf (tickOf p time len) m c) .channel);
-        output = cond z (record { channel = c; output = zero32 }) (playedOf (tickOf p time len) m c) .output;
-      }
-          ≡ cond z (record { channel = withHead t c; output = zero32 }) (playedOf (tickOf p time len) m (withHead t c))
+      go : (z : Bool) → cond z (record { channel = c; output = zero32 }) (playedOf (tickOf p time len) m c) .channel .head ≡ c .head
       go true = refl
       go false = refl
 
 abbrev closing : Params → Float → Head → Played → Played
 closing p x t r = record { channel = withHead (closedOf p (anyUnfinishedOf (r .channel)) t) (r .channel); output = mixedOf x (r .output) t }
 
-pub sample-by : (p : Params) (x : Float) (t : Head) (m : List ℕ) (c : Channel) → closing p x t (playedBy p (t .now) (t .«data_len») m c) ≡ closing p x t (playedIfOf p m (withHead t c))
-unfolding playedIfOf playedBy anyUnfinishedOf
-sample-by p x t m c = ap (closing p x t) (other-head p (t .now) (t .«data_len») m t c)
+module _ (p : Params) (x : Float) (m : List ℕ) (c : Channel) where
+  abbrev given : Played
+  given = playedBy p (c .head .now) (c .head .«data_len») m c
+
+  pub sample-by : closing p x (given .channel .head) given ≡ closing p x (c .head) (playedIfOf p m c)
+  unfolding playedIfOf playedBy
+  sample-by = ap (λ (t : Head). closing p x t given) (same-head p (c .head .now) (c .head .«data_len») m c)

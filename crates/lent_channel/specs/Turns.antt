@@ -53,7 +53,7 @@ unfoldable pub voicesLeftOf : ℕ → ℕ → ℕ → ℕ
 voicesLeftOf turns kept count = cond (eqb turns 0) count kept
 
 -- the voices play if the recording isn't empty: a channel's `playedIfOf`, at a clock and with a recording's length that
--- its head doesn't have yet
+-- are given
 unfoldable pub playedBy : Params → ℕ → ℕ → List ℕ → Channel → Played
 playedBy p time len m c = cond (eqb len 0) (record { channel = c; output = zero32 }) (playedOf (tickOf p time len) m c)
 

@@ -195,8 +195,7 @@ fn glide(c: &mut Channel, b: Start, data: &[u32]) -> Glided
 }
 
 // Each voice takes its turn if the recording isn't empty; those that are then to be removed leave, and the others move
-// up in order. Plain turns go first, as far as they go. The clock and the recording's length are those that the head
-// will have: it is stored once, at the sample's end.
+// up in order. Plain turns go first, as far as they go. The clock and the recording's length are the head's.
 fn play(c: &mut Channel, time: usize, data_len: usize, params: Params, data: &[u32]) -> Heard
     ensures { λ r. ⌜ (r ≡ heardOf (playedBy params time «data_len» (now («data» .entry)) (now (c .entry))))
         × (now (c .exit) ≡ playedBy params time «data_len» (now («data» .entry)) (now (c .entry)) .channel) ⌝ }
@@ -263,10 +262,8 @@ pub fn with_sample(c: &mut Channel, params: Params, input: f32, data: &mut [u32]
         × (now (c .exit) ≡ processSampleOf params input (now (c .entry)) (now («data» .entry)) .channel)
         × (now («data» .exit) ≡ memoryOf input (now (c .entry)) (now («data» .entry))) ⌝ }
 {
-    let head = c.head;
-    let recorded = head.recorded(input, data);
-    let played = play(c, recorded.now, recorded.data_len, params, data);
+    record(c, input, data);
+    let played = play(c, c.head.now, c.head.data_len, params, data);
     let unfinished = any_unfinished(c, false);
-    c.head = recorded.closed(params, unfinished);
-    mixed(recorded, input, played)
+    close(c, params, unfinished, input, played)
 }
