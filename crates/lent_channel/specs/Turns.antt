@@ -55,7 +55,8 @@ voicesLeftOf turns kept count = cond (eqb turns 0) count kept
 -- the voices play if the recording isn't empty: a channel's `playedIfOf`, at a clock and with a recording's length that
 -- are given
 unfoldable pub playedBy : Params → ℕ → ℕ → List ℕ → Channel → Played
-playedBy p time len m c = cond (eqb len 0) (record { channel = c; output = zero32 }) (playedOf (tickOf p time len) m c)
+playedBy p time len m c = cond (eqb len 0) (record { channel = c; output = zero32; moved = 0 })
+    (playedOf (tickOf p time len) m c)
 
 -- what the turns of the voices vs give, where k voices before them took theirs and stayed, and `out` was heard of them:
 -- those that stay stand behind the k, and what is heard is added
