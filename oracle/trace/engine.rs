@@ -206,8 +206,7 @@ impl Engine {
             let mut frame: Vec<&mut f32> = heard.iter_mut().take(entries).collect();
             moved = self.tidying(0..entries, |s, p| s.process_frame(&mut frame, p));
         }
-        // A frame on a lent record doesn't answer it.
-        (number, Shown::Heard(heard, if self.calls == Calls::Lent { 0 } else { moved }))
+        (number, Shown::Heard(heard, moved))
     }
 
     fn frames(&mut self, r: &Record) -> (u8, Shown) {
