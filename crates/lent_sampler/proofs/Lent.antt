@@ -11,6 +11,8 @@ use Rattle.sampler.proofs.Ran as R
 use Rattle.sampler.proofs.Ran.Laws as R′
 use Rattle.lent_sampler.proofs.FrameAsked as F
 use Rattle.lent_sampler.proofs.FrameAsked.Laws as F′
+use Rattle.lent_sampler.proofs.FrameDone as D
+use Rattle.lent_sampler.proofs.FrameDone.Laws as D′
 use Rattle.lent_sampler.proofs.RunAsked as G
 use Rattle.lent_sampler.proofs.RunAsked.Laws as G′
 use Rattle.lent_sampler.proofs.Sampled as Y
@@ -90,6 +92,9 @@ sampling = record {
 
 abbrev pub ran : Datum
 ran = struct R.the-type R′.the-laws R′.the-plain
+
+abbrev pub frame-done : Datum
+frame-done = struct D.the-type D′.the-laws D′.the-plain
 
 -- what is asked before a frame, and before a run, is played
 abbrev pub frame-asked : Datum

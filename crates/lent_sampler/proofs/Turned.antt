@@ -1,4 +1,4 @@
--- The loop of a frame on a lent record: what stands after i entries, by the laws of the call by value. A refused frame has no entry to step. Assumes nothing.
+-- The loop of a frame on a lent record: what stands after i entries, and what is gathered of them, by the laws of the call by value. A refused frame has no entry to step. Assumes nothing.
 use mathlib.Core.Path.{_≡_, refl, sym, ap, _∙_, subst}
 use mathlib.Core.Bool.{Bool, true, false, cond, true≢false}
 use mathlib.Core.List.{List, _++_}
@@ -20,6 +20,7 @@ use Rattle.sampler.proofs.Rows.{frame-steps}
 use Rattle.sampler.proofs.Parts.{stepped-is, output-is, memory-is}
 use Rattle.sampler.proofs.Entries.{memory-at-length}
 use Rattle.sampler.proofs.Framing.{Framing, framing-starts, framing-ready, framing-on, framing-ends, frame-refused, frame-done}
+use Rattle.lent_sampler.specs.Numbers.{frameDone}
 
 -- how many entries are stepped
 abbrev pub stepsOf : ℕ → ℕ → ℕ
@@ -32,8 +33,9 @@ module _ (s : Sampler) (l : List Float) (p : Params) (m : List ℕ) where
   abbrev steps : ℕ
   steps = stepsOf number (length l)
 
-  -- the record, the frame and the memory after i entries
-  pub record Turned (i : ℕ) (t : Sampler) (io : List Float) (k : List ℕ) : Type 0 where
+  -- the record, the frame and the memory after i entries, u gathered
+  pub record Turned (i u : ℕ) (t : Sampler) (io : List Float) (k : List ℕ) : Type 0 where
+    pub moved : u ≡ 0
     pub two : length (t .channels) ≡ 2
     pub capacity : t .capacity ≡ s .capacity
     pub entries : length io ≡ length l
@@ -41,8 +43,9 @@ module _ (s : Sampler) (l : List Float) (p : Params) (m : List ℕ) where
     pub done : number ≡ 0 → Framing (entriesOf p (length l) 0 (framed s l m)) p (length l) (length m) t io k i
     pub kept : i ≡ 0 → (t ≡ s) × (io ≡ l) × (k ≡ m)
 
-  pub turned-starts : length (s .channels) ≡ 2 → Turned 0 s l m
+  pub turned-starts : length (s .channels) ≡ 2 → Turned 0 0 s l m
   turned-starts two = record {
+    moved = refl;
     two = two;
     capacity = refl;
     entries = refl;
@@ -59,7 +62,7 @@ module _ (s : Sampler) (l : List Float) (p : Params) (m : List ℕ) where
       go true e k = (eqb-true number 0 e, k)
       go false e k = absurd (omega arith)
 
-  module _ {i : ℕ} {t : Sampler} {io : List Float} {k : List ℕ} (z : Turned i t io k) where
+  module _ {i u : ℕ} {t : Sampler} {io : List Float} {k : List ℕ} (z : Turned i u t io k) where
     pub turned-ready : i < steps → Ready t i (length k)
     turned-ready h = framing-ready (z .done (accepted i h .0)) (accepted i h .1)
 
@@ -79,6 +82,9 @@ module _ (s : Sampler) (l : List Float) (p : Params) (m : List ℕ) where
             subst (λ (u : Sampler). Frames (framedOf s l p m) u io k) (sym (w .0))
             (subst (λ (u : List Float). Frames (framedOf s l p m) s u k) (sym (w .1))
             (subst (λ (u : List ℕ). Frames (framedOf s l p m) s l u) (sym (w .2)) (frame-refused s l p m (λ n. true≢false (sym (eq-eqb number 0 n) ∙ a)))))
+
+    pub turned-done : record { number = number; moved = u } ≡ frameDone s l p m
+    turned-done = λ q. record { number = number; moved = z .moved q }
 
     -- one entry more: channel i's sample on its part, which begins at a
     module _ (h : i < steps) (a : ℕ) (starts : a ≡ i * s .capacity) where
@@ -112,8 +118,9 @@ module _ (s : Sampler) (l : List Float) (p : Params) (m : List ℕ) where
       long : length k′ ≡ length k
       long = ap length written ∙ memory-at-length t i k (turned-ready h .part) x
 
-      pub turned-on : Turned (suc i) t′ (set io i y) k′
+      pub turned-on : Turned (suc i) u t′ (set io i y) k′
       turned-on = record {
+        moved = z .moved;
         two = length-set (t .channels) i (played .channel) ∙ z .two;
         capacity = z .capacity;
         entries = length-set io i y ∙ z .entries;

@@ -4,14 +4,17 @@ use Prim.Native.Nat.{ℕ, _*_, _/_, _%_, _-_, min, max}
 use mathlib.Core.Bool.{Bool, not, _&&_, _||_, cond}
 use mathlib.Core.List.{List}
 use lib.Dec.{leb, ltb, eqb}
-use lib.ListN.{take}
+use lib.Ieee.{Float}
+use lib.ListN.{length, take}
 use Rattle.walks.specs.Walks.{any, every, fold}
 use Rattle.common_types.specs.declared.Params.{Params}
 use Rattle.common_types.specs.Settings.{beyondLimits}
 use Rattle.channel.specs.Heads.{lastTime}
-use Rattle.sampler.specs.Refusals.{row, goodSizes}
+use Rattle.sampler.specs.Refusals.{row, goodSizes, frameNumber}
 use Rattle.sampler.specs.declared.Ran.{Ran}
+use Rattle.sampler.specs.declared.Sampler.{Sampler}
 use Rattle.lent_sampler.specs.declared.FrameAsked.{FrameAsked}
+use Rattle.lent_sampler.specs.declared.FrameDone.{FrameDone}
 use Rattle.lent_sampler.specs.declared.RunAsked.{RunAsked}
 
 -- the first n of them are good
@@ -31,6 +34,10 @@ numberOf count capacity good times n p size =
 -- a frame with that number: all its entries are played, or none
 abbrev pub frameAsked : ℕ → ℕ → FrameAsked
 frameAsked number entries = record { entries = cond (eqb number 0) entries 0; number = number }
+
+-- what a frame answers
+abbrev pub frameDone : Sampler → List Float → Params → List ℕ → FrameDone
+frameDone s l p m = record { number = frameNumber s (length l) p (length m); moved = 0 }
 
 -- ---- a run of frames (request 3/12)
 

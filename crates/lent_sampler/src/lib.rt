@@ -43,6 +43,7 @@ ghost use Rattle.lent_sampler.specs.Numbers.{
   anyEnded,
   numberOf,
   frameAsked,
+  frameDone,
   latestTime,
   roomLeft,
   runRows,
@@ -705,10 +706,46 @@ fn part_sample(
     at_volume(params, heard)
 }
 
+// What a frame answers: its number, and how many voices of its channels moved up.
+pub struct FrameDone {
+    pub number: u8,
+    pub moved: u8,
+}
+
+// The voices that moved up so far, with those of one entry more. A run answers none of them; both calls have one shape,
+// and so one proof.
+fn frame_moved(moved: u8, _heard: Heard) -> u8
+    ensures { λ r. ⌜ r ≡ moved ⌝ }
+{
+    moved
+}
+
+fn run_moved(moved: u8, _heard: Heard) -> u8
+    ensures { λ r. ⌜ r ≡ moved ⌝ }
+{
+    moved
+}
+
+fn frame_done(number: u8, moved: u8) -> FrameDone
+    ensures { λ r. ⌜ r ≡ record { number = number; moved = moved } ⌝ }
+{
+    FrameDone { number, moved }
+}
+
+fn run_done(ran: Ran, _moved: u8) -> Ran
+    ensures { λ r. ⌜ r ≡ ran ⌝ }
+{
+    ran
+}
+
 // A sample of each channel in turn, each entry of the frame replaced by its output.
-pub fn process_frame(s: &mut Sampler, frame: &mut [f32], params: Params, memory: &mut [u32]) -> u8
-    ensures { λ r. ⌜ (r
-        ≡ frameNumber (now (s .entry)) (length (now (frame .entry))) params (length (now (memory .entry))))
+pub fn process_frame(
+    s: &mut Sampler,
+    frame: &mut [f32],
+    params: Params,
+    memory: &mut [u32],
+) -> FrameDone
+    ensures { λ r. ⌜ (r ≡ frameDone (now (s .entry)) (now (frame .entry)) params (now (memory .entry)))
         × Frames (framedOf (now (s .entry)) (now (frame .entry)) params (now (memory .entry))) (now (s .exit))
         (now (frame .exit)) (now (memory .exit)) ⌝ }
 {
@@ -716,15 +753,18 @@ pub fn process_frame(s: &mut Sampler, frame: &mut [f32], params: Params, memory:
     let asked = frame_asked(s, entries, params, memory.len());
     let n = asked.entries;
     let capacity = s.capacity;
+    let mut moved = 0;
     let mut i: usize = 0;
     while i < n {
         let j = frame_channel(i, s.count);
         let start = sampler::part_start(j, capacity);
         let end = start + capacity;
-        frame[i] = part_sample(&mut s.channels[j], params, frame[i], memory, start, end).output;
+        let heard = part_sample(&mut s.channels[j], params, frame[i], memory, start, end);
+        frame[i] = heard.output;
+        moved = frame_moved(moved, heard);
         i += 1;
     }
-    asked.number
+    frame_done(asked.number, moved)
 }
 
 // A run of frames: entry i * count + j is channel j's of frame i. It has a loop of its own: one that it shared with the
@@ -739,13 +779,16 @@ pub fn process_frames(s: &mut Sampler, run: &mut [f32], params: Params, memory: 
     let asked = run_asked(s, entries, params, memory.len());
     let n = asked.entries;
     let capacity = s.capacity;
+    let mut moved = 0;
     let mut i: usize = 0;
     while i < n {
         let j = run_channel(i, s.count);
         let start = sampler::part_start(j, capacity);
         let end = start + capacity;
-        run[i] = part_sample(&mut s.channels[j], params, run[i], memory, start, end).output;
+        let heard = part_sample(&mut s.channels[j], params, run[i], memory, start, end);
+        run[i] = heard.output;
+        moved = run_moved(moved, heard);
         i += 1;
     }
-    asked.ran
+    run_done(asked.ran, moved)
 }
