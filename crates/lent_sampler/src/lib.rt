@@ -13,13 +13,14 @@ ghost use Rattle.sampler.specs.Samplers.{
   sampleMemory,
   Frames,
   framedOf,
+  frameMoved,
   ranOf,
   runAnswer,
 };
 ghost use Rattle.sampler.specs.Samplers.{processSampleOf as sampleOf};
 ghost use Rattle.sampler.specs.Refusals.{goodSizes, frameNumber};
 ghost use Rattle.channel.specs.Channels.{processSampleOf, memoryOf};
-ghost use Prim.Native.Nat.{_*_, _-_, _≤_, _<_, min};
+ghost use Prim.Native.Nat.{_+_, _*_, _-_, _≤_, _<_, min};
 ghost use mathlib.Core.Bool.{_&&_, cond};
 ghost use mathlib.Core.List.{[], _∷_, _++_};
 ghost use lib.Dec.{leb, eqb};
@@ -750,11 +751,17 @@ fn run_done(ran: Ran, _moved: u8) -> Ran
 }
 
 // A sample of each channel in turn, each entry of the frame replaced by its output.
-pub fn process_frame(s: &mut Sampler, frame: &mut [f32], params: Params, memory: &mut [u32]) -> FrameDone
-    ensures { λ r. ⌜ (r
+pub fn process_frame(
+    s: &mut Sampler,
+    frame: &mut [f32],
+    params: Params,
+    memory: &mut [u32],
+) -> FrameDone
+    ensures { λ r. ⌜ (r .number
         ≡ frameNumber (now (s .entry)) (length (now (frame .entry))) params (length (now (memory .entry))))
         × Frames (framedOf (now (s .entry)) (now (frame .entry)) params (now (memory .entry))) (now (s .exit))
-        (now (frame .exit)) (now (memory .exit)) ⌝ }
+        (now (frame .exit)) (now (memory .exit))
+        × (r .moved ≡ frameMoved (now (s .entry)) (now (frame .entry)) params (now (memory .entry))) ⌝ }
 {
     let entries = frame.len();
     let asked = frame_asked(s, entries, params, memory.len());
