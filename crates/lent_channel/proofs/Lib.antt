@@ -5,4 +5,3 @@ pub mod Holding
 pub mod Fold
 pub mod Tails
 pub mod Turns
-pub mod Passes

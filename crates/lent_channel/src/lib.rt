@@ -30,9 +30,6 @@ ghost use Rattle.lent_channel.specs.Turns.{
   heardOf,
   mixedWith,
 };
-
-pub mod changes;
-
 use channel::Channel;
 use channel::Head;
 use clip::Mode;

@@ -190,7 +190,7 @@ pub fn change(s: &mut Sampler, change: Change) -> u8
     let n = steps(number, most(s.count));
     let mut j: usize = 0;
     while j < n {
-        lent_channel::changes::change(&mut s.channels[j], change);
+        lent_changes::change(&mut s.channels[j], change);
         j = j + 1;
     }
     number

@@ -1,4 +1,4 @@
--- `lent_sampler::change` meets its contract: `Changing.antt`'s walk, over `places_taken`, `change_number`, `most`, `steps` and `lent_channel::changes::change`.
+-- `lent_sampler::change` meets its contract: `Changing.antt`'s walk, over `places_taken`, `change_number`, `most`, `steps` and `lent_changes::change`.
 use mathlib.Core.Path.{_≡_, refl, ap, _∙_}
 use Prim.Native.Nat.{ℕ, _+_, _<_, _≤_}
 use native.Mathlib.Omega.{arith}
@@ -33,10 +33,10 @@ use Rattle.sampler.proofs.Seats.{eachFrom, each-on}
 use Rattle.lent_channel.proofs.Bytes.{head-at}
 use Rattle.lent_channel.proofs.Bytes.{count-at as voices-at}
 use Rattle.lent_channel.proofs.Holding.{channel}
-use Rattle.lent_channel.proofs.changes.change as g
-use Rattle.lent_channel.proofs.changes.change.Symbol as g-def
-use Rattle.lent_channel.proofs.changes.change.Symbol.{name as #g}
-use Rattle.lent_channel.proofs.changes.change.Met as g-thm
+use Rattle.lent_changes.proofs.change as g
+use Rattle.lent_changes.proofs.change.Symbol as g-def
+use Rattle.lent_changes.proofs.change.Symbol.{name as #g}
+use Rattle.lent_changes.proofs.change.Met as g-thm
 use Rattle.lent_sampler.specs.ChangeNumbers.{placesTaken, changeNumberBy}
 use Rattle.lent_sampler.proofs.Lent.{sampler, changes}
 use Rattle.lent_sampler.proofs.Lent.{change as change-row}
@@ -131,4 +131,4 @@ change-spec 𝓤 H 𝓜 𝓖 𝓡 =
     (cited 𝓤 H (tripleOf 𝓤 H (𝓖 .A) number-fn.signature (number-fn.spec 𝓤 H (𝓖 .A) (𝓜 .mem) (𝓡 .run))) 𝓜 𝓡 code.env #number number-def.routine code.calls-lent-sampler·change-number (number-thm.met 𝓤 H 𝓜 𝓖 𝓡))
     (cited 𝓤 H (tripleOf 𝓤 H (𝓖 .A) most-fn.signature (most-fn.spec 𝓤 H (𝓖 .A) (𝓜 .mem) (𝓡 .run))) 𝓜 𝓡 code.env #most most-def.routine code.calls-lent-sampler·most (most-thm.met 𝓤 H 𝓜 𝓖 𝓡))
     (cited 𝓤 H (tripleOf 𝓤 H (𝓖 .A) steps-fn.signature (steps-fn.spec 𝓤 H (𝓖 .A) (𝓜 .mem) (𝓡 .run))) 𝓜 𝓡 code.env #steps steps-def.routine code.calls-lent-sampler·steps (steps-thm.met 𝓤 H 𝓜 𝓖 𝓡))
-    (cited 𝓤 H (tripleOf 𝓤 H (𝓖 .A) g.signature (g.spec 𝓤 H (𝓖 .A) (𝓜 .mem) (𝓡 .run))) 𝓜 𝓡 code.env #g g-def.routine code.calls-lent-channel·changes·change (g-thm.met 𝓤 H 𝓜 𝓖 𝓡)))
+    (cited 𝓤 H (tripleOf 𝓤 H (𝓖 .A) g.signature (g.spec 𝓤 H (𝓖 .A) (𝓜 .mem) (𝓡 .run))) 𝓜 𝓡 code.env #g g-def.routine code.calls-lent-changes·change (g-thm.met 𝓤 H 𝓜 𝓖 𝓡)))

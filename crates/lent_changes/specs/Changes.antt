@@ -1,0 +1,122 @@
+-- What the steps around the loop of a change on a lent channel work out. Definitions only.
+use Prim.Native.Nat.{ℕ, _+_, min}
+use mathlib.Core.Bool.{Bool, true, false, not, _&&_, _||_, cond}
+use lib.Dec.{leb, eqb}
+use lib.Ieee.{Float}
+use Rattle.binary32.specs.Leaves.{zero32}
+use Rattle.common_types.specs.declared.Params.{Params}
+use Rattle.common_types.specs.declared.Note.{Note}
+use Rattle.common_types.specs.Notes.{defaultNote}
+use Rattle.voice.specs.declared.Voice.{Voice}
+use Rattle.voice.specs.Voices.{finishOf, freshOf, blankVoice, atSpeedOf}
+use Rattle.channel.specs.declared.Head.{Head}
+use Rattle.channel.specs.declared.Change.{Change}
+use Rattle.channel.specs.declared.Change.the-variants as change
+use Rattle.channel.specs.Heads.{headOf, headChangedOf, passthruOf}
+use Rattle.channel.specs.Channels.{unfinishedOf, sameNote}
+use Rattle.lent_changes.specs.declared.Pass.{Pass}
+
+-- so many voices are asked whether they are unfinished, and none is changed, as by a stop that has its voice
+unfoldable pub askingOf : ℕ → ℕ → Head → Pass
+askingOf turns count h =
+    record {
+      turns = turns;
+      count = count;
+      now = h .now;
+      «decay_samples» = 0;
+      speed = zero32;
+      note = defaultNote;
+      stop = true;
+      fresh = false;
+      found = true;
+      unfinished = false;
+    }
+
+-- none is asked, and a new voice is stored behind them
+unfoldable pub behindOf : ℕ → Head → Pass
+behindOf count h =
+    record {
+      turns = 0;
+      count = count + 1;
+      now = h .now;
+      «decay_samples» = 0;
+      speed = zero32;
+      note = defaultNote;
+      stop = true;
+      fresh = true;
+      found = true;
+      unfinished = true;
+    }
+
+-- every voice is gone through, and those with the note are changed
+unfoldable pub goingOf : ℕ → Head → Note → Bool → ℕ → Float → Pass
+goingOf count h note stop decay speed =
+    record {
+      turns = min count 32;
+      count = count;
+      now = h .now;
+      «decay_samples» = decay;
+      speed = speed;
+      note = note;
+      stop = stop;
+      fresh = false;
+      found = false;
+      unfinished = false;
+    }
+
+-- a start on no recording changes nothing; with 32 voices it stores none, but asks them all
+unfoldable pub startPass : ℕ → Head → Pass
+startPass count h = cond (eqb (h .«data_len») 0) (askingOf 0 count h)
+    (cond (leb 32 count) (askingOf 32 count h) (behindOf count h))
+
+-- where a change begins
+unfoldable pub passOf : Change → Head → ℕ → Pass
+passOf (change.Start q position note velocity) h count = startPass count h
+passOf (change.Stop q note) h count = goingOf count h note true (q .«decay_samples») zero32
+passOf (change.Speed note speed) h count = goingOf count h note false 0 speed
+passOf (change.Head d) h count = askingOf 0 count h
+passOf change.Reset h count = askingOf 0 0 h
+
+-- whether a voice is changed: the first with the note that a stop finds unfinished, each with the note otherwise
+unfoldable pub hitsOf : Pass → Voice → Bool
+hitsOf p v = sameNote (v .note) (p .note) && (not (p .stop) || (not (p .found) && unfinishedOf v))
+
+-- what it becomes
+unfoldable pub remadeOf : Pass → Voice → Voice
+remadeOf p v = cond (p .stop) (finishOf (p .now) (p .«decay_samples») v) (atSpeedOf (p .speed) v)
+
+-- what is known once a voice has been gone through
+unfoldable pub passedOf : Pass → Voice → Bool → Pass
+passedOf p v hit =
+    record {
+      turns = p .turns;
+      count = p .count;
+      now = p .now;
+      «decay_samples» = p .«decay_samples»;
+      speed = p .speed;
+      note = p .note;
+      stop = p .stop;
+      fresh = p .fresh;
+      found = p .found || hit;
+      unfinished = p .unfinished || (not hit && unfinishedOf v);
+    }
+
+-- the voice that a start stores
+unfoldable pub openedOf : Change → Head → Voice
+openedOf (change.Start q position note velocity) h = freshOf q position note velocity (h .now) (h .«data_len»)
+openedOf (change.Stop q note) h = blankVoice
+openedOf (change.Speed note speed) h = blankVoice
+openedOf (change.Head d) h = blankVoice
+openedOf change.Reset h = blankVoice
+
+-- pass-through follows, or nothing does
+unfoldable pub handledIf : Bool → Head → Params → Bool → Head
+handledIf on h q unfinished = cond on (passthruOf q unfinished h) h
+
+-- the head at the end
+unfoldable pub endedOf : Pass → Change → Head → Head
+endedOf p (change.Start q position note velocity) h = handledIf (not (eqb (h .«data_len») 0)) h q (p .unfinished)
+endedOf p (change.Stop q note) h = handledIf (p .found) h q (p .unfinished)
+endedOf p (change.Speed note speed) h = h
+endedOf p (change.Head d) h = headChangedOf d h
+endedOf p change.Reset h = headOf zero32
