@@ -1,0 +1,45 @@
+-- `turned` meets its contract: its tests are those of `turnedOf`. Assumes nothing.
+use borrow.Author.Needs.{needs}
+use borrow.Author.Tests.{lt-ltb, le-ltb}
+use Rattle.lent_channel.specs.Turns.{turnedOf}
+use Rattle.lent_channel.proofs.turned.Statement.{statement}
+use Rattle.lent_channel.proofs.turned.Tie as tie
+
+turn-requires : tie.Need-turn-requires
+turn-requires c κs = search needs
+
+sound-requires : tie.Need-sound-requires
+sound-requires c κs = search needs
+
+add-place : tie.Need-add-place
+add-place c = search needs
+
+should-remove-requires : tie.Need-should-remove-requires
+should-remove-requires c κs = search needs
+
+returns : tie.Need-returns
+unfolding turnedOf
+returns c = ?
+
+add-moved : tie.Need-add-moved
+add-moved c = search needs
+
+add-t13 : tie.Need-add-t13
+add-t13 c = search needs
+
+returns-2 : tie.Need-returns-2
+unfolding turnedOf
+returns-2 c = ?
+
+pub turned-spec : {M : Type 1} → statement M
+turned-spec =
+    tie.close
+    (tie.spec
+    turn-requires
+    sound-requires
+    add-place
+    should-remove-requires
+    returns
+    add-moved
+    add-t13
+    returns-2)
