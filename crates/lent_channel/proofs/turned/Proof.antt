@@ -1,6 +1,9 @@
 -- `turned` meets its contract: its tests are those of `turnedOf`. Assumes nothing.
+use mathlib.Core.Path.{sym, _∙_, ap}
+use mathlib.Core.Logic.{⊎-elim}
 use borrow.Author.Needs.{needs}
 use borrow.Author.Tests.{lt-ltb, le-ltb}
+use Rattle.voice.specs.Voices.{shouldRemoveOf}
 use Rattle.lent_channel.specs.Turns.{turnedOf}
 use Rattle.lent_channel.proofs.turned.Statement.{statement}
 use Rattle.lent_channel.proofs.turned.Tie as tie
@@ -19,7 +22,10 @@ should-remove-requires c κs = search needs
 
 returns : tie.Need-returns
 unfolding turnedOf
-returns c = ?
+returns c =
+    let b = c .before .before .before in
+    let turns = b .before .turn .ensures in
+    simp (turns, b .sound .ensures, sym (ap (shouldRemoveOf (b .before .before .before .args .t)) turns) ∙ sym (c .before .should-remove .ensures) ∙ c .if1 .taken)
 
 add-moved : tie.Need-add-moved
 add-moved c = search needs
@@ -29,7 +35,12 @@ add-t13 c = search needs
 
 returns-2 : tie.Need-returns-2
 unfolding turnedOf
-returns-2 c = ?
+returns-2 c =
+    let b = c .before .before .before in
+    let turns = b .before .before .before .before .turn .ensures in
+    let sounds = b .before .before .before .sound .ensures in
+    let stays = sym (ap (shouldRemoveOf (b .before .before .before .before .before .before .args .t)) turns) ∙ sym (b .before .should-remove .ensures) ∙ b .if1 .left in
+    ⊎-elim (λ w. simp (w .2, turns, sounds, stays, lt-ltb _ _ (w .0 .taken))) (λ w. simp (w .1, turns, sounds, stays, le-ltb _ _ (w .0 .left))) (c .before .if2 .came)
 
 pub turned-spec : {M : Type 1} → statement M
 turned-spec =
