@@ -117,7 +117,7 @@ module _ (t : Tick) (m : List ℕ) where
     unfolding keptOf behind
     behind-on = simp (is, turned)
 
-    tidied-same : not b ≡ true → tidiedOf t m (v ∷ vs) ≡ tidiedOf t m vs
+    pub tidied-same : not b ≡ true → tidiedOf t m (v ∷ vs) ≡ tidiedOf t m vs
     unfolding tidiedOf
     tidied-same h = ap length (behind-on ∙ ap (λ (x : Bool). cond x (keptOf t m vs) (behind (shouldRemoveOf t) (map (turnOf t m) vs))) (not-true b h))
 

@@ -205,7 +205,7 @@ pub struct Going {
 }
 
 // What a turn gives: the voice, whether it stays, and where the turns stand then.
-pub struct Turned {
+pub struct Turn {
     pub voice: Voice,
     pub stays: bool,
     pub next: Going,
@@ -223,7 +223,7 @@ fn after_plain(g: Glided) -> Going
 }
 
 // The turn of the voice at the next place. One that stays moves up where one before it has left.
-fn turned(g: Going, v: Voice, t: Tick, data: &[u32]) -> Turned
+fn turned(g: Going, v: Voice, t: Tick, data: &[u32]) -> Turn
     requires { ⌜ (g .place < 32) × (g .kept ≤ g .place) × (g .moved ≤ g .place) ⌝ }
     ensures { λ r. ⌜ r ≡ turnedOf t (now («data» .entry)) g v ⌝ }
 {
@@ -231,7 +231,7 @@ fn turned(g: Going, v: Voice, t: Tick, data: &[u32]) -> Turned
     let output = channel::sound(g.output, v, voice, t);
     let place = g.place + 1;
     if voice.should_remove(t) {
-        return Turned {
+        return Turn {
             voice,
             stays: false,
             next: Going {
@@ -243,7 +243,7 @@ fn turned(g: Going, v: Voice, t: Tick, data: &[u32]) -> Turned
         };
     }
     let moved = if g.kept < g.place { g.moved + 1 } else { g.moved };
-    Turned {
+    Turn {
         voice,
         stays: true,
         next: Going {

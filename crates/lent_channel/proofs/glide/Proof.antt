@@ -75,7 +75,6 @@ use Rattle.channel.specs.declared.Channel.{Channel}
 use Rattle.channel.specs.declared.Played.{Played}
 use Rattle.channel.specs.Channels.{withVoices}
 use Rattle.channel.proofs.Slots.{none}
-use Rattle.channel.proofs.Turns.{restOf}
 use Rattle.channel.proofs.Channel as C
 use Rattle.channel.proofs.Channel.Laws as C′
 use Rattle.channel.proofs.places as places
@@ -84,7 +83,7 @@ use Rattle.channel.proofs.places.Symbol.{name as #channel·places}
 use Rattle.channel.proofs.places.Met as places-thm
 use Rattle.lent_channel.specs.declared.Start.{Start}
 use Rattle.lent_channel.specs.declared.Glided.{Glided}
-use Rattle.lent_channel.specs.Turns.{Glides}
+use Rattle.lent_channel.specs.Turns.{restFrom, Glides}
 use Rattle.lent_channel.proofs.Bytes.{voice-bytes}
 use Rattle.lent_channel.proofs.Tails.{after}
 use Rattle.lent_channel.proofs.Turns.{rest-glide}
@@ -230,12 +229,12 @@ module _ {M : Type 1} (𝓤 : URA M) (H : Heap 𝓤) (A : Atoms 𝓤) (W : Given
   turned l = withVoices l (h .count) h
 
   abbrev goal : Played
-  goal = restOf t ms h 0 zero32 (take n (h .voices))
+  goal = restFrom t ms h 0 zero32 (take n (h .voices))
 
   -- where r turns are left
   record Going (s : State) (r : ℕ) : Type 0 where
     left : s .i + r ≡ n
-    walk : Walk goal (restOf t ms (turned (s .voices)) (s .i) (s .out)) (s .voices) n (s .i)
+    walk : Walk goal (restFrom t ms (turned (s .voices)) (s .i) (s .out)) (s .voices) n (s .i)
     fits : T (fitsF binary32 (s .out))
 
   small-at : (s : State) (r : ℕ) → Going s r → s .i < 2 ^ 64
