@@ -132,7 +132,7 @@ module _ (s : Sampler) (l : List Float) (p : Params) (m : List ℕ) where
       long = ap length written ∙ memory-at-length t i k (turned-ready h .part) x
 
       few : played .moved ≤ 31
-      few = moved-few p x (channelAt t i) (take (e - a) (drop a k)) (subst (λ (c : Channel). length (live c) ≤ 32) (sym (z .ahead i le-refl)) (frame-few s (length l) p (length m) (accepted i h .0) (z .given) i (accepted i h .1)))
+      few = moved-few p x (channelAt t i) (take (e - a) (drop a k)) (subst (λ (c : Channel). length (live c) ≤ 32) (sym (z .ahead i (le-refl i))) (frame-few s (length l) p (length m) (accepted i h .0) (z .given) i (accepted i h .1)))
 
       -- the sum is far from the 255 at which it is held
       held : min 255 (u + played .moved) ≡ u + played .moved
