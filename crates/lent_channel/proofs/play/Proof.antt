@@ -29,10 +29,10 @@ use types.Part.{agg, whole, sub, look-in, store-in}
 use types.Mut.{close-ref}
 use types.Tokens.{lft-new, lft-end}
 use types.SemTy.{Body}
-use types.Run.{look, store, init, forget, stop, hop, fld, from, load, addr, lit, of-opd, bin, and-then, no-more, first, branches, skips, assigns, assigns-last, land, stays, leaves-loop, returns, enter, alloc1, alloc0, params1, pass1, pass0, free1, free0, exec}
+use types.Run.{look, look-raw, store, store-raw, init, forget, stop, hop, fld, from, load, addr, lit, of-opd, bin, and-then, no-more, first, branches, skips, assigns, assigns-last, land, stays, leaves-loop, returns, enter, alloc1, alloc0, params1, pass1, pass0, free1, free0, exec}
 use denote.Exit.{yes}
 use denote.RattleType.{owns}
-use denote.Memory.{mem, cellAt, partAt, pointee}
+use denote.Memory.{mem, partAt, pointee}
 use denote.Laws.{Is, shows}
 use denote.Plain.{uint-makes, uint-tells, uint-vals, uint-lawful}
 use denote.Ref.{RefT, MutRef, ptr-vals, mut-tells}
@@ -463,9 +463,7 @@ module _ {M : Type 1} (𝓤 : URA M) (H : Heap 𝓤) (A : Atoms 𝓤) (W : Given
             assigns ! (bin ! (load ! (from ! (stop !)) (look ! 22 refl)) (load ! (from ! (stop !)) (look ! 21 refl)) tt) (from ! (stop !)) (init ! 23 refl (tt, tt)) $
             rewrite ! 23 (λ (z : ℕ). ‵ (fat fullShare ptr l₁₇ 0 (vptr b z))) (sym (place-is voice-bytes (o + 0) i)) refl $
             goes-in ! fullShare C.the-row R.the-row (Is R.the-row) (shows 𝓤 H A R.the-row) (LL.vals R.the-type R′.the-laws) (LL.tells R.the-type R′.the-laws) (with-voices l) (with-voices l) v v b o (spot o i) (reads-voice 𝓤 H A W fullShare (with-voices l) i none b o inside) (λ isv.
-            use1 W (‵ (fat fullShare R′.mir b (spot o i) (vv v))) (W .laws .raw-at fullShare R′.mir b (spot o i) (vv v)) $
-            assigns ! (of-opd ! (load ! (from ! (hop ! (look ! 25 refl) (stop !))) (look ! 0 refl))) (from ! (stop !)) (init ! 26 refl (LL.lawful R.the-type R′.the-laws 𝓤 H A W .typed v _ isv .0)) $
-            use1 W (‵ (cellAt fullShare (R.the-row .mir) (vv v ∷ []) b (spot o i))) (W .laws .at-raw fullShare R′.mir b (spot o i) (vv v)) $
+            assigns ! (of-opd ! (load ! (from ! (hop ! (look ! 25 refl) (stop !))) (look-raw ! 0 refl))) (from ! (stop !)) (init ! 26 refl (LL.lawful R.the-type R′.the-laws 𝓤 H A W .typed v _ isv .0)) $
             comes-out ! fullShare C.the-row R.the-row (with-voices l) v (vv v ∷ []) b o (spot o i) $
             -- it takes its turn
             move ! (1 ∷ []) $ use1 W (‵ Sl ⊛ ‵ Sl) (shr-slice-copy 𝓤 H A W (named 0) κ₁ u32 .twice x₁ (sl ∷ [])) $ split ! $ move ! (3 ∷ 0 ∷ []) $
@@ -486,11 +484,9 @@ module _ {M : Type 1} (𝓤 : URA M) (H : Heap 𝓤) (A : Atoms 𝓤) (W : Given
             assigns ! (bin ! (load ! (from ! (stop !)) (look ! 26 refl)) (load ! (from ! (stop !)) (look ! 25 refl)) tt) (from ! (stop !)) (init ! 27 refl (tt, tt)) $
             rewrite ! 27 (λ (z : ℕ). ‵ (fat fullShare ptr l₂₁ 0 (vptr b z))) (sym (place-is voice-bytes (o + 0) k)) refl $ move ! (2 ∷ []) $
             goes-in ! fullShare C.the-row R.the-row (Is R.the-row) (shows 𝓤 H A R.the-row) (LL.vals R.the-type R′.the-laws) (LL.tells R.the-type R′.the-laws) (with-voices l) (with-voices (set l k (x .voice))) u (x .voice) b o (spot o k) (sets-voice 𝓤 H A W fullShare (with-voices l) k none b o inside-k (x .voice)) (λ _.
-            use1 W (‵ (fat fullShare R′.mir b (spot o k) (vv u))) (W .laws .raw-at fullShare R′.mir b (spot o k) (vv u)) $
-            assigns-last ! (of-opd ! (load ! (from ! (fld ! {τ = voiced} {d = 0} refl (stop !))) (look-in ! 18 (sub ! {τs = in-turned} 0 {τ = voiced} {d = 0} refl (whole !))))) (from ! (hop ! (look ! 29 refl) (stop !))) (store ! 0 refl (LL.lawful R.the-type R′.the-laws 𝓤 H A W .typed (x .voice) _ isw .0)) $
+            assigns-last ! (of-opd ! (load ! (from ! (fld ! {τ = voiced} {d = 0} refl (stop !))) (look-in ! 18 (sub ! {τs = in-turned} 0 {τ = voiced} {d = 0} refl (whole !))))) (from ! (hop ! (look ! 29 refl) (stop !))) (store-raw ! 0 refl (LL.lawful R.the-type R′.the-laws 𝓤 H A W .typed (x .voice) _ isw .0)) $
             exec ! Cs Λ En (after 9 code.Mir.turn-1) (anyQ (afterTurn 𝓤 H X Left)) $
             move ! (1 ∷ []) $ drop ! $ owned ! R.the-row (Is R.the-row) (LL.makes R.the-type R′.the-plain 𝓤 H A) (x .voice) _ isw $ move ! (1 ∷ []) $
-            use1 W (‵ (cellAt fullShare (R.the-row .mir) (vv (x .voice) ∷ []) b (spot o k))) (W .laws .at-raw fullShare R′.mir b (spot o k) (vv (x .voice))) $
             comes-out ! fullShare C.the-row R.the-row (with-voices (set l k (x .voice))) (x .voice) (vv (x .voice) ∷ []) b o (spot o k) $
             assigns-last ! (of-opd ! (load ! (from ! (fld ! {τ = going} {d = voice-bytes + 8} refl (stop !))) (look-in ! 16 (sub ! {τs = in-turned} 2 {τ = going} {d = voice-bytes + 8} refl (whole !))))) (from ! (stop !)) (store ! 15 refl (LL.lawful N.the-type N′.the-laws 𝓤 H A W .typed (x .next) _ isn .0)) $
             forget ! 16 refl $ forget ! 20 refl $ forget ! 21 refl $ forget ! 22 refl $ forget ! 23 refl $ forget ! 24 refl $ forget ! 25 refl $ forget ! 26 refl $ forget ! 27 refl $ move ! (0 ∷ 2 ∷ 1 ∷ []) $
