@@ -287,7 +287,7 @@ module _ {M : Type 1} (𝓤 : URA M) (H : Heap 𝓤) (A : Atoms 𝓤) (W : Given
   begun-of : (r : Start) → ent 𝓤 (ensured 𝓤 H A begun.ended (begun.clauses 𝓤 H A at-mem run) tt (time, (len, (h .count, (p, tt)))) tt r) (fact 𝓤 (r ≡ s₀))
   begun-of r = exE 𝓤 _ (λ ws. snd∗ 𝓤 (sem 𝓤 H A (lasts begun.ended tt (time, (len, (h .count, (p, tt)))) ws)) (fact 𝓤 (r ≡ s₀)))
 
-  -- the locals, and what the walk has: the channel as c, which the borrow is opened for, and each local, of which five are given
+  -- what the walk has throughout: the channel as c, its borrow opened, and the locals, of which five differ from part to part
   module _ (l₀ l₁ l₂ l₃ l₄ l₅ l₆ l₇ l₈ l₉ l₁₀ l₁₁ l₁₂ l₁₃ l₁₄ l₁₅ l₁₆ l₁₇ l₁₈ l₁₉ l₂₀ l₂₁ l₂₂ : ℕ) where
     abbrev envOf : Env 𝓤 H
     envOf = (sounded, l₀) ∷ (ref, l₁) ∷ (word, l₂) ∷ (word, l₃) ∷ (params, l₄) ∷ (slice, l₅) ∷ (start, l₆) ∷ (tick, l₇) ∷ (word, l₈) ∷ (going, l₉) ∷ (turned, l₁₀) ∷ (word, l₁₁) ∷ (glided, l₁₂) ∷ (lent, l₁₃) ∷ (truth, l₁₄) ∷ (word, l₁₅) ∷ (ptr, l₁₆) ∷ (ptr, l₁₇) ∷ (voiced, l₁₈) ∷ (word, l₁₉) ∷ (ptr, l₂₀) ∷ (ptr, l₂₁) ∷ (word, l₂₂) ∷ []
