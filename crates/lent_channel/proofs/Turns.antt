@@ -1,4 +1,4 @@
--- Where the loop over the voices that take a turn begins, and what it has come to where it ends. Assumes nothing.
+-- Where the loop over the voices that take a turn begins, what a turn leaves to those behind it, and what the loop has come to where it ends. Assumes nothing.
 use mathlib.Core.Path.{_≡_, refl, sym, _∙_, ap, subst}
 use Prim.Native.Nat.{ℕ, _+_, _≤_, min}
 use native.Mathlib.Nat.{le-refl, zero-add}
@@ -54,14 +54,14 @@ abbrev pub restBy : Tick → List ℕ → Channel → Going → List Voice → P
 restBy t m c g vs = counting (restOf t m c (g .kept) (g .output) vs) (tidiedFrom t m (g .moved) (g .kept) (g .place) vs)
 
 -- after the plain turns none has
-pub rest-plain : (t : Tick) (m : List ℕ) (c : Channel) (g : Glided) (vs : List Voice) → restBy t m c (afterPlain g) vs ≡ restFrom t m c (g .upto) (g .output) vs
+rest-plain : (t : Tick) (m : List ℕ) (c : Channel) (g : Glided) (vs : List Voice) → restBy t m c (afterPlain g) vs ≡ restFrom t m c (g .upto) (g .output) vs
 unfolding afterPlain
 rest-plain t m c g vs =
     let level = le-ltb (g .upto) (g .upto) (le-refl (g .upto)) in
     with-count refl (zero-add _ ∙ ap (λ (b : Bool). cond b (length (keptOf t m vs)) (tidiedOf t m vs)) level)
 
 -- where no turn is left
-pub rest-none : (t : Tick) (m : List ℕ) (c : Channel) (g : Going) → restBy t m c g [] ≡ record { channel = withVoices (c .voices) (g .kept) c; output = g .output; moved = g .moved }
+rest-none : (t : Tick) (m : List ℕ) (c : Channel) (g : Going) → restBy t m c g [] ≡ record { channel = withVoices (c .voices) (g .kept) c; output = g .output; moved = g .moved }
 rest-none t m c g = with-count (rest-end t m c (g .kept) (g .output)) (tidied-end t m (g .moved) (g .kept) (g .place))
 
 -- a turn of the voice v

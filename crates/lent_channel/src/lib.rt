@@ -242,7 +242,11 @@ fn turned(g: Going, v: Voice, t: Tick, data: &[u32]) -> Turn
             },
         };
     }
-    let moved = if g.kept < g.place { g.moved + 1 } else { g.moved };
+    let moved = if g.kept < g.place {
+        g.moved + 1
+    } else {
+        g.moved
+    };
     Turn {
         voice,
         stays: true,
