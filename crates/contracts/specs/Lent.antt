@@ -115,7 +115,7 @@ pub record Lent (m : List ℕ) : Type 2 where
       (λ κs (s, (channel, (input, (params, (memory, _))))) r (left, (_, (_, (_, (written, _))))).
       Allows (on (lying (now s) (now memory)) (sample channel input params))
       (record {
-        answer = record { sampler = now left; output = r .output; number = r .number };
+        answer = record { sampler = now left; output = r .output; number = r .number; moved = r .moved };
         memory = now written;
       }))
   pub process-frame : Ensures process-frame.ended process-frame-code.routine
