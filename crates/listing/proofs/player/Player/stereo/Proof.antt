@@ -34,18 +34,18 @@ same-length : tie.Need-same-length
 same-length c = search needs
 
 returns : tie.Need-returns
-returns c = let a = c .before .before .before .before .before .before .before .before .before .before .before .before .before .before .before .args in
-    let p = c .before .before .before .before .before .before .before .before .process-frame in
+returns c = let a = c .before .before .before .before .before .before .before .before .before .before .before .before .before .before .args in
+    let p = c .before .before .before .before .before .before .before .process-frame in
     let outputs = two-of (p .last .1 .0) nan (p .kept .1 .0) in
     shows-outputs (a .self) _ (a .memory .now) (answer-of (p .result)) (p .last .1 .0) _ (p .ensures .0) (p .ensures .1) _ (c .before .before .if1 .taken)
-    (c .stereo-line .ensures ∙ simp (c .before .before .before .before .before .before .before .before .before .before .before .clock .ensures, c .before .voices .ensures, outputs))
+    (c .stereo-line .ensures ∙ simp (c .before .before .before .before .before .before .before .before .before .before .clock .ensures, c .before .voices .ensures, outputs))
 
 same-length-2 : tie.Need-same-length-2
 same-length-2 c = search needs
 
 returns-2 : tie.Need-returns-2
-returns-2 c = let a = c .before .before .before .before .before .before .before .before .before .before .before .before .before .before .args in
-    let p = c .before .before .before .before .before .before .before .process-frame in
+returns-2 c = let a = c .before .before .before .before .before .before .before .before .before .before .before .before .before .args in
+    let p = c .before .before .before .before .before .before .process-frame in
     shows-number (a .self) _ (a .memory .now) (answer-of (p .result)) _ _ (p .ensures .0) (p .ensures .1) _ (c .before .if1 .left) (c .answered .ensures)
 
 pub stereo-spec : {M : Type 1} → statement M
