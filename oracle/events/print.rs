@@ -49,7 +49,7 @@ fn parameters(engine: &mut Engine, record: &Record) -> u8 {
 fn frame(engine: &mut Engine, record: &Record, channels: u8, text: &mut String) {
     let clock = inside::clock(&engine.sampler.channels[0]);
     let (number, shown) = engine.call(record);
-    let Shown::Heard(outputs) = shown else { unreachable!("a frame is heard") };
+    let Shown::Heard(outputs, _) = shown else { unreachable!("a frame is heard") };
     if number != 0 {
         return answer(text, 6, number);
     }

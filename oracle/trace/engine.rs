@@ -42,7 +42,8 @@ pub struct Engine {
 pub enum Shown {
     Nothing,
     Record,
-    Heard([f32; 3]),
+    /// The entries, and how many voices moved up.
+    Heard([f32; 3], usize),
     /// The frames of a run that are done, and its entries.
     Run(usize, Vec<f32>),
     Recordings,
@@ -84,8 +85,10 @@ impl Engine {
         let (number, shown) = self.call(r);
         let after = Census::of(self);
         tally.call(kind, number, &before, &after, &self.params, self.length_kind);
-        if let Shown::Run(done, entries) = &shown {
-            tally.run(number, entries.len() / self.count.max(1), *done, &before, &after);
+        match &shown {
+            Shown::Run(done, entries) => tally.run(number, entries.len() / self.count.max(1), *done, &before, &after),
+            Shown::Heard(_, moved) => tally.moved(kind, *moved),
+            _ => (),
         }
         tally.asked(r);
         text.put(2, kind as u64);
@@ -188,25 +191,26 @@ impl Engine {
     fn sample(&mut self, r: &Record) -> (u8, Shown) {
         let channel = r.u32_at(CHANNEL) as usize;
         let number = self.step_number(r, channel < self.count, channel..channel + 1);
-        let mut heard = [0.0; 3];
+        let (mut heard, mut moved) = ([0.0; 3], 0);
         if number == 0 {
-            self.dropping(channel..channel + 1, |s, p| heard[0] = s.process_sample(channel, float(r, FLOAT), p));
+            moved = self.tidying(channel..channel + 1, |s, p| heard[0] = s.process_sample(channel, float(r, FLOAT), p));
         }
-        (number, Shown::Heard(heard))
+        (number, Shown::Heard(heard, moved))
     }
 
     fn frame(&mut self, r: &Record, mut heard: [f32; 3]) -> (u8, Shown) {
         let entries = r.u8_at(ENTRIES).min(3) as usize;
         let number = self.step_number(r, entries <= self.count, 0..entries);
+        let mut moved = 0;
         if number == 0 {
             let mut frame: Vec<&mut f32> = heard.iter_mut().take(entries).collect();
-            self.dropping(0..entries, |s, p| s.process_frame(&mut frame, p));
+            moved = self.tidying(0..entries, |s, p| s.process_frame(&mut frame, p));
         }
-        (number, Shown::Heard(heard))
+        (number, Shown::Heard(heard, moved))
     }
 
     fn frames(&mut self, r: &Record) -> (u8, Shown) {
-        let mut last = (0, Shown::Heard([0.0; 3]));
+        let mut last = (0, Shown::Heard([0.0; 3], 0));
         for i in 0..r.u32_at(TIMES) {
             let x = float(r, FLOAT) + i as f32 * float(r, SECOND);
             last = self.frame(r, [x, -x, x]);
@@ -245,6 +249,14 @@ impl Engine {
             (4, beyond_limits(&self.params)),
             (6, channels.any(|c| inside::clock(c) >= LAST_TIME)),
         ])
+    }
+
+    /// Steps channels, and counts the voices kept behind the first that leaves, on each.
+    fn tidying(&mut self, stepped: Range<usize>, step: impl FnOnce(&mut Sampler, &Params)) -> usize {
+        let marked: Vec<_> = self.sampler.channels[stepped.clone()].iter_mut().map(inside::mark).collect();
+        self.dropping(stepped.clone(), step);
+        let channels = self.sampler.channels[stepped].iter_mut();
+        channels.zip(marked).map(|(c, notes)| inside::kept_behind(c, &notes)).sum()
     }
 
     /// Steps channels. At capacity with the write place at the end document 01 drops the sample: the Rust's recorder is made idle while it
@@ -314,8 +326,9 @@ impl Engine {
         match shown {
             Shown::Nothing => text.end(),
             Shown::Record => self.show_record(text),
-            Shown::Heard(entries) => {
+            Shown::Heard(entries, moved) => {
                 entries.iter().for_each(|x| text.float(*x));
+                text.put(2, moved as u64);
                 self.show_record(text);
             }
             Shown::Run(done, entries) => {

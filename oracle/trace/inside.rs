@@ -1,6 +1,7 @@
 //! A look into the engine, for the comparison: this module is compiled into the engine's crate, whose own files stay as they are, and so sees
 //! what the crate keeps to itself.
 
+use crate::common_types::Note;
 use crate::recorder::State;
 use crate::sampler::Channel;
 use crate::voice::Voice;
@@ -28,6 +29,22 @@ pub fn voices(c: &Channel) -> &[Voice] {
 
 pub fn voices_mut(c: &mut Channel) -> &mut Vec<Voice> {
     &mut c.voices
+}
+
+/// Gives each voice its place for a note, which a sample doesn't read, so that those that it keeps can be told. The notes are handed back.
+pub fn mark(c: &mut Channel) -> Vec<Note> {
+    let places = (0..).map(|n| Note { note: n, channel: 0 });
+    c.voices.iter_mut().zip(places).map(|(v, place)| std::mem::replace(&mut v.note, place)).collect()
+}
+
+/// How many voices are kept behind the first that isn't, by the places that they were marked with. Each has its own note again.
+pub fn kept_behind(c: &mut Channel, notes: &[Note]) -> usize {
+    let kept: Vec<usize> = c.voices.iter().map(|v| v.note.note as usize).collect();
+    for (v, place) in c.voices.iter_mut().zip(&kept) {
+        v.note = notes[*place];
+    }
+    let first_gone = (0..notes.len()).find(|place| !kept.contains(place));
+    first_gone.map_or(0, |gone| kept.iter().filter(|place| **place > gone).count())
 }
 
 pub fn passthru(c: &Channel) -> (bool, &Volume) {

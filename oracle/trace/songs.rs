@@ -122,6 +122,15 @@ fn crowd(s: &mut Song) {
         s.ask(VOICE_INFO, room);
         s.ask(ACTIVE_NOTES, room);
     }
+    // Keys let go at once: the first, or every second or third.
+    let step = s.r.pick(&[64, 64, 2, 3]);
+    for k in (s.r.below(4) as u8 / 3..40).step_by(step) {
+        s.stop_note((k, 0));
+    }
+    if s.r.below(2) == 0 {
+        s.single();
+    }
+    s.frames(1);
     // An empty recording has room for a voice, and takes none.
     if s.r.below(2) == 0 {
         s.record(0);

@@ -11,7 +11,7 @@ const LENT_MEMORY: u32 = 16;
 const MOST_VOICES: usize = 32;
 
 pub fn listing() -> Vec<Record> {
-    [refused_set_ups(), rows(), full(), clock_end(), emptied(), broken(), broken_sizes(), judged(), waveforms(), runs(), runs_refused(), runs_at_the_end()].concat()
+    [refused_set_ups(), rows(), full(), tidied(), clock_end(), emptied(), broken(), broken_sizes(), judged(), waveforms(), runs(), runs_refused(), runs_at_the_end()].concat()
 }
 
 /// Row 9: after each refused set-up every call is refused.
@@ -45,6 +45,23 @@ fn full() -> Vec<Record> {
     l.extend([put(VOICES, 32), query(DATA_LEN, 0, 0), put(VOICES, 33), query(DATA_LEN, 0, 0), of_note(STOP, KEY), sound(0), put(VOICES, 32)]);
     l.extend([plain(RECORDINGS), of_note(STOP, KEY), whole_frame(2, LENT_MEMORY), press(0.0)]);
     l.extend([press(0.0), plain(START_RECORDING), plain(STOP_RECORDING), press(0.0), query(ACTIVE_NOTES, 0, 64)]);
+    l
+}
+
+/// 32 voices of as many keys, of which the first is let go, the last, and every second from the first and from the second: the samples and the
+/// frames count those that move up.
+fn tidied() -> Vec<Record> {
+    let all: Vec<u8> = (0..MOST_VOICES as u8).collect();
+    let seconds = |from: usize| all.iter().copied().skip(from).step_by(2).collect::<Vec<_>>();
+    let mut l = Vec::new();
+    for let_go in [vec![0], vec![31], seconds(0), seconds(1), all.clone()] {
+        l.extend(begun());
+        l.push(settings(4.0, 0));
+        l.extend(all.iter().map(|n| of_note(START, (*n, 0))));
+        l.extend(let_go.iter().map(|n| of_note(STOP, (*n, 0))));
+        l.extend([whole_frame(1, LENT_MEMORY), sound(1), whole_frame(2, LENT_MEMORY)]);
+        l.extend([of_note(STOP, (2, 0)), whole_frame(2, LENT_MEMORY)]);
+    }
     l
 }
 

@@ -93,6 +93,14 @@ impl Tally {
         self.met("runs of frames", "right behind a stop", (self.last == STOP) as usize);
     }
 
+    /// How many voices a sample, or the frame that is shown, moved up as others left.
+    pub fn moved(&mut self, kind: u8, moved: usize) {
+        let (some, most, both) = if kind == SAMPLE { ("a sample", "a sample: 31", "") } else { ("a frame", "a frame: 31 or more", "a frame: 62") };
+        self.met("voices moved up in", some, (moved > 0) as usize);
+        self.met("voices moved up in", most, (moved >= 31) as usize);
+        self.met("voices moved up in", both, (moved == 62) as usize);
+    }
+
     /// A record of many frames asks for as many calls.
     pub fn asked(&mut self, r: &Record) {
         if r.u8_at(0) == FRAMES {

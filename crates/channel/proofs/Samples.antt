@@ -1,7 +1,8 @@
 -- A sound channel stays sound through a sample, whose clock is then one more; its memory keeps its length; and each voice sounds by a value recorded. Assumes nothing.
 use mathlib.Core.Path.{_≡_, refl, sym, _∙_, subst}
-use Prim.Native.Nat.{ℕ, _^_, _≤_, _<_}
+use Prim.Native.Nat.{ℕ, _-_, _^_, _≤_, _<_, zero-le}
 use native.Mathlib.Nat.{le-trans, le-of-eq}
+use native.Mathlib.Omega.{arith}
 use mathlib.Core.Bool.{Bool, true, false, cond}
 use mathlib.Core.List.{List, map}
 use lib.Dec.{eqb}
@@ -12,18 +13,19 @@ use Rattle.binary32.specs.Leaves.{bitsOf, zero32}
 use Rattle.binary32.proofs.Truth.{cond-split}
 use Rattle.walks.specs.Walks.{without}
 use Rattle.walks.specs.Each.{Each}
-use Rattle.walks.proofs.Lists.Each.{each-without, each-map, front-sets, fewer}
+use Rattle.walks.proofs.Lists.Each.{each-without, each-map, front-sets, fewer, behind-fewer}
 use Rattle.common_types.specs.declared.Params.{Params}
 use Rattle.clip.specs.Positions.{indexAt}
 use Rattle.recorder.specs.Recording.{recordedOf, goodRecorded}
 use Rattle.recorder.proofs.Good.{sample-good}
 use Rattle.recorder.proofs.Memory.{memory-length}
 use Rattle.voice.specs.declared.Voice.{Voice}
+use Rattle.voice.specs.declared.Tick.{Tick}
 use Rattle.voice.specs.Voices.{tickOf, movedOf, shouldRemoveOf, turnOf}
 use Rattle.voice.specs.Soundness.{SoundParams, SoundVoice}
 use Rattle.voice.proofs.Kept.{index-recorded, turn-sound}
 use Rattle.channel.specs.Heads.{closedOf}
-use Rattle.channel.specs.Channels.{live, anyUnfinishedOf, keptOf, playedOf, playedIfOf, takenOf, memoryOf, processSampleOf}
+use Rattle.channel.specs.Channels.{live, anyUnfinishedOf, keptOf, tidiedOf, playedOf, playedIfOf, takenOf, memoryOf, processSampleOf}
 use Rattle.channel.specs.Soundness.{SoundChannel}
 use Rattle.channel.specs.declared.Head.{Head}
 use Rattle.channel.specs.declared.Channel.{Channel}
@@ -48,7 +50,7 @@ played-if-head : (p : Params) (m : List ℕ) (c : Channel) → playedIfOf p m c 
 unfolding playedIfOf playedOf
 played-if-head p m c = go (eqb (c .head .«data_len») 0)
   where
-    go : (b : Bool) → cond b (record { channel = c; output = zero32 }) (playedOf (tickOf p (c .head .now) (c .head .«data_len»)) m c) .channel .head ≡ c .head
+    go : (b : Bool) → cond b (record { channel = c; output = zero32; moved = 0 }) (playedOf (tickOf p (c .head .now) (c .head .«data_len»)) m c) .channel .head ≡ c .head
     go true = refl
     go false = refl
 
@@ -79,8 +81,20 @@ module _ (capacity : ℕ) (c : Channel) (s : SoundChannel capacity c) (p : Param
     unfolding playedIfOf
     played-if-sound =
         let n = c .head .«data_len» in
-        cond-split (λ (r : Played). SoundChannel capacity (r .channel)) (eqb n 0) (record { channel = c; output = zero32 }) (playedOf (tickOf p (c .head .now) n) m c)
+        cond-split (λ (r : Played). SoundChannel capacity (r .channel)) (eqb n 0) (record { channel = c; output = zero32; moved = 0 }) (playedOf (tickOf p (c .head .now) n) m c)
         (λ e. s) (λ e. played-sound (some n e))
+
+-- ---- of 32 voices at most 31 move up: one has left
+tidied-few : (t : Tick) (m : List ℕ) (vs : List Voice) → length vs ≤ 32 → tidiedOf t m vs ≤ 31
+unfolding tidiedOf
+tidied-few t m vs few = omega (arith, few, length-map vs (turnOf t m), behind-fewer (shouldRemoveOf t) (map (turnOf t m) vs))
+
+pub moved-few : (p : Params) (x : Float) (c : Channel) (m : List ℕ) → length (live c) ≤ 32 → processSampleOf p x c m .moved ≤ 31
+unfolding processSampleOf playedIfOf playedOf takenOf
+moved-few p x c m few =
+    let d = takenOf m c in
+    cond-split (λ (r : Played). r .moved ≤ 31) (eqb (d .head .«data_len») 0) (record { channel = d; output = zero32; moved = 0 }) (playedOf (tickOf p (d .head .now) (d .head .«data_len»)) (memoryOf x c m) d)
+    (λ e. zero-le) (λ e. tidied-few (tickOf p (d .head .now) (d .head .«data_len»)) (memoryOf x c m) (live c) few)
 
 -- ---- and closed
 module _ (capacity : ℕ) (c : Channel) (s : SoundChannel capacity c) (p : Params) (ok : SoundParams p) (small : capacity ≤ 2 ^ 22) (x : Float) (m : List ℕ) (size : length m ≡ capacity) where

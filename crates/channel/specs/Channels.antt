@@ -9,7 +9,7 @@ use lib.ListN.{length, take, getD, set, replicate}
 use lib.Seq.{sets}
 use lib.Ieee.{Float, binary32, add}
 use Rattle.binary32.specs.Leaves.{bitsOf, zero32, one32}
-use Rattle.walks.specs.Walks.{any, every, without, fold, seek}
+use Rattle.walks.specs.Walks.{any, every, without, behind, fold, seek}
 use Rattle.common_types.specs.declared.InitParams.{InitParams}
 use Rattle.common_types.specs.declared.Params.{Params}
 use Rattle.common_types.specs.declared.Note.{Note}
@@ -118,6 +118,10 @@ stopRecordingOf c = withHead (headChangedOf StopRecording (c .head)) c
 unfoldable pub keptOf : Tick → List ℕ → List Voice → List Voice
 keptOf t m vs = without (shouldRemoveOf t) (map (turnOf t m) vs)
 
+-- how many of them move up (request 12/12): the kept voices behind the first that leaves
+unfoldable pub tidiedOf : Tick → List ℕ → List Voice → ℕ
+tidiedOf t m vs = length (behind (shouldRemoveOf t) (map (turnOf t m) vs))
+
 -- each product added in turn; a voice that is to be removed is silent
 unfoldable pub addedOf : Bool → Float → Float → Float
 addedOf silent out value = cond silent out (add binary32 out value)
@@ -129,12 +133,13 @@ unfoldable pub playedOf : Tick → List ℕ → Channel → Played
 playedOf t m c = record {
   channel = withVoices (sets (c .voices) 0 (keptOf t m (live c))) (length (keptOf t m (live c))) c;
   output = heardOf t m (live c);
+  moved = tidiedOf t m (live c);
 }
 
 -- the voices play if the recording isn't empty
 unfoldable pub playedIfOf : Params → List ℕ → Channel → Played
 playedIfOf p m c =
-    cond (eqb (c .head .«data_len») 0) (record { channel = c; output = zero32 })
+    cond (eqb (c .head .«data_len») 0) (record { channel = c; output = zero32; moved = 0 })
     (playedOf (tickOf p (c .head .now) (c .head .«data_len»)) m c)
 
 -- the channel once the sample x has been recorded, and its memory
@@ -152,6 +157,7 @@ processSampleOf p x c m =
     record {
       channel = withHead (closedOf p (anyUnfinishedOf (r .channel)) h) (r .channel);
       output = mixedOf x (r .output) h;
+      moved = r .moved;
     }
 
 -- ---- what a call other than a sample does

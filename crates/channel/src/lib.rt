@@ -4,8 +4,9 @@
 // calls, under the Rust's names, refuse first. A sample is its 32-bit pattern, and `data` is the channel's part of the
 // lent memory.
 ghost use mathlib.Core.Path.{_≡_};
-ghost use Prim.Native.Nat.{min};
+ghost use Prim.Native.Nat.{_+_, _≤_, _<_, min};
 ghost use mathlib.Core.Bool.{cond};
+ghost use lib.Dec.{ltb};
 ghost use lib.ListN.{length};
 ghost use Rattle.binary32.specs.Leaves.{bitsOf, zero32, one32};
 ghost use Rattle.recorder.specs.Recording.{recordedOf, dataAfter, isRecordingOf};
@@ -82,9 +83,11 @@ pub struct Channel {
     pub head: Head,
 }
 
+// What a sample leaves and what is heard of it, and how many voices moved up as others left.
 pub struct Played {
     pub channel: Channel,
     pub output: f32,
+    pub moved: u8,
 }
 
 pub enum Found {
@@ -493,9 +496,11 @@ impl Channel {
     // Each voice takes its turn; those that are then to be removed leave, and the others move up in order.
     fn play(mut self, t: Tick, data: &[u32]) -> Played
         ensures { λ r. ⌜ r ≡ playedOf t (now («data» .entry)) self ⌝ }
+        ensures { λ r. ⌜ r .moved ≤ 32 ⌝ }
     {
         let n = places(self.count);
         let mut output = 0.0;
+        let mut moved = 0;
         let mut k = 0;
         let mut i = 0;
         while i < n {
@@ -503,6 +508,7 @@ impl Channel {
             let w = v.turn(t, data);
             output = sound(output, v, w, t);
             if !w.should_remove(t) {
+                moved = moved_up(moved, k, i);
                 self.voices[k] = w;
                 k += 1;
             }
@@ -512,17 +518,20 @@ impl Channel {
         Played {
             channel: self,
             output,
+            moved,
         }
     }
 
     fn play_voices(self, params: Params, data: &[u32]) -> Played
         ensures { λ r. ⌜ r ≡ playedIfOf params (now («data» .entry)) self ⌝ }
+        ensures { λ r. ⌜ r .moved ≤ 32 ⌝ }
     {
         let head = self.head;
         if head.data_len == 0 {
             return Played {
                 channel: self,
                 output: 0.0,
+                moved: 0,
             };
         }
         self.play(Tick::new(params, head.now, head.data_len), data)
@@ -531,6 +540,7 @@ impl Channel {
     pub fn with_sample(self, params: Params, input: f32, data: &mut [u32]) -> Played
         ensures { λ r. ⌜ r ≡ processSampleOf params input self (now («data» .entry)) ⌝ }
         ensures { λ r. ⌜ now («data» .exit) ≡ memoryOf input self (now («data» .entry)) ⌝ }
+        ensures { λ r. ⌜ r .moved ≤ 32 ⌝ }
     {
         let recorded = self.record(input, data);
         let head = recorded.head;
@@ -539,7 +549,11 @@ impl Channel {
         let mut channel = played.channel;
         let unfinished = channel.any_unfinished();
         channel.head = head.closed(params, unfinished);
-        Played { channel, output }
+        Played {
+            channel,
+            output,
+            moved: played.moved,
+        }
     }
 
     pub fn changed(self, change: Change) -> Self
@@ -621,4 +635,12 @@ pub fn sound(output: f32, v: Voice, w: Voice, t: Tick) -> f32
     } else {
         output + w.last_sample_value
     }
+}
+
+// The voices moved so far, with one more where a voice that is kept goes from place i to a place k before it.
+fn moved_up(moved: u8, k: usize, i: usize) -> u8
+    requires { ⌜ moved < 255 ⌝ }
+    ensures { λ r. ⌜ r ≡ cond (ltb k i) (moved + 1) moved ⌝ }
+{
+    if k < i { moved + 1 } else { moved }
 }

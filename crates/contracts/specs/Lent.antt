@@ -115,13 +115,17 @@ pub record Lent (m : List ℕ) : Type 2 where
       (λ κs (s, (channel, (input, (params, (memory, _))))) r (left, (_, (_, (_, (written, _))))).
       Allows (on (lying (now s) (now memory)) (sample channel input params))
       (record {
-        answer = record { sampler = now left; output = r .output; number = r .number };
+        answer = record { sampler = now left; output = r .output; number = r .number; moved = r .moved };
         memory = now written;
       }))
   pub process-frame : Ensures process-frame.ended process-frame-code.routine
       (λ κs (s, (entries, (params, (memory, _)))) r (left, (played, (_, (written, _)))).
       Allows (on (lying (now s) (now memory)) (frame (now entries) params))
-      (record { answer = record { sampler = now left; number = r }; frame = now played; memory = now written }))
+      (record {
+        answer = record { sampler = now left; number = r .number; moved = r .moved };
+        frame = now played;
+        memory = now written;
+      }))
   pub process-frames : Ensures process-frames.ended process-frames-code.routine
       (λ κs (s, (entries, (params, (memory, _)))) r (left, (played, (_, (written, _)))).
       Allows (along (lying (now s) (now memory)) (now entries) params)

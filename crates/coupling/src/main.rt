@@ -3,7 +3,7 @@
 ghost use mathlib.Core.Path.{_≡_};
 ghost use lib.ListN.{length};
 ghost use Rattle.sampler.specs.Refusals.{frameNumber};
-ghost use Rattle.sampler.specs.Samplers.{Frames, framedOf, changeOf};
+ghost use Rattle.sampler.specs.Samplers.{Frames, framedOf, frameMoved, changeOf};
 ghost use Rattle.coupling.specs.Coupling.{silent, key, settings, recordedOf, pressedOf, toldOf};
 use channel::Change;
 use channel::HeadChange;
@@ -11,6 +11,7 @@ use common_types::InitParams;
 use common_types::Note;
 use common_types::Params;
 use libc::STDOUT_FILENO;
+use own_sampler::FramePlayed;
 use questions::VoiceInfos;
 use sampler::Answer;
 use sampler::Sampler;
@@ -61,13 +62,14 @@ fn changed(mut s: Sampler, change: Change) -> Answer
 }
 
 // One frame is played on the host's own record, which it lends for the call.
-fn sounded(mut s: Sampler, frame: &mut [f32], params: Params, memory: &mut [u32]) -> Answer
-    ensures { λ r. ⌜ (r .number ≡ frameNumber s (length (now (frame .entry))) params (length (now (memory .entry))))
+fn sounded(mut s: Sampler, frame: &mut [f32], params: Params, memory: &mut [u32]) -> FramePlayed
+    ensures { λ r. ⌜ (r .done .number
+        ≡ frameNumber s (length (now (frame .entry))) params (length (now (memory .entry))))
         × Frames (framedOf s (now (frame .entry)) params (now (memory .entry))) (r .sampler) (now (frame .exit))
-        (now (memory .exit)) ⌝ }
+        (now (memory .exit)) × (r .done .moved ≡ frameMoved s (now (frame .entry)) params (now (memory .entry))) ⌝ }
 {
-    let number = lent_sampler::process_frame(&mut s, frame, params, memory);
-    Answer { sampler: s, number }
+    let done = lent_sampler::process_frame(&mut s, frame, params, memory);
+    FramePlayed { sampler: s, done }
 }
 
 // The key is let go. What sounds on channel 0?

@@ -98,7 +98,7 @@ housed-sounded p x m c h = go (emptyAt m c)
     q = turnsOf (tickAt p m c) (memoryOf x c m) (takenOf m c)
 
     r : Bool → Played
-    r b = cond {A = Played} b (record { channel = takenOf m c; output = zero32 }) q
+    r b = cond {A = Played} b (record { channel = takenOf m c; output = zero32; moved = 0 }) q
 
     k : Housed (takenOf m c)
     k = headless (takenOf m c) c refl refl h

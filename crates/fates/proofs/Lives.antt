@@ -71,7 +71,7 @@ unfolding stepOf takenOf
 live-sounded p x m c h = go (emptyAt m c)
   where
     go : (b : Bool)
-        → live (cond {A = Played} b (record { channel = takenOf m c; output = zero32 }) (turnsOf (tickAt p m c) (memoryOf x c m) (takenOf m c)) .channel)
+        → live (cond {A = Played} b (record { channel = takenOf m c; output = zero32; moved = 0 }) (turnsOf (tickAt p m c) (memoryOf x c m) (takenOf m c)) .channel)
         ≡ cond b (live c) (leftOf (tickAt p m c) (memoryOf x c m) (live c))
     go true = refl
     go false = live-turned (tickAt p m c) (memoryOf x c m) (takenOf m c) (record { places = h .places; room = h .room })

@@ -9,7 +9,7 @@ use lib.Dec.{eqb}
 use lib.ListN.{length}
 use lib.Seq.{sets}
 use lib.Ieee.{Float, binary32, add, mul}
-use Rattle.walks.specs.Walks.{without, fold}
+use Rattle.walks.specs.Walks.{without, behind, fold}
 use Rattle.common_types.specs.declared.Params.{Params}
 use Rattle.common_types.specs.declared.Note.{Note}
 use Rattle.common_types.specs.declared.NoteOffBehaviour.{NoteOffBehaviour}
@@ -71,20 +71,26 @@ leavesOf t u = u .finished && letsGo (t .«note_off_behavior») t u
 unfoldable pub leftOf : Tick → List ℕ → List Voice → List Voice
 leftOf t m vs = without (leavesOf t) (map (turnedOf t m) vs)
 
+-- how many move up (request 12/12): those that are left behind the first that leaves
+unfoldable pub movedUp : Tick → List ℕ → List Voice → ℕ
+movedUp t m vs = length (behind (leavesOf t) (map (turnedOf t m) vs))
+
 unfoldable pub turnsOf : Tick → List ℕ → Channel → Played
 turnsOf t m c = record {
   channel = withVoices (sets (c .voices) 0 (leftOf t m (live c))) (length (leftOf t m (live c))) c;
   output = heardBy t m (live c);
+  moved = movedUp t m (live c);
 }
 
 -- records first, then its voices take their turns if the recording isn't empty, then the input is added
 unfoldable pub stepOf : Params → Float → Channel → List ℕ → Played
 stepOf p x c m =
     let d = takenOf m c in
-    let r = cond {A = Played} (eqb (d .head .«data_len») 0) (record { channel = d; output = zero32 })
+    let r = cond {A = Played} (eqb (d .head .«data_len») 0) (record { channel = d; output = zero32; moved = 0 })
     (turnsOf (tickOf p (d .head .now) (d .head .«data_len»)) (memoryOf x c m) d) in
     record {
       channel = withHead (closedOf p (anyUnfinishedOf (r .channel)) (d .head)) (r .channel);
       output = add binary32 (add binary32 zero32 (r .output))
           (mul binary32 x (levelOf (d .head .«passthru_volume») (d .head .now)));
+      moved = r .moved;
     }

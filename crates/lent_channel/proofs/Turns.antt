@@ -1,41 +1,125 @@
--- Where the loop over the voices that take a turn begins, and what it has come to where it ends. Assumes nothing.
+-- Where the loop over the voices that take a turn begins, what a turn leaves to those behind it, and what the loop has come to where it ends. Assumes nothing.
 use mathlib.Core.Path.{_≡_, refl, sym, _∙_, ap, subst}
 use Prim.Native.Nat.{ℕ, _+_, _≤_, min}
+use native.Mathlib.Nat.{le-refl, zero-add}
 use native.Mathlib.Omega.{arith}
-use mathlib.Core.Bool.{Bool, true, false, cond}
+use mathlib.Core.Bool.{Bool, true, false, not, cond}
 use mathlib.Core.List.{List, [], _∷_}
-use lib.Dec.{eqb}
+use lib.Dec.{ltb, eqb}
 use lib.ListN.{length, set, take}
 use lib.Seq.{slice}
 use lib.Ieee.{Float, binary32, add}
-use borrow.Author.Tests.{eqb-true}
+use borrow.Author.Tests.{eqb-true, le-ltb, not-true, not-false}
+use Rattle.walks.specs.Walks.{behind}
 use Rattle.walks.proofs.Lists.Loops.{Walk, take-most}
 use Rattle.common_types.specs.declared.Params.{Params}
 use Rattle.binary32.specs.Leaves.{zero32}
 use Rattle.voice.specs.declared.Voice.{Voice}
 use Rattle.voice.specs.declared.Tick.{Tick}
 use Rattle.voice.specs.declared.Quick.{Quick}
-use Rattle.voice.specs.Voices.{tickOf, shouldRemoveOf}
+use Rattle.voice.specs.Voices.{tickOf, turnOf, shouldRemoveOf}
 use Rattle.voice.specs.Plain.{Quickly}
 use Rattle.voice.proofs.Plain.{glides}
 use Rattle.channel.specs.declared.Head.{Head}
 use Rattle.channel.specs.declared.Channel.{Channel}
 use Rattle.channel.specs.declared.Played.{Played}
 use Rattle.channel.specs.Heads.{mixedOf, closedOf}
-use Rattle.channel.specs.Channels.{withHead, withVoices, anyUnfinishedOf, addedOf, playedOf, playedIfOf}
-use Rattle.channel.proofs.Turns.{restOf, rest-start, rest-end, rest-keep}
+use Rattle.channel.specs.Channels.{withHead, withVoices, anyUnfinishedOf, keptOf, tidiedOf, addedOf, playedOf, playedIfOf}
+use Rattle.channel.proofs.Turns.{Walked, restOf, rest-start, rest-end, rest-keep, rest-gone, tidiedFrom, tidied-end, tidied-same, tidied-keep, tidied-gone, step-up}
 use Rattle.lent_channel.specs.declared.Glided.{Glided}
-use Rattle.lent_channel.specs.Turns.{unusedTick, turnCountOf, sharedOf, voicesLeftOf, playedBy, Glides}
+use Rattle.lent_channel.specs.declared.Going.{Going}
+use Rattle.lent_channel.specs.declared.Turn.{Turn}
+use Rattle.lent_channel.specs.Turns.{unusedTick, turnCountOf, sharedOf, voicesLeftOf, playedBy, restFrom, Glides, afterPlain, turnedOf, heardOf}
+
+-- what a walk leaves and what is heard of it, with how many have moved up
+abbrev counting : Walked → ℕ → Played
+counting r n = record { channel = r .channel; output = r .output; moved = n }
+
+with-count : {r r′ : Walked} {n n′ : ℕ} → r ≡ r′ → n ≡ n′ → counting r n ≡ counting r′ n′
+with-count e f = λ i. counting (e i) (f i)
 
 -- a plain turn: the voice stays in its place, and is heard
 pub rest-glide : (t : Tick) (m : List ℕ) (c : Channel) (k : ℕ) (out out′ : Float) (v : Voice) (r : Quick) → Quickly t m v r → r .plain ≡ true → out′ ≡ add binary32 out (r .voice .«last_sample_value»)
-    → (vs : List Voice) → restOf t m c k out (v ∷ vs) ≡ restOf t m (withVoices (set (c .voices) k (r .voice)) (c .count) c) (k + 1) out′ vs
+    → (vs : List Voice) → restFrom t m c k out (v ∷ vs) ≡ restFrom t m (withVoices (set (c .voices) k (r .voice)) (c .count) c) (k + 1) out′ vs
 unfolding addedOf
 rest-glide t m c k out out′ v r quickly plain adds vs =
     let turned = quickly plain in
     let stays = glides t m v (turned .0) in
     let sounds : out′ ≡ addedOf (shouldRemoveOf t v) out (r .voice .«last_sample_value») = adds ∙ ap (λ (b : Bool). addedOf b out (r .voice .«last_sample_value»)) (sym (stays .stays)) in
-    rest-keep t m c k out out′ v (r .voice) false (turned .1) sounds (sym (ap (shouldRemoveOf t) (turned .1) ∙ stays .stays-after)) vs refl
+    let is : false ≡ shouldRemoveOf t (r .voice) = sym (ap (shouldRemoveOf t) (turned .1) ∙ stays .stays-after) in
+    with-count (rest-keep t m c k out out′ v (r .voice) false (turned .1) sounds is vs refl) (tidied-same t m c k out out′ v (r .voice) false (turned .1) sounds is vs refl)
+
+-- what the turns of the voices vs give where the turns stand at g: some voices may have left
+abbrev pub restBy : Tick → List ℕ → Channel → Going → List Voice → Played
+restBy t m c g vs = counting (restOf t m c (g .kept) (g .output) vs) (tidiedFrom t m (g .moved) (g .kept) (g .place) vs)
+
+-- after the plain turns none has
+rest-plain : (t : Tick) (m : List ℕ) (c : Channel) (g : Glided) (vs : List Voice) → restBy t m c (afterPlain g) vs ≡ restFrom t m c (g .upto) (g .output) vs
+unfolding afterPlain
+rest-plain t m c g vs =
+    let level = le-ltb (g .upto) (g .upto) (le-refl (g .upto)) in
+    with-count refl (zero-add _ ∙ ap (λ (b : Bool). cond b (length (keptOf t m vs)) (tidiedOf t m vs)) level)
+
+-- where no turn is left
+rest-none : (t : Tick) (m : List ℕ) (c : Channel) (g : Going) → restBy t m c g [] ≡ record { channel = withVoices (c .voices) (g .kept) c; output = g .output; moved = g .moved }
+rest-none t m c g = with-count (rest-end t m c (g .kept) (g .output)) (tidied-end t m (g .moved) (g .kept) (g .place))
+
+-- a turn of the voice v
+module _ (t : Tick) (m : List ℕ) (c : Channel) (g : Going) (v : Voice) (less : g .kept ≤ g .place) where
+  abbrev w : Voice
+  w = turnOf t m v
+
+  abbrev gone : Bool
+  gone = shouldRemoveOf t w
+
+  -- where the turns stand then
+  abbrev on : Bool → Going
+  on b = record {
+    place = g .place + 1;
+    kept = cond b (g .kept) (g .kept + 1);
+    output = addedOf (shouldRemoveOf t v) (g .output) (w .«last_sample_value»);
+    moved = cond b (g .moved) (cond (ltb (g .kept) (g .place)) (g .moved + 1) (g .moved));
+  }
+
+  stays-so : (vs : List Voice) → not gone ≡ true → restBy t m c g (v ∷ vs) ≡ restBy t m (withVoices (set (c .voices) (g .kept) w) (c .count) c) (on gone) vs
+  stays-so vs h =
+      with-count (rest-keep t m c (g .kept) (g .output) _ v w gone refl refl refl vs h) (tidied-keep t m c (g .kept) (g .output) _ v w gone refl refl refl vs (g .moved) (g .place) less _ refl h)
+      ∙ ap (λ (b : Bool). restBy t m (withVoices (set (c .voices) (g .kept) w) (c .count) c) (on b) vs) (sym (not-true gone h))
+
+  leaves-so : (vs : List Voice) → not gone ≡ false → restBy t m c g (v ∷ vs) ≡ restBy t m c (on gone) vs
+  leaves-so vs h =
+      with-count (rest-gone t m c (g .kept) (g .output) _ v w gone refl refl refl vs h) (tidied-gone t m c (g .kept) (g .output) _ v w gone refl refl refl vs (g .moved) (g .place) less h)
+      ∙ ap (λ (b : Bool). restBy t m c (on b) vs) (sym (not-false gone h))
+
+  module _ (r : Turn) (e : r ≡ turnedOf t m g v) where
+    pub rest-stays : r .stays ≡ true → (vs : List Voice) → restBy t m c g (v ∷ vs) ≡ restBy t m (withVoices (set (c .voices) (g .kept) (r .voice)) (c .count) c) (r .next) vs
+    unfolding turnedOf
+    rest-stays h vs = subst (λ (x : Turn). x .stays ≡ true → restBy t m c g (v ∷ vs) ≡ restBy t m (withVoices (set (c .voices) (g .kept) (x .voice)) (c .count) c) (x .next) vs) (sym e) (stays-so vs) h
+
+    pub rest-leaves : r .stays ≡ false → (vs : List Voice) → restBy t m c g (v ∷ vs) ≡ restBy t m c (r .next) vs
+    unfolding turnedOf
+    rest-leaves h vs = subst (λ (x : Turn). x .stays ≡ false → restBy t m c g (v ∷ vs) ≡ restBy t m c (x .next) vs) (sym e) (leaves-so vs) h
+
+    pub next-place : r .next .place ≡ g .place + 1
+    unfolding turnedOf
+    next-place = ap (λ (x : Turn). x .next .place) e
+
+    -- no more have stayed, and no more have moved up, than have taken a turn
+    pub next-less : r .next .kept ≤ r .next .place
+    unfolding turnedOf
+    next-less = subst (λ (x : Turn). x .next .kept ≤ x .next .place) (sym e) (go gone)
+      where
+        go : (b : Bool) → on b .kept ≤ on b .place
+        go true = omega (arith, less)
+        go false = omega (arith, less)
+
+    pub next-few : g .moved ≤ g .place → r .next .moved ≤ r .next .place
+    unfolding turnedOf
+    next-few few = subst (λ (x : Turn). x .next .moved ≤ x .next .place) (sym e) (go gone)
+      where
+        go : (b : Bool) → on b .moved ≤ on b .place
+        go true = omega (arith, few)
+        go false = step-up (g .moved) (g .kept) (g .place) _ few refl
 
 pub turns-few : (p : Params) (time len count : ℕ) → sharedOf p time len count .turns ≤ 32
 unfolding sharedOf turnCountOf
@@ -53,76 +137,80 @@ module _ (p : Params) (time len : ℕ) (ms : List ℕ) (h : Channel) (all : leng
   n = sharedOf p time len (h .count) .turns
 
   abbrev goal : Played
-  goal = restOf t ms h 0 zero32 (take n (h .voices))
+  goal = restFrom t ms h 0 zero32 (take n (h .voices))
 
   all-few : min n 32 ≡ n
   all-few = omega (arith, turns-few p time len (h .count))
 
   -- the loop begins where the plain turns end
-  pub begins-there : (d : Channel) (g : Glided) → Glides (sharedOf p time len (h .count)) ms h d g → length (d .voices) ≡ 32 → Walk goal (restOf t ms (withVoices (d .voices) (d .count) d) (g .upto) (g .output)) (d .voices) n (g .upto)
+  pub begins-there : (d : Channel) (g : Glided) → Glides (sharedOf p time len (h .count)) ms h d g → length (d .voices) ≡ 32 → Walk goal (restBy t ms (withVoices (d .voices) (d .count) d) (afterPlain g)) (d .voices) n (g .upto)
   begins-there d g e long = record {
     upto = subst (λ (j : ℕ). g .upto ≤ j) all-few (e .few);
     within = omega (arith, turns-few p time len (h .count), long);
-    same = subst (λ (j : ℕ). restOf t ms d (g .upto) (g .output) (slice (g .upto) j (d .voices)) ≡ restOf t ms h 0 zero32 (take j (h .voices))) all-few (e .same);
+    same = rest-plain t ms d g _ ∙ subst (λ (j : ℕ). restFrom t ms d (g .upto) (g .output) (slice (g .upto) j (d .voices)) ≡ restFrom t ms h 0 zero32 (take j (h .voices))) all-few (e .same);
   }
 
-  -- what the loop leaves, with k voices kept and `out` heard
-  module _ (l : List Voice) (k : ℕ) (out : Float) where
+  -- what the loop leaves, where the turns stand at g
+  module _ (l : List Voice) (g : Going) where
     abbrev left : ℕ → Played
-    left m = record { channel = withVoices l m h; output = out }
+    left m = record { channel = withVoices l m h; output = g .output; moved = g .moved }
+
+    abbrev nothing-taken : Played
+    nothing-taken = record { channel = withVoices (h .voices) 0 h; output = zero32; moved = 0 }
 
     -- no turn
-    none-taken : (u : Tick) → left k ≡ restOf u ms h 0 zero32 [] → left k ≡ record { channel = withVoices (h .voices) 0 h; output = zero32 }
-    none-taken u e = e ∙ rest-end u ms h 0 zero32
+    rest-of-none : (u : Tick) → restFrom u ms h 0 zero32 [] ≡ nothing-taken
+    unfolding tidiedOf behind
+    rest-of-none u = with-count (rest-end u ms h 0 zero32) refl
 
-    count-stays : (u : Tick) → left k ≡ restOf u ms h 0 zero32 (take (min (h .count) 32) (h .voices)) → voicesLeftOf (min (h .count) 32) k (h .count) ≡ k
+    count-stays : (u : Tick) → left (g .kept) ≡ restFrom u ms h 0 zero32 (take (min (h .count) 32) (h .voices)) → voicesLeftOf (min (h .count) 32) (g .kept) (h .count) ≡ g .kept
     unfolding voicesLeftOf
     count-stays u e = go (eqb (min (h .count) 32) 0) refl
       where
-        go : (z : Bool) → eqb (min (h .count) 32) 0 ≡ z → cond z (h .count) k ≡ k
+        go : (z : Bool) → eqb (min (h .count) 32) 0 ≡ z → cond z (h .count) (g .kept) ≡ g .kept
         go false f = refl
         go true f =
             let m : min (h .count) 32 ≡ 0 = eqb-true (min (h .count) 32) 0 f in
             let c : h .count ≡ 0 = omega (arith, m) in
-            c ∙ sym (ap (λ (r : Played). r .channel .count) (none-taken u (e ∙ ap (λ (j : ℕ). restOf u ms h 0 zero32 (take j (h .voices))) m)))
+            c ∙ sym (ap (λ (r : Played). r .channel .count) (e ∙ ap (λ (j : ℕ). restFrom u ms h 0 zero32 (take j (h .voices))) m ∙ rest-of-none u))
 
-    ended-at : (u : Tick) (z : Bool) → left k ≡ restOf u ms h 0 zero32 (take (cond z 0 (min (h .count) 32)) (h .voices))
-        → left (voicesLeftOf (cond z 0 (min (h .count) 32)) k (h .count)) ≡ cond z (record { channel = h; output = zero32 }) (playedOf u ms h)
-    unfolding voicesLeftOf
-    ended-at u true e = ap (λ (r : Played). record { channel = withVoices (r .channel .voices) (h .count) h; output = r .output }) (none-taken u e)
-    ended-at u false e = ap left (count-stays u e) ∙ e ∙ ap (restOf u ms h 0 zero32) (take-most (h .voices) (h .count) 32 all) ∙ rest-start u ms h
+    ended-at : (u : Tick) (z : Bool) → left (g .kept) ≡ restFrom u ms h 0 zero32 (take (cond z 0 (min (h .count) 32)) (h .voices))
+        → left (voicesLeftOf (cond z 0 (min (h .count) 32)) (g .kept) (h .count)) ≡ cond z (record { channel = h; output = zero32; moved = 0 }) (playedOf u ms h)
+    unfolding voicesLeftOf playedOf
+    ended-at u true e = ap (λ (r : Played). record { channel = withVoices (r .channel .voices) (h .count) h; output = r .output; moved = r .moved }) (e ∙ rest-of-none u)
+    ended-at u false e = ap left (count-stays u e) ∙ e ∙ ap (restFrom u ms h 0 zero32) (take-most (h .voices) (h .count) 32 all) ∙ with-count (rest-start u ms h) refl
 
     -- what no turn sees doesn't matter
-    rest-same : (u v : Tick) (m : ℕ) → m ≡ 0 → restOf u ms h 0 zero32 (take m (h .voices)) ≡ restOf v ms h 0 zero32 (take m (h .voices))
-    rest-same u v m e = ap (λ (j : ℕ). restOf u ms h 0 zero32 (take j (h .voices))) e ∙ rest-end u ms h 0 zero32 ∙ sym (rest-end v ms h 0 zero32) ∙ ap (λ (j : ℕ). restOf v ms h 0 zero32 (take j (h .voices))) (sym e)
+    rest-same : (u v : Tick) (m : ℕ) → m ≡ 0 → restFrom u ms h 0 zero32 (take m (h .voices)) ≡ restFrom v ms h 0 zero32 (take m (h .voices))
+    rest-same u v m e = ap (λ (j : ℕ). restFrom u ms h 0 zero32 (take j (h .voices))) e ∙ rest-of-none u ∙ sym (rest-of-none v) ∙ ap (λ (j : ℕ). restFrom v ms h 0 zero32 (take j (h .voices))) (sym e)
 
-    by-tick : (u v : Tick) (m : ℕ) (z : Bool) → eqb m 0 ≡ z → restOf (cond z u v) ms h 0 zero32 (take m (h .voices)) ≡ restOf v ms h 0 zero32 (take m (h .voices))
+    by-tick : (u v : Tick) (m : ℕ) (z : Bool) → eqb m 0 ≡ z → restFrom (cond z u v) ms h 0 zero32 (take m (h .voices)) ≡ restFrom v ms h 0 zero32 (take m (h .voices))
     by-tick u v m true f = rest-same u v m (eqb-true m 0 f)
     by-tick u v m false f = refl
 
-    module _ (e : restOf t ms (withVoices l (h .count) h) k out [] ≡ restOf t ms h 0 zero32 (take n (h .voices))) where
-      ended : left (voicesLeftOf n k (h .count)) ≡ playedBy p time len ms h
+    module _ (e : restBy t ms (withVoices l (h .count) h) g [] ≡ goal) where
+      ended : left (voicesLeftOf n (g .kept) (h .count)) ≡ playedBy p time len ms h
       unfolding playedBy sharedOf turnCountOf
       ended =
           let v = tickOf p time len in
-          ended-at v (eqb len 0) (sym (rest-end t ms (withVoices l (h .count) h) k out) ∙ e ∙ by-tick unusedTick v n (eqb n 0) refl)
+          ended-at v (eqb len 0) (sym (rest-none t ms (withVoices l (h .count) h) g) ∙ e ∙ by-tick unusedTick v n (eqb n 0) refl)
 
     -- the same of the channel that the plain turns left
-    module _ (d : Channel) (count : d .count ≡ h .count) (e : restOf t ms (withVoices l (d .count) d) k out [] ≡ goal) where
+    module _ (d : Channel) (count : d .count ≡ h .count) (e : restBy t ms (withVoices l (d .count) d) g [] ≡ goal) where
       head : d .head ≡ h .head
       head = ap (λ (r : Played). r .channel .head) e
 
       back : withVoices l (d .count) d ≡ withVoices l (h .count) h
       back = ap (λ (c : ℕ). record { voices = l; count = c; head = d .head }) count ∙ ap (λ (t : Head). record { voices = l; count = h .count; head = t }) head
 
-      ends-so : left (voicesLeftOf n k (h .count)) ≡ playedBy p time len ms h
-      ends-so = ended (ap (λ (c : Channel). restOf t ms c k out []) (sym back) ∙ e)
+      ends-so : left (voicesLeftOf n (g .kept) (h .count)) ≡ playedBy p time len ms h
+      ends-so = ended (ap (λ (c : Channel). restBy t ms c g []) (sym back) ∙ e)
 
-      pub ended-output : out ≡ playedBy p time len ms h .output
-      ended-output = ap (λ (r : Played). r .output) ends-so
+      pub ended-heard : record { output = g .output; moved = g .moved } ≡ heardOf (playedBy p time len ms h)
+      ended-heard = ap heardOf ends-so
 
-      pub ended-channel : withVoices l (voicesLeftOf n k (d .count)) d ≡ playedBy p time len ms h .channel
-      ended-channel = ap (λ (c : Channel). withVoices l (voicesLeftOf n k (c .count)) c) back ∙ ap (λ (r : Played). r .channel) ends-so
+      pub ended-channel : withVoices l (voicesLeftOf n (g .kept) (d .count)) d ≡ playedBy p time len ms h .channel
+      ended-channel = ap (λ (c : Channel). withVoices l (voicesLeftOf n (g .kept) (c .count)) c) back ∙ ap (λ (r : Played). r .channel) ends-so
 
 -- ---- a sample, once it is recorded: the voices play and leave the head as it was, which is closed
 module _ (p : Params) (time len : ℕ) (m : List ℕ) (c : Channel) where
@@ -130,12 +218,12 @@ module _ (p : Params) (time len : ℕ) (m : List ℕ) (c : Channel) where
   unfolding playedBy playedOf
   same-head = go (eqb len 0)
     where
-      go : (z : Bool) → cond z (record { channel = c; output = zero32 }) (playedOf (tickOf p time len) m c) .channel .head ≡ c .head
+      go : (z : Bool) → cond z (record { channel = c; output = zero32; moved = 0 }) (playedOf (tickOf p time len) m c) .channel .head ≡ c .head
       go true = refl
       go false = refl
 
 abbrev closing : Params → Float → Head → Played → Played
-closing p x t r = record { channel = withHead (closedOf p (anyUnfinishedOf (r .channel)) t) (r .channel); output = mixedOf x (r .output) t }
+closing p x t r = record { channel = withHead (closedOf p (anyUnfinishedOf (r .channel)) t) (r .channel); output = mixedOf x (r .output) t; moved = r .moved }
 
 module _ (p : Params) (x : Float) (m : List ℕ) (c : Channel) where
   abbrev given : Played

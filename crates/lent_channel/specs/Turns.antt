@@ -1,9 +1,9 @@
 -- What the steps around the loops over a lent channel work out. Definitions only.
 use mathlib.Core.Path.{_≡_}
 use Prim.Native.Nat.{ℕ, _+_, _≤_, min}
-use mathlib.Core.Bool.{Bool, false, _&&_, cond}
+use mathlib.Core.Bool.{Bool, false, not, _&&_, cond}
 use mathlib.Core.List.{List}
-use lib.Dec.{leb, eqb}
+use lib.Dec.{leb, ltb, eqb}
 use lib.ListN.{length, take}
 use lib.Seq.{sets, slice}
 use lib.Ieee.{Float}
@@ -14,15 +14,17 @@ use Rattle.binary32.specs.Leaves.{zero32}
 use Rattle.walks.specs.Walks.{fold}
 use Rattle.voice.specs.declared.Voice.{Voice}
 use Rattle.voice.specs.declared.Tick.{Tick}
-use Rattle.voice.specs.Voices.{tickOf, shouldRemoveOf, productOf}
+use Rattle.voice.specs.Voices.{tickOf, turnOf, shouldRemoveOf, productOf}
 use Rattle.channel.specs.declared.Head.{Head}
 use Rattle.channel.specs.declared.Channel.{Channel}
 use Rattle.channel.specs.declared.Played.{Played}
 use Rattle.channel.specs.Heads.{goodHead, mixedOf}
-use Rattle.channel.specs.Channels.{withVoices, keptOf, addedOf, playedOf}
+use Rattle.channel.specs.Channels.{withVoices, keptOf, tidiedOf, addedOf, playedOf}
 use Rattle.lent_channel.specs.declared.Start.{Start}
 use Rattle.lent_channel.specs.declared.Heard.{Heard}
 use Rattle.lent_channel.specs.declared.Glided.{Glided}
+use Rattle.lent_channel.specs.declared.Going.{Going}
+use Rattle.lent_channel.specs.declared.Turn.{Turn}
 
 -- how many voices take a turn: none if the recording is empty, otherwise as many as there are, and never more than
 -- there are places
@@ -55,31 +57,54 @@ voicesLeftOf turns kept count = cond (eqb turns 0) count kept
 -- the voices play if the recording isn't empty: a channel's `playedIfOf`, at a clock and with a recording's length that
 -- are given
 unfoldable pub playedBy : Params → ℕ → ℕ → List ℕ → Channel → Played
-playedBy p time len m c = cond (eqb len 0) (record { channel = c; output = zero32 }) (playedOf (tickOf p time len) m c)
+playedBy p time len m c = cond (eqb len 0) (record { channel = c; output = zero32; moved = 0 })
+    (playedOf (tickOf p time len) m c)
 
--- what the turns of the voices vs give, where k voices before them took theirs and stayed, and `out` was heard of them:
--- those that stay stand behind the k, and what is heard is added
+-- what the turns of the voices vs give, where k voices before them took theirs and all stayed, and `out` was heard of
+-- them: those that stay stand behind the k, what is heard is added, and none of the k moved up
 abbrev pub restFrom : Tick → List ℕ → Channel → ℕ → Float → List Voice → Played
 restFrom t m c k out vs = record {
   channel = withVoices (sets (c .voices) k (keptOf t m vs)) (k + length (keptOf t m vs)) c;
   output = fold (λ (out : Float) (v : Voice). addedOf (shouldRemoveOf t v) out (productOf t m v)) out vs;
+  moved = tidiedOf t m vs;
 }
 
 -- What plain turns promise, from channel c to d: what the turns of the voices from `upto` on give on d, with the output
--- so far, is what all of them give on c; and the count is as it was. How far they go is left open.
+-- so far, is what all of them give on c, and so none of them moved up; and the count is as it was. How far they go is
+-- left open.
 pub record Glides (s : Start) (m : List ℕ) (c d : Channel) (g : Glided) : Type 0 where
   pub few : g .upto ≤ min (s .turns) 32
   pub count : d .count ≡ c .count
   pub same : restFrom (s .tick) m d (g .upto) (g .output) (slice (g .upto) (min (s .turns) 32) (d .voices))
       ≡ restFrom (s .tick) m c 0 zero32 (take (min (s .turns) 32) (c .voices))
 
+-- where the turns stand after the plain ones: each of those voices stayed in its place
+unfoldable pub afterPlain : Glided → Going
+afterPlain g = record { place = g .upto; kept = g .upto; output = g .output; moved = 0 }
+
+-- the turn of the voice at the next place: one that stays moves up where one before it has left
+unfoldable pub turnedOf : Tick → List ℕ → Going → Voice → Turn
+turnedOf t m g v =
+    let w = turnOf t m v in
+    let gone = shouldRemoveOf t w in
+    record {
+      voice = w;
+      stays = not gone;
+      next = record {
+        place = g .place + 1;
+        kept = cond gone (g .kept) (g .kept + 1);
+        output = addedOf (shouldRemoveOf t v) (g .output) (w .«last_sample_value»);
+        moved = cond gone (g .moved) (cond (ltb (g .kept) (g .place)) (g .moved + 1) (g .moved));
+      };
+    }
+
 -- what of a channel's sample goes up to the frame: all but the channel
 abbrev pub heardOf : Played → Heard
-heardOf r = record { output = r .output }
+heardOf r = record { output = r .output; moved = r .moved }
 
 -- what the voices gave, mixed with the input as the head says
 abbrev pub mixedWith : Head → Float → Heard → Heard
-mixedWith t x h = record { output = mixedOf x (h .output) t }
+mixedWith t x h = record { output = mixedOf x (h .output) t; moved = h .moved }
 
 -- what of a good channel isn't said of its voices
 unfoldable pub headGoodOf : ℕ → Head → ℕ → Bool

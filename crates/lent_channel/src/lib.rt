@@ -2,6 +2,7 @@
 // copied. Each function equals the same definition as that of crate `channel` by value. Those that take a channel lent
 // are proved by hand.
 ghost use mathlib.Core.Path.{_≡_};
+ghost use Prim.Native.Nat.{_≤_, _<_};
 ghost use mathlib.Core.Bool.{_&&_, _||_};
 ghost use lib.Ieee.{binary32, add};
 ghost use Rattle.voice.specs.Voices.{goodVoice};
@@ -23,6 +24,8 @@ ghost use Rattle.lent_channel.specs.Turns.{
   voicesLeftOf,
   playedBy,
   Glides,
+  afterPlain,
+  turnedOf,
   headGoodOf,
   heardOf,
   mixedWith,
@@ -41,9 +44,10 @@ pub struct Start {
     pub turns: usize,
 }
 
-// What a sample of a channel hands up to the frame.
+// What a sample of a channel hands up to the frame: its output, and how many voices moved up as others left.
 pub struct Heard {
     pub output: f32,
+    pub moved: u8,
 }
 
 // What stands where no voice takes a turn: no voice sees it, and nothing is worked out for it.
@@ -191,6 +195,70 @@ fn glide(c: &mut Channel, b: Start, data: &[u32]) -> Glided
     Glided { upto: i, output }
 }
 
+// Where the voices' turns stand: the place of the next, how many have stayed, what was heard of them, and how many of
+// those that stayed moved up.
+pub struct Going {
+    pub place: usize,
+    pub kept: usize,
+    pub output: f32,
+    pub moved: u8,
+}
+
+// What a turn gives: the voice, whether it stays, and where the turns stand then.
+pub struct Turn {
+    pub voice: Voice,
+    pub stays: bool,
+    pub next: Going,
+}
+
+fn after_plain(g: Glided) -> Going
+    ensures { λ r. ⌜ r ≡ afterPlain g ⌝ }
+{
+    Going {
+        place: g.upto,
+        kept: g.upto,
+        output: g.output,
+        moved: 0,
+    }
+}
+
+// The turn of the voice at the next place. One that stays moves up where one before it has left.
+fn turned(g: Going, v: Voice, t: Tick, data: &[u32]) -> Turn
+    requires { ⌜ (g .place < 32) × (g .kept ≤ g .place) × (g .moved ≤ g .place) ⌝ }
+    ensures { λ r. ⌜ r ≡ turnedOf t (now («data» .entry)) g v ⌝ }
+{
+    let voice = v.turn(t, data);
+    let output = channel::sound(g.output, v, voice, t);
+    let place = g.place + 1;
+    if voice.should_remove(t) {
+        return Turn {
+            voice,
+            stays: false,
+            next: Going {
+                place,
+                kept: g.kept,
+                output,
+                moved: g.moved,
+            },
+        };
+    }
+    let moved = if g.kept < g.place {
+        g.moved + 1
+    } else {
+        g.moved
+    };
+    Turn {
+        voice,
+        stays: true,
+        next: Going {
+            place,
+            kept: g.kept + 1,
+            output,
+            moved,
+        },
+    }
+}
+
 // Each voice takes its turn if the recording isn't empty; those that are then to be removed leave, and the others move
 // up in order. Plain turns go first, as far as they go. The clock and the recording's length are the head's.
 fn play(c: &mut Channel, time: usize, data_len: usize, params: Params, data: &[u32]) -> Heard
@@ -200,23 +268,19 @@ fn play(c: &mut Channel, time: usize, data_len: usize, params: Params, data: &[u
     let b = begun(time, data_len, c.count, params);
     let t = b.tick;
     let n = b.turns;
-    let g = glide(c, b, data);
-    let mut output = g.output;
-    let mut k = g.upto;
-    let mut i = g.upto;
-    while i < n {
-        let v = c.voices[i];
-        let w = v.turn(t, data);
-        output = channel::sound(output, v, w, t);
-        let gone = w.should_remove(t);
-        if !gone {
-            c.voices[k] = w;
-            k = k + 1;
+    let mut g = after_plain(glide(c, b, data));
+    while g.place < n {
+        let r = turned(g, c.voices[g.place], t, data);
+        if r.stays {
+            c.voices[g.kept] = r.voice;
         }
-        i = i + 1;
+        g = r.next;
     }
-    c.count = counted(n, k, c.count);
-    Heard { output }
+    c.count = counted(n, g.kept, c.count);
+    Heard {
+        output: g.output,
+        moved: g.moved,
+    }
 }
 
 // What the voices gave, mixed with the input.
@@ -225,6 +289,7 @@ fn mixed(head: Head, input: f32, heard: Heard) -> Heard
 {
     Heard {
         output: head.mixed(input, heard.output),
+        moved: heard.moved,
     }
 }
 

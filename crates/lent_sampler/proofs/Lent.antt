@@ -1,8 +1,8 @@
 -- The sampler and what its calls answer, as rows of `Rows.antt`.
 use mathlib.Core.Path.{_≡_, refl, ap}
 use Prim.Native.Nat.{ℕ}
-use mir.Syntax.{w8, w64, tnil}
-use mir.Val.{vnil}
+use mir.Syntax.{w8, w64, tyInt, tcons, tnil}
+use mir.Val.{vint, vcons, vnil}
 use denote.Steps.{only}
 use denote.Struct.Laws as LL
 use Rattle.sampler.proofs.Sampler as T
@@ -11,6 +11,8 @@ use Rattle.sampler.proofs.Ran as R
 use Rattle.sampler.proofs.Ran.Laws as R′
 use Rattle.lent_sampler.proofs.FrameAsked as F
 use Rattle.lent_sampler.proofs.FrameAsked.Laws as F′
+use Rattle.lent_sampler.proofs.FrameDone as D
+use Rattle.lent_sampler.proofs.FrameDone.Laws as D′
 use Rattle.lent_sampler.proofs.RunAsked as G
 use Rattle.lent_sampler.proofs.RunAsked.Laws as G′
 use Rattle.lent_sampler.proofs.Sampled as Y
@@ -91,6 +93,9 @@ sampling = record {
 abbrev pub ran : Datum
 ran = struct R.the-type R′.the-laws R′.the-plain
 
+abbrev pub frame-done : Datum
+frame-done = struct D.the-type D′.the-laws D′.the-plain
+
 -- what is asked before a frame, and before a run, is played
 abbrev pub frame-asked : Datum
 frame-asked = struct F.the-type F′.the-laws F′.the-plain
@@ -124,14 +129,14 @@ run-asking = record {
   typed = λ 𝓤 H A W r v is. LL.lawful G.the-type G′.the-laws 𝓤 H A W .typed r _ is .0;
 }
 
--- what a channel's sample hands up: a field more of it is one more in `others` and `behind`
+-- what a channel's sample hands up: a field more of it is one more in `others` and in `behind`
 abbrev pub sounded : Sounding
 sounded = record {
   like = Up.the-row;
   name = Up.struct .name;
-  others = tnil;
+  others = tcons (tyInt w8) tnil;
   output = λ r. r .output;
-  behind = λ r. vnil;
+  behind = λ r. vcons (vint w8 (r .moved)) vnil;
   tells = λ r v is. ap only (LL.tells Up.the-type Up′.the-laws r _ is);
   owed = λ r v is. LL.owed Up.the-type Up′.the-laws r _ is .0;
   typed = λ 𝓤 H A W r v is. LL.lawful Up.the-type Up′.the-laws 𝓤 H A W .typed r _ is .0;

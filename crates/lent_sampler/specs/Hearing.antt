@@ -4,4 +4,4 @@ use Rattle.common_types.specs.declared.Params.{Params}
 use Rattle.lent_channel.specs.declared.Heard.{Heard}
 
 abbrev pub atVolume : Params → Heard → Heard
-atVolume p h = record { output = mul binary32 (p .volume) (h .output) }
+atVolume p h = record { output = mul binary32 (p .volume) (h .output); moved = h .moved }

@@ -13,13 +13,14 @@ ghost use Rattle.sampler.specs.Samplers.{
   sampleMemory,
   Frames,
   framedOf,
+  frameMoved,
   ranOf,
   runAnswer,
 };
 ghost use Rattle.sampler.specs.Samplers.{processSampleOf as sampleOf};
 ghost use Rattle.sampler.specs.Refusals.{goodSizes, frameNumber};
 ghost use Rattle.channel.specs.Channels.{processSampleOf, memoryOf};
-ghost use Prim.Native.Nat.{_*_, _-_, _≤_, _<_, min};
+ghost use Prim.Native.Nat.{_+_, _*_, _-_, _≤_, _<_, min};
 ghost use mathlib.Core.Bool.{_&&_, cond};
 ghost use mathlib.Core.List.{[], _∷_, _++_};
 ghost use lib.Dec.{leb, eqb};
@@ -279,10 +280,12 @@ pub fn reset(s: &mut Sampler) -> u8
     change(s, all_reset())
 }
 
-// What a sample of one channel answers: its output, and the number of document 01.
+// What a sample of one channel answers: its output, the number of document 01, and how many voices moved up as others
+// left.
 pub struct Sampled {
     pub output: f32,
     pub number: u8,
+    pub moved: u8,
 }
 
 struct Sampling {
@@ -291,8 +294,12 @@ struct Sampling {
 }
 
 fn sample_of(s: Sampler, channel: usize, input: f32, params: Params, memory: &mut [u32]) -> Sampling
-    ensures { λ r. ⌜ record { sampler = r .sampler; output = r .sampled .output; number = r .sampled .number }
-        ≡ sampleOf s channel input params (now (memory .entry)) ⌝ }
+    ensures { λ r. ⌜ record {
+      sampler = r .sampler;
+      output = r .sampled .output;
+      number = r .sampled .number;
+      moved = r .sampled .moved;
+    } ≡ sampleOf s channel input params (now (memory .entry)) ⌝ }
     ensures { λ r. ⌜ now (memory .exit) ≡ sampleMemory s channel input params (now (memory .entry)) ⌝ }
 {
     let r = s.process_sample(channel, input, params, memory);
@@ -300,6 +307,7 @@ fn sample_of(s: Sampler, channel: usize, input: f32, params: Params, memory: &mu
     let sampled = Sampled {
         output: r.output,
         number: r.number,
+        moved: r.moved,
     };
     Sampling { sampler, sampled }
 }
@@ -312,7 +320,7 @@ pub fn process_sample(
     params: Params,
     memory: &mut [u32],
 ) -> Sampled
-    ensures { λ r. ⌜ (record { sampler = now (s .exit); output = r .output; number = r .number }
+    ensures { λ r. ⌜ (record { sampler = now (s .exit); output = r .output; number = r .number; moved = r .moved }
         ≡ sampleOf (now (s .entry)) channel input params (now (memory .entry)))
         × (now (memory .exit) ≡ sampleMemory (now (s .entry)) channel input params (now (memory .entry))) ⌝ }
 {
@@ -678,6 +686,7 @@ fn at_volume(params: Params, heard: Heard) -> Heard
 {
     Heard {
         output: params.volume * heard.output,
+        moved: heard.moved,
     }
 }
 
@@ -705,26 +714,71 @@ fn part_sample(
     at_volume(params, heard)
 }
 
+// What a frame answers: its number, and how many voices of its channels moved up.
+pub struct FrameDone {
+    pub number: u8,
+    pub moved: u8,
+}
+
+// The voices that moved up so far, with those of one entry more. A run answers none of them; both calls have one shape,
+// and so one proof.
+fn frame_moved(moved: u8, heard: Heard) -> u8
+    ensures { λ r. ⌜ r ≡ min 255 (moved + heard .moved) ⌝ }
+{
+    if heard.moved < 255 - moved {
+        moved + heard.moved
+    } else {
+        255
+    }
+}
+
+fn run_moved(moved: u8, _heard: Heard) -> u8
+    ensures { λ r. ⌜ r ≡ moved ⌝ }
+{
+    moved
+}
+
+fn frame_done(number: u8, moved: u8) -> FrameDone
+    ensures { λ r. ⌜ r ≡ record { number = number; moved = moved } ⌝ }
+{
+    FrameDone { number, moved }
+}
+
+fn run_done(ran: Ran, _moved: u8) -> Ran
+    ensures { λ r. ⌜ r ≡ ran ⌝ }
+{
+    ran
+}
+
 // A sample of each channel in turn, each entry of the frame replaced by its output.
-pub fn process_frame(s: &mut Sampler, frame: &mut [f32], params: Params, memory: &mut [u32]) -> u8
-    ensures { λ r. ⌜ (r
+pub fn process_frame(
+    s: &mut Sampler,
+    frame: &mut [f32],
+    params: Params,
+    memory: &mut [u32],
+) -> FrameDone
+    ensures { λ r. ⌜ (r .number
         ≡ frameNumber (now (s .entry)) (length (now (frame .entry))) params (length (now (memory .entry))))
         × Frames (framedOf (now (s .entry)) (now (frame .entry)) params (now (memory .entry))) (now (s .exit))
-        (now (frame .exit)) (now (memory .exit)) ⌝ }
+        (now (frame .exit)) (now (memory .exit))
+        × (r .moved ≡ frameMoved (now (s .entry)) (now (frame .entry)) params (now (memory .entry))) ⌝ }
 {
     let entries = frame.len();
     let asked = frame_asked(s, entries, params, memory.len());
     let n = asked.entries;
     let capacity = s.capacity;
+    let mut moved = 0;
     let mut i: usize = 0;
     while i < n {
         let j = frame_channel(i, s.count);
         let start = sampler::part_start(j, capacity);
         let end = start + capacity;
-        frame[i] = part_sample(&mut s.channels[j], params, frame[i], memory, start, end).output;
+        let heard = part_sample(&mut s.channels[j], params, frame[i], memory, start, end);
+        frame[i] = heard.output;
+        moved = frame_moved(moved, heard);
         i += 1;
     }
-    asked.number
+    frame_done(asked.number, moved)
 }
 
 // A run of frames: entry i * count + j is channel j's of frame i. It has a loop of its own: one that it shared with the
@@ -739,13 +793,16 @@ pub fn process_frames(s: &mut Sampler, run: &mut [f32], params: Params, memory: 
     let asked = run_asked(s, entries, params, memory.len());
     let n = asked.entries;
     let capacity = s.capacity;
+    let mut moved = 0;
     let mut i: usize = 0;
     while i < n {
         let j = run_channel(i, s.count);
         let start = sampler::part_start(j, capacity);
         let end = start + capacity;
-        run[i] = part_sample(&mut s.channels[j], params, run[i], memory, start, end).output;
+        let heard = part_sample(&mut s.channels[j], params, run[i], memory, start, end);
+        run[i] = heard.output;
+        moved = run_moved(moved, heard);
         i += 1;
     }
-    asked.ran
+    run_done(asked.ran, moved)
 }

@@ -11,6 +11,7 @@ use Rattle.decimal.specs.Lines.{lineOf}
 use Rattle.sampler.specs.declared.Answer.{Answer}
 use Rattle.sampler.specs.Refusals.{frameNumber}
 use Rattle.sampler.specs.Samplers.{Frames}
+use Rattle.own_sampler.specs.declared.FramePlayed.{FramePlayed}
 use Rattle.listing.specs.Lines.{frameLine}
 use Rattle.listing.specs.Steps.{clockOf, voicesOf, answeredOf, framedBy, frameOf}
 use Rattle.listing.specs.declared.player.Player.{Player}
@@ -27,6 +28,10 @@ two-of [] d h = absurd (omega arith)
 two-of (x ∷ []) d h = absurd (omega arith)
 two-of (x ∷ y ∷ []) d h = refl
 two-of (x ∷ y ∷ z ∷ l) d h = absurd (omega arith)
+
+-- what a frame leaves, and its number: a listing prints no more of its answer
+abbrev pub answer-of : FramePlayed → Answer
+answer-of r = record { sampler = r .sampler; number = r .done .number }
 
 module _ (y : Player) (inputs : List Float) (m : List ℕ) where
   -- what is printed, and the memory afterwards

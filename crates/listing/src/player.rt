@@ -75,13 +75,14 @@ impl Player {
         let mut frame = [input];
         let a = own_sampler::process_frame(s, &mut frame, params, memory);
         let sampler = a.sampler;
-        if a.number == 0 {
+        let number = a.done.number;
+        if number == 0 {
             Played {
                 player: Player { sampler, params },
                 line: mono_line(before, frame[0], voices(sampler)),
             }
         } else {
-            answered(6, params, a)
+            answered(6, params, Answer { sampler, number })
         }
     }
 
@@ -95,13 +96,14 @@ impl Player {
         let mut frame = [first, second];
         let a = own_sampler::process_frame(s, &mut frame, params, memory);
         let sampler = a.sampler;
-        if a.number == 0 {
+        let number = a.done.number;
+        if number == 0 {
             Played {
                 player: Player { sampler, params },
                 line: stereo_line(before, frame[0], frame[1], voices(sampler)),
             }
         } else {
-            answered(6, params, a)
+            answered(6, params, Answer { sampler, number })
         }
     }
 

@@ -13,11 +13,13 @@ use sampler::Answer;
 use sampler::RunAnswer;
 use sampler::Sampler;
 
-// What a sample or a frame leaves, with the entries of the frame. A sample is the first.
+// What a sample or a frame leaves, with the entries of the frame, of which a sample is the first, and how many voices
+// moved up.
 pub struct Heard {
     pub sampler: Sampler,
     pub entries: [f32; 3],
     pub number: u8,
+    pub moved: u8,
 }
 
 fn clear(memory: &mut [u32]) {
@@ -75,6 +77,7 @@ pub fn sample(run: Run, fields: &[u8], memory: &mut [u32]) -> Heard
         sampler,
         entries: [a.output, 0.0, 0.0],
         number: a.number,
+        moved: a.moved,
     }
 }
 
@@ -100,6 +103,7 @@ fn stepped(s: Sampler, entries: [f32; 3], p: Params, fields: &[u8], memory: &mut
         sampler,
         entries: frame,
         number: a.number,
+        moved: a.moved,
     }
 }
 
@@ -115,6 +119,7 @@ pub fn frames(run: Run, fields: &[u8], memory: &mut [u32]) -> Heard
         sampler: s,
         entries: [0.0, 0.0, 0.0],
         number: 0,
+        moved: 0,
     };
     let mut i = 0;
     while i < n {

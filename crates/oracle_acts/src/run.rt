@@ -62,12 +62,13 @@ fn put_record(out: &mut [u8; 65536], at: usize, s: Sampler) -> usize
 }
 
 fn put_entries(out: &mut [u8; 65536], at: usize, h: Heard) -> usize
-    requires { ⌜ at + 27 ≤ 65536 ⌝ }
-    ensures { λ r. ⌜ r ≡ at + 27 ⌝ }
+    requires { ⌜ at + 30 ≤ 65536 ⌝ }
+    ensures { λ r. ⌜ r ≡ at + 30 ⌝ }
 {
     let first = put_f32(out, at, h.entries[0]);
     let second = put_f32(out, first, h.entries[1]);
-    put_f32(out, second, h.entries[2])
+    let third = put_f32(out, second, h.entries[2]);
+    put(out, third, 2, h.moved as u64)
 }
 
 // The entries of a run of frames.

@@ -6,8 +6,10 @@ use Rattle.sampler.proofs.Answer.Laws as S′
 use Rattle.sampler.proofs.RunAnswer as R
 use Rattle.sampler.proofs.RunAnswer.Laws as R′
 use Rattle.lent_channel.proofs.Rows.{word}
-use Rattle.lent_sampler.proofs.Lent.{sampler, ran}
+use Rattle.lent_sampler.proofs.Lent.{sampler, ran, frame-done}
 use Rattle.own_sampler.proofs.Own.{Answered}
+use Rattle.own_sampler.proofs.FramePlayed as P
+use Rattle.own_sampler.proofs.FramePlayed.Laws as P′
 
 abbrev pub answer : Answered sampler (word w8)
 answer = record {
@@ -33,4 +35,17 @@ run-answer = record {
   is = λ t n is isn. LL.owes R.the-type R′.the-laws (record { sampler = t; ran = n }) (is, (isn, tt));
   typed = λ 𝓤 H A W x v is. LL.lawful R.the-type R′.the-laws 𝓤 H A W .typed x _ is .0;
   makes = λ 𝓤 H A W. LL.makes R.the-type R′.the-plain 𝓤 H A;
+}
+
+abbrev pub frame-played : Answered sampler frame-done
+frame-played = record {
+  like = P.the-row;
+  ty = P′.mir;
+  make = λ t n. record { sampler = t; done = n };
+  sampler = λ r. r .sampler;
+  number = λ r. r .done;
+  said = λ Says t n x. x;
+  is = λ t n is isn. LL.owes P.the-type P′.the-laws (record { sampler = t; done = n }) (is, (isn, tt));
+  typed = λ 𝓤 H A W x v is. LL.lawful P.the-type P′.the-laws 𝓤 H A W .typed x _ is .0;
+  makes = λ 𝓤 H A W. LL.makes P.the-type P′.the-plain 𝓤 H A;
 }

@@ -1,8 +1,8 @@
 -- The walk of `fn f(mut s: T, frame: &mut [f32], params: P, memory: &mut [u32]) -> S { let n = g(&mut s, frame, params, memory); S { sampler: s, number: n } }`, whatever row n has, over rows of `lent`'s `Rows.antt`: a function that
 -- lends a record of its own for one call.
 --     Answered T Q     a struct of a T and a Q that a function makes
---     g has            ensures λ r. (r ≡ number ..) × Leaves (now (s .entry)) .. (now (s .exit)) ..
---     f has            ensures λ r. (r .number ≡ number ..) × Leaves s .. (r .sampler) ..
+--     g has            ensures λ r. Does (now (s .entry)) .. r (now (s .exit)) ..
+--     f has            ensures λ r. Does s .. (r .number) (r .sampler) ..
 --     own              f meets its contract, from g's
 -- The record lies in a local. It is lent for a lifetime that is made for the call, and comes back at its last value. The frame and the memory go to g for good. Assumes `Given`.
 use mathlib.Core.Path.{_≡_, refl, ap, subst}
@@ -71,7 +71,7 @@ answered T Q S = record {
   coded = S .like .coded;
 }
 
-module _ (T P Q : Datum) (S : Answered T Q) (k : Name) (number : T .like .Denot → ℕ → P .like .Denot → ℕ → Q .like .Denot) (Leaves : T .like .Denot → List Float → P .like .Denot → List ℕ → T .like .Denot → List Float → List ℕ → Type 0) where
+module _ (T P Q : Datum) (S : Answered T Q) (k : Name) (Does : T .like .Denot → List Float → P .like .Denot → List ℕ → Q .like .Denot → T .like .Denot → List Float → List ℕ → Type 0) where
   abbrev Tr : RattleType
   Tr = row T
 
@@ -105,10 +105,6 @@ module _ (T P Q : Datum) (S : Answered T Q) (k : Name) (number : T .like .Denot 
     signature = record { lifetimes = 2; outlives = []; params = plain (λ _. Tr) ∷ SliceRefMutOf (0 ∷ []) tt (plain (λ _. f32)) (λ _. tt) ∷ plain (λ _. row P) ∷ SliceRefMutOf (1 ∷ []) tt (plain (λ _. u32)) (λ _. tt) ∷ []; result = plain (λ _. Sr) };
     kept = (yes, (yes, (yes, (yes, tt))));
   }
-
-  -- what g ensures
-  abbrev Does : T .like .Denot → List Float → P .like .Denot → List ℕ → Q .like .Denot → T .like .Denot → List Float → List ℕ → Type 0
-  Does h l p m r t l′ m′ = (r ≡ number h (length l) p (length m)) × Leaves h l p m t l′ m′
 
   abbrev clauses : {M : Type 1} (𝓤 : URA M) → Clauses 𝓤 ended
   clauses 𝓤 κs a = record { ghost = Unit {0}; requires = λ _. emp 𝓤; ensures = λ _ r e. fact 𝓤 (Does (a .0) (now (a .1 .0)) (a .1 .1 .0) (now (a .1 .1 .1 .0)) (S .number r) (S .sampler r) (now (e .1 .0)) (now (e .1 .1 .1 .0))) }

@@ -4,24 +4,31 @@
 ghost use mathlib.Core.Path.{_≡_};
 ghost use lib.ListN.{length};
 ghost use Rattle.sampler.specs.Refusals.{frameNumber};
-ghost use Rattle.sampler.specs.Samplers.{Frames, framedOf, ranOf, runAnswer};
+ghost use Rattle.sampler.specs.Samplers.{Frames, framedOf, frameMoved, ranOf, runAnswer};
 use common_types::Params;
-use sampler::Answer;
+use lent_sampler::FrameDone;
 use sampler::RunAnswer;
 use sampler::Sampler;
+
+// What a frame leaves, and what it answers.
+pub struct FramePlayed {
+    pub sampler: Sampler,
+    pub done: FrameDone,
+}
 
 pub fn process_frame(
     mut s: Sampler,
     frame: &mut [f32],
     params: Params,
     memory: &mut [u32],
-) -> Answer
-    ensures { λ r. ⌜ (r .number ≡ frameNumber s (length (now (frame .entry))) params (length (now (memory .entry))))
+) -> FramePlayed
+    ensures { λ r. ⌜ (r .done .number
+        ≡ frameNumber s (length (now (frame .entry))) params (length (now (memory .entry))))
         × Frames (framedOf s (now (frame .entry)) params (now (memory .entry))) (r .sampler) (now (frame .exit))
-        (now (memory .exit)) ⌝ }
+        (now (memory .exit)) × (r .done .moved ≡ frameMoved s (now (frame .entry)) params (now (memory .entry))) ⌝ }
 {
-    let number = lent_sampler::process_frame(&mut s, frame, params, memory);
-    Answer { sampler: s, number }
+    let done = lent_sampler::process_frame(&mut s, frame, params, memory);
+    FramePlayed { sampler: s, done }
 }
 
 pub fn process_frames(

@@ -4,7 +4,7 @@ use mathlib.Core.Bool.{Bool, true, false, cond}
 use mathlib.Core.Logic.{_≢_, ⊎-elim}
 use mathlib.Core.List.{List, [], _∷_, _++_, append-assoc}
 use Prim.Native.Nat.{ℕ, zero, suc, _+_, _-_, _*_, _≤_, _<_}
-use native.Mathlib.Nat.{le-trans, le-of-eq, mul-le-mul-right, suc-mul, zero-add, eq-or-lt-of-le}
+use native.Mathlib.Nat.{le-trans, le-of-eq, mul-le-mul-right, suc-mul, zero-add, eq-or-lt-of-le, le-refl}
 use native.Mathlib.Omega.{arith}
 use borrow.Author.Tests.{ltb-true, ltb-false, eqb-true, eqb-false}
 use lib.Dec.{ltb, eqb}
@@ -20,8 +20,9 @@ use Rattle.channel.specs.Channels.{processSampleOf as channelSampleOf}
 use Rattle.channel.proofs.Samples.{memory-kept}
 use Rattle.sampler.specs.declared.Sampler.{Sampler}
 use Rattle.sampler.specs.Refusals.{channelAt}
-use Rattle.sampler.specs.Samplers.{Steps, framed, partOf, playedAt, channelSteppedOf, outputOf, memoryAt, Framed, entryOf, entriesOf}
+use Rattle.sampler.specs.Samplers.{Steps, framed, partOf, playedAt, channelSteppedOf, outputOf, memoryAt, Framed, entryOf, entriesOf, movedAt, entriesMoved}
 use Rattle.sampler.proofs.Entries.{part-length, memory-at-length}
+use Rattle.promises.specs.Tidies.{sumFrom}
 
 -- ---- parts of a list
 module _ {A : Type 0} where
@@ -138,6 +139,15 @@ room-on p n i f h =
     shift : i + 1 + n ≡ i + suc n
     shift = omega arith
 
+-- what the entries move up is the sum of what each would, made alone on what the frame found
+moved-apart : (p : Params) (g : ℕ → ℕ) (n i : ℕ) (f : Framed) → Room n i f → ((j : ℕ) → i ≤ j → playedBy p (readIn f j) .moved ≡ g j) → entriesMoved p n i f ≡ sumFrom g n i
+unfolding entriesMoved sumFrom movedAt playedAt
+moved-apart p g zero i f r h = refl
+moved-apart p g (suc n) i f r h =
+    λ t. h i (le-refl i) t
+    + moved-apart p g n (i + 1) (entryOf p i f) (room-on p n i f r)
+    (λ j k. ap (λ (q : Reads). playedBy p q .moved) (entry-apart p i f j (λ e. omega arith) (room-here n i f r)) ∙ h j (omega arith)) t
+
 -- What only channel j's own entry changes (`look`) is, after the frame, what that entry makes of what it reads (`goal`); past the last entry it is as it was. `Fits` is what the entry asks beside its part and its place in the frame.
 module _ {X : Type 0} (p : Params) (j : ℕ) (look : Framed → X) (other : (i : ℕ) (f : Framed) → j ≢ i → Held i f → look (entryOf p i f) ≡ look f) where
   entries-before : (n i : ℕ) (f : Framed) → Room n i f → j < i → look (entriesOf p n i f) ≡ look f
@@ -207,3 +217,8 @@ module _ (s : Sampler) (xs : List Float) (p : Params) (m : List ℕ) (h : Steps 
   frame-part =
       entries-frame p j (λ (f : Framed). partOf (f .sampler) j (f .memory)) (λ i f q r. part-apart (f .sampler) i (f .memory) r (getD (f .frame) i zero32) j q) (λ (f : Framed). Unit {0}) (λ i f u. tt)
       (λ (r : Reads). memoryOf (r .input) (r .channel) (r .part)) (λ f u a b. part-own (f .sampler) j (f .memory) a (getD (f .frame) j zero32)) (framed s xs m) tt h
+
+pub frame-moved : (s : Sampler) (xs : List Float) (p : Params) (m : List ℕ) → Steps s (length xs) (length m)
+    → entriesMoved p (length xs) 0 (framed s xs m) ≡ sumFrom (λ (j : ℕ). channelSampleOf p (getD xs j zero32) (channelAt s j) (partOf s j m) .moved) (length xs) 0
+frame-moved s xs p m h =
+    moved-apart p _ (length xs) 0 (framed s xs m) (le-trans (le-of-eq (ap (λ (z : ℕ). z * s .capacity) (zero-add (length xs)))) (h .parts)) (λ j k. refl)

@@ -257,7 +257,7 @@ blank-good : (capacity : ℕ) → goodChannel capacity (channelOf (record { «au
 unfolding goodChannel goodHead goodRecorder goodVoicesOf goodVolume every channelOf headOf
 blank-good capacity = rw (le-leb 0 capacity (omega arith))
 
-record-to : (s : Sampler) → goodSampler s ≡ true → GoodRecord s
+pub record-to : (s : Sampler) → goodSampler s ≡ true → GoodRecord s
 unfolding goodSampler
 record-to s h =
     let g = both (goodSizes (s .count) (s .capacity)) (every (goodChannel (s .capacity)) (present s)) h in

@@ -83,6 +83,7 @@ use Rattle.promises.proofs.Whole.{memory-after}
 use Rattle.promises.proofs.Turns.{in-turn}
 use Rattle.promises.proofs.Makes.{no-panic, third, true-positions, spreads, count-makes, capacity-makes, whole}
 use Rattle.promises.proofs.RunEnds.{run-held, run-done, run-ends}
+use Rattle.promises.proofs.Tidying.{tidying}
 
 -- ---- a refusal
 
@@ -288,6 +289,7 @@ demands = record {
   second = demand2;
   third = third;
   true-positions = true-positions;
+  tidying = tidying;
   in-turn = in-turn;
   spreads = spreads;
   count-stays = count-makes;

@@ -1,7 +1,8 @@
 -- The parts put together are what the contracts cite. Assumes nothing.
 use mathlib.Core.Path.{_≡_, refl, sym, ap}
 use mathlib.Core.Bool.{cond}
-use mathlib.Core.List.{List, [], _∷_}
+use mathlib.Core.List.{List, [], _∷_, map}
+use lib.ListN.{length}
 use Prim.Native.Nat.{ℕ}
 use lib.Ieee.{Float, add}
 use Rattle.common_types.specs.declared.Params.{Params}
@@ -16,9 +17,9 @@ use Rattle.channel.specs.declared.Played.{Played}
 use Rattle.channel.specs.declared.Change.{Change}
 use Rattle.channel.specs.declared.Change.the-variants as change
 use Rattle.channel.specs.Heads.{closedOf}
-use Rattle.channel.specs.Channels.{live, startPlayingOf, keptOf, heardOf, playedOf, playedIfOf, takenOf, memoryOf, processSampleOf, changedOf}
-use Rattle.walks.specs.Walks.{without}
-use Rattle.fates.specs.Engine.{begunOf, passesOver, heardBy, turnedOf, letsGo, leavesOf, leftOf, turnsOf, stepOf}
+use Rattle.channel.specs.Channels.{live, startPlayingOf, keptOf, tidiedOf, heardOf, playedOf, playedIfOf, takenOf, memoryOf, processSampleOf, changedOf}
+use Rattle.walks.specs.Walks.{without, behind}
+use Rattle.fates.specs.Engine.{begunOf, passesOver, heardBy, turnedOf, letsGo, leavesOf, leftOf, movedUp, turnsOf, stepOf}
 use Rattle.fates.specs.Events.{changes, sounds, act, tickAt}
 
 pub changes-same : (d : Change) (c : Channel) → act (changes d) c ≡ changedOf d c
@@ -44,9 +45,17 @@ unfolding leftOf keptOf turnedOf turnOf passesOver without
 left-same t m [] = refl
 left-same t m (v ∷ vs) = rw (leaves-same t (turnOf t m v)) (ap (λ (l : List Voice). cond (shouldRemoveOf t (turnOf t m v)) l (turnOf t m v ∷ l)) (left-same t m vs))
 
+up-same : (t : Tick) (m : List ℕ) (vs : List Voice) → movedUp t m vs ≡ tidiedOf t m vs
+unfolding movedUp tidiedOf turnedOf turnOf passesOver behind leftOf keptOf
+up-same t m vs = ap length (go vs)
+  where
+    go : (vs : List Voice) → behind (leavesOf t) (map (turnOf t m) vs) ≡ behind (shouldRemoveOf t) (map (turnOf t m) vs)
+    go [] = refl
+    go (v ∷ vs) = λ i. cond (leaves-same t (turnOf t m v) i) (left-same t m vs i) (go vs i)
+
 turns-same : (t : Tick) (m : List ℕ) (c : Channel) → turnsOf t m c ≡ playedOf t m c
 unfolding turnsOf playedOf heardBy heardOf passesOver
-turns-same t m c = rw (left-same t m (live c))
+turns-same t m c = rw (left-same t m (live c), up-same t m (live c))
 
 pub step-same : (p : Params) (x : Float) (c : Channel) (m : List ℕ) → stepOf p x c m ≡ processSampleOf p x c m
 unfolding stepOf processSampleOf playedIfOf takenOf closedOf add

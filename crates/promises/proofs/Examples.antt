@@ -1,6 +1,6 @@
 -- Runs, computed, that meet the premises of each statement of the demands, so that none of them is empty; and runs that show where a bound lies. Assumes nothing.
 use mathlib.Core.Path.{_≡_, refl, ap}
-use mathlib.Core.Bool.{true, false}
+use mathlib.Core.Bool.{Bool, true, false, not, cond}
 use mathlib.Core.Logic.{_⊎_, inl, inr}
 use mathlib.Core.List.{List, [], _∷_, _++_, map}
 use mathlib.Core.Option.{some}
@@ -20,7 +20,7 @@ use Rattle.common_types.specs.declared.time_value.TimeOrRatio.the-variants.{Rat
 use Rattle.common_types.specs.Settings.{defaultTransport}
 use Rattle.binary32.specs.Leaves.{floorOf, minOf, maxOf, crossingOf, zero32, one32}
 use Rattle.binary32.specs.Wholes.{wholeIn}
-use Rattle.walks.specs.Walks.{any, every, without, fold, seek}
+use Rattle.walks.specs.Walks.{any, every, without, behind, fold, seek}
 use Rattle.common_types.specs.Settings.{speedOf, timeLengthOf, lengthOf, loopLengthOf, lengthBeyond, beyondLimits}
 use Rattle.volume.specs.Levels.{progressOf, levelOf, towardOf, steppedOf, goodRamp, goodVolume}
 use Rattle.recorder.specs.Recording.{raised, inState, misusedOf, skippedOf, startOf, stopOf, recordedOf, dataAfter, goodRecorder}
@@ -36,7 +36,7 @@ use Rattle.voice.specs.Agreeing.{agreesOf}
 use Rattle.channel.specs.declared.Head.{Head}
 use Rattle.channel.specs.Soundness.{FittingChange}
 use Rattle.channel.specs.Heads.{headChangedOf, nextTime, headOf, rampOf, passthruOf, closedOf, goodHead}
-use Rattle.channel.specs.Channels.{live, withHead, channelOf, resetOf, anyUnfinishedOf, handledOf, pushedOf, startPlayingOf, wantedOf, findOf, finishedAtOf, stopPlayingOf, spedOf, setNoteSpeedOf, keptOf, addedOf, heardOf, playedOf, playedIfOf, takenOf, memoryOf, processSampleOf, changedOf, fullOf, goodVoicesOf, goodChannel}
+use Rattle.channel.specs.Channels.{live, withHead, withVoices, channelOf, resetOf, anyUnfinishedOf, handledOf, pushedOf, startPlayingOf, wantedOf, findOf, finishedAtOf, stopPlayingOf, spedOf, setNoteSpeedOf, keptOf, tidiedOf, addedOf, heardOf, playedOf, playedIfOf, takenOf, memoryOf, processSampleOf, changedOf, fullOf, goodVoicesOf, goodChannel}
 use Rattle.sampler.specs.Refusals.{goodSizes, goodSampler, capacityOf, goodWith, setUpNumber, startNumber, stopNumber, speedNumber, plainNumber, sampleNumber, frameNumber, latestOf, roomOf, runNumber, doneOf, channelNumber}
 use Rattle.sampler.specs.declared.Sampler.{Sampler}
 use Rattle.sampler.specs.declared.Ran.{Ran}
@@ -44,8 +44,8 @@ use Rattle.questions.specs.declared.VoiceInfo.{VoiceInfo}
 use Rattle.questions.specs.declared.Counted.the-variants as counted
 use Rattle.questions.specs.Questions.{notesOf, listNumber, voiceInfoOf, infoNumber}
 use Rattle.questions.specs.Waveforms.{waveformNumber}
-use Rattle.sampler.specs.Samplers.{withChannels, setUpOf, eachOf, answerOf, partOf, playedAt, channelSteppedOf as sampledOf, outputOf, memoryAt, processSampleOf as sampleOf, sampleMemory, entryOf, entriesOf, framedOf, framesOf, ranOf, runAnswer}
-use Rattle.fates.specs.Engine.{begunOf, passesOver, heardBy, turnedOf, letsGo, leavesOf, leftOf, turnsOf, stepOf}
+use Rattle.sampler.specs.Samplers.{withChannels, setUpOf, eachOf, answerOf, partOf, playedAt, channelSteppedOf as sampledOf, outputOf, movedAt, memoryAt, processSampleOf as sampleOf, sampleMemory, entryOf, entriesOf, entriesMoved, framedOf, frameMoved, framesOf, ranOf, runAnswer}
+use Rattle.fates.specs.Engine.{begunOf, passesOver, heardBy, turnedOf, letsGo, leavesOf, leftOf, movedUp, turnsOf, stepOf}
 use Rattle.fates.specs.Events.{tickAt, act, isReset, isSample, decayOf}
 use Rattle.fates.specs.Sounding.{termsOf}
 use Rattle.fates.specs.Steady.{disagrees, alters, alteredIn}
@@ -62,7 +62,7 @@ use Rattle.promises.proofs.TruePositions.{true-positions}
 
 -- whatever a run computes by
 unfoldable pub computing : Unit {0}
-unfolding floorOf minOf maxOf crossingOf any every without fold seek speedOf timeLengthOf lengthOf loopLengthOf lengthBeyond beyondLimits progressOf levelOf towardOf steppedOf goodRamp goodVolume raised inState misusedOf skippedOf startOf stopOf recordedOf dataAfter goodRecorder leadOf travelAt loopedOf roundTripOf mirroredOf bouncedOf wrappedOf placedOf clipOffsetAt clipToDataOf offsetAt indexAt madeOf backOf foundAt reversingAt shiftFor settledOf withSpeed withMode withLength withDataLength goodLength goodClip tickOf lateOf overOf shouldRemoveOf movedOf productOf soundedOf finishOf playedOutOf endedOf volumeStepped turnOf freshOf blankVoice atSpeedOf goodVoice nextTime headOf rampOf passthruOf closedOf goodHead channelOf resetOf anyUnfinishedOf handledOf pushedOf startPlayingOf wantedOf findOf finishedAtOf stopPlayingOf spedOf setNoteSpeedOf headChangedOf keptOf addedOf heardOf playedOf playedIfOf takenOf begunOf passesOver heardBy turnedOf letsGo leavesOf leftOf turnsOf stepOf memoryOf processSampleOf changedOf fullOf goodVoicesOf goodChannel goodSizes goodSampler capacityOf goodWith setUpNumber startNumber stopNumber speedNumber plainNumber sampleNumber frameNumber channelNumber notesOf listNumber setUpOf eachOf answerOf partOf playedAt sampledOf outputOf memoryAt sampleOf sampleMemory entryOf entriesOf framedOf act isReset isSample decayOf fateOf follow stops becomes addedBy outOf playsOut followAll stoppedIn finishedIn agreesOf disagrees alters alteredIn setUp questionNumber code after run doneTo event events isResetCall output before add sub mul div rem neg lt le eq ofInt toUnsigned isNan ofBits toBits nanBits ofFields latestOf roomOf runNumber doneOf framesOf ranOf runAnswer
+unfolding floorOf minOf maxOf crossingOf any every without behind fold seek speedOf timeLengthOf lengthOf loopLengthOf lengthBeyond beyondLimits progressOf levelOf towardOf steppedOf goodRamp goodVolume raised inState misusedOf skippedOf startOf stopOf recordedOf dataAfter goodRecorder leadOf travelAt loopedOf roundTripOf mirroredOf bouncedOf wrappedOf placedOf clipOffsetAt clipToDataOf offsetAt indexAt madeOf backOf foundAt reversingAt shiftFor settledOf withSpeed withMode withLength withDataLength goodLength goodClip tickOf lateOf overOf shouldRemoveOf movedOf productOf soundedOf finishOf playedOutOf endedOf volumeStepped turnOf freshOf blankVoice atSpeedOf goodVoice nextTime headOf rampOf passthruOf closedOf goodHead channelOf resetOf anyUnfinishedOf handledOf pushedOf startPlayingOf wantedOf findOf finishedAtOf stopPlayingOf spedOf setNoteSpeedOf headChangedOf keptOf tidiedOf addedOf heardOf playedOf playedIfOf takenOf begunOf passesOver heardBy turnedOf letsGo leavesOf leftOf movedUp turnsOf stepOf memoryOf processSampleOf changedOf fullOf goodVoicesOf goodChannel goodSizes goodSampler capacityOf goodWith setUpNumber startNumber stopNumber speedNumber plainNumber sampleNumber frameNumber channelNumber notesOf listNumber setUpOf eachOf answerOf partOf playedAt sampledOf outputOf movedAt memoryAt sampleOf sampleMemory entryOf entriesOf entriesMoved framedOf frameMoved act isReset isSample decayOf fateOf follow stops becomes addedBy outOf playsOut followAll stoppedIn finishedIn agreesOf disagrees alters alteredIn setUp questionNumber code after run doneTo event events isResetCall output before add sub mul div rem neg lt le eq ofInt toUnsigned isNan ofBits toBits nanBits ofFields latestOf roomOf runNumber doneOf framesOf ranOf runAnswer
 computing = tt
 
 -- ---- parameters, keys, calls
@@ -585,3 +585,48 @@ run-rows-met = (refl, refl, refl, refl, refl)
 pub run-rest-met : ranOf (clocked (2 ^ 48 - 1) 0) (half ∷ half ∷ half ∷ two ∷ []) plain cells .frame ≡ zero32 ∷ zero32 ∷ half ∷ two ∷ []
 unfolding computing
 run-rest-met = refl
+
+-- ---- 12/12: each channel with 32 voices, of which those marked are finished and leave in the next sample
+abbrev marked : Bool → Voice
+marked ends =
+    let v = freshOf plain zero32 (key 60) one32 2 2 in
+    cond ends (finishOf 2 0 v) v
+
+abbrev letGo : List Bool → World
+letGo marks =
+    let w = since [] in
+    let vs = map marked marks in
+    record {
+      sampler = withChannels (withVoices vs 32 (chan w 0) ∷ withVoices vs 32 (chan w 1) ∷ []) (w .sampler);
+      memory = w .memory;
+    }
+
+-- every second, n times
+abbrev seconds : Bool → ℕ → List Bool
+seconds ends zero = []
+seconds ends (suc n) = ends ∷ not ends ∷ seconds ends n
+
+abbrev inSample : Params → List Bool → ℕ
+inSample p marks = sampleOf (letGo marks .sampler) 1 zero32 p (letGo marks .memory) .moved
+
+abbrev inFrame : List Float → List Bool → ℕ
+inFrame xs marks = frameMoved (letGo marks .sampler) xs plain (letGo marks .memory)
+
+abbrev firstOf32 : List Bool
+firstOf32 = true ∷ replicate 31 false
+
+-- the first leaves, the last, every second from the first and from the second, all, none; refused (row 4)
+pub moved-met : (inSample plain firstOf32 ≡ 31)
+    × (inSample plain (replicate 31 false ++ (true ∷ [])) ≡ 0)
+    × (inSample plain (seconds true 16) ≡ 16)
+    × (inSample plain (seconds false 16) ≡ 15)
+    × (inSample plain (replicate 32 true) ≡ 0)
+    × (inSample plain (replicate 32 false) ≡ 0)
+    × (inSample (with 16777217 loop.Loop off.Decay) firstOf32 ≡ 0)
+unfolding computing
+moved-met = (refl, refl, refl, refl, refl, refl, refl)
+
+-- on both channels, on one of two, and in a frame that is refused (row 1)
+pub frame-moved-met : (inFrame (zero32 ∷ zero32 ∷ []) firstOf32 ≡ 62) × (inFrame (zero32 ∷ []) firstOf32 ≡ 31) × (inFrame (zero32 ∷ zero32 ∷ zero32 ∷ []) firstOf32 ≡ 0)
+unfolding computing
+frame-moved-met = (refl, refl, refl)

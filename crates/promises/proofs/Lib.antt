@@ -15,6 +15,7 @@ pub mod Table
 pub mod Broken
 pub mod Rows
 pub mod SmallParts
+pub mod Tidying
 pub mod Demands
 pub mod Examples
 pub mod Edges

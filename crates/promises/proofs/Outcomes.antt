@@ -14,7 +14,7 @@ use Rattle.sampler.specs.declared.Answer.{Answer}
 use Rattle.sampler.specs.declared.SampleAnswer.{SampleAnswer}
 use Rattle.sampler.specs.Refusals.{channelAt, frameNumber}
 use Rattle.common_types.specs.declared.Params.{Params}
-use Rattle.sampler.specs.Samplers.{answerOf, processSampleOf, sampleMemory, framedOf, ranOf, runAnswer}
+use Rattle.sampler.specs.Samplers.{answerOf, processSampleOf, sampleMemory, framedOf, frameMoved, ranOf, runAnswer}
 use Rattle.questions.specs.declared.VoiceInfos.{VoiceInfos}
 use Rattle.questions.specs.declared.Counted.the-variants as counted
 use Rattle.lent_sampler.specs.Lists.{countedOf, voiceInfoCounted, voiceInfoAfter}
@@ -63,12 +63,12 @@ settled (on w (frame xs p)) =
     let f = framedOf (w .sampler) xs p (w .memory) in
     record {
       outcome = record {
-        answer = record { sampler = f .sampler; number = frameNumber (w .sampler) (length xs) p (length (w .memory)) };
+        answer = record { sampler = f .sampler; number = frameNumber (w .sampler) (length xs) p (length (w .memory)); moved = frameMoved (w .sampler) xs p (w .memory) };
         frame = f .frame;
         memory = f .memory;
       };
-      allowed = (refl, record { sampler = refl; frame = refl; memory = refl });
-      only = λ r h t. record { answer = record { sampler = (h .1 .sampler) t; number = (h .0) t }; frame = (h .1 .frame) t; memory = (h .1 .memory) t };
+      allowed = (refl, record { sampler = refl; frame = refl; memory = refl }, refl);
+      only = λ r h t. record { answer = record { sampler = (h .1 .sampler) t; number = (h .0) t; moved = (h .2) t }; frame = (h .1 .frame) t; memory = (h .1 .memory) t };
     }
 settled (along w xs p) =
     let f = ranOf (w .sampler) xs p (w .memory) in

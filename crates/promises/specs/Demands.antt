@@ -492,6 +492,37 @@ pub record TruePositions (w : World) (j : ℕ) : Type 0 where
       (chan (run w (start position note velocity p₀ ∷ cs)) j) n ≡ at i
       → Shows (after (run w (start position note velocity p₀ ∷ cs)) s) j i ((a + k % l) % d)
 
+-- ==== Request 12/12, after demand 3: "Remove all of a sample's finished voices in one walk that keeps the order."
+
+pub record Tidying (w : World) : Type 0 where
+  -- "The answer of the single-channel sample carries the number of records moved, which is the number of kept voices
+  -- standing behind the first removed one": of the voices that `follow`, by which demand 3 tells them, takes to a place
+  -- before their own;
+  pub kept-behind : (j : ℕ) (x : Float) (p : Params) (r : SampleOutcome) → Allows (on w (sample j x p)) r
+      → r .answer .moved ≡ upIn w (sample j x p) j
+  -- a voice that stays goes to such a place exactly where one before it leaves;
+  pub behind-first : (c : Call) (j n k : ℕ) (v : Voice) → voiceAt (chan w j) n ≡ some v
+      → follow (event w c j) (chan w j) n ≡ at k
+      → (k < n) ↔ ((i : ℕ) × (i < n) × (follow (event w c j) (chan w j) i ≡ gone))
+  -- "and so at most 31."
+  pub bound : (j : ℕ) (x : Float) (p : Params) (r : SampleOutcome) → Allows (on w (sample j x p)) r
+      → r .answer .moved ≤ 31
+  -- "The frame answer carries the sum over its channels, at most 62."
+  pub frame-sum : (xs : List Float) (p : Params) (r : FrameOutcome) → Allows (on w (frame xs p)) r
+      → r .answer .moved ≡ sumFrom (upIn w (frame xs p)) (length xs) 0
+  pub frame-bound : (xs : List Float) (p : Params) (r : FrameOutcome) → Allows (on w (frame xs p)) r
+      → r .answer .moved ≤ 62
+  -- None moves up where none leaves, in a refused call, and on an empty recording.
+  pub none : (c : Call) (j : ℕ)
+      → ((n : ℕ) (v : Voice) → voiceAt (chan w j) n ≡ some v → follow (event w c j) (chan w j) n ≢ gone)
+      → upIn w c j ≡ 0
+  pub refused : (c : Call) → code w c ≢ 0 → (j : ℕ) → upIn w c j ≡ 0
+  pub empty : (j : ℕ) (x : Float) (p : Params) → emptyAt (ownPart w j) (chan w j) ≡ true → upIn w (sample j x p) j ≡ 0
+  -- "Outputs and lists are those of the old removal": what one walk keeps is what is left where the places are noted
+  -- first and then taken away one at a time, the last first. An output is the sum before anything leaves.
+  pub old-removal : (leaves : Voice → Bool) (vs : List Voice)
+      → takenAway (placesOf leaves 0 vs) vs ≡ without leaves vs
+
 -- What holds beside it
 pub record Whole (w : World) : Type 0 where
   -- Row 9 answers no call.
@@ -517,6 +548,8 @@ pub record Demands : Type 0 where
   -- of the same records and channels
   pub true-positions : (count : ℕ) (p : InitParams) (m : List ℕ) → setUpNumber count (length m) ≡ 0
       → (hs : List Made) (j : ℕ) → j < count → TruePositions (makes (setUp count p m) hs) j
+  -- of every record and memory
+  pub tidying : (w : World) → Tidying w
   -- "Demand 3 counts each frame of a run as a sample." What demand 3 says of calls it says of a run's frames: the run
   -- is its frame calls, each one event on the channel, and so are any calls of a host, runs among them.
   pub in-turn : (w : World) → FittingSampler (w .sampler) → (xs : List Float) (p : Params) → FittingParams p

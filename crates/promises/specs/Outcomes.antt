@@ -23,6 +23,7 @@ use Rattle.sampler.specs.Samplers.{
   sampleMemory,
   Frames,
   framedOf,
+  frameMoved,
   ranOf,
   runAnswer,
 }
@@ -130,6 +131,7 @@ Allows (on w (sample j x p)) r = (r .answer ≡ processSampleOf (w .sampler) j x
 Allows (on w (frame xs p)) r =
     (r .answer .number ≡ frameNumber (w .sampler) (length xs) p (length (w .memory)))
     × Frames (framedOf (w .sampler) xs p (w .memory)) (r .answer .sampler) (r .frame) (r .memory)
+    × (r .answer .moved ≡ frameMoved (w .sampler) xs p (w .memory))
 Allows (along w xs p) r =
     (r .answer .ran ≡ runAnswer (w .sampler) (length xs) p (length (w .memory)))
     × Frames (ranOf (w .sampler) xs p (w .memory)) (r .answer .sampler) (r .run) (r .memory)

@@ -13,7 +13,7 @@ use Rattle.channel.specs.declared.Played.{Played}
 use Rattle.channel.specs.Channels.{memoryOf}
 use Rattle.channel.specs.Channels.{processSampleOf as channelSampleOf}
 use Rattle.sampler.specs.Refusals.{channelAt}
-use Rattle.sampler.specs.Samplers.{withChannels, partOf, playedAt, channelSteppedOf, outputOf, memoryAt}
+use Rattle.sampler.specs.Samplers.{withChannels, partOf, playedAt, channelSteppedOf, outputOf, movedAt, memoryAt}
 use Rattle.sampler.specs.declared.Sampler.{Sampler}
 
 -- where `part_start` says that the part of one of the two channels begins
@@ -40,6 +40,10 @@ module _ (s : Sampler) (j a e : ℕ) (m : List ℕ) (starts : a ≡ j * s .capac
     pub output-is : mul binary32 (p .volume) (r .output) ≡ outputOf s j p x m
     unfolding outputOf
     output-is = ap (λ (q : Played). mul binary32 (p .volume) (q .output)) played-is
+
+    pub moved-is : r .moved ≡ movedAt s j p x m
+    unfolding movedAt
+    moved-is = ap (λ (q : Played). q .moved) played-is
 
   pub memory-is : (x : Float) (c : Channel) (last : List ℕ) → c ≡ channelAt s j → last ≡ memoryOf x c (take (e - a) (drop a m))
       → take a m ++ (last ++ drop (e - a) (drop a m)) ≡ memoryAt s j x m

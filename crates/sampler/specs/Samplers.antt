@@ -109,6 +109,10 @@ channelSteppedOf s j p x m = withChannels (set (s .channels) j (playedAt s j p x
 unfoldable pub outputOf : Sampler → ℕ → Params → Float → List ℕ → Float
 outputOf s j p x m = mul binary32 (p .volume) (playedAt s j p x m .output)
 
+-- how many of channel j's voices move up as others leave (request 12/12)
+unfoldable pub movedAt : Sampler → ℕ → Params → Float → List ℕ → ℕ
+movedAt s j p x m = playedAt s j p x m .moved
+
 -- the memory with channel j's part as the sample leaves it
 unfoldable pub memoryAt : Sampler → ℕ → Float → List ℕ → List ℕ
 memoryAt s j x m = take (j * s .capacity) m
@@ -121,6 +125,7 @@ processSampleOf s j x p m =
       sampler = cond (eqb number 0) (channelSteppedOf s j p x m) s;
       output = cond (eqb number 0) (outputOf s j p x m) zero32;
       number = number;
+      moved = cond (eqb number 0) (movedAt s j p x m) 0;
     }
 
 unfoldable pub sampleMemory : Sampler → ℕ → Float → Params → List ℕ → List ℕ
@@ -157,6 +162,16 @@ unfoldable pub framedOf : Sampler → List Float → Params → List ℕ → Fra
 framedOf s frame p m =
     let f = framed s frame m in
     cond (eqb (frameNumber s (length frame) p (length m)) 0) (entriesOf p (length frame) 0 f) f
+
+-- how many voices move up in these entries: the sum over their channels
+unfoldable pub entriesMoved : Params → ℕ → ℕ → Framed → ℕ
+entriesMoved p zero j f = 0
+entriesMoved p (suc n) j f =
+    movedAt (f .sampler) j p (getD (f .frame) j zero32) (f .memory) + entriesMoved p n (j + 1) (entryOf p j f)
+
+unfoldable pub frameMoved : Sampler → List Float → Params → List ℕ → ℕ
+frameMoved s frame p m = cond (eqb (frameNumber s (length frame) p (length m)) 0)
+    (entriesMoved p (length frame) 0 (framed s frame m)) 0
 
 -- ---- a run of frames (request 3/12): the front entries, one for each channel in use, as a frame, then the rest
 

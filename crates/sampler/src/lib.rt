@@ -44,6 +44,7 @@ ghost use Rattle.sampler.specs.Samplers.{
   resetOf,
   channelSteppedOf,
   outputOf,
+  movedAt,
   memoryAt,
   processSampleOf,
   sampleMemory,
@@ -52,7 +53,9 @@ ghost use Rattle.sampler.specs.Samplers.{
   Frames,
   framed,
   entriesOf,
+  entriesMoved,
   framedOf,
+  frameMoved,
   Turns,
   framesOf,
   ranOf,
@@ -82,16 +85,19 @@ pub struct Answer {
     pub number: u8,
 }
 
+// What a sample leaves and its output, its number, and how many voices moved up as others left.
 pub struct SampleAnswer {
     pub sampler: Sampler,
     pub output: f32,
     pub number: u8,
+    pub moved: u8,
 }
 
-// What a frame leaves, and its number.
+// What a frame leaves, its number, and how many voices of its channels moved up.
 pub struct FrameAnswer {
     pub sampler: Sampler,
     pub number: u8,
+    pub moved: u8,
 }
 
 // The frames of a run that are done, and its number.
@@ -109,6 +115,12 @@ pub struct RunAnswer {
 struct Stepped {
     sampler: Sampler,
     output: f32,
+    moved: u8,
+}
+
+struct Entered {
+    sampler: Sampler,
+    moved: u8,
 }
 
 pub fn good_sizes(count: usize, capacity: usize) -> bool
@@ -459,7 +471,8 @@ impl Sampler {
     fn step(mut self, j: usize, params: Params, input: f32, memory: &mut [u32]) -> Stepped
         requires { ⌜ Ready self j (length (now memory)) ⌝ }
         ensures { λ r. ⌜ (r .sampler ≡ channelSteppedOf self j params input (now (memory .entry)))
-            × (r .output ≡ outputOf self j params input (now (memory .entry))) ⌝ }
+            × (r .output ≡ outputOf self j params input (now (memory .entry)))
+            × (r .moved ≡ movedAt self j params input (now (memory .entry))) × (r .moved ≤ 32) ⌝ }
         ensures { λ r. ⌜ now (memory .exit) ≡ memoryAt self j input (now (memory .entry)) ⌝ }
     {
         let c = self.channels[j];
@@ -472,6 +485,7 @@ impl Sampler {
         Stepped {
             sampler: self,
             output: params.volume * played.output,
+            moved: played.moved,
         }
     }
 
@@ -491,6 +505,7 @@ impl Sampler {
                 sampler: self,
                 output: 0.0,
                 number,
+                moved: 0,
             };
         }
         let stepped = self.step(channel, params, input, memory);
@@ -499,26 +514,35 @@ impl Sampler {
             sampler,
             output: stepped.output,
             number: 0,
+            moved: stepped.moved,
         }
     }
 
     // A sample of each channel in turn, each entry of the frame replaced by its output.
-    fn entries(mut self, frame: &mut [f32], params: Params, memory: &mut [u32]) -> Sampler
+    fn entries(mut self, frame: &mut [f32], params: Params, memory: &mut [u32]) -> Entered
         requires { ⌜ Steps self (length (now frame)) (length (now memory)) ⌝ }
         ensures { λ r. ⌜ Frames
             (entriesOf params (length (now (frame .entry))) 0 (framed self (now (frame .entry)) (now (memory .entry))))
-            r (now (frame .exit)) (now (memory .exit)) ⌝ }
+            (r .sampler) (now (frame .exit)) (now (memory .exit)) ⌝ }
+        ensures { λ r. ⌜ r .moved
+            ≡ entriesMoved params (length (now (frame .entry))) 0
+            (framed self (now (frame .entry)) (now (memory .entry))) ⌝ }
     {
         let n = frame.len();
+        let mut moved = 0;
         let mut j = 0;
         while j < n {
             let stepped = self.step(j, params, frame[j], memory);
             let sampler = stepped.sampler;
             self = sampler;
             frame[j] = stepped.output;
+            moved += stepped.moved;
             j += 1;
         }
-        self
+        Entered {
+            sampler: self,
+            moved,
+        }
     }
 
     pub fn process_frame(self, frame: &mut [f32], params: Params, memory: &mut [u32]) -> FrameAnswer
@@ -526,17 +550,22 @@ impl Sampler {
             ≡ frameNumber self (length (now (frame .entry))) params (length (now (memory .entry))) ⌝ }
         ensures { λ r. ⌜ Frames (framedOf self (now (frame .entry)) params (now (memory .entry))) (r .sampler)
             (now (frame .exit)) (now (memory .exit)) ⌝ }
+        ensures { λ r. ⌜ r .moved ≡ frameMoved self (now (frame .entry)) params (now (memory .entry)) ⌝ }
     {
         let number = self.frame_number(frame.len(), params, memory.len());
         if number != 0 {
             return FrameAnswer {
                 sampler: self,
                 number,
+                moved: 0,
             };
         }
+        let entered = self.entries(frame, params, memory);
+        let sampler = entered.sampler;
         FrameAnswer {
-            sampler: self.entries(frame, params, memory),
+            sampler,
             number: 0,
+            moved: entered.moved,
         }
     }
 
@@ -551,7 +580,9 @@ impl Sampler {
         let mut i = 0;
         while i < k {
             let b = a + count;
-            self = self.entries(&mut run[a..b], params, memory);
+            let entered = self.entries(&mut run[a..b], params, memory);
+            let sampler = entered.sampler;
+            self = sampler;
             a = b;
             i += 1;
         }

@@ -17,6 +17,11 @@ module _ {A : Type 0} where
   without p [] = []
   without p (x ∷ xs) = cond (p x) (without p xs) (x ∷ without p xs)
 
+  -- those of them that stand behind the first for which p holds
+  unfoldable pub behind : (A → Bool) → List A → List A
+  behind p [] = []
+  behind p (x ∷ xs) = cond (p x) (without p xs) (behind p xs)
+
   -- from s, by each element in turn
   unfoldable pub fold : {S : Type 0} → (S → A → S) → S → List A → S
   fold f s [] = s

@@ -27,10 +27,10 @@ use types.Kit.{Given, Item, ‵, raw, _⊛_, some, later, ⋆, anyQ, atRet, _$_,
 use types.Part.{agg, whole, sub, look-in}
 use types.Mut.{close-ref}
 use types.SemTy.{Body}
-use types.Run.{look, store, init, forget, stop, hop, fld, from, load, addr, lit, float-lit, of-opd, bin, un, and-then, no-more, first, branches, skips, assigns, assigns-last, land, stays, leaves-loop, returns, returns-within, enter, alloc1, alloc0, params1, pass1, pass0, free1, free0, exec}
+use types.Run.{look, look-raw, store, store-raw, init, forget, stop, hop, fld, from, load, addr, lit, float-lit, of-opd, bin, un, and-then, no-more, first, branches, skips, assigns, assigns-last, land, stays, leaves-loop, returns, returns-within, enter, alloc1, alloc0, params1, pass1, pass0, free1, free0, exec}
 use denote.Exit.{yes}
 use denote.RattleType.{owns}
-use denote.Memory.{mem, cellAt, partAt, pointee}
+use denote.Memory.{mem, partAt, pointee}
 use denote.Laws.{Is, shows}
 use denote.Plain.{uint-makes, uint-lawful}
 use denote.Floats.{float-makes, float-lawful, passes, is-true}
@@ -75,7 +75,6 @@ use Rattle.channel.specs.declared.Channel.{Channel}
 use Rattle.channel.specs.declared.Played.{Played}
 use Rattle.channel.specs.Channels.{withVoices}
 use Rattle.channel.proofs.Slots.{none}
-use Rattle.channel.proofs.Turns.{restOf}
 use Rattle.channel.proofs.Channel as C
 use Rattle.channel.proofs.Channel.Laws as C′
 use Rattle.channel.proofs.places as places
@@ -84,7 +83,7 @@ use Rattle.channel.proofs.places.Symbol.{name as #channel·places}
 use Rattle.channel.proofs.places.Met as places-thm
 use Rattle.lent_channel.specs.declared.Start.{Start}
 use Rattle.lent_channel.specs.declared.Glided.{Glided}
-use Rattle.lent_channel.specs.Turns.{Glides}
+use Rattle.lent_channel.specs.Turns.{restFrom, Glides}
 use Rattle.lent_channel.proofs.Bytes.{voice-bytes}
 use Rattle.lent_channel.proofs.Tails.{after}
 use Rattle.lent_channel.proofs.Turns.{rest-glide}
@@ -230,12 +229,12 @@ module _ {M : Type 1} (𝓤 : URA M) (H : Heap 𝓤) (A : Atoms 𝓤) (W : Given
   turned l = withVoices l (h .count) h
 
   abbrev goal : Played
-  goal = restOf t ms h 0 zero32 (take n (h .voices))
+  goal = restFrom t ms h 0 zero32 (take n (h .voices))
 
   -- where r turns are left
   record Going (s : State) (r : ℕ) : Type 0 where
     left : s .i + r ≡ n
-    walk : Walk goal (restOf t ms (turned (s .voices)) (s .i) (s .out)) (s .voices) n (s .i)
+    walk : Walk goal (restFrom t ms (turned (s .voices)) (s .i) (s .out)) (s .voices) n (s .i)
     fits : T (fitsF binary32 (s .out))
 
   small-at : (s : State) (r : ℕ) → Going s r → s .i < 2 ^ 64
@@ -362,9 +361,7 @@ module _ {M : Type 1} (𝓤 : URA M) (H : Heap 𝓤) (A : Atoms 𝓤) (W : Given
           assigns ! (bin ! (load ! (from ! (stop !)) (look ! 10 refl)) (load ! (from ! (stop !)) (look ! 9 refl)) tt) (from ! (stop !)) (init ! 11 refl (tt, tt)) $
           rewrite ! 11 (λ (z : ℕ). ‵ (fat fullShare ptr l₁₄ 0 (vptr b z))) (sym (place-is voice-bytes (o + 0) i)) refl $
           goes-in ! fullShare C.the-row R.the-row (Is R.the-row) (shows 𝓤 H A R.the-row) (LL.vals R.the-type R′.the-laws) (LL.tells R.the-type R′.the-laws) (turned l) (turned l) v v b o (spot o i) (reads-voice 𝓤 H A W fullShare (turned l) i none b o inside) (λ isv.
-          use1 W (‵ (fat fullShare R′.mir b (spot o i) (vv v))) (W .laws .raw-at fullShare R′.mir b (spot o i) (vv v)) $
-          assigns ! (of-opd ! (load ! (from ! (hop ! (look ! 13 refl) (stop !))) (look ! 0 refl))) (from ! (stop !)) (init ! 14 refl (LL.lawful R.the-type R′.the-laws 𝓤 H A W .typed v _ isv .0)) $
-          use1 W (‵ (cellAt fullShare (R.the-row .mir) (vv v ∷ []) b (spot o i))) (W .laws .at-raw fullShare R′.mir b (spot o i) (vv v)) $
+          assigns ! (of-opd ! (load ! (from ! (hop ! (look ! 13 refl) (stop !))) (look-raw ! 0 refl))) (from ! (stop !)) (init ! 14 refl (LL.lawful R.the-type R′.the-laws 𝓤 H A W .typed v _ isv .0)) $
           comes-out ! fullShare C.the-row R.the-row (turned l) v (vv v ∷ []) b o (spot o i) $
           assigns ! (of-opd ! (load ! (from ! (stop !)) (look ! 12 refl))) (from ! (stop !)) (init ! 5 refl (LL.lawful R.the-type R′.the-laws 𝓤 H A W .typed v _ isv .0)) $
           -- it takes its turn
@@ -391,10 +388,8 @@ module _ {M : Type 1} (𝓤 : URA M) (H : Heap 𝓤) (A : Atoms 𝓤) (W : Given
           assigns ! (bin ! (load ! (from ! (stop !)) (look ! 13 refl)) (load ! (from ! (stop !)) (look ! 9 refl)) tt) (from ! (stop !)) (init ! 14 refl (tt, tt)) $
           rewrite ! 14 (λ (z : ℕ). ‵ (fat fullShare ptr l₁₇ 0 (vptr b z))) (sym (place-is voice-bytes (o + 0) i)) refl $ move ! (2 ∷ []) $
           goes-in ! fullShare C.the-row R.the-row (Is R.the-row) (shows 𝓤 H A R.the-row) (LL.vals R.the-type R′.the-laws) (LL.tells R.the-type R′.the-laws) (turned l) (turned (set l i (x .voice))) v (x .voice) b o (spot o i) (sets-voice 𝓤 H A W fullShare (turned l) i none b o inside (x .voice)) (λ _.
-          use1 W (‵ (fat fullShare R′.mir b (spot o i) (vv v))) (W .laws .raw-at fullShare R′.mir b (spot o i) (vv v)) $
-          assigns ! (of-opd ! (load ! (from ! (stop !)) (look ! 9 refl))) (from ! (hop ! (look ! 16 refl) (stop !))) (store ! 0 refl (LL.lawful R.the-type R′.the-laws 𝓤 H A W .typed (x .voice) _ isw .0)) $
+          assigns ! (of-opd ! (load ! (from ! (stop !)) (look ! 9 refl))) (from ! (hop ! (look ! 16 refl) (stop !))) (store-raw ! 0 refl (LL.lawful R.the-type R′.the-laws 𝓤 H A W .typed (x .voice) _ isw .0)) $
           move ! (1 ∷ []) $ drop ! $ owned ! R.the-row (Is R.the-row) (LL.makes R.the-type R′.the-plain 𝓤 H A) (x .voice) _ isw $ move ! (1 ∷ []) $
-          use1 W (‵ (cellAt fullShare (R.the-row .mir) (vv (x .voice) ∷ []) b (spot o i))) (W .laws .at-raw fullShare R′.mir b (spot o i) (vv (x .voice))) $
           comes-out ! fullShare C.the-row R.the-row (turned (set l i (x .voice))) (x .voice) (vv (x .voice) ∷ []) b o (spot o i) $
           -- it sounds
           nothing ! $ use1 W (raw (Added 𝓤 H A at-mem run .pre (to-added out (x .voice)))) (goes-added out (x .voice) (g .fits) isw) $

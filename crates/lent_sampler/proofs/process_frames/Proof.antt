@@ -1,4 +1,6 @@
--- `lent_sampler::process_frames` meets its contract: `Stepping.antt`'s walk, over `run_asked`, `run_channel`, `part_start` and `part_sample`, by the laws of `RunTurned.antt`.
+-- `lent_sampler::process_frames` meets its contract: `Stepping.antt`'s walk, over `run_asked`, `run_channel`, `part_start`, `part_sample`, `run_moved` and `run_done`, by the laws of `RunTurned.antt`.
+use mathlib.Core.Path.{_≡_, refl}
+use lib.ListN.{length}
 use contract.Running.{givenOf, tables, tablesOf}
 use denote.Triple.Spec.{tripleOf}
 use denote.Triple.Table.{entered, cited}
@@ -29,28 +31,38 @@ use Rattle.lent_sampler.proofs.part_sample as sample
 use Rattle.lent_sampler.proofs.part_sample.Symbol as sample-def
 use Rattle.lent_sampler.proofs.part_sample.Symbol.{name as #sample}
 use Rattle.lent_sampler.proofs.part_sample.Met as sample-thm
+use Rattle.lent_sampler.proofs.run_moved as gather
+use Rattle.lent_sampler.proofs.run_moved.Symbol as gather-def
+use Rattle.lent_sampler.proofs.run_moved.Symbol.{name as #gather}
+use Rattle.lent_sampler.proofs.run_moved.Met as gather-thm
+use Rattle.lent_sampler.proofs.run_done as answer
+use Rattle.lent_sampler.proofs.run_done.Symbol as answer-def
+use Rattle.lent_sampler.proofs.run_done.Symbol.{name as #answer}
+use Rattle.lent_sampler.proofs.run_done.Met as answer-thm
 use Rattle.lent_sampler.proofs.process_frames.Key.{name as #f}
 use Rattle.lent_sampler.proofs.process_frames as f
 use Rattle.lent_sampler.proofs.process_frames.Statement as stated
 use Rattle.lent_sampler.proofs.process_frames.Code as code
 
-abbrev turning : Turning sampler channel params ran sounded run-asking seats
+abbrev turning : Turning sampler channel params ran ran sounded run-asking seats
 turning = record {
   askedOf = λ s n p size. runAsked (s .count) (runAnswer s n p size);
   seatOf = runSeat;
   sounds = λ p x c k. atVolume p (heardOf (processSampleOf p x c k));
   plays = λ p x c k. processSampleOf p x c k .channel;
   records = memoryOf;
-  Leaves = λ s l p m. Frames (ranOf s l p m);
-  Turned = Turned;
+  gathers = λ u y. u;
+  finishes = λ r u. r;
+  Leaves = λ s l p m r t io k. (r ≡ runAnswer s (length l) p (length m)) × Frames (ranOf s l p m) t io k;
+  Turned = λ s l p m i u t io k. Turned s l p m i t io k;
   starts = turned-starts;
-  two = λ s l p m i t io k z. z .two;
-  entries = λ s l p m i t io k z. z .entries;
-  size = λ s l p m i t io k z. z .size;
-  ready = λ s l p m i t io k z h. turned-low s l p m z h;
+  two = λ s l p m i u t io k z. z .two;
+  entries = λ s l p m i u t io k z. z .entries;
+  size = λ s l p m i u t io k z. z .size;
+  ready = λ s l p m i u t io k z h. turned-low s l p m z h;
   keeps = memory-kept;
-  on = λ s l p m i t io k z h a e. turned-on s l p m z h a e;
-  ends = λ s l p m i t io k z e. turned-ends s l p m z e;
+  on = λ s l p m i u t io k z h a e. turned-on s l p m z h a e;
+  ends = λ s l p m i u t io k z e. (refl, turned-ends s l p m z e);
 }
 
 pub process-frames-spec : {M : Type 1} → stated.statement M
@@ -58,8 +70,10 @@ unfolding code.routine tablesOf
 process-frames-spec 𝓤 H 𝓜 𝓖 𝓡 =
     entered 𝓤 H (tripleOf 𝓤 H (𝓖 .A) f.signature (f.spec 𝓤 H (𝓖 .A) (𝓜 .mem) (𝓡 .run)))
     (tables 𝓤 H 𝓜 𝓡 code.env .C) (tables 𝓤 H 𝓜 𝓡 code.env .Λ) #f code.function (code.unfolded 𝓤 H 𝓜 𝓡)
-    (steps-run sampler channel params ran sounded run-asking seats #asked #seat #start #sample turning 𝓤 H (𝓖 .A) (givenOf 𝓤 H 𝓜 𝓖) (tablesOf 𝓤 H 𝓜 (tables 𝓤 H 𝓜 𝓡 code.env))
+    (steps-run sampler channel params ran ran sounded run-asking seats #asked #seat #start #sample #gather #answer turning 𝓤 H (𝓖 .A) (givenOf 𝓤 H 𝓜 𝓖) (tablesOf 𝓤 H 𝓜 (tables 𝓤 H 𝓜 𝓡 code.env))
     (cited 𝓤 H (tripleOf 𝓤 H (𝓖 .A) asked.signature (asked.spec 𝓤 H (𝓖 .A) (𝓜 .mem) (𝓡 .run))) 𝓜 𝓡 code.env #asked asked-def.routine code.calls-lent-sampler·run-asked (asked-thm.met 𝓤 H 𝓜 𝓖 𝓡))
     (cited 𝓤 H (tripleOf 𝓤 H (𝓖 .A) seat.signature (seat.spec 𝓤 H (𝓖 .A) (𝓜 .mem) (𝓡 .run))) 𝓜 𝓡 code.env #seat seat-def.routine code.calls-lent-sampler·run-channel (seat-thm.met 𝓤 H 𝓜 𝓖 𝓡))
     (cited 𝓤 H (tripleOf 𝓤 H (𝓖 .A) start.signature (start.spec 𝓤 H (𝓖 .A) (𝓜 .mem) (𝓡 .run))) 𝓜 𝓡 code.env #start start-def.routine code.calls-sampler·part-start (start-thm.met 𝓤 H 𝓜 𝓖 𝓡))
-    (cited 𝓤 H (tripleOf 𝓤 H (𝓖 .A) sample.signature (sample.spec 𝓤 H (𝓖 .A) (𝓜 .mem) (𝓡 .run))) 𝓜 𝓡 code.env #sample sample-def.routine code.calls-lent-sampler·part-sample (sample-thm.met 𝓤 H 𝓜 𝓖 𝓡)))
+    (cited 𝓤 H (tripleOf 𝓤 H (𝓖 .A) sample.signature (sample.spec 𝓤 H (𝓖 .A) (𝓜 .mem) (𝓡 .run))) 𝓜 𝓡 code.env #sample sample-def.routine code.calls-lent-sampler·part-sample (sample-thm.met 𝓤 H 𝓜 𝓖 𝓡))
+    (cited 𝓤 H (tripleOf 𝓤 H (𝓖 .A) gather.signature (gather.spec 𝓤 H (𝓖 .A) (𝓜 .mem) (𝓡 .run))) 𝓜 𝓡 code.env #gather gather-def.routine code.calls-lent-sampler·run-moved (gather-thm.met 𝓤 H 𝓜 𝓖 𝓡))
+    (cited 𝓤 H (tripleOf 𝓤 H (𝓖 .A) answer.signature (answer.spec 𝓤 H (𝓖 .A) (𝓜 .mem) (𝓡 .run))) 𝓜 𝓡 code.env #answer answer-def.routine code.calls-lent-sampler·run-done (answer-thm.met 𝓤 H 𝓜 𝓖 𝓡)))

@@ -2,6 +2,8 @@
 use contract.Running.{givenOf, tables, tablesOf}
 use denote.Triple.Spec.{tripleOf}
 use denote.Triple.Table.{entered, cited}
+use mathlib.Core.Path.{_≡_}
+use lib.ListN.{length}
 use Rattle.sampler.specs.Samplers.{Frames, ranOf, runAnswer}
 use Rattle.lent_sampler.proofs.Lent.{sampler, params, ran}
 use Rattle.lent_sampler.proofs.process_frames as g
@@ -20,5 +22,5 @@ unfolding code.routine tablesOf
 process-frames-spec 𝓤 H 𝓜 𝓖 𝓡 =
     entered 𝓤 H (tripleOf 𝓤 H (𝓖 .A) f.signature (f.spec 𝓤 H (𝓖 .A) (𝓜 .mem) (𝓡 .run)))
     (tables 𝓤 H 𝓜 𝓡 code.env .C) (tables 𝓤 H 𝓜 𝓡 code.env .Λ) #f code.function (code.unfolded 𝓤 H 𝓜 𝓡)
-    (own sampler params ran run-answer #g runAnswer (λ s l p m. Frames (ranOf s l p m)) 𝓤 H (𝓖 .A) (givenOf 𝓤 H 𝓜 𝓖) (tablesOf 𝓤 H 𝓜 (tables 𝓤 H 𝓜 𝓡 code.env))
+    (own sampler params ran run-answer #g (λ s l p m r t io k. (r ≡ runAnswer s (length l) p (length m)) × Frames (ranOf s l p m) t io k) 𝓤 H (𝓖 .A) (givenOf 𝓤 H 𝓜 𝓖) (tablesOf 𝓤 H 𝓜 (tables 𝓤 H 𝓜 𝓡 code.env))
     (cited 𝓤 H (tripleOf 𝓤 H (𝓖 .A) g.signature (g.spec 𝓤 H (𝓖 .A) (𝓜 .mem) (𝓡 .run))) 𝓜 𝓡 code.env #g g-def.routine code.calls-lent-sampler·process-frames (g-thm.met 𝓤 H 𝓜 𝓖 𝓡)))

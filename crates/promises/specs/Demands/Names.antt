@@ -1,7 +1,7 @@
 -- The names that the demands are written in, and where each stands. Definitions only. Assumes nothing.
 pub use mathlib.Core.Path.{_≡_}
 pub use mathlib.Core.Bool.{Bool, true, false, not}
-pub use mathlib.Core.Logic.{_⊎_, _≢_}
+pub use mathlib.Core.Logic.{_⊎_, _≢_, _↔_}
 pub use mathlib.Core.List.{List, [], _∷_, _++_, map}
 pub use mathlib.Core.Option.{some}
 pub use Prim.Native.Nat.{ℕ, suc, _+_, _-_, _*_, _/_, _%_, _^_, _≤_, _<_, min, max}
@@ -11,7 +11,7 @@ pub use lib.IntN.{ℤ}
 pub use lib.Ieee.{Float, nan, fin, binary32, up, down, add, mul, div, eq, isNan, fits}
 pub use lib.Ieee.Exact.{HasValue}
 pub use lib.Ieee.Positive.{positive}
-pub use Rattle.walks.specs.Walks.{any}
+pub use Rattle.walks.specs.Walks.{any, without}
 pub use Rattle.walks.specs.Each.{Each}
 pub use Rattle.binary32.specs.Leaves.{asFloat, asWhole, floorOf, minOf, maxOf, bitsOf, floatOf, rootOf, zero32}
 pub use Rattle.binary32.specs.Roots.{NearestRoot}
@@ -127,11 +127,14 @@ pub use Rattle.promises.specs.Runs.{
   Accepted,
   FittingMade,
 }
+pub use Rattle.promises.specs.Tidies.{upIn, sumFrom, placesOf, takenAway}
 pub use Rattle.promises.specs.Outcomes.{
   Given,
   new,
   on,
   along,
+  SampleOutcome,
+  FrameOutcome,
   RunOutcome,
   InfoOutcome,
   WaveformOutcome,

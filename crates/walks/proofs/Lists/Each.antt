@@ -3,13 +3,13 @@
 use mathlib.Core.Path.{_≡_, refl, sym, ap, _∙_, subst}
 use mathlib.Core.Bool.{Bool, true, false, cond}
 use mathlib.Core.List.{List, [], _∷_, map}
-use Prim.Native.Nat.{ℕ, zero, suc, _+_, _≤_, _<_}
+use Prim.Native.Nat.{ℕ, zero, suc, _+_, _-_, _≤_, _<_}
 use native.Mathlib.Nat.{zero-add}
 use native.Mathlib.Numerals.{add-one}
 use native.Mathlib.Omega.{arith}
 use lib.ListN.{length, getD, take, drop, set, length-map}
 use lib.Seq.{sets, sets-eq, take-append-seam, length-take-le}
-use Rattle.walks.specs.Walks.{every, without}
+use Rattle.walks.specs.Walks.{every, without, behind}
 use Rattle.walks.specs.Each.{Each}
 use Rattle.walks.proofs.Lists.Every.{both}
 
@@ -94,6 +94,16 @@ module _ {A : Type 0} where
       go : (b : Bool) → length (without p xs) ≤ length xs → length (cond b (without p xs) (x ∷ without p xs)) ≤ suc (length xs)
       go true k = omega arith
       go false k = omega arith
+
+  -- one that isn't kept stands before those behind it
+  pub behind-fewer : (p : A → Bool) (l : List A) → length (behind p l) ≤ length l - 1
+  unfolding behind
+  behind-fewer p [] = omega arith
+  behind-fewer p (x ∷ xs) = go (p x) (fewer p xs) (behind-fewer p xs)
+    where
+      go : (b : Bool) → length (without p xs) ≤ length xs → length (behind p xs) ≤ length xs - 1 → length (cond b (without p xs) (behind p xs)) ≤ suc (length xs) - 1
+      go true h k = omega arith
+      go false h k = omega arith
 
   pub front-map : (f : A → A) (l : List A) (n : ℕ) → n ≤ length l → take n (sets l 0 (map f (take n l))) ≡ map f (take n l)
   front-map f l n h =

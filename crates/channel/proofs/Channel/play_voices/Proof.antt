@@ -1,4 +1,5 @@
 -- `Channel::play_voices` meets its contract: its test is that of `playedIfOf`. Assumes nothing.
+use Prim.Native.Nat.{zero-le}
 use lib.Ieee.{ofBits}
 use borrow.Author.Tests.{eq-eqb, ne-eqb}
 use Rattle.channel.specs.Channels.{playedIfOf}
@@ -8,7 +9,7 @@ use Rattle.channel.proofs.Channel.play_voices.Tie as tie
 
 returns : tie.Need-returns
 unfolding playedIfOf ofBits
-returns c = simp (eq-eqb _ _ (c .if1 .taken))
+returns c = (simp (eq-eqb _ _ (c .if1 .taken)), zero-le)
 
 new-requires : tie.Need-new-requires
 new-requires c κs = search needs
@@ -18,7 +19,7 @@ play-requires c κs = search needs
 
 returns-2 : tie.Need-returns-2
 unfolding playedIfOf
-returns-2 c = simp (c .play .ensures, c .before .new .ensures, ne-eqb _ _ (c .before .before .if1 .left))
+returns-2 c = (simp (c .play .ensures .0, c .before .new .ensures, ne-eqb _ _ (c .before .before .if1 .left)), c .play .ensures .1)
 
 pub play-voices-spec : {M : Type 1} → statement M
 play-voices-spec = tie.close (tie.spec returns new-requires play-requires returns-2)

@@ -26,8 +26,8 @@ returns : tie.Need-returns
 unfolding processSampleOf
 returns c =
     let e = c .before .before .before .before .before .before .before .before .before .«record» .ensures .1 in
-    let plays = rw e at (c .before .before .before .before .play-voices .ensures) in
-    (simp (c .closed .ensures, c .before .any-unfinished .ensures, c .before .before .before .mixed .ensures, plays, c .before .before .before .before .before .before .before .before .before .«record» .ensures .0), e)
+    let plays = rw e at (c .before .before .before .before .play-voices .ensures .0) in
+    (simp (c .closed .ensures, c .before .any-unfinished .ensures, c .before .before .before .mixed .ensures, plays, c .before .before .before .before .before .before .before .before .before .«record» .ensures .0), (e, c .before .before .before .before .play-voices .ensures .1))
 
 pub with-sample-spec : {M : Type 1} → statement M
 with-sample-spec =

@@ -46,9 +46,9 @@ loop-less c = search needs
 
 loop-again : tie.Need-loop-again Inv-loop μ-loop
 loop-again c =
-    let r = c .before .before .before .before .entries in
-    running-on (c .before .before .before .before .before .before .before .before .loop .inv) (c .before .before .before .before .before .before .before .loop-test .taken)
-    (r .result) (r .last .1 .0) (r .last .1 .1 .1 .0) (r .ensures) (r .kept .1 .0) (r .kept .1 .1 .1 .0)
+    let r = c .before .before .before .before .before .entries in
+    running-on (c .before .before .before .before .before .before .before .before .before .loop .inv) (c .before .before .before .before .before .before .before .before .loop-test .taken)
+    (r .result .sampler) (r .last .1 .0) (r .last .1 .1 .1 .0) (r .ensures .0) (r .kept .1 .0) (r .kept .1 .1 .1 .0)
 
 same-length : tie.Need-same-length Inv-loop μ-loop
 same-length c = c .before .loop .inv .entries

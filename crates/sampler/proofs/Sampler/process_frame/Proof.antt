@@ -1,7 +1,9 @@
 -- `Sampler::process_frame` meets its contract: refused where the number is not 0, and otherwise its entries in turn. Assumes nothing.
-use mathlib.Core.Path.{sym, _∙_}
+use mathlib.Core.Path.{_≡_, sym, _∙_}
+use lib.ListN.{length}
+use Rattle.sampler.specs.Refusals.{frameNumber}
 use Rattle.sampler.proofs.Rows.{frame-steps}
-use Rattle.sampler.proofs.Framing.{frame-refused, frame-done}
+use Rattle.sampler.proofs.Framing.{frame-refused, frame-done, moved-refused, moved-done}
 use borrow.Author.Needs.{needs}
 use Rattle.sampler.proofs.Sampler.process_frame.Statement.{statement}
 use Rattle.sampler.proofs.Sampler.process_frame.Tie as tie
@@ -12,7 +14,8 @@ frame-number-requires c κs = search needs
 returns : tie.Need-returns
 returns c =
     let b = c .before .before .before .before in
-    (c .before .frame-number .ensures, frame-refused (b .args .self) (b .args .frame .now) (b .args .params) (b .args .memory .now) (λ e. c .if1 .taken (c .before .frame-number .ensures ∙ e)))
+    let no : frameNumber (b .args .self) (length (b .args .frame .now)) (b .args .params) (length (b .args .memory .now)) ≡ 0 → ⊥ = λ e. c .if1 .taken (c .before .frame-number .ensures ∙ e) in
+    (c .before .frame-number .ensures, (frame-refused (b .args .self) (b .args .frame .now) (b .args .params) (b .args .memory .now) no, sym (moved-refused (b .args .self) (b .args .frame .now) (b .args .params) (b .args .memory .now) no)))
 
 entries-requires : tie.Need-entries-requires
 entries-requires c κs = frame-steps _ _ _ _ (sym (c .before .before .before .frame-number .ensures) ∙ c .before .before .if1 .left)
@@ -25,9 +28,10 @@ same-length-2 c = search needs
 
 returns-2 : tie.Need-returns-2
 returns-2 c =
-    let b = c .before .before .before .before .before .before .before .before .before .before .before in
-    let e = sym (c .before .before .before .before .before .before .before .before .frame-number .ensures) ∙ c .before .before .before .before .before .before .before .if1 .left in
-    (sym e, frame-done (b .args .self) (b .args .frame .now) (b .args .params) (b .args .memory .now) e (c .before .before .before .before .entries .ensures))
+    let b = c .before .before .before .before .before .before .before .before .before .before .before .before in
+    let e = sym (c .before .before .before .before .before .before .before .before .before .frame-number .ensures) ∙ c .before .before .before .before .before .before .before .before .if1 .left in
+    let r = c .before .before .before .before .before .entries .ensures in
+    (sym e, (frame-done (b .args .self) (b .args .frame .now) (b .args .params) (b .args .memory .now) e (r .0), r .1 ∙ sym (moved-done (b .args .self) (b .args .frame .now) (b .args .params) (b .args .memory .now) e)))
 
 pub process-frame-spec : {M : Type 1} → statement M
 process-frame-spec =

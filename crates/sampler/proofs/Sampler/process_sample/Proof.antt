@@ -25,7 +25,7 @@ returns-2 : tie.Need-returns-2
 unfolding processSampleOf sampleMemory
 returns-2 c =
     let e = sym (c .before .before .before .before .before .before .sample-number .ensures) ∙ c .before .before .before .before .before .if1 .left in
-    (simp (c .before .before .before .step .ensures .0 .0, c .before .before .before .step .ensures .0 .1, e), simp (c .before .before .before .step .ensures .1, e))
+    (simp (c .before .before .before .step .ensures .0 .0, c .before .before .before .step .ensures .0 .1, c .before .before .before .step .ensures .0 .2, e), simp (c .before .before .before .step .ensures .1, e))
 
 pub process-sample-spec : {M : Type 1} → statement M
 process-sample-spec =

@@ -4,7 +4,7 @@ use mathlib.Core.Bool.{false}
 use Rattle.channel.specs.Channels.{channelOf}
 use Rattle.walks.proofs.Lists.Loops.{long, getD-any}
 use Rattle.sampler.proofs.Seats.{none}
-use Rattle.sampler.proofs.Parts.{starts-at, stepped-is, output-is, memory-is}
+use Rattle.sampler.proofs.Parts.{starts-at, stepped-is, output-is, moved-is, memory-is}
 use borrow.Author.Needs.{needs}
 use native.Mathlib.Omega.{arith}
 use Rattle.sampler.proofs.Sampler.step.Statement.{statement}
@@ -54,8 +54,13 @@ returns c =
     let is = getD-any (s .channels) j none (channelOf (record { «auto_passthru» = false })) (omega (arith, b .pre .below, long _ (b .args .t1 .channels) 2 (b .good .0 .1 .1 .0 .1 .0 .1))) in
     let r = c .before .before .before .before .before .with-sample .ensures in
     let a = starts-at j (s .capacity) _ (b .pre .below) (c .before .before .before .before .before .before .before .part-start .ensures) in (
-      (stepped-is s j _ _ (b .args .memory .now) a refl (b .args .params) (b .args .input) _ is _ (r .0), output-is s j _ _ (b .args .memory .now) a refl (b .args .params) (b .args .input) _ is _ (r .0)),
-      memory-is s j _ _ (b .args .memory .now) a refl (b .args .input) _ _ is (r .1),
+      (
+        stepped-is s j _ _ (b .args .memory .now) a refl (b .args .params) (b .args .input) _ is _ (r .0),
+        output-is s j _ _ (b .args .memory .now) a refl (b .args .params) (b .args .input) _ is _ (r .0),
+        moved-is s j _ _ (b .args .memory .now) a refl (b .args .params) (b .args .input) _ is _ (r .0),
+        r .1 .1,
+      ),
+      memory-is s j _ _ (b .args .memory .now) a refl (b .args .input) _ _ is (r .1 .0),
     )
 
 pub step-spec : {M : Type 1} → statement M
