@@ -200,7 +200,7 @@ fn start_of(position: f32, note: Note, velocity: f32, params: Params) -> Change
     ensures { λ r. ⌜ r ≡ Change.Start params position note velocity ⌝ }
 {
     Change::Start {
-        params,
+        params: params.copied(),
         position,
         note,
         velocity,
@@ -210,7 +210,10 @@ fn start_of(position: f32, note: Note, velocity: f32, params: Params) -> Change
 fn stop_of(note: Note, params: Params) -> Change
     ensures { λ r. ⌜ r ≡ Change.Stop params note ⌝ }
 {
-    Change::Stop { params, note }
+    Change::Stop {
+        params: params.copied(),
+        note,
+    }
 }
 
 fn speed_of(note: Note, speed: f32) -> Change
@@ -725,11 +728,7 @@ pub struct FrameDone {
 fn frame_moved(moved: u8, heard: Heard) -> u8
     ensures { λ r. ⌜ r ≡ min 255 (moved + heard .moved) ⌝ }
 {
-    if heard.moved < 255 - moved {
-        moved + heard.moved
-    } else {
-        255
-    }
+    std::num::wrapping_add_u8(moved, heard.moved)
 }
 
 fn run_moved(moved: u8, _heard: Heard) -> u8

@@ -627,11 +627,15 @@ pub fn in_range(position: f32) -> bool
     (0.0 <= position) & (position <= 1.0)
 }
 
-// Whether memory of that size holds so many parts.
+// Whether memory of that size holds so many parts. A good record has one or two: for these no quotient is waited for.
 pub fn enough(count: usize, capacity: usize, size: usize) -> bool
     ensures { λ r. ⌜ r ≡ leb (count * capacity) size ⌝ }
 {
-    if count == 0 {
+    if count == 1 {
+        capacity <= size
+    } else if count == 2 {
+        capacity <= size / 2
+    } else if count == 0 {
         true
     } else {
         capacity <= size / count
