@@ -20,7 +20,7 @@ ghost use Rattle.sampler.specs.Samplers.{
 ghost use Rattle.sampler.specs.Samplers.{processSampleOf as sampleOf};
 ghost use Rattle.sampler.specs.Refusals.{goodSizes, frameNumber};
 ghost use Rattle.channel.specs.Channels.{processSampleOf, memoryOf};
-ghost use Prim.Native.Nat.{_+_, _*_, _-_, _≤_, _<_, min};
+ghost use Prim.Native.Nat.{_+_, _*_, _-_, _%_, _^_, _≤_, _<_, min};
 ghost use mathlib.Core.Bool.{_&&_, cond};
 ghost use mathlib.Core.List.{[], _∷_, _++_};
 ghost use lib.Dec.{leb, eqb};
@@ -723,10 +723,10 @@ pub struct FrameDone {
     pub moved: u8,
 }
 
-// The voices that moved up so far, with those of one entry more. A run answers none of them; both calls have one shape,
-// and so one proof.
+// The voices that moved up so far, with those of one entry more: at most 62, far from where a byte wraps. A run answers
+// none of them; both calls have one shape, and so one proof.
 fn frame_moved(moved: u8, heard: Heard) -> u8
-    ensures { λ r. ⌜ r ≡ min 255 (moved + heard .moved) ⌝ }
+    ensures { λ r. ⌜ r ≡ (moved + heard .moved) % 2 ^ 8 ⌝ }
 {
     std::num::wrapping_add_u8(moved, heard.moved)
 }
