@@ -20,7 +20,7 @@ ghost use Rattle.sampler.specs.Samplers.{
 ghost use Rattle.sampler.specs.Samplers.{processSampleOf as sampleOf};
 ghost use Rattle.sampler.specs.Refusals.{goodSizes, frameNumber};
 ghost use Rattle.channel.specs.Channels.{processSampleOf, memoryOf};
-ghost use Prim.Native.Nat.{_+_, _*_, _-_, _%_, _^_, _≤_, _<_, min};
+ghost use Prim.Native.Nat.{_+_, _*_, _-_, _%_, _^_, _≤_, _<_};
 ghost use mathlib.Core.Bool.{_&&_, cond};
 ghost use mathlib.Core.List.{[], _∷_, _++_};
 ghost use lib.Dec.{leb, eqb};
@@ -172,13 +172,6 @@ fn change_number(s: &Sampler, taken: usize, change: Change, other_taken: usize) 
     )
 }
 
-// How many channels there are to change: the count, and never more than the array has.
-fn most(count: usize) -> usize
-    ensures { λ r. ⌜ r ≡ min count 2 ⌝ }
-{
-    if count < 2 { count } else { 2 }
-}
-
 // The call that makes a change of every channel, all or none, where the record stands. The six names are it, each at
 // the change that a function makes of the name's arguments.
 pub fn change(s: &mut Sampler, change: Change) -> u8
@@ -187,7 +180,7 @@ pub fn change(s: &mut Sampler, change: Change) -> u8
     let taken = places_taken(s.channels[0].head.data_len, s.channels[0].count);
     let other = places_taken(s.channels[1].head.data_len, s.channels[1].count);
     let number = change_number(s, taken, change, other);
-    let n = steps(number, most(s.count));
+    let n = steps(number, sampler::places(s.count));
     let mut j: usize = 0;
     while j < n {
         lent_changes::change(&mut s.channels[j], change);
@@ -603,12 +596,6 @@ struct RunAsked {
     ran: Ran,
 }
 
-fn fewer(a: usize, b: usize) -> usize
-    ensures { λ r. ⌜ r ≡ min a b ⌝ }
-{
-    if a < b { a } else { b }
-}
-
 fn run_of(
     count: usize,
     capacity: usize,
@@ -635,7 +622,7 @@ fn run_of(
         size,
     );
     if (number == 0) | (number == 6) {
-        let frames = fewer(entries / count, room(count, time, other));
+        let frames = sampler::smaller(entries / count, room(count, time, other));
         RunAsked {
             entries: frames * count,
             ran: Ran { frames, number },

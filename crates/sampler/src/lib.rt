@@ -134,7 +134,7 @@ pub fn good_sizes(count: usize, capacity: usize) -> bool
 }
 
 // How many channels there are to walk: the count, and never more than the array has.
-fn places(count: usize) -> usize
+pub fn places(count: usize) -> usize
     ensures { λ r. ⌜ r ≡ min count 2 ⌝ }
 {
     if count < 2 { count } else { 2 }
@@ -607,7 +607,7 @@ fn later(a: usize, b: usize) -> usize
     if a < b { b } else { a }
 }
 
-fn smaller(a: usize, b: usize) -> usize
+pub fn smaller(a: usize, b: usize) -> usize
     ensures { λ r. ⌜ r ≡ min a b ⌝ }
 {
     if a < b { a } else { b }
