@@ -1,5 +1,6 @@
 pub mod Bytes
 pub mod Rows
+pub mod Steps
 pub mod Places
 pub mod Holding
 pub mod Fold
