@@ -275,14 +275,6 @@ impl Head {
         recorder.is_recording()
     }
 
-    // A sample later.
-    pub fn clocked(mut self) -> Self
-        ensures { λ r. ⌜ r ≡ clockedOf self ⌝ }
-    {
-        self.now = next_time(self.now);
-        self
-    }
-
     pub fn good(self, capacity: usize) -> bool
         ensures { λ r. ⌜ r ≡ goodHead capacity self ⌝ }
     {
