@@ -1,6 +1,6 @@
 -- `glide` meets its contract: a walk of its MIR, by hand, of a loop that is left by a `return` where a turn isn't plain. In the loop the whole channel lies in memory, with some list of voices for
 -- which the rest of the walk gives what the whole walk gives, as in `play`; a turn takes voice i out, to be copied and then to be overwritten. Assumes nothing.
-use mathlib.Core.Path.{_≡_, refl, sym, _∙_, ap, subst}
+use mathlib.Core.Path.{_≡_, refl, _∙_, ap, subst}
 use Prim.Native.Nat.{ℕ, suc, _+_, _*_, _<_, _≤_, _^_, min, zero-le}
 use native.Mathlib.Nat.{lt-irrefl, le-refl}
 use native.Mathlib.Omega.{arith}
@@ -27,7 +27,7 @@ use types.Kit.{Given, Item, ‵, raw, _⊛_, some, later, ⋆, anyQ, atRet, _$_,
 use types.Part.{agg, whole, sub, look-in}
 use types.Mut.{close-ref}
 use types.SemTy.{Body}
-use types.Run.{look, look-raw, store, store-raw, init, forget, stop, hop, fld, from, load, addr, lit, float-lit, of-opd, bin, un, and-then, no-more, first, branches, skips, assigns, assigns-last, land, stays, leaves-loop, returns, returns-within, enter, alloc1, alloc0, params1, pass1, pass0, free1, free0, exec}
+use types.Run.{look, store, store-raw, init, forget, stop, hop, fld, from, load, lit, float-lit, of-opd, bin, un, and-then, no-more, first, branches, skips, assigns, assigns-last, land, stays, leaves-loop, returns, returns-within, enter, alloc1, alloc0, params1, pass1, pass0, free1, free0, exec}
 use denote.Exit.{yes}
 use denote.RattleType.{owns}
 use denote.Memory.{mem, partAt, pointee}
@@ -36,8 +36,6 @@ use denote.Plain.{uint-makes, uint-lawful}
 use denote.Floats.{float-makes, float-lawful, passes, is-true}
 use denote.Ref.{RefT, MutRef, ptr-vals, mut-tells}
 use denote.Slice.{sliceTy, sliceVal, ShrSlice, Room, slice-vals, shr-slice-tells, shr-slice-copy}
-use denote.Array.{Array}
-use denote.Index.{place-is}
 use denote.Signature.{plain}
 use denote.Builtin.{u32, usize, f32, SliceRefOf}
 use denote.Steps.{only, opens, owned, peeks, heard, nothing}
@@ -53,7 +51,6 @@ use denote.Triple.Walked.{says, Stays, stay-ref, stay-none, stay-dropped, walkOf
 use borrow.Author.Tests.{not-false}
 use borrow.Table.OneValue.{part-in}
 use Rattle.walks.proofs.Lists.Loops.{Walk, stores}
-use Rattle.walks.proofs.Steps.Inside.{goes-in, comes-out}
 use Rattle.walks.proofs.Steps.Rounds.{rounds}
 use Rattle.walks.proofs.Tests.{holds, fails, denied}
 use Rattle.binary32.specs.Leaves.{zero32}
@@ -87,7 +84,8 @@ use Rattle.lent_channel.specs.Turns.{restFrom, Glides}
 use Rattle.lent_channel.proofs.Bytes.{voice-bytes}
 use Rattle.lent_channel.proofs.Tails.{after}
 use Rattle.lent_channel.proofs.Turns.{rest-glide}
-use Rattle.lent_channel.proofs.Places.{cv, vv, spot, places-are, reads-voice, sets-voice}
+use Rattle.lent_channel.proofs.Places.{cv, vv, places-are, sets-voice}
+use Rattle.lent_channel.proofs.Holding.{voice, holding, points, visits, copies-voice}
 use Rattle.lent_channel.proofs.Start as S
 use Rattle.lent_channel.proofs.Start.Laws as S′
 use Rattle.lent_channel.proofs.Glided as G
@@ -137,9 +135,6 @@ voiced = ty (pointee (R.the-row .written))
 
 abbrev quicked : Ty
 quicked = ty (pointee (Q.the-row .written))
-
-abbrev voices : Ty
-voices = ty (pointee (Array R.the-row 32 .written))
 
 -- the machine values
 abbrev sv : Start → Val
@@ -356,13 +351,8 @@ module _ {M : Type 1} (𝓤 : URA M) (H : Heap 𝓤) (A : Atoms 𝓤) (W : Given
           assigns ! (bin ! (load ! (from ! (stop !)) (look ! 1 refl)) (load ! (from ! (stop !)) (look ! 19 refl)) tt) (from ! (stop !)) (init ! 8 refl (tt, tt)) $
           rewrite ! 8 (λ (z : Bool). ‵ (fat fullShare truth l₁₁ 0 (vbool z))) (holds (ltb i n) (lt→ltb i n small)) refl $ stays ! (load ! (from ! (stop !)) (look ! 8 refl)) $
           -- voice i is copied
-          assigns ! (bin ! (load ! (from ! (stop !)) (look ! 1 refl)) (lit ! tt) (record { fits = place-fits })) (from ! (stop !)) (init ! 9 refl (tt, record { fits = place-fits })) $
-          assigns ! (addr ! (from ! (hop ! (look ! 15 refl) (fld ! {τ = voices} {d = 0} refl (stop !))))) (from ! (stop !)) (init ! 10 refl (tt, tt)) $
-          assigns ! (bin ! (load ! (from ! (stop !)) (look ! 10 refl)) (load ! (from ! (stop !)) (look ! 9 refl)) tt) (from ! (stop !)) (init ! 11 refl (tt, tt)) $
-          rewrite ! 11 (λ (z : ℕ). ‵ (fat fullShare ptr l₁₄ 0 (vptr b z))) (sym (place-is voice-bytes (o + 0) i)) refl $
-          goes-in ! fullShare C.the-row R.the-row (Is R.the-row) (shows 𝓤 H A R.the-row) (LL.vals R.the-type R′.the-laws) (LL.tells R.the-type R′.the-laws) (turned l) (turned l) v v b o (spot o i) (reads-voice 𝓤 H A W fullShare (turned l) i none b o inside) (λ isv.
-          assigns ! (of-opd ! (load ! (from ! (hop ! (look ! 13 refl) (stop !))) (look-raw ! 0 refl))) (from ! (stop !)) (init ! 14 refl (LL.lawful R.the-type R′.the-laws 𝓤 H A W .typed v _ isv .0)) $
-          comes-out ! fullShare C.the-row R.the-row (turned l) v (vv v ∷ []) b o (spot o i) $
+          points holding i b o ! place-fits (load ! (from ! (stop !)) (look ! 1 refl)) (init ! 9 refl (tt, record { fits = place-fits })) (look ! 15 refl) (init ! 10 refl (tt, tt)) (look ! 10 refl) (look ! 9 refl) (init ! 11 refl (tt, tt)) $
+          copies-voice holding i b o fullShare (turned l) ! inside (look ! 13 refl) (λ ok. init ! 14 refl ok) (λ isv.
           assigns ! (of-opd ! (load ! (from ! (stop !)) (look ! 12 refl))) (from ! (stop !)) (init ! 5 refl (LL.lawful R.the-type R′.the-laws 𝓤 H A W .typed v _ isv .0)) $
           -- it takes its turn
           move ! (4 ∷ []) $ use1 W (‵ Sl ⊛ ‵ Sl) (shr-slice-copy 𝓤 H A W (named 0) κ₁ u32 .twice x₁ (sl ∷ [])) $ split ! $ move ! (5 ∷ 0 ∷ []) $
@@ -383,14 +373,9 @@ module _ {M : Type 1} (𝓤 : URA M) (H : Heap 𝓤) (A : Atoms 𝓤) (W : Given
           -- it is, and the voice is overwritten
           (λ y. skips ! $ exec ! Cs Λ En (after 10 code.Mir.turn-1) (anyQ (afterTurn 𝓤 H X Left)) $
           assigns ! (of-opd ! (load ! (from ! (fld ! {τ = voiced} {d = 0} refl (stop !))) (look-in ! 6 (sub ! 0 {τ = voiced} {d = 0} refl (whole !))))) (from ! (stop !)) (init ! 7 refl (LL.lawful R.the-type R′.the-laws 𝓤 H A W .typed (x .voice) _ isw .0)) $
-          assigns ! (bin ! (load ! (from ! (stop !)) (look ! 3 refl)) (lit ! tt) (record { fits = place-fits })) (from ! (stop !)) (store ! 9 refl (tt, record { fits = place-fits })) $
-          assigns ! (addr ! (from ! (hop ! (look ! 15 refl) (fld ! {τ = voices} {d = 0} refl (stop !))))) (from ! (stop !)) (init ! 13 refl (tt, tt)) $
-          assigns ! (bin ! (load ! (from ! (stop !)) (look ! 13 refl)) (load ! (from ! (stop !)) (look ! 9 refl)) tt) (from ! (stop !)) (init ! 14 refl (tt, tt)) $
-          rewrite ! 14 (λ (z : ℕ). ‵ (fat fullShare ptr l₁₇ 0 (vptr b z))) (sym (place-is voice-bytes (o + 0) i)) refl $ move ! (2 ∷ []) $
-          goes-in ! fullShare C.the-row R.the-row (Is R.the-row) (shows 𝓤 H A R.the-row) (LL.vals R.the-type R′.the-laws) (LL.tells R.the-type R′.the-laws) (turned l) (turned (set l i (x .voice))) v (x .voice) b o (spot o i) (sets-voice 𝓤 H A W fullShare (turned l) i none b o inside (x .voice)) (λ _.
-          assigns ! (of-opd ! (load ! (from ! (stop !)) (look ! 9 refl))) (from ! (hop ! (look ! 16 refl) (stop !))) (store-raw ! 0 refl (LL.lawful R.the-type R′.the-laws 𝓤 H A W .typed (x .voice) _ isw .0)) $
-          move ! (1 ∷ []) $ drop ! $ owned ! R.the-row (Is R.the-row) (LL.makes R.the-type R′.the-plain 𝓤 H A) (x .voice) _ isw $ move ! (1 ∷ []) $
-          comes-out ! fullShare C.the-row R.the-row (turned (set l i (x .voice))) (x .voice) (vv (x .voice) ∷ []) b o (spot o i) $
+          points holding i b o ! place-fits (load ! (from ! (stop !)) (look ! 3 refl)) (store ! 9 refl (tt, record { fits = place-fits })) (look ! 15 refl) (init ! 13 refl (tt, tt)) (look ! 13 refl) (look ! 9 refl) (init ! 14 refl (tt, tt)) $ move ! (2 ∷ []) $
+          visits holding i b o fullShare (turned l) (turned (set l i (x .voice))) (x .voice) ! (sets-voice 𝓤 H A W fullShare (turned l) i none b o inside (x .voice)) (λ _. isw)
+          (λ _. assigns ! (of-opd ! (load ! (from ! (stop !)) (look ! 9 refl))) (from ! (hop ! (look ! 16 refl) (stop !))) (store-raw ! 0 refl (voice .typed 𝓤 H A W (x .voice) _ isw))) (λ _.
           -- it sounds
           nothing ! $ use1 W (raw (Added 𝓤 H A at-mem run .pre (to-added out (x .voice)))) (goes-added out (x .voice) (g .fits) isw) $
           calls-at ! (fmOf 𝓤 H (W .laws) 𝓣) (Added 𝓤 H A at-mem run) known-Added (to-added out (x .voice)) (and-then ! (load ! (from ! (stop !)) (look ! 5 refl)) (and-then ! (load ! (from ! (stop !)) (look ! 8 refl)) (no-more !))) (λ a-out.

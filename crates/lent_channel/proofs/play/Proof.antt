@@ -1,6 +1,6 @@
 -- `play` meets its contract: a walk of its MIR with a loop, by hand. The borrow is opened before the loop, and closed after it; between, the channel is lent on to `glide`, and the loop begins
 -- where that ended. In the loop the whole channel lies in memory, with some list of voices for which the rest of the walk gives what the whole walk gives (`proofs/Turns.antt`); a turn takes the
--- voice at the next place out, to be copied, and the one behind those that stayed, to be overwritten (`walks/proofs/Inside.antt`). Assumes nothing.
+-- voice at the next place out, to be copied, and the one behind those that stayed, to be overwritten (`proofs/Holding.antt`). Assumes nothing.
 use mathlib.Core.Path.{_≡_, refl, sym, _∙_, ap, subst}
 use Prim.Native.Nat.{ℕ, suc, _+_, _-_, _*_, _<_, _≤_, _^_, zero-le}
 use native.Mathlib.Nat.{lt-irrefl, le-refl}
@@ -29,7 +29,7 @@ use types.Part.{agg, whole, sub, look-in, store-in}
 use types.Mut.{close-ref}
 use types.Tokens.{lft-new, lft-end}
 use types.SemTy.{Body}
-use types.Run.{look, look-raw, store, store-raw, init, forget, stop, hop, fld, from, load, addr, lit, of-opd, bin, and-then, no-more, first, branches, skips, assigns, assigns-last, land, stays, leaves-loop, returns, enter, alloc1, alloc0, params1, pass1, pass0, free1, free0, exec}
+use types.Run.{look, store, store-raw, init, forget, stop, hop, fld, from, load, addr, of-opd, bin, and-then, no-more, first, branches, skips, assigns, assigns-last, land, stays, leaves-loop, returns, enter, alloc1, alloc0, params1, pass1, pass0, free1, free0, exec}
 use denote.Exit.{yes}
 use denote.RattleType.{owns}
 use denote.Memory.{mem, partAt, pointee}
@@ -38,8 +38,6 @@ use denote.Plain.{uint-makes, uint-tells, uint-vals, uint-lawful}
 use denote.Ref.{RefT, MutRef, ptr-vals, mut-tells}
 use denote.Slice.{sliceTy, sliceVal, ShrSlice, Room, slice-vals, shr-slice-tells, shr-slice-copy}
 use denote.Lend.{lends-ref, ref-back}
-use denote.Array.{Array}
-use denote.Index.{place-is}
 use denote.Signature.{plain as slot}
 use denote.Builtin.{u32, usize, SliceRefOf}
 use denote.Steps.{only, opens, owned, peeks, heard, nothing}
@@ -54,7 +52,7 @@ use denote.Triple.Table.{entered, cited}
 use denote.Triple.Walked.{says, Stays, stay-ref, stay-none, stay-dropped, walkOf, Walks, ends-at, walked, goes-ref, goes-none, goes-silent, walk-meets}
 use borrow.Table.OneValue.{part-in}
 use Rattle.walks.proofs.Lists.Loops.{Walk, turns as turns-on, stores, ends as ends-there}
-use Rattle.walks.proofs.Steps.Inside.{goes-in, comes-out, opened}
+use Rattle.walks.proofs.Steps.Inside.{opened}
 use Rattle.walks.proofs.Steps.Rounds.{rounds}
 use Rattle.common_types.specs.declared.Params.{Params}
 use Rattle.common_types.proofs.Params as P
@@ -82,7 +80,8 @@ use Rattle.lent_channel.proofs.Bytes.{voice-bytes, count-at}
 use Rattle.walks.proofs.Tests.{holds, fails, denied}
 use Rattle.lent_channel.proofs.Tails.{after}
 use Rattle.lent_channel.proofs.Turns.{turns-few, restBy, rest-stays, rest-leaves, next-place, next-less, next-few, begins-there, ended-heard, ended-channel}
-use Rattle.lent_channel.proofs.Places.{cv, vv, yv, spot, places-are, reads-voice, sets-voice}
+use Rattle.lent_channel.proofs.Places.{cv, vv, yv, places-are, sets-voice}
+use Rattle.lent_channel.proofs.Holding.{voice, holding, points, visits, copies-voice}
 use Rattle.lent_channel.proofs.Start as S
 use Rattle.lent_channel.proofs.Start.Laws as S′
 use Rattle.lent_channel.proofs.Glided as G
@@ -169,9 +168,6 @@ voiced = ty (pointee (R.the-row .written))
 
 abbrev sounded : Ty
 sounded = ty (pointee (Y.the-row .written))
-
-abbrev voices : Ty
-voices = ty (pointee (Array R.the-row 32 .written))
 
 -- the fields' types
 abbrev in-start : Tys
@@ -458,13 +454,8 @@ module _ {M : Type 1} (𝓤 : URA M) (H : Heap 𝓤) (A : Atoms 𝓤) (W : Given
             assigns ! (bin ! (load ! (from ! (fld ! {τ = word} {d = 0} refl (stop !))) (look-in ! 15 (sub ! {τs = in-going} 0 {τ = word} {d = 0} refl (whole !)))) (load ! (from ! (stop !)) (look ! 14 refl)) tt) (from ! (stop !)) (init ! 20 refl (tt, tt)) $
             rewrite ! 20 (λ (z : Bool). ‵ (fat fullShare truth l₁₄ 0 (vbool z))) (holds (ltb i n) (lt→ltb i n small)) refl $ stays ! (load ! (from ! (stop !)) (look ! 20 refl)) $
             -- voice i is copied
-            assigns ! (bin ! (load ! (from ! (fld ! {τ = word} {d = 0} refl (stop !))) (look-in ! 15 (sub ! {τs = in-going} 0 {τ = word} {d = 0} refl (whole !)))) (lit ! tt) (record { fits = place-fits })) (from ! (stop !)) (init ! 21 refl (tt, record { fits = place-fits })) $
-            assigns ! (addr ! (from ! (hop ! (look ! 7 refl) (fld ! {τ = voices} {d = 0} refl (stop !))))) (from ! (stop !)) (init ! 22 refl (tt, tt)) $
-            assigns ! (bin ! (load ! (from ! (stop !)) (look ! 22 refl)) (load ! (from ! (stop !)) (look ! 21 refl)) tt) (from ! (stop !)) (init ! 23 refl (tt, tt)) $
-            rewrite ! 23 (λ (z : ℕ). ‵ (fat fullShare ptr l₁₇ 0 (vptr b z))) (sym (place-is voice-bytes (o + 0) i)) refl $
-            goes-in ! fullShare C.the-row R.the-row (Is R.the-row) (shows 𝓤 H A R.the-row) (LL.vals R.the-type R′.the-laws) (LL.tells R.the-type R′.the-laws) (with-voices l) (with-voices l) v v b o (spot o i) (reads-voice 𝓤 H A W fullShare (with-voices l) i none b o inside) (λ isv.
-            assigns ! (of-opd ! (load ! (from ! (hop ! (look ! 25 refl) (stop !))) (look-raw ! 0 refl))) (from ! (stop !)) (init ! 26 refl (LL.lawful R.the-type R′.the-laws 𝓤 H A W .typed v _ isv .0)) $
-            comes-out ! fullShare C.the-row R.the-row (with-voices l) v (vv v ∷ []) b o (spot o i) $
+            points holding i b o ! place-fits (load ! (from ! (fld ! {τ = word} {d = 0} refl (stop !))) (look-in ! 15 (sub ! {τs = in-going} 0 {τ = word} {d = 0} refl (whole !)))) (init ! 21 refl (tt, record { fits = place-fits })) (look ! 7 refl) (init ! 22 refl (tt, tt)) (look ! 22 refl) (look ! 21 refl) (init ! 23 refl (tt, tt)) $
+            copies-voice holding i b o fullShare (with-voices l) ! inside (look ! 25 refl) (λ ok. init ! 26 refl ok) (λ isv.
             -- it takes its turn
             move ! (1 ∷ []) $ use1 W (‵ Sl ⊛ ‵ Sl) (shr-slice-copy 𝓤 H A W (named 0) κ₁ u32 .twice x₁ (sl ∷ [])) $ split ! $ move ! (3 ∷ 0 ∷ []) $
             use2 W (raw (Turned 𝓤 H A at-mem run .pre (to-turned (s .at) v))) (goes-turned ist (s .at) v may (g .is) isv) $
@@ -479,15 +470,10 @@ module _ {M : Type 1} (𝓤 : URA M) (H : Heap 𝓤) (A : Atoms 𝓤) (W : Given
             assigns ! (of-opd ! (load ! (from ! (fld ! {τ = truth} {d = voice-bytes} refl (stop !))) (look-in ! 16 (sub ! {τs = in-turned} 1 {τ = truth} {d = voice-bytes} refl (whole !))))) (from ! (stop !)) (store ! 20 refl (tt, tt)) $
             first ! $ branches ! (load ! (from ! (stop !)) (look ! 20 refl))
             -- it stays: voice k is overwritten
-            (λ y. assigns ! (bin ! (load ! (from ! (fld ! {τ = word} {d = 8} refl (stop !))) (look-in ! 15 (sub ! {τs = in-going} 1 {τ = word} {d = 8} refl (whole !)))) (lit ! tt) (record { fits = put-fits })) (from ! (stop !)) (init ! 25 refl (tt, record { fits = put-fits })) $
-            assigns ! (addr ! (from ! (hop ! (look ! 7 refl) (fld ! {τ = voices} {d = 0} refl (stop !))))) (from ! (stop !)) (init ! 26 refl (tt, tt)) $
-            assigns ! (bin ! (load ! (from ! (stop !)) (look ! 26 refl)) (load ! (from ! (stop !)) (look ! 25 refl)) tt) (from ! (stop !)) (init ! 27 refl (tt, tt)) $
-            rewrite ! 27 (λ (z : ℕ). ‵ (fat fullShare ptr l₂₁ 0 (vptr b z))) (sym (place-is voice-bytes (o + 0) k)) refl $ move ! (2 ∷ []) $
-            goes-in ! fullShare C.the-row R.the-row (Is R.the-row) (shows 𝓤 H A R.the-row) (LL.vals R.the-type R′.the-laws) (LL.tells R.the-type R′.the-laws) (with-voices l) (with-voices (set l k (x .voice))) u (x .voice) b o (spot o k) (sets-voice 𝓤 H A W fullShare (with-voices l) k none b o inside-k (x .voice)) (λ _.
-            assigns-last ! (of-opd ! (load ! (from ! (fld ! {τ = voiced} {d = 0} refl (stop !))) (look-in ! 18 (sub ! {τs = in-turned} 0 {τ = voiced} {d = 0} refl (whole !))))) (from ! (hop ! (look ! 29 refl) (stop !))) (store-raw ! 0 refl (LL.lawful R.the-type R′.the-laws 𝓤 H A W .typed (x .voice) _ isw .0)) $
+            (λ y. points holding k b o ! put-fits (load ! (from ! (fld ! {τ = word} {d = 8} refl (stop !))) (look-in ! 15 (sub ! {τs = in-going} 1 {τ = word} {d = 8} refl (whole !)))) (init ! 25 refl (tt, record { fits = put-fits })) (look ! 7 refl) (init ! 26 refl (tt, tt)) (look ! 26 refl) (look ! 25 refl) (init ! 27 refl (tt, tt)) $ move ! (2 ∷ []) $
+            visits holding k b o fullShare (with-voices l) (with-voices (set l k (x .voice))) (x .voice) ! (sets-voice 𝓤 H A W fullShare (with-voices l) k none b o inside-k (x .voice)) (λ _. isw)
+            (λ _. assigns-last ! (of-opd ! (load ! (from ! (fld ! {τ = voiced} {d = 0} refl (stop !))) (look-in ! 18 (sub ! {τs = in-turned} 0 {τ = voiced} {d = 0} refl (whole !))))) (from ! (hop ! (look ! 29 refl) (stop !))) (store-raw ! 0 refl (voice .typed 𝓤 H A W (x .voice) _ isw))) (λ _.
             exec ! Cs Λ En (after 9 code.Mir.turn-1) (anyQ (afterTurn 𝓤 H X Left)) $
-            move ! (1 ∷ []) $ drop ! $ owned ! R.the-row (Is R.the-row) (LL.makes R.the-type R′.the-plain 𝓤 H A) (x .voice) _ isw $ move ! (1 ∷ []) $
-            comes-out ! fullShare C.the-row R.the-row (with-voices (set l k (x .voice))) (x .voice) (vv (x .voice) ∷ []) b o (spot o k) $
             assigns-last ! (of-opd ! (load ! (from ! (fld ! {τ = going} {d = voice-bytes + 8} refl (stop !))) (look-in ! 16 (sub ! {τs = in-turned} 2 {τ = going} {d = voice-bytes + 8} refl (whole !))))) (from ! (stop !)) (store ! 15 refl (LL.lawful N.the-type N′.the-laws 𝓤 H A W .typed (x .next) _ isn .0)) $
             forget ! 16 refl $ forget ! 20 refl $ forget ! 21 refl $ forget ! 22 refl $ forget ! 23 refl $ forget ! 24 refl $ forget ! 25 refl $ forget ! 26 refl $ forget ! 27 refl $ move ! (0 ∷ 2 ∷ 1 ∷ []) $
             by ! (go (kept x e isn) (stays-in x e isn y))))
