@@ -4,7 +4,7 @@
 --         #next has    ensures λ r. r ≡ next so-far v time
 --         f has        ensures λ r. r ≡ answer first (now c)
 --     folds        f meets its contract, from those of the calls
--- The borrow is looked into before the loop, and shut after it. In the loop a share of the whole channel lies in memory, and a turn takes voice i out of it, to be copied (`walks/proofs/Inside.antt`). Assumes `Given`.
+-- The borrow is looked into before the loop, and shut after it. In the loop a share of the whole channel lies in memory, and a turn copies voice i. Assumes `Given`.
 use mathlib.Core.Path.{_≡_, refl, sym, _∙_, ap, subst}
 use Prim.Native.Nat.{ℕ, suc, _+_, _*_, _<_, _^_, min}
 use native.Mathlib.Nat.{add-zero, lt-irrefl}
@@ -25,14 +25,13 @@ use contract.Monad.{fact}
 use sound.WpLaws.{fmOf, WpFn-mono}
 use types.Kit.{Given, Item, ‵, raw, _⊛_, some, later, ⋆, anyQ, atRet, _$_, _∵_, !, qed, by, move, keep, use1, use2, drop, split, join, pick, rewrite, fsplit, fsplit3, fjoin, fjoin3, feqI, suffices, frame, await, done}
 use types.Tokens.{obor-close}
-use types.Run.{look, look-raw, store, init, forget, stop, hop, fld, from, load, addr, lit, of-opd, bin, and-then, no-more, assigns, assigns-last, land, stays, leaves-loop, returns, enter, alloc1, alloc0, params1, pass1, pass0, free1, free0, exec}
+use types.Run.{look, store, init, forget, stop, hop, fld, from, load, lit, of-opd, bin, and-then, no-more, assigns, assigns-last, land, stays, leaves-loop, returns, enter, alloc1, alloc0, params1, pass1, pass0, free1, free0, exec}
 use denote.Exit.{yes}
 use denote.RattleType.{RattleType, owns}
 use denote.Memory.{partAt, pointee}
 use denote.Laws.{Is, shows}
 use denote.Plain.{uint-makes, uint-lawful, uint-tells, uint-vals, bool-makes, bool-lawful, bool-tells, bool-vals}
 use denote.Ref.{RefT, ShrRef, now, ptr-vals, shr-tells}
-use denote.Index.{place-is}
 use denote.Signature.{plain}
 use denote.Builtin.{usize, bool, RefOf}
 use denote.Steps.{only, looks, owned, peeks, heard, nothing}
@@ -49,8 +48,7 @@ use Rattle.walks.proofs.Steps.Rounds.{rounds}
 use Rattle.lent_channel.proofs.Bytes.{voice-bytes, count-at}
 use Rattle.lent_channel.proofs.Rows.{Datum, row, lies}
 use Rattle.lent_channel.proofs.Rows.{copy as twice}
-use Rattle.lent_channel.proofs.Places.{spot}
-use Rattle.lent_channel.proofs.Holding.{Holding, clock}
+use Rattle.lent_channel.proofs.Holding.{Holding, clock, points, copies-voice}
 
 pub record Folding (C K : Datum) (S : Holding C K) : Type 1 where
   pub next : Bool → K .like .Denot → ℕ → Bool
@@ -225,13 +223,8 @@ module _ (C K : Datum) (S : Holding C K) (#places #next : Name) (Z : Folding C K
             assigns ! (bin ! (load ! (from ! (stop !)) (look ! 1 refl)) (load ! (from ! (stop !)) (look ! 11 refl)) tt) (from ! (stop !)) (init ! 3 refl (tt, tt)) $
             rewrite ! 3 (λ (z : Bool). ‵ (fat fullShare tyBool l₈ 0 (vbool z))) (holds (ltb i n) (lt→ltb i n small)) refl $ stays ! (load ! (from ! (stop !)) (look ! 3 refl)) $
             -- the voice is copied
-            assigns ! (bin ! (load ! (from ! (stop !)) (look ! 1 refl)) (lit ! tt) (record { fits = place-fits })) (from ! (stop !)) (init ! 4 refl (tt, record { fits = place-fits })) $
-            assigns ! (addr ! (from ! (hop ! (look ! 8 refl) (fld ! (S .field₀) (stop !))))) (from ! (stop !)) (init ! 5 refl (tt, tt)) $
-            assigns ! (bin ! (load ! (from ! (stop !)) (look ! 5 refl)) (load ! (from ! (stop !)) (look ! 4 refl)) tt) (from ! (stop !)) (init ! 6 refl (tt, tt)) $
-            rewrite ! 6 (λ (z : ℕ). ‵ (fat fullShare tyPtr l₁₁ 0 (vptr b z))) (sym (place-is voice-bytes (o + 0) i)) refl $
-            goes-in ! q′ Cr Vr (Is Vr) (shows 𝓤 H A Vr) (λ y. K .val y ∷ []) (K .tells) h h v v b o (spot o i) (S .reads-voice 𝓤 H A W q′ h b o i inside) (λ isv.
-            assigns ! (of-opd ! (load ! (from ! (hop ! (look ! 8 refl) (stop !))) (look-raw ! 0 refl))) (from ! (stop !)) (init ! 9 refl (K .typed 𝓤 H A W v _ isv)) $
-            comes-out ! q′ Cr Vr h v (K .val v ∷ []) b o (spot o i) $
+            points S i b o ! place-fits (load ! (from ! (stop !)) (look ! 1 refl)) (init ! 4 refl (tt, record { fits = place-fits })) (look ! 8 refl) (init ! 5 refl (tt, tt)) (look ! 5 refl) (look ! 4 refl) (init ! 6 refl (tt, tt)) $
+            copies-voice S i b o q′ h ! inside (look ! 8 refl) (λ ok. init ! 9 refl ok) (λ isv.
             -- and asked
             nothing ! $ use1 W (raw (Nexts 𝓤 H A .pre (to-next (upto i) v))) (goes-next (upto i) v isv time-fits) $
             calls-at ! (fmOf 𝓤 H (W .laws) 𝓣) (Nexts 𝓤 H A) known-next (to-next (upto i) v) (and-then ! (load ! (from ! (stop !)) (look ! 3 refl)) (and-then ! (load ! (from ! (stop !)) (look ! 8 refl)) (and-then ! (load ! (from ! (stop !)) (look ! 11 refl)) (no-more !)))) (λ w.
