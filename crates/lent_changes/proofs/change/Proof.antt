@@ -26,15 +26,13 @@ use types.Kit.{Given, Item, ‵, raw, _⊛_, some, later, ⋆, anyQ, atRet, _$_,
 use types.Part.{whole, sub, look-in, store-in}
 use types.Mut.{close-ref}
 use types.SemTy.{Body}
-use types.Run.{look, store, init, forget, stop, hop, fld, from, load, addr, lit, unit-lit, of-opd, bin, and-then, no-more, first, branches, skips, assigns, assigns-last, land, stays, leaves-loop, returns, enter, alloc1, alloc0, params1, pass1, pass0, free1, free0, exec}
+use types.Run.{look, store, store-raw, init, forget, stop, hop, fld, from, load, lit, unit-lit, of-opd, bin, and-then, no-more, first, branches, skips, assigns, assigns-last, land, stays, leaves-loop, returns, enter, alloc1, alloc0, params1, pass1, pass0, free1, free0, exec}
 use denote.Exit.{yes}
 use denote.RattleType.{owns}
-use denote.Memory.{mem, cellAt, partAt, pointee}
+use denote.Memory.{mem, partAt, pointee}
 use denote.Laws.{Is, shows}
 use denote.Plain.{uint-makes, bool-makes, bool-lawful}
 use denote.Ref.{RefT, MutRef, ptr-vals, mut-tells}
-use denote.Array.{Array}
-use denote.Index.{place-is}
 use denote.Signature.{plain}
 use denote.Builtin.{usize, bool}
 use denote.Steps.{only, opens, owned, peeks, heard, nothing}
@@ -50,7 +48,7 @@ use denote.Triple.Table.{entered, cited}
 use denote.Triple.Walked.{says, Stays, stay-ref, stay-none, walkOf, Walks, ends-at, walked, goes-ref, goes-none, walk-meets}
 use borrow.Table.OneValue.{part-in}
 use Rattle.walks.proofs.Lists.Loops.{Walk, turns as turns-on, stores, ends as ends-there}
-use Rattle.walks.proofs.Steps.Inside.{goes-in, comes-out, opened as lies-open}
+use Rattle.walks.proofs.Steps.Inside.{opened as lies-open}
 use Rattle.walks.proofs.Steps.Rounds.{rounds}
 use Rattle.walks.proofs.Tests.{holds, fails, denied}
 use Rattle.voice.specs.declared.Voice.{Voice}
@@ -71,7 +69,8 @@ use Rattle.lent_changes.specs.declared.Pass.{Pass}
 use Rattle.lent_changes.specs.Changes.{passOf, hitsOf, remadeOf, passedOf, openedOf, endedOf}
 use Rattle.lent_channel.proofs.Bytes.{voice-bytes, count-at, head-at}
 use Rattle.lent_channel.proofs.Rows.{Datum, enum}
-use Rattle.lent_channel.proofs.Places.{cv, vv, ev, spot, places-are, reads-voice, sets-voice}
+use Rattle.lent_channel.proofs.Places.{cv, vv, ev, places-are, sets-voice}
+use Rattle.lent_channel.proofs.Holding.{voice, holding, points, visits, copies-voice}
 use Rattle.lent_changes.proofs.Passes.{finalOf, restOf, rest-hit, rest-miss, few-turns, fresh-room, whole-change}
 use Rattle.lent_changes.proofs.Pass as S
 use Rattle.lent_changes.proofs.Pass.Laws as S′
@@ -131,9 +130,6 @@ passing = ty (pointee (S.the-row .written))
 
 abbrev voiced : Ty
 voiced = ty (pointee (R.the-row .written))
-
-abbrev voices : Ty
-voices = ty (pointee (Array R.the-row 32 .written))
 
 abbrev headed : Ty
 headed = ty (pointee (E.the-row .written))
@@ -389,15 +385,8 @@ module _ {M : Type 1} (𝓤 : URA M) (H : Heap 𝓤) (A : Atoms 𝓤) (W : Given
           assigns ! (bin ! (load ! (from ! (stop !)) (look ! 1 refl)) (load ! (from ! (stop !)) (look ! 16 refl)) tt) (from ! (stop !)) (init ! 6 refl (tt, tt)) $
           rewrite ! 6 (λ (z : Bool). ‵ (fat fullShare truth l₁₃ 0 (vbool z))) (holds (ltb i n) (lt→ltb i n small)) refl $ stays ! (load ! (from ! (stop !)) (look ! 6 refl)) $
           -- the voice is copied
-          assigns ! (bin ! (load ! (from ! (stop !)) (look ! 1 refl)) (lit ! tt) (record { fits = place-fits })) (from ! (stop !)) (init ! 7 refl (tt, record { fits = place-fits })) $
-          assigns ! (addr ! (from ! (hop ! (look ! 14 refl) (fld ! {τ = voices} {d = 0} refl (stop !))))) (from ! (stop !)) (init ! 8 refl (tt, tt)) $
-          assigns ! (bin ! (load ! (from ! (stop !)) (look ! 8 refl)) (load ! (from ! (stop !)) (look ! 7 refl)) tt) (from ! (stop !)) (init ! 9 refl (tt, tt)) $
-          rewrite ! 9 (λ (z : ℕ). ‵ (fat fullShare ptr l₁₆ 0 (vptr b z))) (sym (place-is voice-bytes (o + 0) i)) refl $
-          goes-in ! fullShare C.the-row R.the-row (Is R.the-row) (shows 𝓤 H A R.the-row) (LL.vals R.the-type R′.the-laws) (LL.tells R.the-type R′.the-laws) (turned l) (turned l) v v b o (spot o i) (reads-voice 𝓤 H A W fullShare (turned l) i none b o inside) (λ isv.
-          use1 W (‵ (fat fullShare R′.mir b (spot o i) (vv v))) (W .laws .raw-at fullShare R′.mir b (spot o i) (vv v)) $
-          assigns ! (of-opd ! (load ! (from ! (hop ! (look ! 11 refl) (stop !))) (look ! 0 refl))) (from ! (stop !)) (init ! 12 refl (LL.lawful R.the-type R′.the-laws 𝓤 H A W .typed v _ isv .0)) $
-          use1 W (‵ (cellAt fullShare (R.the-row .mir) (vv v ∷ []) b (spot o i))) (W .laws .at-raw fullShare R′.mir b (spot o i) (vv v)) $
-          comes-out ! fullShare C.the-row R.the-row (turned l) v (vv v ∷ []) b o (spot o i) $
+          points holding i b o ! place-fits (load ! (from ! (stop !)) (look ! 1 refl)) (init ! 7 refl (tt, record { fits = place-fits })) (look ! 14 refl) (init ! 8 refl (tt, tt)) (look ! 8 refl) (look ! 7 refl) (init ! 9 refl (tt, tt)) $
+          copies-voice holding i b o fullShare (turned l) ! inside (look ! 11 refl) (λ ok. init ! 12 refl ok) (λ isv.
           assigns ! (of-opd ! (load ! (from ! (stop !)) (look ! 10 refl))) (from ! (stop !)) (init ! 3 refl (LL.lawful R.the-type R′.the-laws 𝓤 H A W .typed v _ isv .0)) $
           -- whether it is changed
           nothing ! $ use1 W (raw (Hits 𝓤 H A at-mem run .pre (to-hits p v))) (goes-hits p v (g .is) isv) $
@@ -416,16 +405,9 @@ module _ {M : Type 1} (𝓤 : URA M) (H : Heap 𝓤) (A : Atoms 𝓤) (W : Given
           land ! (from ! (stop !)) (init ! 5 refl (LL.lawful R.the-type R′.the-laws 𝓤 H A W .typed w _ is-w .0)) $
           rewrite ! 5 (λ (z : Val). ‵ (fat fullShare voiced l₈ 0 z)) (ap only (LL.tells R.the-type R′.the-laws w _ is-w)) refl $
           let isw : Is R.the-row w (vv w ∷ []) = subst (Is R.the-row w) (LL.tells R.the-type R′.the-laws w _ is-w) is-w in
-          assigns ! (bin ! (load ! (from ! (stop !)) (look ! 1 refl)) (lit ! tt) (record { fits = place-fits })) (from ! (stop !)) (init ! 11 refl (tt, record { fits = place-fits })) $
-          assigns ! (addr ! (from ! (hop ! (look ! 14 refl) (fld ! {τ = voices} {d = 0} refl (stop !))))) (from ! (stop !)) (init ! 12 refl (tt, tt)) $
-          assigns ! (bin ! (load ! (from ! (stop !)) (look ! 12 refl)) (load ! (from ! (stop !)) (look ! 11 refl)) tt) (from ! (stop !)) (init ! 13 refl (tt, tt)) $
-          rewrite ! 13 (λ (z : ℕ). ‵ (fat fullShare ptr l₂₀ 0 (vptr b z))) (sym (place-is voice-bytes (o + 0) i)) refl $
-          goes-in ! fullShare C.the-row R.the-row (Is R.the-row) (shows 𝓤 H A R.the-row) (LL.vals R.the-type R′.the-laws) (LL.tells R.the-type R′.the-laws) (turned l) (turned (set l i w)) v w b o (spot o i) (sets-voice 𝓤 H A W fullShare (turned l) i none b o inside w) (λ _.
-          use1 W (‵ (fat fullShare R′.mir b (spot o i) (vv v))) (W .laws .raw-at fullShare R′.mir b (spot o i) (vv v)) $
-          assigns-last ! (of-opd ! (load ! (from ! (stop !)) (look ! 7 refl))) (from ! (hop ! (look ! 15 refl) (stop !))) (store ! 0 refl (LL.lawful R.the-type R′.the-laws 𝓤 H A W .typed w _ isw .0)) $
-          move ! (1 ∷ []) $ drop ! $ owned ! R.the-row (Is R.the-row) (LL.makes R.the-type R′.the-plain 𝓤 H A) w _ isw $ move ! (1 ∷ []) $
-          use1 W (‵ (cellAt fullShare (R.the-row .mir) (vv w ∷ []) b (spot o i))) (W .laws .at-raw fullShare R′.mir b (spot o i) (vv w)) $
-          comes-out ! fullShare C.the-row R.the-row (turned (set l i w)) w (vv w ∷ []) b o (spot o i) $
+          points holding i b o ! place-fits (load ! (from ! (stop !)) (look ! 1 refl)) (init ! 11 refl (tt, record { fits = place-fits })) (look ! 14 refl) (init ! 12 refl (tt, tt)) (look ! 12 refl) (look ! 11 refl) (init ! 13 refl (tt, tt)) $
+          visits holding i b o fullShare (turned l) (turned (set l i w)) w ! (sets-voice 𝓤 H A W fullShare (turned l) i none b o inside w) (λ _. isw)
+          (λ _. assigns-last ! (of-opd ! (load ! (from ! (stop !)) (look ! 7 refl))) (from ! (hop ! (look ! 15 refl) (stop !))) (store-raw ! 0 refl (voice .typed 𝓤 H A W w _ isw))) (λ _.
           forget ! 5 refl $ forget ! 6 refl $ forget ! 7 refl $ forget ! 8 refl $ forget ! 9 refl $ forget ! 10 refl $ forget ! 11 refl $ forget ! 12 refl $ forget ! 13 refl $ by ! (on X (set l i w) hit isv e-hit (λ p′ e-p isp. go (next (set l i w) p′) (has-hit hit e-hit p′ e-p isp w e-w y)))))))))
           (λ y. skips ! $ forget ! 6 refl $ forget ! 7 refl $ forget ! 8 refl $ forget ! 9 refl $ forget ! 10 refl $ by ! (on X l hit isv e-hit (λ p′ e-p isp. go (next l p′) (has-missed hit e-hit p′ e-p isp y)))))))))
 
@@ -502,16 +484,9 @@ module _ {M : Type 1} (𝓤 : URA M) (H : Heap 𝓤) (A : Atoms 𝓤) (W : Given
           land ! (from ! (stop !)) (init ! 19 refl (LL.lawful R.the-type R′.the-laws 𝓤 H A W .typed w _ is-w .0)) $
           rewrite ! 19 (λ (z : Val). ‵ (fat fullShare voiced l₁₀ 0 z)) (ap only (LL.tells R.the-type R′.the-laws w _ is-w)) refl $
           let isw : Is R.the-row w (vv w ∷ []) = subst (Is R.the-row w) (LL.tells R.the-type R′.the-laws w _ is-w) is-w in
-          assigns ! (bin ! (load ! (from ! (stop !)) (look ! 18 refl)) (lit ! tt) (record { fits = (omega (arith, room)) })) (from ! (stop !)) (init ! 24 refl (tt, record { fits = (omega (arith, room)) })) $
-          assigns ! (addr ! (from ! (hop ! (look ! 14 refl) (fld ! {τ = voices} {d = 0} refl (stop !))))) (from ! (stop !)) (init ! 25 refl (tt, tt)) $
-          assigns ! (bin ! (load ! (from ! (stop !)) (look ! 25 refl)) (load ! (from ! (stop !)) (look ! 24 refl)) tt) (from ! (stop !)) (init ! 26 refl (tt, tt)) $
-          rewrite ! 26 (λ (z : ℕ). ‵ (fat fullShare ptr l₂₅ 0 (vptr b z))) (sym (place-is voice-bytes (o + 0) (h .count))) refl $
-          goes-in ! fullShare C.the-row R.the-row (Is R.the-row) (shows 𝓤 H A R.the-row) (LL.vals R.the-type R′.the-laws) (LL.tells R.the-type R′.the-laws) (turned (s .voices)) (turned (set (s .voices) (h .count) w)) (getD (s .voices) (h .count) none) w b o (spot o (h .count)) (sets-voice 𝓤 H A W fullShare (turned (s .voices)) (h .count) none b o inside w) (λ _.
-          use1 W (‵ (fat fullShare R′.mir b (spot o (h .count)) (vv (getD (s .voices) (h .count) none)))) (W .laws .raw-at fullShare R′.mir b (spot o (h .count)) (vv (getD (s .voices) (h .count) none))) $
-          assigns-last ! (of-opd ! (load ! (from ! (stop !)) (look ! 21 refl))) (from ! (hop ! (look ! 28 refl) (stop !))) (store ! 0 refl (LL.lawful R.the-type R′.the-laws 𝓤 H A W .typed w _ isw .0)) $
-          move ! (1 ∷ []) $ drop ! $ owned ! R.the-row (Is R.the-row) (LL.makes R.the-type R′.the-plain 𝓤 H A) w _ isw $ move ! (1 ∷ []) $
-          use1 W (‵ (cellAt fullShare (R.the-row .mir) (vv w ∷ []) b (spot o (h .count)))) (W .laws .at-raw fullShare R′.mir b (spot o (h .count)) (vv w)) $
-          comes-out ! fullShare C.the-row R.the-row (turned (set (s .voices) (h .count) w)) w (vv w ∷ []) b o (spot o (h .count)) $
+          points holding (h .count) b o ! (omega (arith, room)) (load ! (from ! (stop !)) (look ! 18 refl)) (init ! 24 refl (tt, record { fits = omega (arith, room) })) (look ! 14 refl) (init ! 25 refl (tt, tt)) (look ! 25 refl) (look ! 24 refl) (init ! 26 refl (tt, tt)) $
+          visits holding (h .count) b o fullShare (turned (s .voices)) (turned (set (s .voices) (h .count) w)) w ! (sets-voice 𝓤 H A W fullShare (turned (s .voices)) (h .count) none b o inside w) (λ _. isw)
+          (λ _. assigns-last ! (of-opd ! (load ! (from ! (stop !)) (look ! 21 refl))) (from ! (hop ! (look ! 28 refl) (stop !))) (store-raw ! 0 refl (voice .typed 𝓤 H A W w _ isw))) (λ _.
           forget ! 18 refl $ forget ! 19 refl $ forget ! 22 refl $ forget ! 23 refl $ forget ! 24 refl $ forget ! 25 refl $ forget ! 26 refl $ by ! (shuts (set (s .voices) (h .count) w) (stored-so w e-w new)))))))))
           (λ y. skips ! $ forget ! 22 refl $ by ! (shuts (s .voices) (kept-so (denied (s .p .fresh) y))))
 
