@@ -3,6 +3,7 @@ pub mod Rows
 pub mod Steps
 pub mod Places
 pub mod Holding
-pub mod Fold
+pub mod Giving
+pub mod Sharing
 pub mod Tails
 pub mod Turns
