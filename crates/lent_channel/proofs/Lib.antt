@@ -3,7 +3,6 @@ pub mod Rows
 pub mod Steps
 pub mod Places
 pub mod Holding
-pub mod Giving
 pub mod Sharing
 pub mod Tails
 pub mod Turns

@@ -70,7 +70,7 @@ use Rattle.lent_changes.specs.Changes.{passOf, hitsOf, remadeOf, passedO
 use Rattle.lent_channel.proofs.Bytes.{voice-bytes, count-at, head-at}
 use Rattle.lent_channel.proofs.Rows.{Datum, enum}
 use Rattle.lent_channel.proofs.Places.{cv, vv, ev, places-are, sets-voice}
-use Rattle.lent_channel.proofs.Holding.{voice, holding, points, visits, copies-voice}
+use Rattle.lent_channel.proofs.Holding.{voice, points, visits, copies-voice}
 use Rattle.lent_changes.proofs.Passes.{finalOf, restOf, rest-hit, rest-miss, few-turns, fresh-room, whole-change}
 use Rattle.lent_changes.proofs.Pass as S
 use Rattle.lent_changes.proofs.Pass.Laws as S′
@@ -385,8 +385,8 @@ module _ {M : Type 1} (𝓤 : URA M) (H : Heap 𝓤) (A : Atoms 𝓤) (W : Given
           assigns ! (bin ! (load ! (from ! (stop !)) (look ! 1 refl)) (load ! (from ! (stop !)) (look ! 16 refl)) tt) (from ! (stop !)) (init ! 6 refl (tt, tt)) $
           rewrite ! 6 (λ (z : Bool). ‵ (fat fullShare truth l₁₃ 0 (vbool z))) (holds (ltb i n) (lt→ltb i n small)) refl $ stays ! (load ! (from ! (stop !)) (look ! 6 refl)) $
           -- the voice is copied
-          points holding i b o ! place-fits (load ! (from ! (stop !)) (look ! 1 refl)) (init ! 7 refl (tt, record { fits = place-fits })) (look ! 14 refl) (init ! 8 refl (tt, tt)) (look ! 8 refl) (look ! 7 refl) (init ! 9 refl (tt, tt)) $
-          copies-voice holding i b o fullShare (turned l) ! inside (look ! 11 refl) (λ ok. init ! 12 refl ok) (λ isv.
+          points i b o ! place-fits (load ! (from ! (stop !)) (look ! 1 refl)) (init ! 7 refl (tt, record { fits = place-fits })) (look ! 14 refl) (init ! 8 refl (tt, tt)) (look ! 8 refl) (look ! 7 refl) (init ! 9 refl (tt, tt)) $
+          copies-voice i b o fullShare (turned l) ! inside (look ! 11 refl) (init ! 12 refl) (λ isv.
           assigns ! (of-opd ! (load ! (from ! (stop !)) (look ! 10 refl))) (from ! (stop !)) (init ! 3 refl (LL.lawful R.the-type R′.the-laws 𝓤 H A W .typed v _ isv .0)) $
           -- whether it is changed
           nothing ! $ use1 W (raw (Hits 𝓤 H A at-mem run .pre (to-hits p v))) (goes-hits p v (g .is) isv) $
@@ -405,8 +405,8 @@ module _ {M : Type 1} (𝓤 : URA M) (H : Heap 𝓤) (A : Atoms 𝓤) (W : Given
           land ! (from ! (stop !)) (init ! 5 refl (LL.lawful R.the-type R′.the-laws 𝓤 H A W .typed w _ is-w .0)) $
           rewrite ! 5 (λ (z : Val). ‵ (fat fullShare voiced l₈ 0 z)) (ap only (LL.tells R.the-type R′.the-laws w _ is-w)) refl $
           let isw : Is R.the-row w (vv w ∷ []) = subst (Is R.the-row w) (LL.tells R.the-type R′.the-laws w _ is-w) is-w in
-          points holding i b o ! place-fits (load ! (from ! (stop !)) (look ! 1 refl)) (init ! 11 refl (tt, record { fits = place-fits })) (look ! 14 refl) (init ! 12 refl (tt, tt)) (look ! 12 refl) (look ! 11 refl) (init ! 13 refl (tt, tt)) $
-          visits holding i b o fullShare (turned l) (turned (set l i w)) w ! (sets-voice 𝓤 H A W fullShare (turned l) i none b o inside w) (λ _. isw)
+          points i b o ! place-fits (load ! (from ! (stop !)) (look ! 1 refl)) (init ! 11 refl (tt, record { fits = place-fits })) (look ! 14 refl) (init ! 12 refl (tt, tt)) (look ! 12 refl) (look ! 11 refl) (init ! 13 refl (tt, tt)) $
+          visits i b o fullShare (turned l) (turned (set l i w)) w ! (sets-voice 𝓤 H A W fullShare (turned l) i none b o inside w) (λ _. isw)
           (λ _. assigns-last ! (of-opd ! (load ! (from ! (stop !)) (look ! 7 refl))) (from ! (hop ! (look ! 15 refl) (stop !))) (store-raw ! 0 refl (voice .typed 𝓤 H A W w _ isw))) (λ _.
           forget ! 5 refl $ forget ! 6 refl $ forget ! 7 refl $ forget ! 8 refl $ forget ! 9 refl $ forget ! 10 refl $ forget ! 11 refl $ forget ! 12 refl $ forget ! 13 refl $ by ! (on X (set l i w) hit isv e-hit (λ p′ e-p isp. go (next (set l i w) p′) (has-hit hit e-hit p′ e-p isp w e-w y)))))))))
           (λ y. skips ! $ forget ! 6 refl $ forget ! 7 refl $ forget ! 8 refl $ forget ! 9 refl $ forget ! 10 refl $ by ! (on X l hit isv e-hit (λ p′ e-p isp. go (next l p′) (has-missed hit e-hit p′ e-p isp y)))))))))
@@ -484,8 +484,8 @@ module _ {M : Type 1} (𝓤 : URA M) (H : Heap 𝓤) (A : Atoms 𝓤) (W : Given
           land ! (from ! (stop !)) (init ! 19 refl (LL.lawful R.the-type R′.the-laws 𝓤 H A W .typed w _ is-w .0)) $
           rewrite ! 19 (λ (z : Val). ‵ (fat fullShare voiced l₁₀ 0 z)) (ap only (LL.tells R.the-type R′.the-laws w _ is-w)) refl $
           let isw : Is R.the-row w (vv w ∷ []) = subst (Is R.the-row w) (LL.tells R.the-type R′.the-laws w _ is-w) is-w in
-          points holding (h .count) b o ! (omega (arith, room)) (load ! (from ! (stop !)) (look ! 18 refl)) (init ! 24 refl (tt, record { fits = omega (arith, room) })) (look ! 14 refl) (init ! 25 refl (tt, tt)) (look ! 25 refl) (look ! 24 refl) (init ! 26 refl (tt, tt)) $
-          visits holding (h .count) b o fullShare (turned (s .voices)) (turned (set (s .voices) (h .count) w)) w ! (sets-voice 𝓤 H A W fullShare (turned (s .voices)) (h .count) none b o inside w) (λ _. isw)
+          points (h .count) b o ! (omega (arith, room)) (load ! (from ! (stop !)) (look ! 18 refl)) (init ! 24 refl (tt, record { fits = omega (arith, room) })) (look ! 14 refl) (init ! 25 refl (tt, tt)) (look ! 25 refl) (look ! 24 refl) (init ! 26 refl (tt, tt)) $
+          visits (h .count) b o fullShare (turned (s .voices)) (turned (set (s .voices) (h .count) w)) w ! (sets-voice 𝓤 H A W fullShare (turned (s .voices)) (h .count) none b o inside w) (λ _. isw)
           (λ _. assigns-last ! (of-opd ! (load ! (from ! (stop !)) (look ! 21 refl))) (from ! (hop ! (look ! 28 refl) (stop !))) (store-raw ! 0 refl (voice .typed 𝓤 H A W w _ isw))) (λ _.
           forget ! 18 refl $ forget ! 19 refl $ forget ! 22 refl $ forget ! 23 refl $ forget ! 24 refl $ forget ! 25 refl $ forget ! 26 refl $ by ! (shuts (set (s .voices) (h .count) w) (stored-so w e-w new)))))))))
           (λ y. skips ! $ forget ! 22 refl $ by ! (shuts (s .voices) (kept-so (denied (s .p .fresh) y))))

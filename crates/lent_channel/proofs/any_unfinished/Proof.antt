@@ -16,23 +16,18 @@ use base.Fml.{Lft, GName, Share, ftrue, fat, flft}
 use prog.Wp.{Heap, Out, Env, afterSeq, afterBlock, afterTurn, Wp, atReturn, WpFn, Tables}
 use ghost.Atoms.{Atoms}
 use contract.Running.{givenOf, tables, tablesOf}
-use sound.WpLaws.{fmOf}
-use types.Kit.{Given, Item, ‵, _⊛_, ⋆, anyQ, atRet, _$_, _∵_, !, qed, by, move, use1, use2, fsplit}
+use types.Kit.{Given, Item, ‵, _⊛_, ⋆, anyQ, atRet, step, _$_, _∵_, !, qed, by, move, use1, use2, fsplit}
 use types.Part.{whole, sub, look-in}
-use types.Run.{look, store, init, forget, stop, hop, fld, from, load, addr, lit, true-lit, false-lit, of-opd, bin, un, and-then, no-more, first, branches, skips, assigns, assigns-last, land, stays, leaves-loop, returns, returns-within, enter, alloc1, alloc0, params1, pass1, pass0, exec}
+use types.Run.{look, store, init, forget, stop, hop, fld, from, load, lit, true-lit, false-lit, of-opd, bin, un, and-then, no-more, first, branches, skips, assigns-last, stays, leaves-loop, returns, returns-within, enter, alloc1, alloc0, params1, pass1, pass0, exec}
 use denote.RattleType.{owns}
 use denote.Memory.{cellAt, pointee}
-use denote.Laws.{Is, shows}
 use denote.Ref.{RefT, ShrRef}
-use denote.Struct.Laws as LL
 use denote.Triple.Spec.{tripleOf}
-use denote.Triple.Statement.{Triple}
 use denote.Triple.Table.{entered, cited}
 use borrow.Table.OneValue.{part-in}
 use Rattle.walks.specs.Walks.{any}
 use Rattle.walks.proofs.Tests.{holds, denied}
 use Rattle.walks.proofs.Lists.Loops.{Walk, turns, stops, ends, begins}
-use Rattle.walks.proofs.Steps.Inside.{goes-in, comes-out}
 use Rattle.walks.proofs.Steps.Rounds.{rounds}
 use Rattle.voice.specs.declared.Voice.{Voice}
 use Rattle.voice.proofs.Voice as R
@@ -41,15 +36,15 @@ use Rattle.channel.specs.declared.Channel.{Channel}
 use Rattle.channel.specs.Channels.{unfinishedOf, anyUnfinishedOf}
 use Rattle.channel.proofs.Slots.{none}
 use Rattle.channel.proofs.Channel as C
-use Rattle.channel.proofs.places as places
 use Rattle.channel.proofs.places.Symbol as places-def
 use Rattle.channel.proofs.places.Symbol.{name as #places}
 use Rattle.channel.proofs.places.Met as places-thm
 use Rattle.lent_channel.proofs.Bytes.{voice-bytes}
 use Rattle.lent_channel.proofs.Places.{cv, vv, spot, places-are, reads-voice}
 use Rattle.lent_channel.proofs.Tails.{after}
-use Rattle.lent_channel.proofs.Giving.{promise, gives, over, frees, less, no-less}
-use Rattle.lent_channel.proofs.Sharing.{places as counting, count-fits, small, next-fits, place-fits, inside, Whole, Open, looked, reads-count, at-spot, Entry, Post, exits, asks}
+use Rattle.lent_channel.proofs.Holding.{points, visits}
+use Rattle.lent_channel.proofs.Steps.{Says, asks, mine, sets, less, no-less, over, freed}
+use Rattle.lent_channel.proofs.Sharing.{places as counting, count-fits, small, next-fits, place-fits, inside, Whole, Open, looked, reads-count, Entry, Post, exits, meets}
 use Rattle.lent_channel.proofs.any_unfinished.Key.{name as #f}
 use Rattle.lent_channel.proofs.any_unfinished as f
 use Rattle.lent_channel.proofs.any_unfinished.Statement as stated
@@ -101,22 +96,19 @@ module _ {M : Type 1} (𝓤 : URA M) (H : Heap 𝓤) (A : Atoms 𝓤) (W : Given
         let before : i < n = small h all i r (g .left) in
         let place : i * voice-bytes < 2 ^ 64 = place-fits h all i r (g .left) in
         qed W (At i) ∵ exec ! (𝓣 .C) (𝓣 .Λ) En code.Mir.turn-1 (anyQ (afterTurn 𝓤 H X Left)) $
-        assigns ! (less ! (load ! (from ! (stop !)) (look ! 16 refl)) (load ! (from ! (stop !)) (look ! 18 refl)) before) (from ! (stop !)) (init ! 12 refl (tt, tt)) $ stays ! (load ! (from ! (stop !)) (look ! 12 refl)) $
+        sets ! (less ! (mine ! 16 refl) (mine ! 18 refl) before) (init ! 12 refl (tt, tt)) $ stays ! (mine ! 12 refl) $
         -- voice i, and whether it is finished
-        assigns ! (bin ! (load ! (from ! (stop !)) (look ! 16 refl)) (lit ! tt) (record { fits = place })) (from ! (stop !)) (init ! 10 refl (tt, record { fits = place })) $
-        assigns ! (addr ! (from ! (hop ! (look ! 20 refl) (fld ! refl (stop !))))) (from ! (stop !)) (init ! 8 refl (tt, tt)) $
-        assigns ! (at-spot ! o i (load ! (from ! (stop !)) (look ! 8 refl)) (load ! (from ! (stop !)) (look ! 10 refl))) (from ! (stop !)) (init ! 6 refl (tt, tt)) $
-        goes-in ! q′ C.the-row R.the-row (Is R.the-row) (shows 𝓤 H A R.the-row) (LL.vals R.the-type R′.the-laws) (LL.tells R.the-type R′.the-laws) h h v v b o (spot o i) (reads-voice 𝓤 H A W q′ h i none b o (inside h all i r (g .left))) (λ isv.
-        use1 W (‵ (fat q′ R′.mir b (spot o i) (vv v))) (W .laws .raw-at q′ R′.mir b (spot o i) (vv v)) $
-        assigns ! (of-opd ! (load ! (from ! (hop ! (look ! 8 refl) (fld ! refl (stop !)))) (look-in ! 0 (sub ! 9 refl (whole !))))) (from ! (stop !)) (store ! 14 refl (tt, tt)) $
-        use1 W (‵ (cellAt q′ (R.the-row .mir) (vv v ∷ []) b (spot o i))) (W .laws .at-raw q′ R′.mir b (spot o i) (vv v)) $ comes-out ! q′ C.the-row R.the-row h v (vv v ∷ []) b o (spot o i) $
-        assigns ! (un ! (load ! (from ! (stop !)) (look ! 12 refl)) tt) (from ! (stop !)) (init ! 4 refl (tt, tt)) $ first ! $ branches ! (load ! (from ! (stop !)) (look ! 4 refl))
+        points i b o ! place (mine ! 16 refl) (init ! 10 refl (tt, record { fits = place })) (look ! 20 refl) (init ! 8 refl (tt, tt)) (look ! 8 refl) (look ! 10 refl) (init ! 6 refl (tt, tt)) $
+        visits i b o q′ h h v ! (reads-voice 𝓤 H A W q′ h i none b o (inside h all i r (g .left))) (λ is. is) (λ _. step (λ s.
+        use1 W (‵ (fat q′ R′.mir b (spot o i) (vv v))) (W .laws .raw-at q′ R′.mir b (spot o i) (vv v)) $ sets ! (of-opd ! (load ! (from ! (hop ! (look ! 8 refl) (fld ! refl (stop !)))) (look-in ! 0 (sub ! 9 refl (whole !))))) (store ! 14 refl (tt, tt)) $
+        use1 W (‵ (cellAt q′ (R.the-row .mir) (vv v ∷ []) b (spot o i))) (W .laws .at-raw q′ R′.mir b (spot o i) (vv v)) $ s)) (λ _.
+        sets ! (un ! (mine ! 12 refl) tt) (init ! 4 refl (tt, tt)) $ first ! $ branches ! (mine ! 4 refl)
         -- it isn't: the function returns
-        (λ y. assigns ! (of-opd ! (true-lit !)) (from ! (stop !)) (init ! 22 refl (tt, tt)) $ returns-within ! Ends refl (look ! 22 refl) $
-        by ! (frees 𝓤 H A W (Open κ q q′ x) (exits anyUnfinishedOf 𝓤 H A κ q x W q′ true (stops none (g .walk) before (stops-at v y))) En (some _ ∷ some _ ∷ some _ ∷ some _ ∷ room ∷ some _ ∷ some _ ∷ some _ ∷ some _ ∷ some _ ∷ [])))
+        (λ y. sets ! (of-opd ! (true-lit !)) (init ! 22 refl (tt, tt)) $ returns-within ! Ends refl (look ! 22 refl) $
+        freed ! (Open κ q q′ x) En (some _ ∷ some _ ∷ some _ ∷ some _ ∷ room ∷ some _ ∷ some _ ∷ some _ ∷ some _ ∷ some _ ∷ []) $ by ! (exits anyUnfinishedOf 𝓤 H A κ q x W q′ true (stops none (g .walk) before (stops-at v y))))
         -- it is
         (λ y. skips ! $ exec ! (𝓣 .C) (𝓣 .Λ) En (after 8 code.Mir.turn-1) (anyQ (afterTurn 𝓤 H X Left)) $
-        assigns-last ! (bin ! (load ! (from ! (stop !)) (look ! 16 refl)) (lit ! tt) (record { fits = next-fits h all i r (g .left) })) (from ! (stop !)) (store ! 16 refl (tt, record { fits = next-fits h all i r (g .left) })) $
+        assigns-last ! (bin ! (mine ! 16 refl) (lit ! tt) (record { fits = next-fits h all i r (g .left) })) (from ! (stop !)) (store ! 16 refl (tt, record { fits = next-fits h all i r (g .left) })) $
         forget ! 4 refl $ forget ! 6 refl $ forget ! 8 refl $ forget ! 10 refl $ forget ! 12 refl $
         by ! (go (i + 1) (record { left = omega (arith, g .left); walk = turns none (g .walk) before (goes-by v (denied (unfinishedOf v) y)) }))))
 
@@ -124,23 +116,23 @@ module _ {M : Type 1} (𝓤 : URA M) (H : Heap 𝓤) (A : Atoms 𝓤) (W : Given
     unfolding afterTurn
     leaves i g X =
         qed W (At i) ∵ exec ! (𝓣 .C) (𝓣 .Λ) En code.Mir.turn-1 (anyQ (afterTurn 𝓤 H X Left)) $
-        assigns ! (no-less ! (load ! (from ! (stop !)) (look ! 16 refl)) (load ! (from ! (stop !)) (look ! 18 refl)) (omega (arith, g .left))) (from ! (stop !)) (init ! 12 refl (tt, tt)) $
-        leaves-loop ! (load ! (from ! (stop !)) (look ! 12 refl)) $ exec ! (𝓣 .C) (𝓣 .Λ) En code.Mir.t-5 (atRet En Ends) $
-        assigns ! (of-opd ! (false-lit !)) (from ! (stop !)) (init ! 22 refl (tt, tt)) $ returns ! (look ! 22 refl) $
-        by ! (frees 𝓤 H A W (Open κ q q′ x) (exits anyUnfinishedOf 𝓤 H A κ q x W q′ false (none-left ∙ ends (g .walk) (omega (arith, g .left)))) En (some _ ∷ some _ ∷ some _ ∷ some _ ∷ room ∷ some _ ∷ []))
+        sets ! (no-less ! (mine ! 16 refl) (mine ! 18 refl) (omega (arith, g .left))) (init ! 12 refl (tt, tt)) $
+        leaves-loop ! (mine ! 12 refl) $ exec ! (𝓣 .C) (𝓣 .Λ) En code.Mir.t-5 (atRet En Ends) $
+        sets ! (of-opd ! (false-lit !)) (init ! 22 refl (tt, tt)) $ returns ! (look ! 22 refl) $
+        freed ! (Open κ q q′ x) En (some _ ∷ some _ ∷ some _ ∷ some _ ∷ room ∷ some _ ∷ []) $ by ! (exits anyUnfinishedOf 𝓤 H A κ q x W q′ false (none-left ∙ ends (g .walk) (omega (arith, g .left))))
 
     loops : ent 𝓤 (⋆ 𝓤 H A (At 0)) (Wp 𝓤 H (𝓣 .C) (𝓣 .Λ) En (loop code.Mir.turn-1) Left)
     unfolding anyUnfinishedOf
     loops = rounds 𝓤 H A W 𝓣 En code.Mir.turn-1 Left Going At leaves more n 0 (record { left = omega arith; walk = begins (any unfinishedOf) (h .voices) (h .count) n 32 all refl })
 
-  walk : Triple 𝓤 (𝓣 .C #places) (promise counting 𝓤 H A) → ent 𝓤 (Entry anyUnfinishedOf 𝓤 H A κ q x) (WpFn 𝓤 H (𝓣 .C) (𝓣 .Λ) code.function (vptr b o ∷ []) Ends)
+  walk : Says 𝓤 H A 𝓣 #places counting → ent 𝓤 (Entry anyUnfinishedOf 𝓤 H A κ q x) (WpFn 𝓤 H (𝓣 .C) (𝓣 .Λ) code.function (vptr b o ∷ []) Ends)
   walk known =
       qed W ((‵ (flft κ q) ⊛ ‵ ftrue) ∷ ‵ (owns (ShrRef (named 0) κ C.the-row ∷ []) (x, tt) (vptr b o ∷ [], tt)) ∷ []) ∵ enter ! (𝓣 .C) (𝓣 .Λ) code.function (vptr b o ∷ []) _ $
       alloc1 ! (λ l₀. alloc1 ! (λ l₁. alloc1 ! (λ l₂. alloc1 ! (λ l₃. alloc1 ! (λ l₄. alloc1 ! (λ l₅. alloc1 ! (λ l₆. alloc1 ! (λ l₇. alloc1 ! (λ l₈. alloc1 ! (λ l₉. alloc0 ! $ params1 ! $ pass1 ! (init ! 16 refl (tt, tt)) $ pass0 ! $
       move ! (21 ∷ []) $ fsplit ! $ move ! (0 ∷ 22 ∷ []) $ looked ! tt κ q x (λ q′ g.
-      assigns ! (of-opd ! (reads-count ! x (look ! 21 refl))) (from ! (stop !)) (init ! 15 refl (tt, record { fits = count-fits h g })) $
-      gives ! (fmOf 𝓤 H (W .laws) 𝓣) counting known (h .count, tt) ((refl, count-fits h g), tt) (and-then ! (load ! (from ! (stop !)) (look ! 15 refl)) (no-more !)) (λ is. land ! (from ! (stop !)) (init ! 19 refl (tt, record { fits = is .1 })) $
-      assigns ! (of-opd ! (lit ! tt)) (from ! (stop !)) (init ! 17 refl (tt, record { fits = lit< tt })) $ forget ! 15 refl $
+      sets ! (of-opd ! (reads-count ! x (look ! 21 refl))) (init ! 15 refl (tt, record { fits = count-fits h g })) $
+      asks ! known (h .count, tt) ((refl, count-fits h g), tt) (and-then ! (mine ! 15 refl) (no-more !)) (init ! 19 refl) (λ _.
+      sets ! (of-opd ! (lit ! tt)) (init ! 17 refl (tt, record { fits = lit< tt })) $ forget ! 15 refl $
       use2 W (‵ (Whole q′ x)) (part-in 𝓤 H A W C.the-row refl q′ h b o (cv h)) $ by ! (loops q′ (places-are h g) l₀ l₁ l₂ l₃ l₄ l₅ l₆ l₇ l₈ l₉)))))))))))))
 
 pub any-unfinished-spec : {M : Type 1} → stated.statement M
@@ -148,5 +140,5 @@ unfolding code.routine tablesOf
 any-unfinished-spec 𝓤 H 𝓜 𝓖 𝓡 =
     entered 𝓤 H (tripleOf 𝓤 H (𝓖 .A) f.signature (f.spec 𝓤 H (𝓖 .A) (𝓜 .mem) (𝓡 .run)))
     (tables 𝓤 H 𝓜 𝓡 code.env .C) (tables 𝓤 H 𝓜 𝓡 code.env .Λ) #f code.function (code.unfolded 𝓤 H 𝓜 𝓡)
-    (asks anyUnfinishedOf 𝓤 H (𝓖 .A) (givenOf 𝓤 H 𝓜 𝓖) (tablesOf 𝓤 H 𝓜 (tables 𝓤 H 𝓜 𝓡 code.env)) code.function (λ κ q x. walk 𝓤 H (𝓖 .A) (givenOf 𝓤 H 𝓜 𝓖) (tablesOf 𝓤 H 𝓜 (tables 𝓤 H 𝓜 𝓡 code.env)) κ q (x .ptr .0) (x .ptr .1) (x .name) (x .now)
-    (cited 𝓤 H (tripleOf 𝓤 H (𝓖 .A) places.signature (places.spec 𝓤 H (𝓖 .A) (𝓜 .mem) (𝓡 .run))) 𝓜 𝓡 code.env #places places-def.routine code.calls-channel·places (places-thm.met 𝓤 H 𝓜 𝓖 𝓡))))
+    (meets anyUnfinishedOf 𝓤 H (𝓖 .A) (givenOf 𝓤 H 𝓜 𝓖) (tablesOf 𝓤 H 𝓜 (tables 𝓤 H 𝓜 𝓡 code.env)) code.function (λ κ q x. walk 𝓤 H (𝓖 .A) (givenOf 𝓤 H 𝓜 𝓖) (tablesOf 𝓤 H 𝓜 (tables 𝓤 H 𝓜 𝓡 code.env)) κ q (x .ptr .0) (x .ptr .1) (x .name) (x .now)
+    (record { met = cited 𝓤 H _ 𝓜 𝓡 code.env #places places-def.routine code.calls-channel·places (places-thm.met 𝓤 H 𝓜 𝓖 𝓡) })))

@@ -23,7 +23,7 @@ use types.Kit.{Given, Item, ‵, _⊛_, ⋆, atRet, _$_, _∵_, !, qed, by, move
 use types.Part.{whole, sub, look-in, store-in}
 use types.Mut.{close-ref}
 use types.SemTy.{Body}
-use types.Run.{look, init, store, forget, stop, hop, fld, from, load, of-opd, and-then, no-more, first, branches, assigns, assigns-last, returns, enter, alloc1, alloc0, params1, pass1, pass0, exec}
+use types.Run.{look, init, store, forget, stop, hop, fld, from, load, of-opd, and-then, no-more, first, branches, assigns-last, returns, enter, alloc1, alloc0, params1, pass1, pass0, exec}
 use denote.Exit.{yes}
 use denote.RattleType.{owns}
 use denote.Memory.{mem, partAt, pointee}
@@ -69,8 +69,8 @@ use Rattle.channel.proofs.Head.closed.Met as closed-thm
 use Rattle.lent_channel.specs.declared.Heard.{Heard}
 use Rattle.lent_channel.specs.Turns.{mixedWith}
 use Rattle.lent_channel.proofs.Bytes.{head-at}
-use Rattle.lent_channel.proofs.Rows.{Datum, struct, word, float}
-use Rattle.lent_channel.proofs.Steps.{flag, Says, asks, mine, locals, freed}
+use Rattle.lent_channel.proofs.Rows.{Datum, struct, word, float, truth}
+use Rattle.lent_channel.proofs.Steps.{Says, asks, mine, sets, over, freed}
 use Rattle.lent_channel.proofs.Places.{cv, ev, yv, with-head}
 use Rattle.lent_channel.proofs.Heard as Y
 use Rattle.lent_channel.proofs.Heard.Laws as Y′
@@ -101,10 +101,10 @@ stayed = (stay-ref (0 ∷ []) tt (plain (λ _. C.the-row)), (stay-none (λ _. P.
 -- the calls
 record Known {M : Type 1} (𝓤 : URA M) (H : Heap 𝓤) (A : Atoms 𝓤) (𝓣 : Tables 𝓤 H) : Type 2 where
   mixed : Says 𝓤 H A 𝓣 #mixed (record { takes = head ∷ float binary32 ∷ heard ∷ []; gives = heard; says = λ a. mixedWith (a .0) (a .1 .0) (a .1 .1 .0) })
-  passed : Says 𝓤 H A 𝓣 #passed (record { takes = params ∷ flag ∷ []; gives = flag; says = λ a. passesOf (a .0) (a .1 .0) })
-  resting : Says 𝓤 H A 𝓣 #resting (record { takes = head ∷ flag ∷ []; gives = flag; says = λ a. restsOf (a .1 .0) (a .0) })
+  passed : Says 𝓤 H A 𝓣 #passed (record { takes = params ∷ truth ∷ []; gives = truth; says = λ a. passesOf (a .0) (a .1 .0) })
+  resting : Says 𝓤 H A 𝓣 #resting (record { takes = head ∷ truth ∷ []; gives = truth; says = λ a. restsOf (a .1 .0) (a .0) })
   ticked : Says 𝓤 H A 𝓣 #ticked (record { takes = word w64 ∷ []; gives = word w64; says = λ a. nextTime (a .0) })
-  closed : Says 𝓤 H A 𝓣 #closed (record { takes = head ∷ params ∷ flag ∷ []; gives = head; says = λ a. closedOf (a .1 .0) (a .1 .1 .0) (a .0) })
+  closed : Says 𝓤 H A 𝓣 #closed (record { takes = head ∷ params ∷ truth ∷ []; gives = head; says = λ a. closedOf (a .1 .0) (a .1 .1 .0) (a .0) })
 
 module _ {M : Type 1} (𝓤 : URA M) (H : Heap 𝓤) (A : Atoms 𝓤) (W : Given 𝓤 H A) (at-mem : Memory → SProp 𝓤) (run : Routine → Fun 𝓤) (𝓣 : Tables 𝓤 H) (known : Known 𝓤 H A 𝓣) where
   module _ (κ : Lft) (q : Share) (b o : ℕ) (γ : GName) (h : Channel) (p : Params) (u : Bool) (x : Float) (s : Heard) (isp : Is P.the-row p (params .val p ∷ [])) (x-fits : fitsF binary32 x ≡ true) (iss : Is Y.the-row s (yv s ∷ [])) where
@@ -153,11 +153,11 @@ module _ {M : Type 1} (𝓤 : URA M) (H : Heap 𝓤) (A : Atoms 𝓤) (W : Given
 
       -- the channel as it is at the end
       abbrev Last : List (Item 𝓤)
-      Last = ‵ (fat fullShare C′.mir b o (cv last)) ∷ ‵ (fobor κ q (Body (mem C.the-row) b o γ)) ∷ ‵ (fobs γ (C.the-row .coded .code h)) ∷ ‵ (fauth γ (C.the-row .coded .code h)) ∷ locals 𝓤 H A En (none ∷ held)
+      Last = over (‵ (fat fullShare C′.mir b o (cv last)) ∷ ‵ (fobor κ q (Body (mem C.the-row) b o γ)) ∷ ‵ (fobs γ (C.the-row .coded .code h)) ∷ ‵ (fauth γ (C.the-row .coded .code h)) ∷ []) En (none ∷ held)
 
       shuts : Is C.the-row h (cv h ∷ []) → Is Y.the-row out (yv out ∷ []) → Is E.the-row t′ (ev t′ ∷ []) → ent 𝓤 (⋆ 𝓤 H A Last) (Wp 𝓤 H (𝓣 .C) (𝓣 .Λ) En code.Mir.t-7 (atReturn 𝓤 H En Post))
       shuts g is ist′ =
-          qed W Last ∵ exec ! (𝓣 .C) (𝓣 .Λ) En code.Mir.t-7 (atRet En Post) $ assigns ! (of-opd ! (mine ! 18 refl)) (from ! (stop !)) (init ! 30 refl (heard .typed 𝓤 H A W out _ is)) $
+          qed W Last ∵ exec ! (𝓣 .C) (𝓣 .Λ) En code.Mir.t-7 (atRet En Post) $ sets ! (of-opd ! (mine ! 18 refl)) (init ! 30 refl (heard .typed 𝓤 H A W out _ is)) $
           owned ! C.the-row (Is C.the-row) (LL.makes C.the-type C′.the-plain 𝓤 H A) last _ (with-head h t′ g ist′) $ move ! (1 ∷ 0 ∷ []) $
           use2 W (‵ (partAt C.the-row fullShare last b o)) (part-in 𝓤 H A W C.the-row refl fullShare last b o (cv last)) $ close-ref ! tt (mem C.the-row) last {b = b} {o = o} $ returns ! (look ! 29 refl) $
           freed ! Left En (some (yv out) ∷ held) $ by ! (exits is)
@@ -174,23 +174,23 @@ module _ {M : Type 1} (𝓤 : URA M) (H : Heap 𝓤) (A : Atoms 𝓤) (W : Given
         use1 W (‵ (fat fullShare C′.mir b o (cv h))) (W .laws .raw-at fullShare C′.mir b o (cv h)) $ move ! (1 ∷ []) $
         peeks ! C.the-row (Is C.the-row) (shows 𝓤 H A C.the-row) h (cv h ∷ []) (λ g. drop ! $ let ist : Is E.the-row t (ev t ∷ []) = LL.owed C.the-type C′.the-laws h _ g .1 .1 .0 in let parts = LL.owed E.the-type E′.the-laws t _ ist in
         -- what is heard, and whether pass-through rests
-        assigns ! (of-opd ! (load ! (from ! (hop ! (look ! 28 refl) (fld ! {τ = head .ty} {d = head-at} refl (stop !)))) (look-in ! 0 (sub ! 2 {τ = head .ty} {d = head-at} refl (whole !))))) (from ! (stop !)) (init ! 16 refl (head .typed 𝓤 H A W t _ ist)) $
-        asks ! (known .mixed) (t, (x, (s, tt))) (ist, ((refl, x-fits), (iss, tt))) (and-then ! (mine ! 16 refl) (and-then ! (mine ! 22 refl) (and-then ! (mine ! 20 refl) (no-more !)))) 18 refl refl (λ is.
-        assigns ! (of-opd ! (load ! (from ! (hop ! (look ! 28 refl) (fld ! {τ = head .ty} {d = head-at} refl (stop !)))) (look-in ! 0 (sub ! 2 {τ = head .ty} {d = head-at} refl (whole !))))) (from ! (stop !)) (store ! 16 refl (head .typed 𝓤 H A W t _ ist)) $
-        asks ! (known .passed) (p, (u, tt)) (isp, (refl, tt)) (and-then ! (mine ! 26 refl) (and-then ! (mine ! 24 refl) (no-more !))) 12 refl refl (λ _.
-        asks ! (known .resting) (t, (wanted, tt)) (ist, (refl, tt)) (and-then ! (mine ! 16 refl) (and-then ! (mine ! 12 refl) (no-more !))) 14 refl refl (λ _.
+        sets ! (of-opd ! (load ! (from ! (hop ! (look ! 28 refl) (fld ! {τ = head .ty} {d = head-at} refl (stop !)))) (look-in ! 0 (sub ! 2 {τ = head .ty} {d = head-at} refl (whole !))))) (init ! 16 refl (head .typed 𝓤 H A W t _ ist)) $
+        asks ! (known .mixed) (t, (x, (s, tt))) (ist, ((refl, x-fits), (iss, tt))) (and-then ! (mine ! 16 refl) (and-then ! (mine ! 22 refl) (and-then ! (mine ! 20 refl) (no-more !)))) (init ! 18 refl) (λ is.
+        sets ! (of-opd ! (load ! (from ! (hop ! (look ! 28 refl) (fld ! {τ = head .ty} {d = head-at} refl (stop !)))) (look-in ! 0 (sub ! 2 {τ = head .ty} {d = head-at} refl (whole !))))) (store ! 16 refl (head .typed 𝓤 H A W t _ ist)) $
+        asks ! (known .passed) (p, (u, tt)) (isp, (refl, tt)) (and-then ! (mine ! 26 refl) (and-then ! (mine ! 24 refl) (no-more !))) (init ! 12 refl) (λ _.
+        asks ! (known .resting) (t, (wanted, tt)) (ist, (refl, tt)) (and-then ! (mine ! 16 refl) (and-then ! (mine ! 12 refl) (no-more !))) (init ! 14 refl) (λ _.
         first ! $ branches ! (mine ! 14 refl)
         (λ y.
         -- the clock alone is stored
-        assigns ! (of-opd ! (load ! (from ! (hop ! (look ! 28 refl) (fld ! {τ = head .ty} {d = head-at} refl (fld ! {τ = tyInt w64} {d = 0} refl (stop !))))) (look-in ! 0 (sub ! 0 {τ = tyInt w64} {d = 0} refl (sub ! 2 {τ = head .ty} {d = head-at} refl (whole !)))))) (from ! (stop !)) (init ! 8 refl (tt, record { fits = parts .0 .1 })) $
-        asks ! (known .ticked) (t .now, tt) (parts .0, tt) (and-then ! (mine ! 8 refl) (no-more !)) 10 refl refl (λ is-next.
+        sets ! (of-opd ! (load ! (from ! (hop ! (look ! 28 refl) (fld ! {τ = head .ty} {d = head-at} refl (fld ! {τ = tyInt w64} {d = 0} refl (stop !))))) (look-in ! 0 (sub ! 0 {τ = tyInt w64} {d = 0} refl (sub ! 2 {τ = head .ty} {d = head-at} refl (whole !)))))) (init ! 8 refl (tt, record { fits = parts .0 .1 })) $
+        asks ! (known .ticked) (t .now, tt) (parts .0, tt) (and-then ! (mine ! 8 refl) (no-more !)) (init ! 10 refl) (λ is-next.
         assigns-last ! (of-opd ! (mine ! 10 refl)) (from ! (hop ! (look ! 28 refl) (fld ! {τ = head .ty} {d = head-at} refl (fld ! {τ = tyInt w64} {d = 0} refl (stop !))))) (store-in ! 0 (sub ! 0 {τ = tyInt w64} {d = 0} refl (sub ! 2 {τ = head .ty} {d = head-at} refl (whole !))) (tt, record { fits = is-next .1 })) $
         let so : clockedOf t ≡ t′ = sym (closed-resting p u t (holds (restsOf wanted t) y)) in rewrite ! 0 (λ (z : Head). ‵ (fat fullShare C′.mir b o (cv (withHead z h)))) so refl $ forget ! 10 refl $ forget ! 8 refl $
         by ! (shuts l₀ l₁ l₂ l₃ l₄ l₅ l₆ l₇ l₈ l₉ l₁₀ l₁₁ l₁₂ l₁₃ g is (subst (λ (z : Head). Is E.the-row z (ev z ∷ [])) so (LL.owes E.the-type E′.the-laws (clockedOf t) (is-next, parts .1))))))
         (λ _.
         -- the head is stored
-        assigns ! (of-opd ! (load ! (from ! (hop ! (look ! 28 refl) (fld ! {τ = head .ty} {d = head-at} refl (stop !)))) (look-in ! 0 (sub ! 2 {τ = head .ty} {d = head-at} refl (whole !))))) (from ! (stop !)) (init ! 4 refl (head .typed 𝓤 H A W t _ ist)) $
-        asks ! (known .closed) (t, (p, (u, tt))) (ist, (isp, (refl, tt))) (and-then ! (mine ! 4 refl) (and-then ! (mine ! 26 refl) (and-then ! (mine ! 24 refl) (no-more !)))) 6 refl refl (λ ist′.
+        sets ! (of-opd ! (load ! (from ! (hop ! (look ! 28 refl) (fld ! {τ = head .ty} {d = head-at} refl (stop !)))) (look-in ! 0 (sub ! 2 {τ = head .ty} {d = head-at} refl (whole !))))) (init ! 4 refl (head .typed 𝓤 H A W t _ ist)) $
+        asks ! (known .closed) (t, (p, (u, tt))) (ist, (isp, (refl, tt))) (and-then ! (mine ! 4 refl) (and-then ! (mine ! 26 refl) (and-then ! (mine ! 24 refl) (no-more !)))) (init ! 6 refl) (λ ist′.
         assigns-last ! (of-opd ! (mine ! 6 refl)) (from ! (hop ! (look ! 28 refl) (fld ! {τ = head .ty} {d = head-at} refl (stop !)))) (store-in ! 0 (sub ! 2 {τ = head .ty} {d = head-at} refl (whole !)) (head .typed 𝓤 H A W t′ _ ist′)) $ forget ! 6 refl $ forget ! 4 refl $
         by ! (shuts l₀ l₁ l₂ l₃ l₄ l₅ l₆ l₇ l₈ l₉ l₁₀ l₁₁ l₁₂ l₁₃ g is ist′))))))))))))))))))))))
 

@@ -85,7 +85,7 @@ use Rattle.lent_channel.proofs.Bytes.{voice-bytes}
 use Rattle.lent_channel.proofs.Tails.{after}
 use Rattle.lent_channel.proofs.Turns.{rest-glide}
 use Rattle.lent_channel.proofs.Places.{cv, vv, places-are, sets-voice}
-use Rattle.lent_channel.proofs.Holding.{voice, holding, points, visits, copies-voice}
+use Rattle.lent_channel.proofs.Holding.{voice, points, visits, copies-voice}
 use Rattle.lent_channel.proofs.Start as S
 use Rattle.lent_channel.proofs.Start.Laws as S′
 use Rattle.lent_channel.proofs.Glided as G
@@ -351,8 +351,8 @@ module _ {M : Type 1} (𝓤 : URA M) (H : Heap 𝓤) (A : Atoms 𝓤) (W : Given
           assigns ! (bin ! (load ! (from ! (stop !)) (look ! 1 refl)) (load ! (from ! (stop !)) (look ! 19 refl)) tt) (from ! (stop !)) (init ! 8 refl (tt, tt)) $
           rewrite ! 8 (λ (z : Bool). ‵ (fat fullShare truth l₁₁ 0 (vbool z))) (holds (ltb i n) (lt→ltb i n small)) refl $ stays ! (load ! (from ! (stop !)) (look ! 8 refl)) $
           -- voice i is copied
-          points holding i b o ! place-fits (load ! (from ! (stop !)) (look ! 1 refl)) (init ! 9 refl (tt, record { fits = place-fits })) (look ! 15 refl) (init ! 10 refl (tt, tt)) (look ! 10 refl) (look ! 9 refl) (init ! 11 refl (tt, tt)) $
-          copies-voice holding i b o fullShare (turned l) ! inside (look ! 13 refl) (λ ok. init ! 14 refl ok) (λ isv.
+          points i b o ! place-fits (load ! (from ! (stop !)) (look ! 1 refl)) (init ! 9 refl (tt, record { fits = place-fits })) (look ! 15 refl) (init ! 10 refl (tt, tt)) (look ! 10 refl) (look ! 9 refl) (init ! 11 refl (tt, tt)) $
+          copies-voice i b o fullShare (turned l) ! inside (look ! 13 refl) (init ! 14 refl) (λ isv.
           assigns ! (of-opd ! (load ! (from ! (stop !)) (look ! 12 refl))) (from ! (stop !)) (init ! 5 refl (LL.lawful R.the-type R′.the-laws 𝓤 H A W .typed v _ isv .0)) $
           -- it takes its turn
           move ! (4 ∷ []) $ use1 W (‵ Sl ⊛ ‵ Sl) (shr-slice-copy 𝓤 H A W (named 0) κ₁ u32 .twice x₁ (sl ∷ [])) $ split ! $ move ! (5 ∷ 0 ∷ []) $
@@ -373,8 +373,8 @@ module _ {M : Type 1} (𝓤 : URA M) (H : Heap 𝓤) (A : Atoms 𝓤) (W : Given
           -- it is, and the voice is overwritten
           (λ y. skips ! $ exec ! Cs Λ En (after 10 code.Mir.turn-1) (anyQ (afterTurn 𝓤 H X Left)) $
           assigns ! (of-opd ! (load ! (from ! (fld ! {τ = voiced} {d = 0} refl (stop !))) (look-in ! 6 (sub ! 0 {τ = voiced} {d = 0} refl (whole !))))) (from ! (stop !)) (init ! 7 refl (LL.lawful R.the-type R′.the-laws 𝓤 H A W .typed (x .voice) _ isw .0)) $
-          points holding i b o ! place-fits (load ! (from ! (stop !)) (look ! 3 refl)) (store ! 9 refl (tt, record { fits = place-fits })) (look ! 15 refl) (init ! 13 refl (tt, tt)) (look ! 13 refl) (look ! 9 refl) (init ! 14 refl (tt, tt)) $ move ! (2 ∷ []) $
-          visits holding i b o fullShare (turned l) (turned (set l i (x .voice))) (x .voice) ! (sets-voice 𝓤 H A W fullShare (turned l) i none b o inside (x .voice)) (λ _. isw)
+          points i b o ! place-fits (load ! (from ! (stop !)) (look ! 3 refl)) (store ! 9 refl (tt, record { fits = place-fits })) (look ! 15 refl) (init ! 13 refl (tt, tt)) (look ! 13 refl) (look ! 9 refl) (init ! 14 refl (tt, tt)) $ move ! (2 ∷ []) $
+          visits i b o fullShare (turned l) (turned (set l i (x .voice))) (x .voice) ! (sets-voice 𝓤 H A W fullShare (turned l) i none b o inside (x .voice)) (λ _. isw)
           (λ _. assigns ! (of-opd ! (load ! (from ! (stop !)) (look ! 9 refl))) (from ! (hop ! (look ! 16 refl) (stop !))) (store-raw ! 0 refl (voice .typed 𝓤 H A W (x .voice) _ isw))) (λ _.
           -- it sounds
           nothing ! $ use1 W (raw (Added 𝓤 H A at-mem run .pre (to-added out (x .voice)))) (goes-added out (x .voice) (g .fits) isw) $

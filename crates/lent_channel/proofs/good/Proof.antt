@@ -19,7 +19,7 @@ use contract.Running.{givenOf, tables, tablesOf}
 use sound.WpLaws.{fmOf, WpFn-mono}
 use types.Kit.{Given, ‵, _⊛_, ⋆, atRet, _$_, _∵_, !, qed, by, move, use2, drop, join, fsplit, fjoin, suffices, frame, done}
 use types.Tokens.{obor-close}
-use types.Run.{look, init, stop, from, load, false-lit, of-opd, and-then, no-more, first, branches, skips, assigns, land, returns, returns-within, enter, alloc1, alloc0, params1, pass1, pass0, exec}
+use types.Run.{look, init, stop, from, false-lit, of-opd, and-then, no-more, first, branches, skips, land, returns, returns-within, enter, alloc1, alloc0, params1, pass1, pass0, exec}
 use denote.Exit.{yes}
 use denote.RattleType.{owns}
 use denote.Memory.{pointee}
@@ -45,13 +45,11 @@ use Rattle.channel.proofs.Channel as C
 use Rattle.lent_channel.specs.Turns.{headGoodOf}
 use Rattle.lent_channel.proofs.Rows.{struct, word, truth}
 use Rattle.lent_channel.proofs.Places.{cv}
-use Rattle.lent_channel.proofs.Giving.{Giving, promise, gives, frees}
+use Rattle.lent_channel.proofs.Steps.{Callee, Says, asks, mine, sets, freed}
 use Rattle.lent_channel.proofs.Sharing.{head-is, count-fits, Whole, looked, reads-count, reads-head, question, answered}
-use Rattle.lent_channel.proofs.head_good as head-good
 use Rattle.lent_channel.proofs.head_good.Symbol as head-good-def
 use Rattle.lent_channel.proofs.head_good.Symbol.{name as #head-good}
 use Rattle.lent_channel.proofs.head_good.Met as head-good-thm
-use Rattle.lent_channel.proofs.good_voices as voices
 use Rattle.lent_channel.proofs.good_voices.Symbol as voices-def
 use Rattle.lent_channel.proofs.good_voices.Symbol.{name as #good-voices}
 use Rattle.lent_channel.proofs.good_voices.Met as voices-thm
@@ -68,8 +66,8 @@ abbrev stayed : Stays (good.ended .signature .params) (good.ended .kept)
 stayed = (stay-dropped (RefOf (0 ∷ []) tt (plain (λ _. C.the-row)) (λ _. tt)) yes, (stay-none (λ _. usize) yes, tt))
 
 -- `head_good`
-abbrev judging : Giving
-judging = record { params = struct E.the-type E′.the-laws E′.the-plain ∷ word w64 ∷ word w64 ∷ []; result = truth; of = λ a. headGoodOf (a .1 .1 .0) (a .0) (a .1 .0) }
+abbrev judging : Callee
+judging = record { takes = struct E.the-type E′.the-laws E′.the-plain ∷ word w64 ∷ word w64 ∷ []; gives = truth; says = λ a. headGoodOf (a .1 .1 .0) (a .0) (a .1 .0) }
 
 all-good : (size : ℕ) (h : Channel) → (headGoodOf size (h .head) (h .count) && goodVoicesOf h) ≡ goodChannel size h
 unfolding goodChannel headGoodOf
@@ -94,30 +92,30 @@ module _ {M : Type 1} (𝓤 : URA M) (H : Heap 𝓤) (A : Atoms 𝓤) (W : Given
   abbrev ok : Bool
   ok = headGoodOf size (h .head) (h .count)
 
-  walk : (𝓣 : Tables 𝓤 H) → Triple 𝓤 (𝓣 .C #head-good) (promise judging 𝓤 H A) → Triple 𝓤 (𝓣 .C #good-voices) (question goodVoicesOf 𝓤 H A)
+  walk : (𝓣 : Tables 𝓤 H) → Says 𝓤 H A 𝓣 #head-good judging → Triple 𝓤 (𝓣 .C #good-voices) (question goodVoicesOf 𝓤 H A)
       → ent 𝓤 (onEntry 𝓤 H A good.signature (κ, tt) (q, tt) (x, (size, tt)) vals) (WpFn 𝓤 H (𝓣 .C) (𝓣 .Λ) code.function (vptr b o ∷ vint w64 size ∷ []) Post)
   walk 𝓣 known-head known-voices =
       qed W ((‵ (flft κ q) ⊛ ‵ ftrue) ∷ ‵ (owns (ShrRef (named 0) κ C.the-row ∷ usize ∷ []) (x, (size, tt)) vals) ∷ []) ∵ enter ! (𝓣 .C) (𝓣 .Λ) code.function (vptr b o ∷ vint w64 size ∷ []) _ $
       alloc1 ! (λ l₀. alloc1 ! (λ l₁. alloc1 ! (λ l₂. alloc1 ! (λ l₃. alloc1 ! (λ l₄. alloc1 ! (λ l₅. alloc0 ! $ params1 ! $ pass1 ! (init ! 8 refl (tt, tt)) $ pass1 ! (init ! 6 refl (tt, record { fits = size-fits })) $ pass0 ! $
       let En : Env 𝓤 H = (tyBool, l₀) ∷ (tyRef (named 0) imm (pointee (C.the-row .written)), l₁) ∷ (tyInt w64, l₂) ∷ (tyBool, l₃) ∷ (headed, l₄) ∷ (tyInt w64, l₅) ∷ [] in
       move ! (13 ∷ []) $ fsplit ! $ move ! (1 ∷ []) $ drop ! $ move ! (0 ∷ 13 ∷ []) $ looked ! tt κ q x (λ q′ g.
-      assigns ! (of-opd ! (reads-head ! x (look ! 12 refl))) (from ! (stop !)) (init ! 6 refl (LL.lawful E.the-type E′.the-laws 𝓤 H A W .typed (h .head) _ (head-is h g) .0)) $
-      assigns ! (of-opd ! (reads-count ! x (look ! 12 refl))) (from ! (stop !)) (init ! 4 refl (tt, record { fits = count-fits h g })) $
-      gives ! (fmOf 𝓤 H (W .laws) 𝓣) judging known-head (h .head, (h .count, (size, tt))) (head-is h g, ((refl, count-fits h g), ((refl, size-fits), tt)))
-      (and-then ! (load ! (from ! (stop !)) (look ! 6 refl)) (and-then ! (load ! (from ! (stop !)) (look ! 4 refl)) (and-then ! (load ! (from ! (stop !)) (look ! 10 refl)) (no-more !)))) (λ _. land ! (from ! (stop !)) (init ! 8 refl (tt, tt)) $
+      sets ! (of-opd ! (reads-head ! x (look ! 12 refl))) (init ! 6 refl (LL.lawful E.the-type E′.the-laws 𝓤 H A W .typed (h .head) _ (head-is h g) .0)) $
+      sets ! (of-opd ! (reads-count ! x (look ! 12 refl))) (init ! 4 refl (tt, record { fits = count-fits h g })) $
+      asks ! known-head (h .head, (h .count, (size, tt))) (head-is h g, ((refl, count-fits h g), ((refl, size-fits), tt)))
+      (and-then ! (mine ! 6 refl) (and-then ! (mine ! 4 refl) (and-then ! (mine ! 10 refl) (no-more !)))) (init ! 8 refl) (λ _.
       -- the borrow is shut
       use2 W (‵ (Whole q′ x)) (part-in 𝓤 H A W C.the-row refl q′ h b o (cv h)) $ move ! (1 ∷ 0 ∷ []) $ obor-close ! tt $ drop ! $
-      first ! $ branches ! (load ! (from ! (stop !)) (look ! 6 refl))
+      first ! $ branches ! (mine ! 6 refl)
       -- and handed on
-      (λ y. join ! $ answered goodVoicesOf ! (fmOf 𝓤 H (W .laws) 𝓣) known-voices κ q x (and-then ! (load ! (from ! (stop !)) (look ! 9 refl)) (no-more !)) (
+      (λ y. join ! $ answered goodVoicesOf ! (fmOf 𝓤 H (W .laws) 𝓣) known-voices κ q x (and-then ! (mine ! 9 refl) (no-more !)) (
       land ! (from ! (stop !)) (init ! 11 refl (tt, tt)) $ returns-within ! Post refl (look ! 11 refl) $
-      by ! (frees 𝓤 H A W (‵ (flft κ q) ∷ []) (exits (goodVoicesOf h) (ap (λ (z : Bool). z && goodVoicesOf h) (sym (holds ok y)) ∙ all-good size h)) En (some _ ∷ some _ ∷ some _ ∷ some _ ∷ some _ ∷ some _ ∷ []))))
+      freed ! (‵ (flft κ q) ∷ []) En (some _ ∷ some _ ∷ some _ ∷ some _ ∷ some _ ∷ some _ ∷ []) $ by ! (exits (goodVoicesOf h) (ap (λ (z : Bool). z && goodVoicesOf h) (sym (holds ok y)) ∙ all-good size h))))
       -- or let go
-      (λ y. skips ! $ exec ! (𝓣 .C) (𝓣 .Λ) En code.Mir.t-5 (atRet En Post) $ move ! (1 ∷ []) $ drop ! $ assigns ! (of-opd ! (false-lit !)) (from ! (stop !)) (init ! 11 refl (tt, tt)) $ returns ! (look ! 11 refl) $
-      by ! (frees 𝓤 H A W (‵ (flft κ q) ∷ []) (exits false (ap (λ (z : Bool). z && goodVoicesOf h) (sym (denied ok y)) ∙ all-good size h)) En (some _ ∷ some _ ∷ some _ ∷ some _ ∷ some _ ∷ some _ ∷ [])))))))))))
+      (λ y. skips ! $ exec ! (𝓣 .C) (𝓣 .Λ) En code.Mir.t-5 (atRet En Post) $ move ! (1 ∷ []) $ drop ! $ sets ! (of-opd ! (false-lit !)) (init ! 11 refl (tt, tt)) $ returns ! (look ! 11 refl) $
+      freed ! (‵ (flft κ q) ∷ []) En (some _ ∷ some _ ∷ some _ ∷ some _ ∷ some _ ∷ some _ ∷ []) $ by ! (exits false (ap (λ (z : Bool). z && goodVoicesOf h) (sym (denied ok y)) ∙ all-good size h)))))))))))
 
 module _ {M : Type 1} (𝓤 : URA M) (H : Heap 𝓤) (A : Atoms 𝓤) (W : Given 𝓤 H A) (mem : Memory → SProp 𝓤) (run : Routine → Fun 𝓤) (𝓣 : Tables 𝓤 H)
-    (known-head : Triple 𝓤 (𝓣 .C #head-good) (promise judging 𝓤 H A)) (known-voices : Triple 𝓤 (𝓣 .C #good-voices) (question goodVoicesOf 𝓤 H A)) where
+    (known-head : Says 𝓤 H A 𝓣 #head-good judging) (known-voices : Triple 𝓤 (𝓣 .C #good-voices) (question goodVoicesOf 𝓤 H A)) where
   good-walks : Walks 𝓤 H A good.ended stayed (WpFn 𝓤 H (𝓣 .C) (𝓣 .Λ) code.function) (good.clauses 𝓤 H A mem run)
   good-walks = walked 𝓤 H A good.ended stayed (good.clauses 𝓤 H A mem run) (WpFn 𝓤 H (𝓣 .C) (𝓣 .Λ) code.function) (λ κs. (ptr-vals, (uint-vals w64, tt))) (λ κs. (shr-tells (named 0) (κs .0) C.the-row, (uint-tells w64, tt)))
       (λ κs qs bounds a _ are. via 𝓤 _ (fst∗ 𝓤 _ (emp 𝓤)) (walk 𝓤 H A W mem run (κs .0) (qs .0) (a .0 .ptr .0) (a .0 .ptr .1) (a .0 .name) (a .0 .now) (a .1 .0) (are .1 .0 .1) 𝓣 known-head known-voices))
@@ -134,5 +132,5 @@ good-spec 𝓤 H 𝓜 𝓖 𝓡 =
     entered 𝓤 H (tripleOf 𝓤 H (𝓖 .A) good.signature (good.spec 𝓤 H (𝓖 .A) (𝓜 .mem) (𝓡 .run)))
     (tables 𝓤 H 𝓜 𝓡 code.env .C) (tables 𝓤 H 𝓜 𝓡 code.env .Λ) #good code.function (code.unfolded 𝓤 H 𝓜 𝓡)
     (good-meets 𝓤 H (𝓖 .A) (givenOf 𝓤 H 𝓜 𝓖) (𝓜 .mem) (𝓡 .run) (tablesOf 𝓤 H 𝓜 (tables 𝓤 H 𝓜 𝓡 code.env))
-    (cited 𝓤 H (tripleOf 𝓤 H (𝓖 .A) head-good.signature (head-good.spec 𝓤 H (𝓖 .A) (𝓜 .mem) (𝓡 .run))) 𝓜 𝓡 code.env #head-good head-good-def.routine code.calls-lent-channel·head-good (head-good-thm.met 𝓤 H 𝓜 𝓖 𝓡))
-    (cited 𝓤 H (tripleOf 𝓤 H (𝓖 .A) voices.signature (voices.spec 𝓤 H (𝓖 .A) (𝓜 .mem) (𝓡 .run))) 𝓜 𝓡 code.env #good-voices voices-def.routine code.calls-lent-channel·good-voices (voices-thm.met 𝓤 H 𝓜 𝓖 𝓡)))
+    (record { met = cited 𝓤 H _ 𝓜 𝓡 code.env #head-good head-good-def.routine code.calls-lent-channel·head-good (head-good-thm.met 𝓤 H 𝓜 𝓖 𝓡) })
+    (cited 𝓤 H _ 𝓜 𝓡 code.env #good-voices voices-def.routine code.calls-lent-channel·good-voices (voices-thm.met 𝓤 H 𝓜 𝓖 𝓡)))

@@ -18,43 +18,35 @@ use base.Fml.{Lft, GName, Share, ftrue, fat, flft}
 use prog.Wp.{Heap, Out, Env, afterSeq, afterBlock, afterTurn, Wp, atReturn, WpFn, Tables}
 use ghost.Atoms.{Atoms}
 use contract.Running.{givenOf, tables, tablesOf}
-use sound.WpLaws.{fmOf}
 use types.Kit.{Given, Item, ‵, _⊛_, ⋆, anyQ, atRet, _$_, _∵_, !, qed, by, move, use2, rewrite, fsplit}
-use types.Run.{look, look-raw, store, init, forget, stop, hop, fld, from, load, addr, lit, true-lit, of-opd, bin, and-then, no-more, assigns, assigns-last, land, stays, leaves-loop, returns, enter, alloc1, alloc0, params1, pass1, pass0, exec}
+use types.Run.{look, store, init, forget, stop, from, lit, true-lit, of-opd, bin, and-then, no-more, assigns-last, stays, leaves-loop, returns, enter, alloc1, alloc0, params1, pass1, pass0, exec}
 use denote.RattleType.{owns}
 use denote.Memory.{pointee}
-use denote.Laws.{Is, shows}
 use denote.Ref.{RefT, ShrRef}
-use denote.Struct.Laws as LL
 use denote.Triple.Spec.{tripleOf}
-use denote.Triple.Statement.{Triple}
 use denote.Triple.Table.{entered, cited}
 use borrow.Table.OneValue.{part-in}
 use Rattle.walks.specs.Walks.{every}
 use Rattle.walks.proofs.Tests.{one-more}
 use Rattle.walks.proofs.Lists.Fronts.{every-next}
 use Rattle.walks.proofs.Lists.Loops.{take-most}
-use Rattle.walks.proofs.Steps.Inside.{goes-in, comes-out}
 use Rattle.walks.proofs.Steps.Rounds.{rounds}
 use Rattle.voice.specs.declared.Voice.{Voice}
 use Rattle.voice.specs.Voices.{goodVoice}
 use Rattle.voice.proofs.Voice as R
-use Rattle.voice.proofs.Voice.Laws as R′
 use Rattle.channel.specs.declared.Channel.{Channel}
 use Rattle.channel.specs.Channels.{goodVoicesOf}
 use Rattle.channel.proofs.Slots.{none}
 use Rattle.channel.proofs.Channel as C
-use Rattle.channel.proofs.places as places
 use Rattle.channel.proofs.places.Symbol as places-def
 use Rattle.channel.proofs.places.Symbol.{name as #places}
 use Rattle.channel.proofs.places.Met as places-thm
 use Rattle.lent_channel.proofs.Bytes.{voice-bytes}
 use Rattle.lent_channel.proofs.Rows.{word, truth}
-use Rattle.lent_channel.proofs.Places.{cv, vv, spot, places-are, reads-voice}
-use Rattle.lent_channel.proofs.Giving.{Giving, promise, gives, over, frees, less, no-less}
-use Rattle.lent_channel.proofs.Holding.{voice}
-use Rattle.lent_channel.proofs.Sharing.{places as counting, count-fits, time-fits, small, next-fits, place-fits, inside, Whole, Open, looked, reads-count, reads-time, at-spot, Entry, Post, exits, asks}
-use Rattle.lent_channel.proofs.still_good as next
+use Rattle.lent_channel.proofs.Places.{cv, places-are}
+use Rattle.lent_channel.proofs.Steps.{Callee, Says, asks, mine, sets, less, no-less, over, freed}
+use Rattle.lent_channel.proofs.Holding.{voice, points, copies-voice}
+use Rattle.lent_channel.proofs.Sharing.{places as counting, count-fits, time-fits, small, next-fits, place-fits, inside, Whole, Open, looked, reads-count, reads-time, Entry, Post, exits, meets}
 use Rattle.lent_channel.proofs.still_good.Symbol as next-def
 use Rattle.lent_channel.proofs.still_good.Symbol.{name as #next}
 use Rattle.lent_channel.proofs.still_good.Met as next-thm
@@ -68,8 +60,8 @@ abbrev voiced : Ty
 voiced = spell code.Mir.table (pointee (R.the-row .written))
 
 -- `still_good`
-abbrev judging : Giving
-judging = record { params = truth ∷ voice ∷ word w64 ∷ []; result = truth; of = λ a. a .0 && goodVoice (a .1 .1 .0) (a .1 .0) }
+abbrev judging : Callee
+judging = record { takes = truth ∷ voice ∷ word w64 ∷ []; gives = truth; says = λ a. a .0 && goodVoice (a .1 .1 .0) (a .1 .0) }
 
 -- the answer of the first i voices
 abbrev upto : Channel → ℕ → Bool
@@ -99,7 +91,7 @@ module _ {M : Type 1} (𝓤 : URA M) (H : Heap 𝓤) (A : Atoms 𝓤) (W : Given
   abbrev Ends : Val → SProp 𝓤
   Ends = Post goodVoicesOf 𝓤 H A κ q x
 
-  module _ (known : Triple 𝓤 (𝓣 .C #next) (promise judging 𝓤 H A)) (q′ : Share) (all : length (h .voices) ≡ 32) (small-time : time < 2 ^ 64) (l₀ l₁ l₂ l₃ l₄ l₅ l₆ l₇ l₈ l₉ l₁₀ l₁₁ : ℕ) where
+  module _ (known : Says 𝓤 H A 𝓣 #next judging) (q′ : Share) (all : length (h .voices) ≡ 32) (small-time : time < 2 ^ 64) (l₀ l₁ l₂ l₃ l₄ l₅ l₆ l₇ l₈ l₉ l₁₀ l₁₁ : ℕ) where
     abbrev En : Env 𝓤 H
     En = (tyBool, l₀) ∷ (tyRef (named 0) imm (pointee (C.the-row .written)), l₁) ∷ (tyInt w64, l₂) ∷ (tyInt w64, l₃) ∷ (tyBool, l₄) ∷ (tyInt w64, l₅) ∷ (tyInt w64, l₆) ∷ (tyBool, l₇) ∷ (tyInt w64, l₈) ∷ (tyPtr, l₉) ∷ (tyPtr, l₁₀) ∷ (voiced, l₁₁) ∷ []
 
@@ -117,18 +109,14 @@ module _ {M : Type 1} (𝓤 : URA M) (H : Heap 𝓤) (A : Atoms 𝓤) (W : Given
         let here : i < length (h .voices) = inside h all i r left in
         let place : i * voice-bytes < 2 ^ 64 = place-fits h all i r left in
         qed W (At i) ∵ exec ! (𝓣 .C) (𝓣 .Λ) En code.Mir.turn-1 (anyQ (afterTurn 𝓤 H X Left)) $
-        assigns ! (less ! (load ! (from ! (stop !)) (look ! 16 refl)) (load ! (from ! (stop !)) (look ! 20 refl)) (small h all i r left)) (from ! (stop !)) (init ! 12 refl (tt, tt)) $ stays ! (load ! (from ! (stop !)) (look ! 12 refl)) $
+        sets ! (less ! (mine ! 16 refl) (mine ! 20 refl) (small h all i r left)) (init ! 12 refl (tt, tt)) $ stays ! (mine ! 12 refl) $
         -- voice i is copied
-        assigns ! (bin ! (load ! (from ! (stop !)) (look ! 16 refl)) (lit ! tt) (record { fits = place })) (from ! (stop !)) (init ! 10 refl (tt, record { fits = place })) $
-        assigns ! (addr ! (from ! (hop ! (look ! 24 refl) (fld ! refl (stop !))))) (from ! (stop !)) (init ! 8 refl (tt, tt)) $
-        assigns ! (at-spot ! o i (load ! (from ! (stop !)) (look ! 8 refl)) (load ! (from ! (stop !)) (look ! 10 refl))) (from ! (stop !)) (init ! 6 refl (tt, tt)) $
-        goes-in ! q′ C.the-row R.the-row (Is R.the-row) (shows 𝓤 H A R.the-row) (LL.vals R.the-type R′.the-laws) (LL.tells R.the-type R′.the-laws) h h v v b o (spot o i) (reads-voice 𝓤 H A W q′ h i none b o here) (λ isv.
-        assigns ! (of-opd ! (load ! (from ! (hop ! (look ! 8 refl) (stop !))) (look-raw ! 0 refl))) (from ! (stop !)) (init ! 6 refl (LL.lawful R.the-type R′.the-laws 𝓤 H A W .typed v _ isv .0)) $ comes-out ! q′ C.the-row R.the-row h v (vv v ∷ []) b o (spot o i) $
+        points i b o ! place (mine ! 16 refl) (init ! 10 refl (tt, record { fits = place })) (look ! 24 refl) (init ! 8 refl (tt, tt)) (look ! 8 refl) (look ! 10 refl) (init ! 6 refl (tt, tt)) $
+        copies-voice i b o q′ h ! here (look ! 8 refl) (init ! 6 refl) (λ isv.
         -- and judged
-        gives ! (fmOf 𝓤 H (W .laws) 𝓣) judging known (upto h i, (v, (time, tt))) (refl, (isv, ((refl, small-time), tt)))
-        (and-then ! (load ! (from ! (stop !)) (look ! 18 refl)) (and-then ! (load ! (from ! (stop !)) (look ! 4 refl)) (and-then ! (load ! (from ! (stop !)) (look ! 22 refl)) (no-more !)))) (λ _.
-        land ! (from ! (stop !)) (store ! 18 refl (tt, tt)) $ rewrite ! 18 (λ (y : Bool). ‵ (fat fullShare tyBool l₄ 0 (vbool y))) (of-one-more h i here) refl $
-        assigns-last ! (bin ! (load ! (from ! (stop !)) (look ! 16 refl)) (lit ! tt) (record { fits = next-fits h all i r left })) (from ! (stop !)) (store ! 16 refl (tt, record { fits = next-fits h all i r left })) $
+        asks ! known (upto h i, (v, (time, tt))) (refl, (isv, ((refl, small-time), tt)))
+        (and-then ! (mine ! 18 refl) (and-then ! (mine ! 4 refl) (and-then ! (mine ! 22 refl) (no-more !)))) (store ! 18 refl) (λ _. rewrite ! 18 (λ (y : Bool). ‵ (fat fullShare tyBool l₄ 0 (vbool y))) (of-one-more h i here) refl $
+        assigns-last ! (bin ! (mine ! 16 refl) (lit ! tt) (record { fits = next-fits h all i r left })) (from ! (stop !)) (store ! 16 refl (tt, record { fits = next-fits h all i r left })) $
         forget ! 4 refl $ forget ! 6 refl $ forget ! 8 refl $ forget ! 10 refl $ forget ! 12 refl $ by ! (go (i + 1) (omega (arith, left)))))
 
     leaves : (i : ℕ) → i + 0 ≡ n → (X : SProp 𝓤) → ent 𝓤 (⋆ 𝓤 H A (At i)) (Wp 𝓤 H (𝓣 .C) (𝓣 .Λ) En code.Mir.turn-1 (afterTurn 𝓤 H X Left))
@@ -136,24 +124,24 @@ module _ {M : Type 1} (𝓤 : URA M) (H : Heap 𝓤) (A : Atoms 𝓤) (W : Given
     leaves i left X =
         let e : i ≡ n = omega (arith, left) in
         qed W (At i) ∵ exec ! (𝓣 .C) (𝓣 .Λ) En code.Mir.turn-1 (anyQ (afterTurn 𝓤 H X Left)) $
-        assigns ! (no-less ! (load ! (from ! (stop !)) (look ! 16 refl)) (load ! (from ! (stop !)) (look ! 20 refl)) e) (from ! (stop !)) (init ! 12 refl (tt, tt)) $
-        leaves-loop ! (load ! (from ! (stop !)) (look ! 12 refl)) $ exec ! (𝓣 .C) (𝓣 .Λ) En code.Mir.t-7 (atRet En Ends) $
-        assigns ! (of-opd ! (load ! (from ! (stop !)) (look ! 18 refl))) (from ! (stop !)) (init ! 26 refl (tt, tt)) $ returns ! (look ! 26 refl) $
-        by ! (frees 𝓤 H A W (Open κ q q′ x) (exits goodVoicesOf 𝓤 H A κ q x W q′ (upto h i) (ap (upto h) e ∙ of-all h all)) En (some _ ∷ some _ ∷ some _ ∷ some _ ∷ some _ ∷ some _ ∷ room ∷ some _ ∷ []))
+        sets ! (no-less ! (mine ! 16 refl) (mine ! 20 refl) e) (init ! 12 refl (tt, tt)) $
+        leaves-loop ! (mine ! 12 refl) $ exec ! (𝓣 .C) (𝓣 .Λ) En code.Mir.t-7 (atRet En Ends) $
+        sets ! (of-opd ! (mine ! 18 refl)) (init ! 26 refl (tt, tt)) $ returns ! (look ! 26 refl) $
+        freed ! (Open κ q q′ x) En (some _ ∷ some _ ∷ some _ ∷ some _ ∷ some _ ∷ some _ ∷ room ∷ some _ ∷ []) $ by ! (exits goodVoicesOf 𝓤 H A κ q x W q′ (upto h i) (ap (upto h) e ∙ of-all h all))
 
     loops : ent 𝓤 (⋆ 𝓤 H A (At 0)) (Wp 𝓤 H (𝓣 .C) (𝓣 .Λ) En (loop code.Mir.turn-1) Left)
     loops = rounds 𝓤 H A W 𝓣 En code.Mir.turn-1 Left (λ i r. i + r ≡ n) At leaves more n 0 (omega arith)
 
-  walk : Triple 𝓤 (𝓣 .C #places) (promise counting 𝓤 H A) → Triple 𝓤 (𝓣 .C #next) (promise judging 𝓤 H A) → ent 𝓤 (Entry goodVoicesOf 𝓤 H A κ q x) (WpFn 𝓤 H (𝓣 .C) (𝓣 .Λ) code.function (vptr b o ∷ []) Ends)
+  walk : Says 𝓤 H A 𝓣 #places counting → Says 𝓤 H A 𝓣 #next judging → ent 𝓤 (Entry goodVoicesOf 𝓤 H A κ q x) (WpFn 𝓤 H (𝓣 .C) (𝓣 .Λ) code.function (vptr b o ∷ []) Ends)
   walk known-places known-next =
       qed W ((‵ (flft κ q) ⊛ ‵ ftrue) ∷ ‵ (owns (ShrRef (named 0) κ C.the-row ∷ []) (x, tt) (vptr b o ∷ [], tt)) ∷ []) ∵ enter ! (𝓣 .C) (𝓣 .Λ) code.function (vptr b o ∷ []) _ $
       alloc1 ! (λ l₀. alloc1 ! (λ l₁. alloc1 ! (λ l₂. alloc1 ! (λ l₃. alloc1 ! (λ l₄. alloc1 ! (λ l₅. alloc1 ! (λ l₆. alloc1 ! (λ l₇. alloc1 ! (λ l₈. alloc1 ! (λ l₉. alloc1 ! (λ l₁₀. alloc1 ! (λ l₁₁. alloc0 ! $ params1 ! $ pass1 ! (init ! 20 refl (tt, tt)) $ pass0 ! $
       move ! (25 ∷ []) $ fsplit ! $ move ! (0 ∷ 26 ∷ []) $ looked ! tt κ q x (λ q′ g.
-      assigns ! (of-opd ! (reads-time ! x (look ! 25 refl))) (from ! (stop !)) (init ! 23 refl (tt, record { fits = time-fits h g })) $
-      assigns ! (of-opd ! (reads-count ! x (look ! 25 refl))) (from ! (stop !)) (init ! 15 refl (tt, record { fits = count-fits h g })) $
-      gives ! (fmOf 𝓤 H (W .laws) 𝓣) counting known-places (h .count, tt) ((refl, count-fits h g), tt) (and-then ! (load ! (from ! (stop !)) (look ! 15 refl)) (no-more !)) (λ is. land ! (from ! (stop !)) (init ! 21 refl (tt, record { fits = is .1 })) $
-      assigns ! (of-opd ! (true-lit !)) (from ! (stop !)) (init ! 19 refl (tt, tt)) $ rewrite ! 19 (λ (y : Bool). ‵ (fat fullShare tyBool l₄ 0 (vbool y))) (of-none h) refl $
-      assigns ! (of-opd ! (lit ! tt)) (from ! (stop !)) (init ! 17 refl (tt, record { fits = lit< tt })) $ forget ! 15 refl $
+      sets ! (of-opd ! (reads-time ! x (look ! 25 refl))) (init ! 23 refl (tt, record { fits = time-fits h g })) $
+      sets ! (of-opd ! (reads-count ! x (look ! 25 refl))) (init ! 15 refl (tt, record { fits = count-fits h g })) $
+      asks ! known-places (h .count, tt) ((refl, count-fits h g), tt) (and-then ! (mine ! 15 refl) (no-more !)) (init ! 21 refl) (λ _.
+      sets ! (of-opd ! (true-lit !)) (init ! 19 refl (tt, tt)) $ rewrite ! 19 (λ (y : Bool). ‵ (fat fullShare tyBool l₄ 0 (vbool y))) (of-none h) refl $
+      sets ! (of-opd ! (lit ! tt)) (init ! 17 refl (tt, record { fits = lit< tt })) $ forget ! 15 refl $
       use2 W (‵ (Whole q′ x)) (part-in 𝓤 H A W C.the-row refl q′ h b o (cv h)) $ by ! (loops known-next q′ (places-are h g) (time-fits h g) l₀ l₁ l₂ l₃ l₄ l₅ l₆ l₇ l₈ l₉ l₁₀ l₁₁)))))))))))))))
 
 pub good-voices-spec : {M : Type 1} → stated.statement M
@@ -161,6 +149,6 @@ unfolding code.routine tablesOf
 good-voices-spec 𝓤 H 𝓜 𝓖 𝓡 =
     entered 𝓤 H (tripleOf 𝓤 H (𝓖 .A) f.signature (f.spec 𝓤 H (𝓖 .A) (𝓜 .mem) (𝓡 .run)))
     (tables 𝓤 H 𝓜 𝓡 code.env .C) (tables 𝓤 H 𝓜 𝓡 code.env .Λ) #f code.function (code.unfolded 𝓤 H 𝓜 𝓡)
-    (asks goodVoicesOf 𝓤 H (𝓖 .A) (givenOf 𝓤 H 𝓜 𝓖) (tablesOf 𝓤 H 𝓜 (tables 𝓤 H 𝓜 𝓡 code.env)) code.function (λ κ q x. walk 𝓤 H (𝓖 .A) (givenOf 𝓤 H 𝓜 𝓖) (tablesOf 𝓤 H 𝓜 (tables 𝓤 H 𝓜 𝓡 code.env)) κ q (x .ptr .0) (x .ptr .1) (x .name) (x .now)
-    (cited 𝓤 H (tripleOf 𝓤 H (𝓖 .A) places.signature (places.spec 𝓤 H (𝓖 .A) (𝓜 .mem) (𝓡 .run))) 𝓜 𝓡 code.env #places places-def.routine code.calls-channel·places (places-thm.met 𝓤 H 𝓜 𝓖 𝓡))
-    (cited 𝓤 H (tripleOf 𝓤 H (𝓖 .A) next.signature (next.spec 𝓤 H (𝓖 .A) (𝓜 .mem) (𝓡 .run))) 𝓜 𝓡 code.env #next next-def.routine code.calls-lent-channel·still-good (next-thm.met 𝓤 H 𝓜 𝓖 𝓡))))
+    (meets goodVoicesOf 𝓤 H (𝓖 .A) (givenOf 𝓤 H 𝓜 𝓖) (tablesOf 𝓤 H 𝓜 (tables 𝓤 H 𝓜 𝓡 code.env)) code.function (λ κ q x. walk 𝓤 H (𝓖 .A) (givenOf 𝓤 H 𝓜 𝓖) (tablesOf 𝓤 H 𝓜 (tables 𝓤 H 𝓜 𝓡 code.env)) κ q (x .ptr .0) (x .ptr .1) (x .name) (x .now)
+    (record { met = cited 𝓤 H _ 𝓜 𝓡 code.env #places places-def.routine code.calls-channel·places (places-thm.met 𝓤 H 𝓜 𝓖 𝓡) })
+    (record { met = cited 𝓤 H _ 𝓜 𝓡 code.env #next next-def.routine code.calls-lent-channel·still-good (next-thm.met 𝓤 H 𝓜 𝓖 𝓡) })))

@@ -81,7 +81,7 @@ use Rattle.walks.proofs.Tests.{holds, fails, denied}
 use Rattle.lent_channel.proofs.Tails.{after}
 use Rattle.lent_channel.proofs.Turns.{turns-few, restBy, rest-stays, rest-leaves, next-place, next-less, next-few, begins-there, ended-heard, ended-channel}
 use Rattle.lent_channel.proofs.Places.{cv, vv, yv, places-are, sets-voice}
-use Rattle.lent_channel.proofs.Holding.{voice, holding, points, visits, copies-voice}
+use Rattle.lent_channel.proofs.Holding.{voice, points, visits, copies-voice}
 use Rattle.lent_channel.proofs.Start as S
 use Rattle.lent_channel.proofs.Start.Laws as S′
 use Rattle.lent_channel.proofs.Glided as G
@@ -454,8 +454,8 @@ module _ {M : Type 1} (𝓤 : URA M) (H : Heap 𝓤) (A : Atoms 𝓤) (W : Given
             assigns ! (bin ! (load ! (from ! (fld ! {τ = word} {d = 0} refl (stop !))) (look-in ! 15 (sub ! {τs = in-going} 0 {τ = word} {d = 0} refl (whole !)))) (load ! (from ! (stop !)) (look ! 14 refl)) tt) (from ! (stop !)) (init ! 20 refl (tt, tt)) $
             rewrite ! 20 (λ (z : Bool). ‵ (fat fullShare truth l₁₄ 0 (vbool z))) (holds (ltb i n) (lt→ltb i n small)) refl $ stays ! (load ! (from ! (stop !)) (look ! 20 refl)) $
             -- voice i is copied
-            points holding i b o ! place-fits (load ! (from ! (fld ! {τ = word} {d = 0} refl (stop !))) (look-in ! 15 (sub ! {τs = in-going} 0 {τ = word} {d = 0} refl (whole !)))) (init ! 21 refl (tt, record { fits = place-fits })) (look ! 7 refl) (init ! 22 refl (tt, tt)) (look ! 22 refl) (look ! 21 refl) (init ! 23 refl (tt, tt)) $
-            copies-voice holding i b o fullShare (with-voices l) ! inside (look ! 25 refl) (λ ok. init ! 26 refl ok) (λ isv.
+            points i b o ! place-fits (load ! (from ! (fld ! {τ = word} {d = 0} refl (stop !))) (look-in ! 15 (sub ! {τs = in-going} 0 {τ = word} {d = 0} refl (whole !)))) (init ! 21 refl (tt, record { fits = place-fits })) (look ! 7 refl) (init ! 22 refl (tt, tt)) (look ! 22 refl) (look ! 21 refl) (init ! 23 refl (tt, tt)) $
+            copies-voice i b o fullShare (with-voices l) ! inside (look ! 25 refl) (init ! 26 refl) (λ isv.
             -- it takes its turn
             move ! (1 ∷ []) $ use1 W (‵ Sl ⊛ ‵ Sl) (shr-slice-copy 𝓤 H A W (named 0) κ₁ u32 .twice x₁ (sl ∷ [])) $ split ! $ move ! (3 ∷ 0 ∷ []) $
             use2 W (raw (Turned 𝓤 H A at-mem run .pre (to-turned (s .at) v))) (goes-turned ist (s .at) v may (g .is) isv) $
@@ -470,8 +470,8 @@ module _ {M : Type 1} (𝓤 : URA M) (H : Heap 𝓤) (A : Atoms 𝓤) (W : Given
             assigns ! (of-opd ! (load ! (from ! (fld ! {τ = truth} {d = voice-bytes} refl (stop !))) (look-in ! 16 (sub ! {τs = in-turned} 1 {τ = truth} {d = voice-bytes} refl (whole !))))) (from ! (stop !)) (store ! 20 refl (tt, tt)) $
             first ! $ branches ! (load ! (from ! (stop !)) (look ! 20 refl))
             -- it stays: voice k is overwritten
-            (λ y. points holding k b o ! put-fits (load ! (from ! (fld ! {τ = word} {d = 8} refl (stop !))) (look-in ! 15 (sub ! {τs = in-going} 1 {τ = word} {d = 8} refl (whole !)))) (init ! 25 refl (tt, record { fits = put-fits })) (look ! 7 refl) (init ! 26 refl (tt, tt)) (look ! 26 refl) (look ! 25 refl) (init ! 27 refl (tt, tt)) $ move ! (2 ∷ []) $
-            visits holding k b o fullShare (with-voices l) (with-voices (set l k (x .voice))) (x .voice) ! (sets-voice 𝓤 H A W fullShare (with-voices l) k none b o inside-k (x .voice)) (λ _. isw)
+            (λ y. points k b o ! put-fits (load ! (from ! (fld ! {τ = word} {d = 8} refl (stop !))) (look-in ! 15 (sub ! {τs = in-going} 1 {τ = word} {d = 8} refl (whole !)))) (init ! 25 refl (tt, record { fits = put-fits })) (look ! 7 refl) (init ! 26 refl (tt, tt)) (look ! 26 refl) (look ! 25 refl) (init ! 27 refl (tt, tt)) $ move ! (2 ∷ []) $
+            visits k b o fullShare (with-voices l) (with-voices (set l k (x .voice))) (x .voice) ! (sets-voice 𝓤 H A W fullShare (with-voices l) k none b o inside-k (x .voice)) (λ _. isw)
             (λ _. assigns-last ! (of-opd ! (load ! (from ! (fld ! {τ = voiced} {d = 0} refl (stop !))) (look-in ! 18 (sub ! {τs = in-turned} 0 {τ = voiced} {d = 0} refl (whole !))))) (from ! (hop ! (look ! 29 refl) (stop !))) (store-raw ! 0 refl (voice .typed 𝓤 H A W (x .voice) _ isw))) (λ _.
             exec ! Cs Λ En (after 9 code.Mir.turn-1) (anyQ (afterTurn 𝓤 H X Left)) $
             assigns-last ! (of-opd ! (load ! (from ! (fld ! {τ = going} {d = voice-bytes + 8} refl (stop !))) (look-in ! 16 (sub ! {τs = in-turned} 2 {τ = going} {d = voice-bytes + 8} refl (whole !))))) (from ! (stop !)) (store ! 15 refl (LL.lawful N.the-type N′.the-laws 𝓤 H A W .typed (x .next) _ isn .0)) $

@@ -71,8 +71,8 @@ use Rattle.channel.proofs.Head.recorded.Symbol as recorded-def
 use Rattle.channel.proofs.Head.recorded.Symbol.{name as #recorded}
 use Rattle.channel.proofs.Head.recorded.Met as recorded-thm
 use Rattle.lent_channel.proofs.Bytes.{at, head-at}
-use Rattle.lent_channel.proofs.Rows.{Datum, struct}
-use Rattle.lent_channel.proofs.Steps.{flag, Says, asks, mine, locals, freed}
+use Rattle.lent_channel.proofs.Rows.{Datum, struct, truth}
+use Rattle.lent_channel.proofs.Steps.{Says, asks, mine, sets, over, freed}
 use Rattle.lent_channel.proofs.Places.{cv, ev, with-head}
 use Rattle.lent_channel.proofs.record.Key.{name as #f}
 use Rattle.lent_channel.proofs.record as f
@@ -103,7 +103,7 @@ abbrev stayed : Stays (f.ended .signature .params) (f.ended .kept)
 stayed = (stay-ref (0 ∷ []) tt (plain (λ _. C.the-row)), (stay-none (λ _. f32) yes, (stay-slice (1 ∷ []) tt (plain (λ _. u32)), tt)))
 
 module _ {M : Type 1} (𝓤 : URA M) (H : Heap 𝓤) (A : Atoms 𝓤) (W : Given 𝓤 H A) (at-mem : Memory → SProp 𝓤) (run : Routine → Fun 𝓤) (𝓣 : Tables 𝓤 H)
-    (known-Asked : Says 𝓤 H A 𝓣 #asked (record { takes = head ∷ []; gives = flag; says = λ a. isRecordingOf (a .0 .recorder) })) (known-Recorded : Triple 𝓤 (𝓣 .C #recorded) (tripleOf 𝓤 H A recorded.signature (recorded.spec 𝓤 H A at-mem run))) where
+    (known-Asked : Says 𝓤 H A 𝓣 #asked (record { takes = head ∷ []; gives = truth; says = λ a. isRecordingOf (a .0 .recorder) })) (known-Recorded : Triple 𝓤 (𝓣 .C #recorded) (tripleOf 𝓤 H A recorded.signature (recorded.spec 𝓤 H A at-mem run))) where
   module _ (κ κ₁ : Lft) (q q₁ : Share) (b o : ℕ) (γ : GName) (h : Channel) (x : Float) (b₁ o₁ : ℕ) (γ₁ : GName) (ms : List ℕ) (room : Room u32 (length ms)) (x-fits : fitsF binary32 x ≡ true) where
     -- the head before; the head and the memory where a recording is made; the channel and the memory at the end
     abbrev t : Head
@@ -179,11 +179,11 @@ module _ {M : Type 1} (𝓤 : URA M) (H : Heap 𝓤) (A : Atoms 𝓤) (W : Given
 
       -- the channel and the memory as they are at the end
       abbrev Last : List (Item 𝓤)
-      Last = ‵ (fat fullShare C′.mir b o (cv last)) ∷ ‵ (fobor κ q (Body (mem C.the-row) b o γ)) ∷ ‵ (fobs γ (C.the-row .coded .code h)) ∷ ‵ (fauth γ (C.the-row .coded .code h)) ∷ ‵ (flft κ₁ q₁) ∷ ‵ (MutSlice (named 1) κ₁ u32 .own (xm γ₁ last-ms) (sl ∷ [])) ∷ locals 𝓤 H A En (none ∷ held)
+      Last = over (‵ (fat fullShare C′.mir b o (cv last)) ∷ ‵ (fobor κ q (Body (mem C.the-row) b o γ)) ∷ ‵ (fobs γ (C.the-row .coded .code h)) ∷ ‵ (fauth γ (C.the-row .coded .code h)) ∷ ‵ (flft κ₁ q₁) ∷ ‵ (MutSlice (named 1) κ₁ u32 .own (xm γ₁ last-ms) (sl ∷ [])) ∷ []) En (none ∷ held)
 
       shuts : Is C.the-row last (cv last ∷ []) → ent 𝓤 (⋆ 𝓤 H A Last) (Wp 𝓤 H (𝓣 .C) (𝓣 .Λ) En code.Mir.t-4 (atReturn 𝓤 H En Post))
       shuts is =
-          qed W Last ∵ exec ! (𝓣 .C) (𝓣 .Λ) En code.Mir.t-4 (atRet En Post) $ assigns ! (of-opd ! (unit-lit !)) (from ! (stop !)) (init ! 22 refl (tt, tt)) $
+          qed W Last ∵ exec ! (𝓣 .C) (𝓣 .Λ) En code.Mir.t-4 (atRet En Post) $ sets ! (of-opd ! (unit-lit !)) (init ! 22 refl (tt, tt)) $
           owned ! C.the-row (Is C.the-row) (LL.makes C.the-type C′.the-plain 𝓤 H A) last _ is $ move ! (1 ∷ 0 ∷ []) $ use2 W (‵ (partAt C.the-row fullShare last b o)) (part-in 𝓤 H A W C.the-row refl fullShare last b o (cv last)) $
           close-ref ! tt (mem C.the-row) last {b = b} {o = o} $ returns ! (look ! 21 refl) $ freed ! Left En (some vunit ∷ held) $ by ! exits
 
@@ -198,13 +198,13 @@ module _ {M : Type 1} (𝓤 : URA M) (H : Heap 𝓤) (A : Atoms 𝓤) (W : Given
         use1 W (‵ (fat fullShare C′.mir b o (cv h))) (W .laws .raw-at fullShare C′.mir b o (cv h)) $ move ! (1 ∷ []) $
         peeks ! C.the-row (Is C.the-row) (shows 𝓤 H A C.the-row) h (cv h ∷ []) (λ g. drop ! $ let ist : Is E.the-row t (ev t ∷ []) = LL.owed C.the-type C′.the-laws h _ g .1 .1 .0 in
         -- whether a recording is made
-        assigns ! (of-opd ! (load ! (from ! (hop ! (look ! 20 refl) (fld ! {τ = head .ty} {d = head-at} refl (stop !)))) (look-in ! 0 (sub ! 2 {τ = head .ty} {d = head-at} refl (whole !))))) (from ! (stop !)) (init ! 14 refl (head .typed 𝓤 H A W t _ ist)) $
-        asks ! known-Asked (t, tt) (ist, tt) (and-then ! (mine ! 14 refl) (no-more !)) 10 refl refl (λ _.
+        sets ! (of-opd ! (load ! (from ! (hop ! (look ! 20 refl) (fld ! {τ = head .ty} {d = head-at} refl (stop !)))) (look-in ! 0 (sub ! 2 {τ = head .ty} {d = head-at} refl (whole !))))) (init ! 14 refl (head .typed 𝓤 H A W t _ ist)) $
+        asks ! known-Asked (t, tt) (ist, tt) (and-then ! (mine ! 14 refl) (no-more !)) (init ! 10 refl) (λ _.
         first ! $ branches ! (mine ! 10 refl)
         (λ _.
         -- the sample is recorded: the memory is lent again
-        assigns ! (addr ! (from ! (fld ! {τ = cells} {d = 0} refl (hop ! (look-in ! 16 (sub ! 0 {τ = cells} {d = 0} refl (whole !))) (stop !))))) (from ! (stop !)) (init ! 8 refl (tt, tt)) $
-        assigns ! (agg ! (and-then ! (mine ! 8 refl) (and-then ! (load ! (from ! (fld ! {τ = tyInt w64} {d = 8} refl (stop !))) (look-in ! 16 (sub ! 1 {τ = tyInt w64} {d = 8} refl (whole !)))) (no-more !)))) (from ! (stop !)) (init ! 6 refl (tt, (tt, (record { fits = room .0 }, tt)))) $
+        sets ! (addr ! (from ! (fld ! {τ = cells} {d = 0} refl (hop ! (look-in ! 16 (sub ! 0 {τ = cells} {d = 0} refl (whole !))) (stop !))))) (init ! 8 refl (tt, tt)) $
+        sets ! (agg ! (and-then ! (mine ! 8 refl) (and-then ! (load ! (from ! (fld ! {τ = tyInt w64} {d = 8} refl (stop !))) (look-in ! 16 (sub ! 1 {τ = tyInt w64} {d = 8} refl (whole !)))) (no-more !)))) (init ! 6 refl (tt, (tt, (record { fits = room .0 }, tt)))) $
         lft-new ! tt (λ α. move ! (6 ∷ 5 ∷ []) $
         use2 W (later (any (λ (δ : GName). ‵ (MutSlice (named 0) (α ∷ []) u32 .own (xm δ ms) (sl ∷ [])) ⊛ ‵ (LentAgain u32 κ₁ (α ∷ []) q₁ γ₁ b₁ o₁ δ ms)))) (lends-again u32 κ₁ (α ∷ []) q₁ γ₁ b₁ o₁ 𝓤 H A W (named 1) (named 0) ms) $ await ! tt $
         pick ! (λ δ. split ! $ move ! (2 ∷ 0 ∷ []) $ use2 W (raw (Recorded .pre (to-recorded α δ))) (goes-recorded α δ ist) $
