@@ -6,7 +6,7 @@
 --     reads-count, reads-head, reads-time      its parts, read through the reference
 --     Open             what such a walk holds beside its locals once the share is the channel in memory
 --     meets            a function of a shared channel meets its contract, that it answers a question about the channel, by a walk that ends in `exits`, with the borrow open
---     answered         a call of such a function
+--     answered         a call of such a function;  `answered-last`, one that is the last statement of its part
 -- Assumes `Given`.
 use mathlib.Core.Path.{_≡_, refl, sym, _∙_, ap, subst}
 use Prim.Native.Nat.{ℕ, suc, _+_, _*_, _<_, _^_, min}
@@ -23,7 +23,7 @@ use prog.Wp.{Heap, Env, spotOf, Calls, Loops, WpFn, Tables}
 use ghost.Atoms.{Atoms, sem}
 use contract.Monad.{fact}
 use sound.WpLaws.{FmC, WpFn-mono}
-use types.Kit.{Given, Item, ‵, raw, _⊛_, some, later, ⋆, Goal, Soaks, Seq, runs, lands, _$_, _∵_, !, qed, by, move, keep, use1, drop, split, join, pick, fsplit3, fjoin, suffices, frame, await, updating, done}
+use types.Kit.{Given, Item, ‵, raw, _⊛_, some, later, ⋆, Goal, Soaks, Seq, runs, lands, settles, _$_, _∵_, !, qed, by, move, keep, use1, drop, split, join, pick, fsplit3, fjoin, suffices, frame, await, updating, done}
 use types.Kit
 use types.Tokens.{obor-close}
 use types.Part.{whole, sub, look-in}
@@ -41,7 +41,7 @@ use denote.Struct.Laws as LL
 use denote.Triple.Entry.{onEntry}
 use denote.Triple.Spec.{tripleOf}
 use denote.Triple.Statement.{Contract, Triple}
-use denote.Triple.Call.{calls-from}
+use denote.Triple.Call.{calls-from, calls-from-last}
 use denote.Triple.Clauses.{Ended, Clauses, ensured, lasts, closing}
 use denote.Triple.Walked.{says, Stays, stay-dropped, walkOf, ends-at, walked, goes-silent, walk-meets}
 use Rattle.channel.specs.declared.Channel.{Channel}
@@ -161,14 +161,20 @@ module _ (answer : Channel → Bool) where
     said : (r : Bool) → ent 𝓤 (ensured 𝓤 H A ended (clauses 𝓤) (κ, tt) (x, tt) tt r) (fact 𝓤 (r ≡ answer (x .now)))
     said r = exE 𝓤 _ (λ ws. snd∗ 𝓤 (sem 𝓤 H A (lasts ended (κ, tt) (x, tt) ws)) (fact 𝓤 (r ≡ answer (x .now))))
 
-  module _ {M : Type 1} {𝓤 : URA M} {H : Heap 𝓤} {A : Atoms 𝓤} {K : Type 0} {W : Given 𝓤 H A} {Γ : List (Item 𝓤)} {E : Env 𝓤 H} {Cs : Calls 𝓤 H} {Λ : Loops 𝓤 H} {p : Kit.Post 𝓤 H} where
-    pub answered : K → FmC 𝓤 H (W .laws) Cs → {f : Name} {xs : List Operand} {d : Place} {rest : Body} → Triple 𝓤 (Cs f) (question 𝓤 H A) → (κ : Lft) (q : Share) (x : RefT Channel)
-        → Opds K W ((‵ (flft κ q) ⊛ ‵ (Shared κ x)) ∷ Γ) E xs (ptr-vals x) → Seq K W (‵ (flft κ q) ∷ Γ) (lands Cs Λ E d (vbool (answer (x .now))) rest p) → Seq K W ((‵ (flft κ q) ⊛ ‵ (Shared κ x)) ∷ Γ) (runs Cs Λ E (seq (call f xs d) rest) p)
-    answered t fm {f} {xs} {d} {rest} met κ q x os k =
-        calls-from t fm (‵ (flft κ q) ⊛ ‵ (Shared κ x)) (ptr-vals x) (question 𝓤 H A .post (about 𝓤 H A κ q x)) (via 𝓤 (question 𝓤 H A .pre (about 𝓤 H A κ q x)) (goes 𝓤 H A κ q x W) (met (about 𝓤 H A κ q x))) os (λ v.
-        use1 W (later (some (λ (r : Bool). ((‵ (flft κ q) ⊛ ‵ ftrue) ⊛ ‵ (bool .own r (v ∷ []))) ⊛ raw (ensured 𝓤 H A ended (clauses 𝓤) (κ, tt) (x, tt) tt r)))) (id⊢ 𝓤 _) $ await t tt $ pick t (λ r.
+  module _ {M : Type 1} {𝓤 : URA M} {H : Heap 𝓤} {A : Atoms 𝓤} {K : Type 0} {W : Given 𝓤 H A} {Γ : List (Item 𝓤)} where
+    back : K → (κ : Lft) (q : Share) (x : RefT Channel) (G : Val → Goal 𝓤 H) → ((v : Val) → Soaks (G v)) → Seq K W (‵ (flft κ q) ∷ Γ) (G (vbool (answer (x .now)))) → (v : Val) → Seq K W (raw (question 𝓤 H A .post (about 𝓤 H A κ q x) v) ∷ Γ) (G v)
+    back t κ q x G soaks k v =
+        use1 W (later (some (λ (r : Bool). ((‵ (flft κ q) ⊛ ‵ ftrue) ⊛ ‵ (bool .own r (v ∷ []))) ⊛ raw (ensured 𝓤 H A ended (clauses 𝓤) (κ, tt) (x, tt) tt r)))) (id⊢ 𝓤 _) $ await t (soaks v) $ pick t (λ r.
         split t $ move t (1 ∷ []) $ use1 W (raw (fact 𝓤 (r ≡ answer (x .now)))) (said 𝓤 H A κ q x r) $ heard t (r ≡ answer (x .now)) (λ e. split t $ move t (1 ∷ []) $
-        peeks t bool (Is bool) (shows 𝓤 H A bool) r (v ∷ []) (λ is. drop t $ split t $ move t (1 ∷ []) $ drop t $ subst (λ (u : Val). Seq K W (‵ (flft κ q) ∷ Γ) (lands Cs Λ E d u rest p)) (sym (ap only is ∙ ap vbool e)) k))))
+        peeks t bool (Is bool) (shows 𝓤 H A bool) r (v ∷ []) (λ is. drop t $ split t $ move t (1 ∷ []) $ drop t $ subst (λ (u : Val). Seq K W (‵ (flft κ q) ∷ Γ) (G u)) (sym (ap only is ∙ ap vbool e)) k)))
+
+    pub answered : K → {E : Env 𝓤 H} {Cs : Calls 𝓤 H} {Λ : Loops 𝓤 H} {p : Kit.Post 𝓤 H} → FmC 𝓤 H (W .laws) Cs → {f : Name} {xs : List Operand} {d : Place} {rest : Body} → Triple 𝓤 (Cs f) (question 𝓤 H A) → (κ : Lft) (q : Share) (x : RefT Channel)
+        → Opds K W ((‵ (flft κ q) ⊛ ‵ (Shared κ x)) ∷ Γ) E xs (ptr-vals x) → Seq K W (‵ (flft κ q) ∷ Γ) (lands Cs Λ E d (vbool (answer (x .now))) rest p) → Seq K W ((‵ (flft κ q) ⊛ ‵ (Shared κ x)) ∷ Γ) (runs Cs Λ E (seq (call f xs d) rest) p)
+    answered t {E} {Cs} {Λ} {p} fm {d = d} {rest} met κ q x os k = calls-from t fm (‵ (flft κ q) ⊛ ‵ (Shared κ x)) (ptr-vals x) (question 𝓤 H A .post (about 𝓤 H A κ q x)) (via 𝓤 (question 𝓤 H A .pre (about 𝓤 H A κ q x)) (goes 𝓤 H A κ q x W) (met (about 𝓤 H A κ q x))) os (back t κ q x (λ v. lands Cs Λ E d v rest p) (λ v. tt) k)
+
+    pub answered-last : K → {E : Env 𝓤 H} {Cs : Calls 𝓤 H} {Λ : Loops 𝓤 H} {p : Kit.Post 𝓤 H} → FmC 𝓤 H (W .laws) Cs → {f : Name} {xs : List Operand} {d : Place} → Triple 𝓤 (Cs f) (question 𝓤 H A) → (κ : Lft) (q : Share) (x : RefT Channel)
+        → Opds K W ((‵ (flft κ q) ⊛ ‵ (Shared κ x)) ∷ Γ) E xs (ptr-vals x) → Seq K W (‵ (flft κ q) ∷ Γ) (settles E d (vbool (answer (x .now))) p) → Seq K W ((‵ (flft κ q) ⊛ ‵ (Shared κ x)) ∷ Γ) (runs Cs Λ E (call f xs d) p)
+    answered-last t {E} {p = p} fm {d = d} met κ q x os k = calls-from-last t fm (‵ (flft κ q) ⊛ ‵ (Shared κ x)) (ptr-vals x) (question 𝓤 H A .post (about 𝓤 H A κ q x)) (via 𝓤 (question 𝓤 H A .pre (about 𝓤 H A κ q x)) (goes 𝓤 H A κ q x W) (met (about 𝓤 H A κ q x))) os (back t κ q x (λ v. settles E d v p) (λ v. tt) k)
 
   pub meets : {M : Type 1} (𝓤 : URA M) (H : Heap 𝓤) (A : Atoms 𝓤) (W : Given 𝓤 H A) (𝓣 : Tables 𝓤 H) (function : Fn)
       → ((κ : Lft) (q : Share) (x : RefT Channel) → ent 𝓤 (Entry 𝓤 H A κ q x) (WpFn 𝓤 H (𝓣 .C) (𝓣 .Λ) function (ptr-vals x) (Post 𝓤 H A κ q x))) → Triple 𝓤 (WpFn 𝓤 H (𝓣 .C) (𝓣 .Λ) function) (question 𝓤 H A)
