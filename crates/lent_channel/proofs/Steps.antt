@@ -148,5 +148,5 @@ module _ {M : Type 1} (𝓤 : URA M) (H : Heap 𝓤) (A : Atoms 𝓤) (W : Given
   frees-all (e ∷ E) [] = frees-one e none (over Γ E []) (release 𝓤 H E P) (frees-all E [])
   frees-all (e ∷ E) (v ∷ vs) = frees-one e v (over Γ E vs) (release 𝓤 H E P) (frees-all E vs)
 
-pub freed : {M : Type 1} {𝓤 : URA M} {H : Heap 𝓤} {A : Atoms 𝓤} {K : Type 0} {W : Given 𝓤 H A} {g : Goal 𝓤 H} → K → (Γ : List (Item 𝓤)) (E : Env 𝓤 H) (vs : List (Option Val)) → Step K W Γ g (over Γ E vs) (frees E g)
-freed {𝓤 = 𝓤} {H} {A} {W = W} {g} t Γ E vs = step (λ s. record { prf = frees-all 𝓤 H A W Γ (aim 𝓤 H g) (s .prf) E vs })
+pub freed : {M : Type 1} {𝓤 : URA M} {H : Heap 𝓤} {A : Atoms 𝓤} {K : Type 0} {W : Given 𝓤 H A} {g : Goal 𝓤 H} → K → (Γ : List (Item 𝓤)) {E : Env 𝓤 H} (vs : List (Option Val)) → Step K W Γ g (over Γ E vs) (frees E g)
+freed {𝓤 = 𝓤} {H} {A} {W = W} {g} t Γ {E} vs = step (λ s. record { prf = frees-all 𝓤 H A W Γ (aim 𝓤 H g) (s .prf) E vs })

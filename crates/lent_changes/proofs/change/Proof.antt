@@ -311,7 +311,7 @@ module _ {M : Type 1} (𝓤 : URA M) (H : Heap 𝓤) (A : Atoms 𝓤) (W : Given
           assigns ! (of-opd ! (mine ! 35 refl)) (from ! (hop ! (look ! 55 refl) (fld ! {τ = headed .ty} {d = head-at} refl (stop !)))) (store-in ! 0 (sub ! 2 {τ = headed .ty} {d = head-at} refl (whole !)) (headed .typed 𝓤 H A W t _ ist)) $ sets ! (of-opd ! (unit-lit !)) (init ! 57 refl (tt, tt)) $
           move ! (1 ∷ []) $ drop ! $ owned ! C.the-row (Is C.the-row) (LL.makes C.the-type C′.the-plain 𝓤 H A) (closed l′) _ (LL.owes C.the-type C′.the-laws (closed l′) (LL.owed C.the-type C′.the-laws (turned l′) _ is .0, ((refl, count-fits), (ist, tt)))) $ move ! (1 ∷ 0 ∷ []) $
           use2 W (‵ (partAt C.the-row fullShare (closed l′) b o)) (part-in 𝓤 H A W C.the-row refl fullShare (closed l′) b o (cv (closed l′))) $ close-ref ! tt (mem C.the-row) (closed l′) {b = b} {o = o} $ returns ! (look ! 55 refl) $ forget ! 3 refl $
-          freed ! (Gone (closed l′)) En (some _ ∷ some _ ∷ some _ ∷ some _ ∷ some _ ∷ some _ ∷ empty ∷ empty ∷ empty ∷ empty ∷ empty ∷ some _ ∷ []) $ by ! (exits (closed l′) said)))
+          freed ! (Gone (closed l′)) (some _ ∷ some _ ∷ some _ ∷ some _ ∷ some _ ∷ some _ ∷ empty ∷ empty ∷ empty ∷ empty ∷ empty ∷ some _ ∷ []) $ by ! (exits (closed l′) said)))
 
       -- with the new voice, where there is one
       ended-so : (z : Bool) → s .p .fresh ≡ z → closed (cond z (set (s .voices) (h .count) (openedOf x (h .head))) (s .voices)) ≡ changedOf x h

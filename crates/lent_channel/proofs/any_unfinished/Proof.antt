@@ -105,7 +105,7 @@ module _ {M : Type 1} (𝓤 : URA M) (H : Heap 𝓤) (A : Atoms 𝓤) (W : Given
         sets ! (un ! (mine ! 12 refl) tt) (init ! 4 refl (tt, tt)) $ first ! $ branches ! (mine ! 4 refl)
         -- it isn't: the function returns
         (λ y. sets ! (of-opd ! (true-lit !)) (init ! 22 refl (tt, tt)) $ returns-within ! Ends refl (look ! 22 refl) $
-        freed ! (Open κ q q′ x) En (some _ ∷ some _ ∷ some _ ∷ some _ ∷ room ∷ some _ ∷ some _ ∷ some _ ∷ some _ ∷ some _ ∷ []) $ by ! (exits anyUnfinishedOf 𝓤 H A κ q x W q′ true (stops none (g .walk) before (stops-at v y))))
+        freed ! (Open κ q q′ x) (some _ ∷ some _ ∷ some _ ∷ some _ ∷ room ∷ some _ ∷ some _ ∷ some _ ∷ some _ ∷ some _ ∷ []) $ by ! (exits anyUnfinishedOf 𝓤 H A κ q x W q′ true (stops none (g .walk) before (stops-at v y))))
         -- it is
         (λ y. skips ! $ exec ! (𝓣 .C) (𝓣 .Λ) En (after 8 code.Mir.turn-1) (anyQ (afterTurn 𝓤 H X Left)) $
         assigns-last ! (bin ! (mine ! 16 refl) (lit ! tt) (record { fits = next-fits h all i r (g .left) })) (from ! (stop !)) (store ! 16 refl (tt, record { fits = next-fits h all i r (g .left) })) $
@@ -119,7 +119,7 @@ module _ {M : Type 1} (𝓤 : URA M) (H : Heap 𝓤) (A : Atoms 𝓤) (W : Given
         sets ! (no-less ! (mine ! 16 refl) (mine ! 18 refl) (omega (arith, g .left))) (init ! 12 refl (tt, tt)) $
         leaves-loop ! (mine ! 12 refl) $ exec ! (𝓣 .C) (𝓣 .Λ) En code.Mir.t-5 (atRet En Ends) $
         sets ! (of-opd ! (false-lit !)) (init ! 22 refl (tt, tt)) $ returns ! (look ! 22 refl) $
-        freed ! (Open κ q q′ x) En (some _ ∷ some _ ∷ some _ ∷ some _ ∷ room ∷ some _ ∷ []) $ by ! (exits anyUnfinishedOf 𝓤 H A κ q x W q′ false (none-left ∙ ends (g .walk) (omega (arith, g .left))))
+        freed ! (Open κ q q′ x) (some _ ∷ some _ ∷ some _ ∷ some _ ∷ room ∷ some _ ∷ []) $ by ! (exits anyUnfinishedOf 𝓤 H A κ q x W q′ false (none-left ∙ ends (g .walk) (omega (arith, g .left))))
 
     loops : ent 𝓤 (⋆ 𝓤 H A (At 0)) (Wp 𝓤 H (𝓣 .C) (𝓣 .Λ) En (loop code.Mir.turn-1) Left)
     unfolding anyUnfinishedOf

@@ -160,7 +160,7 @@ module _ {M : Type 1} (𝓤 : URA M) (H : Heap 𝓤) (A : Atoms 𝓤) (W : Given
           qed W Last ∵ exec ! (𝓣 .C) (𝓣 .Λ) En code.Mir.t-7 (atRet En Post) $ sets ! (of-opd ! (mine ! 18 refl)) (init ! 30 refl (heard .typed 𝓤 H A W out _ is)) $
           owned ! C.the-row (Is C.the-row) (LL.makes C.the-type C′.the-plain 𝓤 H A) last _ (with-head h t′ g ist′) $ move ! (1 ∷ 0 ∷ []) $
           use2 W (‵ (partAt C.the-row fullShare last b o)) (part-in 𝓤 H A W C.the-row refl fullShare last b o (cv last)) $ close-ref ! tt (mem C.the-row) last {b = b} {o = o} $ returns ! (look ! 29 refl) $
-          freed ! Left En (some (yv out) ∷ held) $ by ! (exits is)
+          freed ! Left (some (yv out) ∷ held) $ by ! (exits is)
 
     walk : ent 𝓤 (onEntry 𝓤 H A f.signature (κ, tt) (q, tt) a vals) (WpFn 𝓤 H (𝓣 .C) (𝓣 .Λ) code.function (vptr b o ∷ params .val p ∷ vbool u ∷ vfloat binary32 x ∷ yv s ∷ []) Post)
     walk =

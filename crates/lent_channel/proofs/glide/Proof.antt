@@ -304,7 +304,7 @@ module _ {M : Type 1} (𝓤 : URA M) (H : Heap 𝓤) (A : Atoms 𝓤) (W : Given
           -- it isn't plain: the function returns
           (λ y. sets ! (agg ! (and-then ! (mine ! 26 refl) (and-then ! (mine ! 28 refl) (no-more !)))) (init ! 40 refl (glided .typed 𝓤 H A W (given s) _ (is-given s (small-at s (suc r) g) (g .fits)))) $
           move ! (5 ∷ []) $ drop ! $ close-ref ! tt (mem C.the-row) (turned l) {b = b} {o = o} $ returns-within ! Post refl (look ! 38 refl) $
-          freed ! (Gone s) En (some _ ∷ some _ ∷ some _ ∷ some _ ∷ some _ ∷ some _ ∷ some _ ∷ some _ ∷ some _ ∷ some _ ∷ empty ∷ some _ ∷ some _ ∷ some _ ∷ some _ ∷ some _ ∷ []) $ by ! (exits s (suc r) g))
+          freed ! (Gone s) (some _ ∷ some _ ∷ some _ ∷ some _ ∷ some _ ∷ some _ ∷ some _ ∷ some _ ∷ some _ ∷ some _ ∷ empty ∷ some _ ∷ some _ ∷ some _ ∷ some _ ∷ some _ ∷ []) $ by ! (exits s (suc r) g))
           -- it is, and the voice is overwritten
           (λ y. skips ! $ exec ! Cs Λ En (after 10 code.Mir.turn-1) (anyQ (afterTurn 𝓤 H X Left)) $
           sets ! (of-opd ! (load ! (from ! (fld ! {τ = voice .ty} {d = 0} refl (stop !))) (look-in ! 22 (sub ! 0 {τ = voice .ty} {d = 0} refl (whole !))))) (init ! 20 refl (voice .typed 𝓤 H A W (x .voice) _ isw)) $
@@ -325,7 +325,7 @@ module _ {M : Type 1} (𝓤 : URA M) (H : Heap 𝓤) (A : Atoms 𝓤) (W : Given
           sets ! (no-less ! (mine ! 26 refl) (mine ! 30 refl) (omega (arith, g .left))) (init ! 18 refl (tt, tt)) $ leaves-loop ! (mine ! 18 refl) $ exec ! Cs Λ En code.Mir.t-6 (atRet En Post) $
           sets ! (agg ! (and-then ! (mine ! 26 refl) (and-then ! (mine ! 28 refl) (no-more !)))) (init ! 40 refl (glided .typed 𝓤 H A W (given s) _ (is-given s (small-at s 0 g) (g .fits)))) $
           move ! (5 ∷ []) $ drop ! $ close-ref ! tt (mem C.the-row) (turned (s .voices)) {b = b} {o = o} $ returns ! (look ! 38 refl) $
-          freed ! (Gone s) En (some _ ∷ some _ ∷ some _ ∷ some _ ∷ some _ ∷ some _ ∷ some _ ∷ some _ ∷ empty ∷ empty ∷ empty ∷ some _ ∷ []) $ by ! (exits s 0 g)
+          freed ! (Gone s) (some _ ∷ some _ ∷ some _ ∷ some _ ∷ some _ ∷ some _ ∷ some _ ∷ some _ ∷ empty ∷ empty ∷ empty ∷ some _ ∷ []) $ by ! (exits s 0 g)
 
     abbrev first-state : State
     first-state = record { i = 0; voices = h .voices; out = zero32 }

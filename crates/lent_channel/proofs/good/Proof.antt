@@ -109,10 +109,10 @@ module _ {M : Type 1} (𝓤 : URA M) (H : Heap 𝓤) (A : Atoms 𝓤) (W : Given
       -- and handed on
       (λ y. join ! $ answered goodVoicesOf ! (fmOf 𝓤 H (W .laws) 𝓣) known-voices κ q x (and-then ! (mine ! 9 refl) (no-more !)) (
       land ! (from ! (stop !)) (init ! 11 refl (tt, tt)) $ returns-within ! Post refl (look ! 11 refl) $
-      freed ! (‵ (flft κ q) ∷ []) En (some _ ∷ some _ ∷ some _ ∷ some _ ∷ some _ ∷ some _ ∷ []) $ by ! (exits (goodVoicesOf h) (ap (λ (z : Bool). z && goodVoicesOf h) (sym (holds ok y)) ∙ all-good size h))))
+      freed ! (‵ (flft κ q) ∷ []) (some _ ∷ some _ ∷ some _ ∷ some _ ∷ some _ ∷ some _ ∷ []) $ by ! (exits (goodVoicesOf h) (ap (λ (z : Bool). z && goodVoicesOf h) (sym (holds ok y)) ∙ all-good size h))))
       -- or let go
       (λ y. skips ! $ exec ! (𝓣 .C) (𝓣 .Λ) En code.Mir.t-5 (atRet En Post) $ move ! (1 ∷ []) $ drop ! $ sets ! (of-opd ! (false-lit !)) (init ! 11 refl (tt, tt)) $ returns ! (look ! 11 refl) $
-      freed ! (‵ (flft κ q) ∷ []) En (some _ ∷ some _ ∷ some _ ∷ some _ ∷ some _ ∷ some _ ∷ []) $ by ! (exits false (ap (λ (z : Bool). z && goodVoicesOf h) (sym (denied ok y)) ∙ all-good size h)))))))))))
+      freed ! (‵ (flft κ q) ∷ []) (some _ ∷ some _ ∷ some _ ∷ some _ ∷ some _ ∷ some _ ∷ []) $ by ! (exits false (ap (λ (z : Bool). z && goodVoicesOf h) (sym (denied ok y)) ∙ all-good size h)))))))))))
 
 module _ {M : Type 1} (𝓤 : URA M) (H : Heap 𝓤) (A : Atoms 𝓤) (W : Given 𝓤 H A) (mem : Memory → SProp 𝓤) (run : Routine → Fun 𝓤) (𝓣 : Tables 𝓤 H)
     (known-head : Says 𝓤 H A 𝓣 #head-good judging) (known-voices : Triple 𝓤 (𝓣 .C #good-voices) (question goodVoicesOf 𝓤 H A)) where

@@ -127,7 +127,7 @@ module _ {M : Type 1} (𝓤 : URA M) (H : Heap 𝓤) (A : Atoms 𝓤) (W : Given
         sets ! (no-less ! (mine ! 16 refl) (mine ! 20 refl) e) (init ! 12 refl (tt, tt)) $
         leaves-loop ! (mine ! 12 refl) $ exec ! (𝓣 .C) (𝓣 .Λ) En code.Mir.t-7 (atRet En Ends) $
         sets ! (of-opd ! (mine ! 18 refl)) (init ! 26 refl (tt, tt)) $ returns ! (look ! 26 refl) $
-        freed ! (Open κ q q′ x) En (some _ ∷ some _ ∷ some _ ∷ some _ ∷ some _ ∷ some _ ∷ room ∷ some _ ∷ []) $ by ! (exits goodVoicesOf 𝓤 H A κ q x W q′ (upto h i) (ap (upto h) e ∙ of-all h all))
+        freed ! (Open κ q q′ x) (some _ ∷ some _ ∷ some _ ∷ some _ ∷ some _ ∷ some _ ∷ room ∷ some _ ∷ []) $ by ! (exits goodVoicesOf 𝓤 H A κ q x W q′ (upto h i) (ap (upto h) e ∙ of-all h all))
 
     loops : ent 𝓤 (⋆ 𝓤 H A (At 0)) (Wp 𝓤 H (𝓣 .C) (𝓣 .Λ) En (loop code.Mir.turn-1) Left)
     loops = rounds 𝓤 H A W 𝓣 En code.Mir.turn-1 Left (λ i r. i + r ≡ n) At leaves more n 0 (omega arith)

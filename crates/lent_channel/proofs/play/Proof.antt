@@ -429,7 +429,7 @@ module _ {M : Type 1} (𝓤 : URA M) (H : Heap 𝓤) (A : Atoms 𝓤) (W : Given
               move ! (1 ∷ []) $ drop ! $ owned ! C.the-row (Is C.the-row) (LL.makes C.the-type C′.the-plain 𝓤 H A) (last s) _ (counted-is (is-m .1) is) $ move ! (1 ∷ 0 ∷ []) $ use2 W (‵ (partAt C.the-row fullShare (last s) b o)) (part-in 𝓤 H A W C.the-row refl fullShare (last s) b o (cv (last s))) $
               sets ! (agg ! (and-then ! (load ! (from ! (fld ! {τ = tyFloat binary32} {d = 16} refl (stop !))) (look-in ! 32 (sub ! {τs = in-going} 2 {τ = tyFloat binary32} {d = 16} refl (whole !)))) (and-then ! (load ! (from ! (fld ! {τ = tyInt w8} {d = 20} refl (stop !))) (look-in ! 32 (sub ! {τs = in-going} 3 {τ = tyInt w8} {d = 20} refl (whole !)))) (no-more !)))) (init ! 50 refl (sounded .typed 𝓤 H A W (given s) _ (is-given s (g .is)))) $
               move ! (5 ∷ []) $ drop ! $ close-ref ! tt (mem C.the-row) (last s) {b = b} {o = o} $ returns ! (look ! 48 refl) $ forget ! 4 refl $
-              freed ! (Gone s) En (some _ ∷ some _ ∷ some _ ∷ some _ ∷ some _ ∷ some _ ∷ some _ ∷ some _ ∷ some _ ∷ some _ ∷ empty ∷ some _ ∷ empty ∷ empty ∷ some _ ∷ []) $ by ! (exits s (is-given s (g .is)) done-so)))
+              freed ! (Gone s) (some _ ∷ some _ ∷ some _ ∷ some _ ∷ some _ ∷ some _ ∷ some _ ∷ some _ ∷ some _ ∷ some _ ∷ empty ∷ some _ ∷ empty ∷ empty ∷ some _ ∷ []) $ by ! (exits s (is-given s (g .is)) done-so)))
 
         -- the loop begins where the plain turns end
         abbrev first-state : State

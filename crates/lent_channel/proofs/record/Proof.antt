@@ -185,7 +185,7 @@ module _ {M : Type 1} (𝓤 : URA M) (H : Heap 𝓤) (A : Atoms 𝓤) (W : Given
       shuts is =
           qed W Last ∵ exec ! (𝓣 .C) (𝓣 .Λ) En code.Mir.t-4 (atRet En Post) $ sets ! (of-opd ! (unit-lit !)) (init ! 22 refl (tt, tt)) $
           owned ! C.the-row (Is C.the-row) (LL.makes C.the-type C′.the-plain 𝓤 H A) last _ is $ move ! (1 ∷ 0 ∷ []) $ use2 W (‵ (partAt C.the-row fullShare last b o)) (part-in 𝓤 H A W C.the-row refl fullShare last b o (cv last)) $
-          close-ref ! tt (mem C.the-row) last {b = b} {o = o} $ returns ! (look ! 21 refl) $ freed ! Left En (some vunit ∷ held) $ by ! exits
+          close-ref ! tt (mem C.the-row) last {b = b} {o = o} $ returns ! (look ! 21 refl) $ freed ! Left (some vunit ∷ held) $ by ! exits
 
     walk : ent 𝓤 (onEntry 𝓤 H A f.signature (κ, (κ₁, tt)) (q, (q₁, tt)) a vals) (WpFn 𝓤 H (𝓣 .C) (𝓣 .Λ) code.function (vptr b o ∷ vfloat binary32 x ∷ sl ∷ []) Post)
     walk =

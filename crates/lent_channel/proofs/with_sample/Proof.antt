@@ -283,7 +283,7 @@ module _ {M : Type 1} (𝓤 : URA M) (H : Heap 𝓤) (A : Atoms 𝓤) (W : Given
         move ! (1 ∷ []) $ split ! $ move ! (1 ∷ []) $
         peeks ! Y.the-row (Is Y.the-row) (shows 𝓤 H A Y.the-row) r (w ∷ []) (λ is. drop ! $ land ! (from ! (stop !)) (init ! 46 refl (sounded .typed 𝓤 H A W r _ is)) $
         rewrite ! 46 (λ (z : Val). ‵ (fat fullShare (sounded .ty) l₀ 0 z)) (ap only (sounded .tells r _ is) ∙ ap yv (e .0)) refl $ split ! $ lft-end ! tt $ move ! (0 ∷ 3 ∷ 2 ∷ []) $ use3 W (later (‵ (partAt C.the-row fullShare last b o))) (ref-back 𝓤 H A W C.the-row (α ∷ []) δ last b o) $ await ! tt $
-        move ! (1 ∷ []) $ drop ! $ close-ref ! tt (mem C.the-row) last {b = b} {o = o} $ returns ! (look ! 43 refl) $ forget ! 5 refl $ freed ! Left En (some (yv out) ∷ held) $
+        move ! (1 ∷ []) $ drop ! $ close-ref ! tt (mem C.the-row) last {b = b} {o = o} $ returns ! (look ! 43 refl) $ forget ! 5 refl $ freed ! Left (some (yv out) ∷ held) $
         by ! (exits (subst (λ (y : Heard). Is Y.the-row y (yv y ∷ [])) (e .0) (subst (Is Y.the-row r) (sounded .tells r _ is) is))))))))))
 
   module _ (𝓣 : Tables 𝓤 H) (known-Taken : Triple 𝓤 (𝓣 .C #lent-channel·record) (Taken 𝓤 H A at-mem run)) (known-Silence : Says 𝓤 H A 𝓣 #lent-channel·silence quiet) (known-Play : Triple 𝓤 (𝓣 .C #lent-channel·play) (Play 𝓤 H A at-mem run)) (known-Asked : Triple 𝓤 (𝓣 .C #lent-channel·any-unfinished) (question anyUnfinishedOf 𝓤 H A)) (known-Close : Triple 𝓤 (𝓣 .C #lent-channel·close) (Close 𝓤 H A at-mem run)) where

@@ -198,7 +198,7 @@ module _ {M : Type 1} (𝓤 : URA M) (H : Heap 𝓤) (A : Atoms 𝓤) (W : Given
       split ! $ move ! (1 ∷ []) $ split ! $ lft-end ! tt $ move ! (0 ∷ 8 ∷ 3 ∷ []) $
       use3 W (later (‵ (MutSlice (named 1) κ₁ u32 .own (xm o₁ γ₁ m′) (sm ∷ [])) ⊛ ‵ (flft κ₁ q₁))) (comes-back u32 κ₁ (α ∷ []) q₁ γ₁ b₁ o₁ m a (e - a) 𝓤 H A W (named 1) (named 1) δ last last-long) $ await ! tt $ split ! $
       returns ! (look ! 38 refl) $
-      freed ! (_ ∷ _ ∷ _ ∷ _ ∷ _ ∷ _ ∷ _ ∷ _ ∷ _ ∷ _ ∷ _ ∷ _ ∷ []) _ (some _ ∷ some _ ∷ some _ ∷ some _ ∷ some _ ∷ some _ ∷ some _ ∷ some _ ∷ some _ ∷ some _ ∷ some _ ∷ some _ ∷ some _ ∷ some _ ∷ []) $ keep ! (3 ∷ 1 ∷ 8 ∷ 7 ∷ 0 ∷ []) $ by ! (exits is-out))))))))))))))))))))))))
+      freed ! (_ ∷ _ ∷ _ ∷ _ ∷ _ ∷ _ ∷ _ ∷ _ ∷ _ ∷ _ ∷ _ ∷ _ ∷ []) (some _ ∷ some _ ∷ some _ ∷ some _ ∷ some _ ∷ some _ ∷ some _ ∷ some _ ∷ some _ ∷ some _ ∷ some _ ∷ some _ ∷ some _ ∷ some _ ∷ []) $ keep ! (3 ∷ 1 ∷ 8 ∷ 7 ∷ 0 ∷ []) $ by ! (exits is-out))))))))))))))))))))))))
     where
       size : length m * 4 < 2 ^ 63
       size = room .1
