@@ -82,11 +82,11 @@ module _ (h : Channel) (all : length (h .voices) ≡ 32) (i r : ℕ) (left : i +
   inside = omega (arith, small, all)
 
 -- what the reference owns
-abbrev pub Shared : Lft → RefT Channel → Fml
+abbrev Shared : Lft → RefT Channel → Fml
 Shared κ x = ShrRef (named 0) κ C.the-row .own x (ptr-vals x)
 
 -- a share of the channel, as a cell
-abbrev pub Cell : Share → RefT Channel → Fml
+abbrev Cell : Share → RefT Channel → Fml
 Cell q x = fat q C′.mir (x .ptr .0) (x .ptr .1) (cv (x .now))
 
 -- and as the channel in memory
