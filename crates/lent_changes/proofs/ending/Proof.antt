@@ -1,7 +1,6 @@
 -- `ending` meets its contract, by its cases. Assumes nothing.
 use borrow.Author.Needs.{needs}
 use lib.Ieee.{ofBits}
-use Rattle.binary32.specs.Leaves.{zero32}
 use Rattle.lent_changes.specs.Changes.{endedOf}
 use Rattle.lent_changes.proofs.ending.Statement.{statement}
 use Rattle.lent_changes.proofs.ending.Tie as tie
