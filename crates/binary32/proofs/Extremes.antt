@@ -1,11 +1,12 @@
 -- What holds of the smaller or the larger of two values. Assumes nothing.
+use mathlib.Core.Path.{_≡_, refl}
 use mathlib.Core.Logic.{inl, inr}
 use mathlib.Core.Bool.{not, cond}
-use lib.Dec.{T}
+use lib.Dec.{T, T-not}
 use lib.Ieee.{Float, Format, lt, le, fits, isNan}
 use Rattle.binary32.specs.Leaves.{minOf, maxOf}
 use Rattle.binary32.proofs.Truth.{yes-or-no, cond-split}
-use Rattle.binary32.proofs.Between.{lt→le, total}
+use Rattle.binary32.proofs.Between.{lt→le, le-not-nan, lt-le-clash, total}
 
 -- the first of two comes back only where it is no NaN, and not larger (smaller) than the second
 module _ (P : Float → Type 0) (a b : Float) (second : P b) where
@@ -29,3 +30,13 @@ max-under x y z h k = larger-of (λ (w : Float). T (le w z)) x y k (λ p l. h p)
 
 pub max-fits : (f : Format) (x y : Float) → T (fits f x) → T (fits f y) → T (fits f (maxOf x y))
 max-fits f x y p q = larger-of (λ (z : Float). T (fits f z)) x y q (λ n l. p)
+
+-- ---- beside a value that is no NaN one test tells which it is
+pub max-first : (x y : Float) → T (le y x) → maxOf x y ≡ x
+unfolding maxOf
+max-first x y h =
+    cond-split (λ (z : Float). z ≡ x) (isNan x) y (cond (lt x y) y x) (λ n. absurd (T-not (isNan x) (le-not-nan y x h .1) n))
+    (λ n. cond-split (λ (z : Float). z ≡ x) (lt x y) y x (λ t. absurd (lt-le-clash x y t h)) (λ t. refl))
+
+pub max-second : (x y : Float) → T (not (isNan y)) → T (not (le y x)) → maxOf x y ≡ y
+max-second x y q h = larger-of (λ (z : Float). z ≡ y) x y refl (λ p l. absurd (T-not (le y x) h (total y x q p l)))

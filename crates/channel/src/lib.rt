@@ -253,19 +253,26 @@ impl Head {
         volume.is_static() & (wanted == self.passthru_on)
     }
 
+    // A copy made field by field, as `Volume::copied` is.
+    pub fn copied(self) -> Self
+        ensures { λ r. ⌜ r ≡ self ⌝ }
+    {
+        let volume = self.passthru_volume;
+        let recorder = self.recorder;
+        Self {
+            now: self.now,
+            data_len: self.data_len,
+            passthru_volume: volume.copied(),
+            recorder: recorder.copied(),
+            passthru_on: self.passthru_on,
+        }
+    }
+
     pub fn is_recording(self) -> bool
         ensures { λ r. ⌜ r ≡ isRecordingOf (self .recorder) ⌝ }
     {
         let recorder = self.recorder;
         recorder.is_recording()
-    }
-
-    // A sample later.
-    pub fn clocked(mut self) -> Self
-        ensures { λ r. ⌜ r ≡ clockedOf self ⌝ }
-    {
-        self.now = next_time(self.now);
-        self
     }
 
     pub fn good(self, capacity: usize) -> bool
@@ -305,7 +312,7 @@ fn first_level(params: InitParams) -> f32
     if params.auto_passthru { 1.0 } else { 0.0 }
 }
 
-fn next_time(now: usize) -> usize
+pub fn next_time(now: usize) -> usize
     ensures { λ r. ⌜ r ≡ nextTime now ⌝ }
 {
     if now < LAST_TIME { now + 1 } else { now }

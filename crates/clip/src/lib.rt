@@ -357,10 +357,13 @@ impl Clip {
         self.standing_at(now).place()
     }
 
+    // Most places lie below twice the data length, where the remainder takes no more than a difference.
     fn clip_to_data(self, place: f32) -> f32
         ensures { λ r. ⌜ r ≡ clipToDataOf self place ⌝ }
     {
-        (self.start + place) % self.data_length
+        let s = self.start + place;
+        let t = quick_rem(s, self.data_length);
+        if t >= 0.0 { t } else { s % self.data_length }
     }
 
     pub fn offset_at(self, now: usize) -> f32

@@ -1,6 +1,7 @@
 // The settings of the engine: notes, modes, transport and parameters. `time_value` is a module of this crate, since
 // each of the two uses the other. Each public function equals a definition in specs/, for every value of its arguments.
 ghost use mathlib.Core.Path.{_≡_};
+ghost use Rattle.binary32.specs.Leaves.{maxOf, one32};
 ghost use Rattle.common_types.specs.Notes.{noteOf, defaultNote, intoU64Of, fromU64Of};
 ghost use Rattle.common_types.specs.Modes.{
   indexToF32Of,
@@ -234,6 +235,28 @@ impl Params {
         }
     }
 
+    // A copy made field by field. One of the whole, put into an enum, is made twice.
+    pub fn copied(self) -> Self
+        ensures { λ r. ⌜ r ≡ self ⌝ }
+    {
+        let transport = self.transport;
+        let loop_length = self.loop_length;
+        let loop_mode = self.loop_mode;
+        let note_off_behavior = self.note_off_behavior;
+        Self {
+            attack_samples: self.attack_samples,
+            decay_samples: self.decay_samples,
+            transport,
+            loop_length,
+            speed: self.speed,
+            reverse_speed: self.reverse_speed,
+            volume: self.volume,
+            auto_passthru: self.auto_passthru,
+            loop_mode,
+            note_off_behavior,
+        }
+    }
+
     pub fn speed(self) -> f32
         ensures { λ r. ⌜ r ≡ speedOf self ⌝ }
     {
@@ -245,7 +268,7 @@ impl Params {
     {
         let transport = self.transport;
         let loop_length = self.loop_length;
-        binary32::max(length(loop_length, transport, data_len), 1.0)
+        at_least_one(length(loop_length, transport, data_len))
     }
 
     // Whether row 4 of document 01's table refuses these parameters.
@@ -262,6 +285,13 @@ impl Params {
         let loop_length = self.loop_length;
         length_beyond(loop_length, transport)
     }
+}
+
+// f32::max of x and 1: NaN gives 1. Beside a number that is known, it is one comparison.
+fn at_least_one(x: f32) -> f32
+    ensures { λ r. ⌜ r ≡ maxOf x one32 ⌝ }
+{
+    if x >= 1.0 { x } else { 1.0 }
 }
 
 // NaN is not above a limit.

@@ -26,7 +26,6 @@ use Rattle.channel.specs.declared.Change.the-variants as change
 use Rattle.channel.specs.declared.Channel.{Channel}
 use Rattle.channel.specs.declared.Found.{Found}
 use Rattle.channel.specs.declared.Found.the-variants.{At, Nothing}
-use Rattle.channel.specs.Heads.{passthruOf}
 use Rattle.channel.specs.Channels.{withVoices, unfinishedOf, sameNote, wantedOf, spedOf, anyUnfinishedOf, handledOf, pushedOf, startPlayingOf, findOf, finishedAtOf, stopPlayingOf, setNoteSpeedOf, resetOf, changedOf}
 use Rattle.lent_changes.specs.declared.Pass.{Pass}
 use Rattle.lent_changes.specs.Changes.{askingOf, behindOf, goingOf, startPass, passOf, hitsOf, remadeOf, passedOf, openedOf, handledIf, endedOf}

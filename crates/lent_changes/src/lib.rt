@@ -209,6 +209,12 @@ fn handled(on: bool, head: Head, params: Params, unfinished: bool) -> Head
 fn ended(p: Pass, change: Change, head: Head) -> Head
     ensures { λ r. ⌜ r ≡ endedOf p change head ⌝ }
 {
+    ending(p, change, head).copied()
+}
+
+fn ending(p: Pass, change: Change, head: Head) -> Head
+    ensures { λ r. ⌜ r ≡ endedOf p change head ⌝ }
+{
     match change {
         Change::Start { params, .. } => handled(head.data_len != 0, head, params, p.unfinished),
         Change::Stop { params, .. } => handled(p.found, head, params, p.unfinished),

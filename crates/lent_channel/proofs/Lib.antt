@@ -1,7 +1,8 @@
 pub mod Bytes
 pub mod Rows
+pub mod Steps
 pub mod Places
 pub mod Holding
-pub mod Fold
+pub mod Sharing
 pub mod Tails
 pub mod Turns

@@ -1,4 +1,4 @@
--- Where the loop over the voices that take a turn begins, what a turn leaves to those behind it, and what the loop has come to where it ends. Assumes nothing.
+-- Where the loop over the voices that take a turn begins, what a turn leaves to those behind it, and what the loop has come to where it ends; and a channel without voices. Assumes nothing.
 use mathlib.Core.Path.{_≡_, refl, sym, _∙_, ap, subst}
 use Prim.Native.Nat.{ℕ, _+_, _≤_, min}
 use native.Mathlib.Nat.{le-refl, zero-add}
@@ -10,8 +10,9 @@ use lib.ListN.{length, set, take}
 use lib.Seq.{slice}
 use lib.Ieee.{Float, binary32, add}
 use borrow.Author.Tests.{eqb-true, le-ltb, not-true, not-false}
-use Rattle.walks.specs.Walks.{behind}
+use Rattle.walks.specs.Walks.{any, without, behind, fold}
 use Rattle.walks.proofs.Lists.Loops.{Walk, take-most}
+use Rattle.walks.proofs.Tests.{either}
 use Rattle.common_types.specs.declared.Params.{Params}
 use Rattle.binary32.specs.Leaves.{zero32}
 use Rattle.voice.specs.declared.Voice.{Voice}
@@ -24,12 +25,12 @@ use Rattle.channel.specs.declared.Head.{Head}
 use Rattle.channel.specs.declared.Channel.{Channel}
 use Rattle.channel.specs.declared.Played.{Played}
 use Rattle.channel.specs.Heads.{mixedOf, closedOf}
-use Rattle.channel.specs.Channels.{withHead, withVoices, anyUnfinishedOf, keptOf, tidiedOf, addedOf, playedOf, playedIfOf}
+use Rattle.channel.specs.Channels.{withHead, withVoices, anyUnfinishedOf, keptOf, tidiedOf, addedOf, heardOf as heard-of, playedOf, playedIfOf}
 use Rattle.channel.proofs.Turns.{Walked, restOf, rest-start, rest-end, rest-keep, rest-gone, tidiedFrom, tidied-end, tidied-same, tidied-keep, tidied-gone, step-up}
 use Rattle.lent_channel.specs.declared.Glided.{Glided}
 use Rattle.lent_channel.specs.declared.Going.{Going}
 use Rattle.lent_channel.specs.declared.Turn.{Turn}
-use Rattle.lent_channel.specs.Turns.{unusedTick, turnCountOf, sharedOf, voicesLeftOf, playedBy, restFrom, Glides, afterPlain, turnedOf, heardOf}
+use Rattle.lent_channel.specs.Turns.{unusedTick, silent, turnCountOf, sharedOf, voicesLeftOf, playedBy, restFrom, Glides, afterPlain, turnedOf, heardOf}
 
 -- what a walk leaves and what is heard of it, with how many have moved up
 abbrev counting : Walked → ℕ → Played
@@ -232,3 +233,30 @@ module _ (p : Params) (x : Float) (m : List ℕ) (c : Channel) where
   pub sample-by : closing p x (given .channel .head) given ≡ closing p x (c .head) (playedIfOf p m c)
   unfolding playedIfOf playedBy
   sample-by = ap (λ (t : Head). closing p x t given) (same-head p (c .head .now) (c .head .«data_len») m c)
+
+-- ---- a channel without voices: nothing is heard of it, it stays as it is, and no voice is unfinished
+module _ (p : Params) (time len : ℕ) (m : List ℕ) (c : Channel) (none : c .count ≡ 0) where
+  abbrev with-none : Channel → Played
+  with-none d = record { channel = d; output = zero32; moved = 0 }
+
+  abbrev of-count : ℕ → Channel
+  of-count n = withVoices (c .voices) n c
+
+  played-none : (u : Tick) → playedOf u m c ≡ with-none c
+  unfolding playedOf keptOf tidiedOf heard-of without behind fold
+  played-none u = subst (λ (n : ℕ). playedOf u m (of-count n) ≡ with-none (of-count n)) (sym none) refl
+
+  plays-none : playedBy p time len m c ≡ with-none c
+  unfolding playedBy
+  plays-none = either (λ (r : Played). r) (eqb len 0) _ _ (with-none c) refl (played-none _)
+
+  pub none-heard : silent ≡ heardOf (playedBy p time len m c)
+  unfolding silent
+  none-heard = sym (ap heardOf plays-none)
+
+  pub none-gone : c ≡ playedBy p time len m c .channel
+  none-gone = sym (ap (λ (r : Played). r .channel) plays-none)
+
+  pub none-unfinished : false ≡ anyUnfinishedOf (playedBy p time len m c .channel)
+  unfolding anyUnfinishedOf any
+  none-unfinished = subst (λ (n : ℕ). false ≡ anyUnfinishedOf (of-count n)) (sym none) refl ∙ ap anyUnfinishedOf none-gone

@@ -31,6 +31,10 @@ use Rattle.lent_channel.specs.declared.Turn.{Turn}
 unfoldable pub turnCountOf : ℕ → ℕ → ℕ
 turnCountOf len count = cond (eqb len 0) 0 (min count 32)
 
+-- what is heard of a channel without voices
+unfoldable pub silent : Heard
+silent = record { output = zero32; moved = 0 }
+
 -- what stands where no voice takes a turn; no voice sees it
 unfoldable pub unusedTick : Tick
 unusedTick = record {

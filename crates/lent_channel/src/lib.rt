@@ -3,12 +3,11 @@
 // are proved by hand.
 ghost use mathlib.Core.Path.{_≡_};
 ghost use Prim.Native.Nat.{_≤_, _<_};
-ghost use mathlib.Core.Bool.{_&&_, _||_};
+ghost use mathlib.Core.Bool.{_&&_};
 ghost use lib.Ieee.{binary32, add};
 ghost use Rattle.voice.specs.Voices.{goodVoice};
 ghost use Rattle.channel.specs.Heads.{closedOf};
 ghost use Rattle.channel.specs.Channels.{
-  unfinishedOf,
   anyUnfinishedOf,
   withHead,
   takenOf,
@@ -19,6 +18,7 @@ ghost use Rattle.channel.specs.Channels.{
 };
 ghost use Rattle.lent_channel.specs.Turns.{
   unusedTick,
+  silent,
   turnCountOf,
   sharedOf,
   voicesLeftOf,
@@ -48,6 +48,16 @@ pub struct Start {
 pub struct Heard {
     pub output: f32,
     pub moved: u8,
+}
+
+// What is heard of a channel without voices.
+fn silence() -> Heard
+    ensures { λ r. ⌜ r ≡ silent ⌝ }
+{
+    Heard {
+        output: 0.0,
+        moved: 0,
+    }
 }
 
 // What stands where no voice takes a turn: no voice sees it, and nothing is worked out for it.
@@ -110,27 +120,21 @@ fn head_good(head: Head, count: usize, capacity: usize) -> bool
     head.good(capacity)
 }
 
-// What one voice more makes of an answer about those before it. Both folds have one shape, and so one proof; the second
-// doesn't need the clock.
+// Whether all voices so far are good, with one more.
 fn still_good(ok: bool, v: Voice, time: usize) -> bool
     ensures { λ r. ⌜ r ≡ (ok && goodVoice time v) ⌝ }
 {
     ok & v.good(time)
 }
 
-fn or_unfinished(found: bool, v: Voice, _time: usize) -> bool
-    ensures { λ r. ⌜ r ≡ (found || unfinishedOf v) ⌝ }
-{
-    found | !v.finished
-}
-
-// Whether all is well so far, and each voice is good.
-fn good_voices(c: &Channel, so_far: bool) -> bool
-    ensures { λ r. ⌜ r ≡ («so_far» && goodVoicesOf (now (c .entry))) ⌝ }
+// Whether each voice is good. It goes on behind one that isn't: that is rare, and a way out of the loop would put a
+// branch at each of a voice's tests.
+fn good_voices(c: &Channel) -> bool
+    ensures { λ r. ⌜ r ≡ goodVoicesOf (now (c .entry)) ⌝ }
 {
     let time = c.head.now;
     let n = channel::places(c.count);
-    let mut ok = so_far;
+    let mut ok = true;
     let mut i: usize = 0;
     while i < n {
         ok = still_good(ok, c.voices[i], time);
@@ -139,26 +143,29 @@ fn good_voices(c: &Channel, so_far: bool) -> bool
     ok
 }
 
-// Whether one was found before, or a voice is unfinished.
-fn any_unfinished(c: &Channel, before: bool) -> bool
-    ensures { λ r. ⌜ r ≡ (before || anyUnfinishedOf (now (c .entry))) ⌝ }
+// Whether a voice is unfinished: mostly the first is.
+fn any_unfinished(c: &Channel) -> bool
+    ensures { λ r. ⌜ r ≡ anyUnfinishedOf (now (c .entry)) ⌝ }
 {
-    let time = c.head.now;
     let n = channel::places(c.count);
-    let mut found = before;
     let mut i: usize = 0;
     while i < n {
-        found = or_unfinished(found, c.voices[i], time);
+        if !c.voices[i].finished {
+            return true;
+        }
         i = i + 1;
     }
-    found
+    false
 }
 
 // Whether the channel may stand in a record of that capacity.
 pub fn good(c: &Channel, capacity: usize) -> bool
     ensures { λ r. ⌜ r ≡ goodChannel capacity (now (c .entry)) ⌝ }
 {
-    good_voices(c, head_good(c.head, c.count, capacity))
+    if head_good(c.head, c.count, capacity) {
+        return good_voices(c);
+    }
+    false
 }
 
 // How many voices took a plain turn, from the first on, and what was heard of them.
@@ -293,14 +300,17 @@ fn mixed(head: Head, input: f32, heard: Heard) -> Heard
     }
 }
 
-// The sample is recorded. While nothing is, neither the head nor the memory is stored.
+// The sample is recorded. While nothing is, neither the head nor the memory is stored, and else of the head what a
+// recording changes.
 fn record(c: &mut Channel, input: f32, data: &mut [u32])
     ensures { λ r. ⌜ (now (c .exit) ≡ takenOf (now («data» .entry)) (now (c .entry)))
         × (now («data» .exit) ≡ memoryOf input (now (c .entry)) (now («data» .entry))) ⌝ }
 {
     let head = c.head;
     if head.is_recording() {
-        c.head = head.recorded(input, data);
+        let after = head.recorded(input, data);
+        c.head.data_len = after.data_len;
+        c.head.recorder = after.recorder;
     }
 }
 
@@ -309,14 +319,13 @@ fn close(c: &mut Channel, params: Params, unfinished: bool, input: f32, played: 
     ensures { λ r. ⌜ (r ≡ mixedWith (now (c .entry) .head) input played)
         × (now (c .exit) ≡ withHead (closedOf params unfinished (now (c .entry) .head)) (now (c .entry))) ⌝ }
 {
-    let head = c.head;
-    let wanted = channel::passes(params, unfinished);
-    if head.rests(wanted) {
-        c.head = head.clocked();
+    let heard = mixed(c.head, input, played);
+    if c.head.rests(channel::passes(params, unfinished)) {
+        c.head.now = channel::next_time(c.head.now);
     } else {
-        c.head = head.closed(params, unfinished);
+        c.head = c.head.closed(params, unfinished);
     }
-    mixed(head, input, played)
+    heard
 }
 
 pub fn with_sample(c: &mut Channel, params: Params, input: f32, data: &mut [u32]) -> Heard
@@ -325,7 +334,11 @@ pub fn with_sample(c: &mut Channel, params: Params, input: f32, data: &mut [u32]
         × (now («data» .exit) ≡ memoryOf input (now (c .entry)) (now («data» .entry))) ⌝ }
 {
     record(c, input, data);
-    let played = play(c, c.head.now, c.head.data_len, params, data);
-    let unfinished = any_unfinished(c, false);
+    let mut played = silence();
+    let mut unfinished = false;
+    if c.count != 0 {
+        played = play(c, c.head.now, c.head.data_len, params, data);
+        unfinished = any_unfinished(c);
+    }
     close(c, params, unfinished, input, played)
 }

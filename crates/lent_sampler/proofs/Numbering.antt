@@ -8,7 +8,7 @@ use lib.Dec.{leb, eqb}
 use lib.ListN.{length, take}
 use lib.Seq.{take-nil}
 use Rattle.walks.proofs.Tests.{or-false}
-use Rattle.walks.proofs.Lists.Loops.{Walk, take-most}
+use Rattle.walks.proofs.Lists.Loops.{take-most}
 use Rattle.walks.specs.Walks.{any, every}
 use Rattle.channel.specs.declared.Change.{Change}
 use Rattle.channel.specs.declared.Change.the-variants as change
@@ -16,7 +16,7 @@ use Rattle.channel.specs.declared.Channel.{Channel}
 use Rattle.channel.specs.Channels.{goodChannel, fullOf}
 use Rattle.sampler.specs.declared.Sampler.{Sampler}
 use Rattle.sampler.specs.Refusals.{row, channelAt, goodSizes, goodSampler, anyFull, startNumber, stopNumber, speedNumber, plainNumber, changeNumber}
-use Rattle.sampler.specs.Samplers.{eachOf, changeOf, answerOf}
+use Rattle.sampler.specs.Samplers.{eachOf, answerOf}
 use Rattle.sampler.proofs.Seats.{eachFrom}
 use Rattle.lent_sampler.specs.Numbers.{allGood}
 use Rattle.lent_sampler.specs.ChangeNumbers.{placesTaken, anyTaken, startRows, stopRows, changeRows, rowsOf, changeNumberBy}

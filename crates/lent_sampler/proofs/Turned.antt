@@ -2,8 +2,8 @@
 use mathlib.Core.Path.{_≡_, refl, sym, ap, _∙_, subst}
 use mathlib.Core.Bool.{Bool, true, false, cond, true≢false}
 use mathlib.Core.List.{List, _++_}
-use Prim.Native.Nat.{ℕ, suc, _+_, _-_, _*_, _≤_, _<_, min}
-use native.Mathlib.Nat.{le-refl}
+use Prim.Native.Nat.{ℕ, suc, _+_, _-_, _*_, _%_, _^_, _≤_, _<_}
+use native.Mathlib.Nat.{le-refl, mod-eq-of-lt}
 use native.Mathlib.Numerals.{add-one}
 use native.Mathlib.Omega.{arith}
 use borrow.Author.Tests.{eqb-true, eq-eqb}
@@ -132,13 +132,13 @@ module _ (s : Sampler) (l : List Float) (p : Params) (m : List ℕ) where
       long = ap length written ∙ memory-at-length t i k (turned-ready h .part) x
 
       few : played .moved ≤ 31
-      few = moved-few p x (channelAt t i) (take (e - a) (drop a k)) (subst (λ (c : Channel). length (live c) ≤ 32) (sym (z .ahead i (le-refl i))) (frame-few s (length l) p (length m) (accepted i h .0) (z .given) i (accepted i h .1)))
+      few = moved-few p x (channelAt t i) (take (e - a) (drop a k)) (subst (λ (c : Channel). length (live c) ≤ 32) (sym (z .ahead i (le-refl i))) (frame-few s (length l) p (length m) (accepted i h .0) i (accepted i h .1)))
 
-      -- the sum is far from the 255 at which it is held
-      held : min 255 (u + played .moved) ≡ u + played .moved
-      held = omega (arith, few, z .summed (accepted i h .0) .few, turned-low h .0)
+      -- the sum is far from where a byte wraps
+      held : (u + played .moved) % 2 ^ 8 ≡ u + played .moved
+      held = mod-eq-of-lt (omega (arith, few, z .summed (accepted i h .0) .few, turned-low h .0))
 
-      pub turned-on : Turned (suc i) (min 255 (u + played .moved)) t′ (set io i y) k′
+      pub turned-on : Turned (suc i) ((u + played .moved) % 2 ^ 8) t′ (set io i y) k′
       turned-on = record {
         given = z .given;
         two = length-set (t .channels) i (played .channel) ∙ z .two;

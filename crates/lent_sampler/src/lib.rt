@@ -20,7 +20,7 @@ ghost use Rattle.sampler.specs.Samplers.{
 ghost use Rattle.sampler.specs.Samplers.{processSampleOf as sampleOf};
 ghost use Rattle.sampler.specs.Refusals.{goodSizes, frameNumber};
 ghost use Rattle.channel.specs.Channels.{processSampleOf, memoryOf};
-ghost use Prim.Native.Nat.{_+_, _*_, _-_, _≤_, _<_, min};
+ghost use Prim.Native.Nat.{_+_, _*_, _-_, _%_, _^_, _≤_, _<_};
 ghost use mathlib.Core.Bool.{_&&_, cond};
 ghost use mathlib.Core.List.{[], _∷_, _++_};
 ghost use lib.Dec.{leb, eqb};
@@ -172,13 +172,6 @@ fn change_number(s: &Sampler, taken: usize, change: Change, other_taken: usize) 
     )
 }
 
-// How many channels there are to change: the count, and never more than the array has.
-fn most(count: usize) -> usize
-    ensures { λ r. ⌜ r ≡ min count 2 ⌝ }
-{
-    if count < 2 { count } else { 2 }
-}
-
 // The call that makes a change of every channel, all or none, where the record stands. The six names are it, each at
 // the change that a function makes of the name's arguments.
 pub fn change(s: &mut Sampler, change: Change) -> u8
@@ -187,7 +180,7 @@ pub fn change(s: &mut Sampler, change: Change) -> u8
     let taken = places_taken(s.channels[0].head.data_len, s.channels[0].count);
     let other = places_taken(s.channels[1].head.data_len, s.channels[1].count);
     let number = change_number(s, taken, change, other);
-    let n = steps(number, most(s.count));
+    let n = steps(number, sampler::places(s.count));
     let mut j: usize = 0;
     while j < n {
         lent_changes::change(&mut s.channels[j], change);
@@ -200,7 +193,7 @@ fn start_of(position: f32, note: Note, velocity: f32, params: Params) -> Change
     ensures { λ r. ⌜ r ≡ Change.Start params position note velocity ⌝ }
 {
     Change::Start {
-        params,
+        params: params.copied(),
         position,
         note,
         velocity,
@@ -210,7 +203,10 @@ fn start_of(position: f32, note: Note, velocity: f32, params: Params) -> Change
 fn stop_of(note: Note, params: Params) -> Change
     ensures { λ r. ⌜ r ≡ Change.Stop params note ⌝ }
 {
-    Change::Stop { params, note }
+    Change::Stop {
+        params: params.copied(),
+        note,
+    }
 }
 
 fn speed_of(note: Note, speed: f32) -> Change
@@ -600,12 +596,6 @@ struct RunAsked {
     ran: Ran,
 }
 
-fn fewer(a: usize, b: usize) -> usize
-    ensures { λ r. ⌜ r ≡ min a b ⌝ }
-{
-    if a < b { a } else { b }
-}
-
 fn run_of(
     count: usize,
     capacity: usize,
@@ -632,7 +622,7 @@ fn run_of(
         size,
     );
     if (number == 0) | (number == 6) {
-        let frames = fewer(entries / count, room(count, time, other));
+        let frames = sampler::smaller(entries / count, room(count, time, other));
         RunAsked {
             entries: frames * count,
             ran: Ran { frames, number },
@@ -720,16 +710,12 @@ pub struct FrameDone {
     pub moved: u8,
 }
 
-// The voices that moved up so far, with those of one entry more. A run answers none of them; both calls have one shape,
-// and so one proof.
+// The voices that moved up so far, with those of one entry more: at most 62, far from where a byte wraps. A run answers
+// none of them; both calls have one shape, and so one proof.
 fn frame_moved(moved: u8, heard: Heard) -> u8
-    ensures { λ r. ⌜ r ≡ min 255 (moved + heard .moved) ⌝ }
+    ensures { λ r. ⌜ r ≡ (moved + heard .moved) % 2 ^ 8 ⌝ }
 {
-    if heard.moved < 255 - moved {
-        moved + heard.moved
-    } else {
-        255
-    }
+    std::num::wrapping_add_u8(moved, heard.moved)
 }
 
 fn run_moved(moved: u8, _heard: Heard) -> u8

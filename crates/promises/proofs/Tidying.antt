@@ -9,7 +9,7 @@ use native.Mathlib.Nat.{le-trans, le-of-eq, le-refl, zero-add}
 use native.Mathlib.Omega.{arith}
 use borrow.Author.Tests.{lt-ltb, le-ltb, ltb-true, ltb-false, eq-eqb, ne-eqb, eqb-true}
 use lib.Dec.{eqb, ltb, leb}
-use lib.ListN.{length, take, getD, getElem?, length-map, length-take}
+use lib.ListN.{length, take, getD, getElem?, length-map}
 use lib.Seq.{length-take-le, take-all}
 use lib.Ieee.{Float}
 use Rattle.binary32.specs.Leaves.{zero32}
@@ -41,7 +41,7 @@ use Rattle.promises.specs.Tidies.{movesUp, upOf, upIn, sumFrom, removeAt
 use Rattle.promises.specs.Demands.{Tidying}
 use Rattle.promises.proofs.Engine.{step-same}
 use Rattle.promises.proofs.Apart.{frame-moved}
-use Rattle.promises.proofs.Broken.{record-to}
+use Rattle.sampler.proofs.Channels.{few-live}
 
 -- ---- lists
 ltb-suc : (a b : ℕ) → ltb (suc a) (suc b) ≡ ltb a b
@@ -340,9 +340,7 @@ sum-none (suc n) i = zero-add _ ∙ sum-none n (i + 1)
 -- ---- of a good record each channel has at most 32 voices
 live-few : (s : Sampler) (size : ℕ) → goodWith s size ≡ true → (j : ℕ) → j < s .count → length (live (channelAt s j)) ≤ 32
 unfolding goodWith
-live-few s size g j h =
-    let k = record-to s (both (goodSampler s) (leb (s .count * s .capacity) size) g .0) .channels j h .voices in
-    omega (arith, k, length-take (channelAt s j .count) (channelAt s j .voices))
+live-few s size g j h = few-live s j (both (goodSampler s) (leb (s .count * s .capacity) size) g .0) h
 
 sample-good : (s : Sampler) (j : ℕ) (p : Params) (size : ℕ) → sampleNumber s j p size ≡ 0 → goodWith s size ≡ true
 unfolding sampleNumber

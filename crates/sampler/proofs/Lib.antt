@@ -1,4 +1,5 @@
 pub mod Seats
+pub mod Channels
 pub mod Rows
 pub mod Parts
 pub mod Framing

@@ -6,17 +6,15 @@ use native.Mathlib.Nat.{le-trans, le-of-eq, mul-comm, mul-le-mul-right, suc-mul,
 use native.Mathlib.Omega.{arith}
 use borrow.Author.Tests.{leb-true, ltb-true, ltb-false, eqb-true}
 use lib.Dec.{leb, ltb, eqb, leb→le, le→leb}
-use lib.ListN.{length, take, length-take}
+use lib.ListN.{length}
 use Rattle.binary32.proofs.Truth.{same-test}
 use Rattle.common_types.specs.declared.Params.{Params}
-use Rattle.walks.specs.Walks.{every}
-use Rattle.walks.proofs.Lists.Every.{both, every-front}
-use Rattle.channel.specs.Heads.{goodHead}
-use Rattle.channel.specs.Channels.{live, goodVoicesOf, goodChannel}
-use Rattle.sampler.specs.Refusals.{row, present, channelAt, goodSizes, goodSampler, goodWith, sampleNumber, frameNumber}
+use Rattle.walks.proofs.Lists.Every.{both}
+use Rattle.channel.specs.Channels.{live}
+use Rattle.sampler.specs.Refusals.{row, channelAt, goodSizes, goodSampler, goodWith, sampleNumber, frameNumber}
 use Rattle.sampler.specs.Samplers.{Ready, Steps}
-use Rattle.channel.specs.declared.Channel.{Channel}
 use Rattle.sampler.specs.declared.Sampler.{Sampler}
+use Rattle.sampler.proofs.Channels.{few-live}
 
 -- a row that does not hold leaves the number to the rest
 pub passed : (test : Bool) (n rest : ℕ) → row test (suc n) rest ≡ 0 → (test ≡ false) × (rest ≡ 0)
@@ -83,20 +81,12 @@ frame-steps s n p size h =
     }
 
 -- a channel that a frame steps has at most 32 voices
-few-voices : (capacity : ℕ) (c : Channel) → goodChannel capacity c ≡ true → length (live c) ≤ 32
-unfolding goodChannel
-few-voices capacity c h =
-    let k = leb-true (c .count) 32 (both (leb (c .count) 32) (goodHead capacity (c .head)) (both (leb (c .count) 32 && goodHead capacity (c .head)) (goodVoicesOf c) h .0) .0) in
-    omega (arith, k, length-take (c .count) (c .voices))
-
-pub frame-few : (s : Sampler) (n : ℕ) (p : Params) (size : ℕ) → frameNumber s n p size ≡ 0 → length (s .channels) ≡ 2 → (j : ℕ) → j < n → length (live (channelAt s j)) ≤ 32
-unfolding frameNumber goodWith goodSampler
-frame-few s n p size h two j k =
+pub frame-few : (s : Sampler) (n : ℕ) (p : Params) (size : ℕ) → frameNumber s n p size ≡ 0 → (j : ℕ) → j < n → length (live (channelAt s j)) ≤ 32
+unfolding frameNumber goodWith
+frame-few s n p size h j k =
     let g = passed (not (goodWith s size)) 8 _ h in
-    let w = is-true (goodWith s size) (g .0) in
     let b : n ≤ s .count = ltb-false (s .count) n (passed (ltb (s .count) n) 0 _ (g .1) .0) in
-    let all = both (goodSizes (s .count) (s .capacity)) (every (goodChannel (s .capacity)) (present s)) (both (goodSampler s) (leb (s .count * s .capacity) size) w .0) .1 in
-    few-voices (s .capacity) (channelAt s j) (every-front (goodChannel (s .capacity)) (s .channels) (s .count) j _ all (omega (arith, b)) (omega (arith, fitting s size w .few, two)))
+    few-live s j (both (goodSampler s) (leb (s .count * s .capacity) size) (is-true (goodWith s size) (g .0)) .0) (omega (arith, b))
 
 -- a product is at most a number exactly where a factor is at most its quotient by the other
 pub quotient-test : (n c size : ℕ) → (n ≡ 0 → ⊥) → leb c (size / n) ≡ leb (n * c) size

@@ -1,7 +1,7 @@
 -- What the number of a run of frames says, and what its frames that are done ask. Assumes nothing.
-use mathlib.Core.Path.{_≡_, refl, sym, _∙_}
+use mathlib.Core.Path.{_≡_, refl, sym}
 use mathlib.Core.Bool.{Bool, true, false, not, _||_, cond, true≢false}
-use Prim.Native.Nat.{ℕ, _*_, _/_, _%_, _≤_, _<_, min, zero-le}
+use Prim.Native.Nat.{ℕ, _/_, _%_, min, zero-le}
 use native.Mathlib.Nat.{le-trans, le-of-eq, mul-le-mul-right, zero-mul, div-mul-le-self, min-le-left}
 use native.Mathlib.Omega.{arith}
 use borrow.Author.Tests.{eqb-true}

@@ -134,7 +134,7 @@ pub fn good_sizes(count: usize, capacity: usize) -> bool
 }
 
 // How many channels there are to walk: the count, and never more than the array has.
-fn places(count: usize) -> usize
+pub fn places(count: usize) -> usize
     ensures { λ r. ⌜ r ≡ min count 2 ⌝ }
 {
     if count < 2 { count } else { 2 }
@@ -607,7 +607,7 @@ fn later(a: usize, b: usize) -> usize
     if a < b { b } else { a }
 }
 
-fn smaller(a: usize, b: usize) -> usize
+pub fn smaller(a: usize, b: usize) -> usize
     ensures { λ r. ⌜ r ≡ min a b ⌝ }
 {
     if a < b { a } else { b }
@@ -627,11 +627,15 @@ pub fn in_range(position: f32) -> bool
     (0.0 <= position) & (position <= 1.0)
 }
 
-// Whether memory of that size holds so many parts.
+// Whether memory of that size holds so many parts. A good record has one or two: for these no quotient is waited for.
 pub fn enough(count: usize, capacity: usize, size: usize) -> bool
     ensures { λ r. ⌜ r ≡ leb (count * capacity) size ⌝ }
 {
-    if count == 0 {
+    if count == 1 {
+        capacity <= size
+    } else if count == 2 {
+        capacity <= size / 2
+    } else if count == 0 {
         true
     } else {
         capacity <= size / count

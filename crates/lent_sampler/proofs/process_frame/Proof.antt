@@ -1,6 +1,6 @@
 -- `lent_sampler::process_frame` meets its contract: `Stepping.antt`'s walk, over `frame_asked`, `frame_channel`, `part_start`, `part_sample`, `frame_moved` and `frame_done`, by the laws of `Turned.antt`.
 use mathlib.Core.Path.{_≡_, refl}
-use Prim.Native.Nat.{_+_, min}
+use Prim.Native.Nat.{_+_, _%_, _^_}
 use lib.ListN.{length}
 use contract.Running.{givenOf, tables, tablesOf}
 use mir.Syntax.{w8}
@@ -55,7 +55,7 @@ turning = record {
   sounds = λ p x c k. atVolume p (heardOf (processSampleOf p x c k));
   plays = λ p x c k. processSampleOf p x c k .channel;
   records = memoryOf;
-  gathers = λ u y. min 255 (u + y .moved);
+  gathers = λ u y. (u + y .moved) % 2 ^ 8;
   finishes = λ number u. record { number = number; moved = u };
   Leaves = λ s l p m r t io k. (r .number ≡ frameNumber s (length l) p (length m)) × Frames (framedOf s l p m) t io k × (r .moved ≡ frameMoved s l p m);
   Turned = Turned;

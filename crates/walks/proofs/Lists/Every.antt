@@ -5,7 +5,7 @@ use mathlib.Core.List.{List, [], _∷_}
 use Prim.Native.Nat.{ℕ, zero, suc, _+_, _≤_, _<_}
 use native.Mathlib.Omega.{arith}
 use lib.ListN.{length, getD, take, set}
-use lib.Seq.{slice, getD-take, length-take-le}
+use lib.Seq.{slice}
 use Rattle.walks.specs.Walks.{every}
 use Rattle.walks.proofs.Lists.Loops.{next, stored}
 
@@ -19,10 +19,6 @@ module _ {A : Type 0} (p : A → Bool) where
   every-at [] j d h k = absurd (omega arith)
   every-at (x ∷ xs) zero d h k = both (p x) (every p xs) h .0
   every-at (x ∷ xs) (suc j) d h k = every-at xs j d (both (p x) (every p xs) h .1) (omega arith)
-
-  pub every-front : (l : List A) (n j : ℕ) (d : A) → every p (take n l) ≡ true → j < n → n ≤ length l → p (getD l j d) ≡ true
-  every-front l n j d h a b =
-      ap p (sym (getD-take n l j d a)) ∙ every-at (take n l) j d h (omega (arith, length-take-le n l b))
 
   pub every-fewer : (l : List A) (n m : ℕ) → every p (take n l) ≡ true → m ≤ n → every p (take m l) ≡ true
   unfolding every

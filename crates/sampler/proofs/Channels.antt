@@ -1,0 +1,44 @@
+-- What is known of a channel of a good record: it is a good one, with at most 32 voices. Assumes nothing.
+use mathlib.Core.Path.{_≡_, refl, sym, ap, _∙_}
+use mathlib.Core.Bool.{Bool, true, false, _&&_}
+use Prim.Native.Nat.{ℕ, _≤_, _<_}
+use native.Mathlib.Omega.{arith}
+use borrow.Author.Tests.{ltb-true, ltb-false, leb-true}
+use lib.Dec.{leb, ltb}
+use lib.ListN.{length, length-take, List·getD-eq-default}
+use lib.Seq.{getD-take}
+use Rattle.walks.specs.Walks.{every}
+use Rattle.walks.proofs.Lists.Every.{both, every-at}
+use Rattle.channel.specs.declared.Channel.{Channel}
+use Rattle.channel.specs.Heads.{goodHead}
+use Rattle.channel.specs.Channels.{live, channelOf, goodVoicesOf, goodChannel}
+use Rattle.channel.proofs.Kept.{new-channel-sound}
+use Rattle.sampler.specs.Refusals.{present, channelAt, goodSizes, goodSampler}
+use Rattle.sampler.specs.declared.Sampler.{Sampler}
+
+-- a good record's channels are good; so is the one past them
+pub good-at : (s : Sampler) (j : ℕ) → goodSampler s ≡ true → j < s .count → goodChannel (s .capacity) (channelAt s j) ≡ true
+unfolding goodSampler
+good-at s j good k = go (ltb j (length (s .channels))) refl
+  where
+    new : Channel
+    new = channelOf (record { «auto_passthru» = false })
+
+    every-good : every (goodChannel (s .capacity)) (present s) ≡ true
+    every-good = both (goodSizes (s .count) (s .capacity)) _ good .1
+
+    go : (b : Bool) → ltb j (length (s .channels)) ≡ b → goodChannel (s .capacity) (channelAt s j) ≡ true
+    go true e =
+        ap (goodChannel (s .capacity)) (sym (getD-take (s .count) (s .channels) j new k))
+        ∙ every-at (goodChannel (s .capacity)) (present s) j new every-good (omega (arith, length-take (s .count) (s .channels), ltb-true j (length (s .channels)) e))
+    go false e = ap (goodChannel (s .capacity)) (List·getD-eq-default (s .channels) new (ltb-false j (length (s .channels)) e)) ∙ new-channel-sound (s .capacity) _ .good
+
+pub head-and-count : (capacity : ℕ) (c : Channel) → goodChannel capacity c ≡ true → (leb (c .count) 32 ≡ true) × (goodHead capacity (c .head) ≡ true)
+unfolding goodChannel
+head-and-count capacity c h = both (leb (c .count) 32) (goodHead capacity (c .head)) (both (leb (c .count) 32 && goodHead capacity (c .head)) (goodVoicesOf c) h .0)
+
+pub few-voices : (s : Sampler) (j : ℕ) → goodSampler s ≡ true → j < s .count → channelAt s j .count ≤ 32
+few-voices s j good k = leb-true _ 32 (head-and-count (s .capacity) (channelAt s j) (good-at s j good k) .0)
+
+pub few-live : (s : Sampler) (j : ℕ) → goodSampler s ≡ true → j < s .count → length (live (channelAt s j)) ≤ 32
+few-live s j good k = omega (arith, few-voices s j good k, length-take (channelAt s j .count) (channelAt s j .voices))
