@@ -29,8 +29,9 @@ use Rattle.channel.proofs.Slots.{none}
 use Rattle.channel.proofs.Channel as C
 use Rattle.channel.proofs.Channel.Laws as C′
 use Rattle.lent_channel.proofs.Bytes.{voice-bytes}
-use Rattle.lent_channel.proofs.Rows.{Datum, struct, Typed}
-use Rattle.lent_channel.proofs.Steps.{Holds, Takes, sets}
+use Rattle.walks.proofs.Steps.Data.{Datum, struct, Typed}
+use Rattle.walks.proofs.Steps.Locals.{Holds, Takes, sets}
+use Rattle.walks.proofs.Steps.Homes.{Held, Taken}
 use Rattle.lent_channel.proofs.Places.{vv, spot, reads-voice}
 
 abbrev pub channel : Datum
@@ -70,3 +71,13 @@ module _ {M : Type 1} {𝓤 : URA M} {H : Heap 𝓤} {A : Atoms 𝓤} {K : Type 
       → (Typed R′.mir (vv (at h i)) → Takes K W E (Out 𝓤 H A q i b o h h (at h i) (at h i) Γ) d (vv (at h i)) (Out 𝓤 H A q i b o h h (at h i) (at h i) Γ′)) → (IsVoice (at h i) → Seq K W (‵ (partAt C.the-row q h b o) ∷ Γ′) (runs Cs Λ E rest Q))
       → Seq K W (‵ (partAt C.the-row q h b o) ∷ Γ) (runs Cs Λ E (seq (assign (place d []) (rvOpd (copy (place t (deref R′.mir ∷ []))))) rest) Q)
   copies-voice q h z lt t₁ d₂ = visits q h h (at h i) z (reads-voice 𝓤 H A W q h i none b o lt) (λ is. is) (λ is. sets z (of-opd z (load z (from z (hop z t₁ (stop z))) (look-raw z 0 refl))) (d₂ (voice .typed 𝓤 H A W (at h i) _ is)))
+
+  -- the same over `Homes`
+  pub points′ : K → {E : Env 𝓤 H} {Cs : Calls 𝓤 H} {Λ : Loops 𝓤 H} {Q : Post 𝓤 H} {x : Operand} {m r p t : ℕ} {rest : Body} {Γ Γ₁ Γ₂ Γ₃ : List (Item 𝓤)} → i * voice-bytes < 2 ^ 64 → Opd K W Γ E x (vint w64 i) → Taken K W E Γ m (vint w64 (i * voice-bytes)) Γ₁ → Held K W E Γ₁ r (vptr b o) → Taken K W E Γ₁ p (vptr b (o + 0)) Γ₂
+      → Held K W E Γ₂ p (vptr b (o + 0)) → Held K W E Γ₂ m (vint w64 (i * voice-bytes)) → Taken K W E Γ₂ t (vptr b (spot o i)) Γ₃ → Step K W Γ₃ (runs Cs Λ E rest Q) Γ (runs Cs Λ E (pointing x m r p t rest) Q)
+  points′ z fits index m₁ r₁ p₂ p₂′ m₂ t₃ = points z fits index (m₁ .writes) (r₁ .reads) (p₂ .writes) (p₂′ .reads) (m₂ .reads) (t₃ .writes)
+
+  pub copies-voice′ : (q : Share) (h : Channel) → K → {E : Env 𝓤 H} {Cs : Calls 𝓤 H} {Λ : Loops 𝓤 H} {Q : Post 𝓤 H} {t d : ℕ} {rest : Body} {Γ Γ′ : List (Item 𝓤)} → i < length (h .voices) → Held K W E (Out 𝓤 H A q i b o h h (at h i) (at h i) Γ) t (vptr b (spot o i))
+      → (Typed R′.mir (vv (at h i)) → Taken K W E (Out 𝓤 H A q i b o h h (at h i) (at h i) Γ) d (vv (at h i)) (Out 𝓤 H A q i b o h h (at h i) (at h i) Γ′)) → (IsVoice (at h i) → Seq K W (‵ (partAt C.the-row q h b o) ∷ Γ′) (runs Cs Λ E rest Q))
+      → Seq K W (‵ (partAt C.the-row q h b o) ∷ Γ) (runs Cs Λ E (seq (assign (place d []) (rvOpd (copy (place t (deref R′.mir ∷ []))))) rest) Q)
+  copies-voice′ q h z lt t₁ d₂ = copies-voice q h z lt (t₁ .reads) (λ ty. d₂ ty .writes)

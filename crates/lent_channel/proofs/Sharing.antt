@@ -50,9 +50,10 @@ use Rattle.channel.proofs.Head.Laws as E′
 use Rattle.channel.proofs.Channel as C
 use Rattle.channel.proofs.Channel.Laws as C′
 use Rattle.lent_channel.proofs.Bytes.{voice-bytes}
-use Rattle.lent_channel.proofs.Rows.{word}
+use Rattle.walks.proofs.Steps.Data.{word}
 use Rattle.lent_channel.proofs.Places.{cv, ev}
-use Rattle.lent_channel.proofs.Steps.{Callee}
+use Rattle.walks.proofs.Steps.Homes.{Held}
+use Rattle.walks.proofs.Steps.Locals.{Callee}
 
 abbrev pub places : Callee
 places = record { takes = word w64 ∷ []; gives = word w64; says = λ a. min (a .0) 32 }
@@ -115,6 +116,9 @@ module _ {M : Type 1} {𝓤 : URA M} {H : Heap 𝓤} {A : Atoms 𝓤} {K : Type 
   module _ {E : Env 𝓤 H} {c : ℕ} {q : Share} where
     pub reads-count : K → (x : RefT Channel) → Through K W Γ E c q x (field 1 ∷ []) (vint w64 (x .now .count))
     reads-count t x r = load t (from t (hop t r (fld t refl (stop t)))) (look-in t 0 (sub t 1 refl (whole t)))
+
+    pub reads-count′ : K → (x : RefT Channel) → Held K W E (‵ (Cell q x) ∷ Γ) c (vptr (x .ptr .0) (x .ptr .1)) → Opd K W (‵ (Cell q x) ∷ Γ) E (copy (place c (deref C′.mir ∷ field 1 ∷ []))) (vint w64 (x .now .count))
+    reads-count′ t x r = reads-count t x (r .reads)
 
     pub reads-head : K → (x : RefT Channel) → Through K W Γ E c q x (field 2 ∷ []) (ev (x .now .head))
     reads-head t x r = load t (from t (hop t r (fld t refl (stop t)))) (look-in t 0 (sub t 2 refl (whole t)))

@@ -1,4 +1,4 @@
--- The walk of a function that asks a shared record T of two channels what a call on it will answer, a Q, over rows of `Rows.antt`: each channel is lent in turn to g, for a lifetime that is made for the call; its clock and the record's numbers are read where they stand; and n works the answer out of these.
+-- The walk of a function that asks a shared record T of two channels what a call on it will answer, a Q, over the data of `walks`: each channel is lent in turn to g, for a lifetime that is made for the call; its clock and the record's numbers are read where they stand; and n works the answer out of these.
 --     g has    ensures λ r. r ≡ ok capacity c
 --     n has    ensures λ r. r ≡ given count capacity first second time other k p size
 --     f has    ensures λ r. r ≡ answer (now s) k p size, which is that by `same`
@@ -44,8 +44,8 @@ use denote.Triple.Walked.{says, Stays, stay-dropped, stay-none, walkOf, ends-at,
 use Rattle.walks.proofs.Steps.Inside.{Back, goes-in, comes-out, big}
 use Rattle.lent_channel.proofs.Bytes.{channel-bytes}
 use Rattle.lent_sampler.proofs.Bytes.{count-at, capacity-at}
-use Rattle.lent_channel.proofs.Rows.{Datum, row, lies}
-use Rattle.lent_channel.proofs.Rows.{copy as twice}
+use Rattle.walks.proofs.Steps.Data.{Datum, row, lies}
+use Rattle.walks.proofs.Steps.Data.{copy as twice}
 use Rattle.lent_sampler.proofs.Seats.{Seats, seat, clock}
 
 module _ (T C P Q : Datum) (S : Seats T C) (g n : Name) (good : ℕ → C .like .Denot → Bool) (given : ℕ → ℕ → Bool → Bool → ℕ → ℕ → ℕ → P .like .Denot → ℕ → Q .like .Denot) (answer : T .like .Denot → ℕ → P .like .Denot → ℕ → Q .like .Denot)

@@ -1,4 +1,4 @@
--- The sampler and what its calls answer, as rows of `Rows.antt`.
+-- The sampler and what its calls answer, as the data of `walks`.
 use mathlib.Core.Path.{_≡_, refl, ap}
 use Prim.Native.Nat.{ℕ}
 use mir.Syntax.{w8, w64, tyInt, tcons, tnil}
@@ -42,7 +42,7 @@ use Rattle.lent_channel.proofs.Heard.Laws as Up′
 use Rattle.channel.specs.declared.Change.{Change}
 use Rattle.sampler.specs.declared.Sampler.{Sampler}
 use Rattle.sampler.specs.Samplers.{changeOf}
-use Rattle.lent_channel.proofs.Rows.{Datum, struct, enum, word, Answering, Sounding}
+use Rattle.walks.proofs.Steps.Data.{Datum, struct, enum, word, Answering, Sounding}
 
 abbrev pub sampler : Datum
 sampler = struct T.the-type T′.the-laws T′.the-plain

@@ -60,10 +60,10 @@ use Rattle.channel.proofs.Channel.Laws as C′
 use Rattle.lent_changes.specs.declared.Pass.{Pass}
 use Rattle.lent_changes.specs.Changes.{passOf, hitsOf, remadeOf, passedOf, openedOf, endedOf}
 use Rattle.lent_channel.proofs.Bytes.{voice-bytes, count-at, head-at}
-use Rattle.lent_channel.proofs.Rows.{Datum, struct, enum, word, truth}
+use Rattle.walks.proofs.Steps.Data.{Datum, struct, enum, word, truth}
 use Rattle.lent_channel.proofs.Places.{cv, vv, ev, places-are, sets-voice}
-use Rattle.lent_channel.proofs.Tails.{after}
-use Rattle.lent_channel.proofs.Steps.{Says, asks, mine, sets, less, no-less, over, freed}
+use Rattle.walks.proofs.Steps.Tails.{after}
+use Rattle.walks.proofs.Steps.Locals.{Says, asks, mine, sets, less, no-less, over, freed}
 use Rattle.lent_channel.proofs.Holding.{voice, points, visits, copies-voice}
 use Rattle.lent_changes.proofs.Passes.{restOf, rest-hit, rest-miss, few-turns, fresh-room, whole-change}
 use Rattle.lent_changes.proofs.Pass as S

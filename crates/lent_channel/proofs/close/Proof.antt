@@ -69,8 +69,8 @@ use Rattle.channel.proofs.Head.closed.Met as closed-thm
 use Rattle.lent_channel.specs.declared.Heard.{Heard}
 use Rattle.lent_channel.specs.Turns.{mixedWith}
 use Rattle.lent_channel.proofs.Bytes.{head-at}
-use Rattle.lent_channel.proofs.Rows.{Datum, struct, word, float, truth}
-use Rattle.lent_channel.proofs.Steps.{Says, asks, mine, sets, over, freed}
+use Rattle.walks.proofs.Steps.Data.{Datum, struct, word, float, truth}
+use Rattle.walks.proofs.Steps.Locals.{Says, asks, mine, sets, over, freed}
 use Rattle.lent_channel.proofs.Places.{cv, ev, yv, with-head}
 use Rattle.lent_channel.proofs.Heard as Y
 use Rattle.lent_channel.proofs.Heard.Laws as Y′

@@ -43,9 +43,9 @@ use Rattle.channel.proofs.Head as E
 use Rattle.channel.proofs.Head.Laws as E′
 use Rattle.channel.proofs.Channel as C
 use Rattle.lent_channel.specs.Turns.{headGoodOf}
-use Rattle.lent_channel.proofs.Rows.{struct, word, truth}
+use Rattle.walks.proofs.Steps.Data.{struct, word, truth}
 use Rattle.lent_channel.proofs.Places.{cv}
-use Rattle.lent_channel.proofs.Steps.{Callee, Says, asks, mine, sets, freed}
+use Rattle.walks.proofs.Steps.Locals.{Callee, Says, asks, mine, sets, freed}
 use Rattle.lent_channel.proofs.Sharing.{head-is, count-fits, Whole, looked, reads-count, reads-head, question, answered}
 use Rattle.lent_channel.proofs.head_good.Symbol as head-good-def
 use Rattle.lent_channel.proofs.head_good.Symbol.{name as #head-good}

@@ -42,9 +42,9 @@ use Rattle.channel.proofs.places.Symbol as places-def
 use Rattle.channel.proofs.places.Symbol.{name as #places}
 use Rattle.channel.proofs.places.Met as places-thm
 use Rattle.lent_channel.proofs.Bytes.{voice-bytes}
-use Rattle.lent_channel.proofs.Rows.{word, truth}
+use Rattle.walks.proofs.Steps.Data.{word, truth}
 use Rattle.lent_channel.proofs.Places.{cv, places-are}
-use Rattle.lent_channel.proofs.Steps.{Callee, Says, asks, mine, sets, less, no-less, over, freed}
+use Rattle.walks.proofs.Steps.Locals.{Callee, Says, asks, mine, sets, less, no-less, over, freed}
 use Rattle.lent_channel.proofs.Holding.{voice, points, copies-voice}
 use Rattle.lent_channel.proofs.Sharing.{places as counting, count-fits, time-fits, small, next-fits, place-fits, inside, Whole, Open, looked, reads-count, reads-time, Entry, Post, exits, meets}
 use Rattle.lent_channel.proofs.still_good.Symbol as next-def

@@ -78,12 +78,13 @@ use Rattle.lent_channel.specs.declared.Heard.{Heard}
 use Rattle.lent_channel.specs.Turns.{sharedOf, voicesLeftOf, playedBy, restFrom, Glides, afterPlain, turnedOf, heardOf}
 use Rattle.lent_channel.proofs.Bytes.{voice-bytes, count-at}
 use Rattle.walks.proofs.Tests.{holds, denied}
-use Rattle.lent_channel.proofs.Tails.{after}
+use Rattle.walks.proofs.Steps.Tails.{after}
 use Rattle.lent_channel.proofs.Turns.{turns-few, restBy, rest-stays, rest-leaves, next-place, next-less, next-few, begins-there, ended-heard, ended-channel}
 use Rattle.lent_channel.proofs.Places.{cv, vv, yv, places-are, sets-voice}
-use Rattle.lent_channel.proofs.Rows.{Datum, struct, word}
-use Rattle.lent_channel.proofs.Steps.{Says, asks, mine, sets, less, no-less, over, freed}
-use Rattle.lent_channel.proofs.Holding.{voice, points, visits, copies-voice}
+use Rattle.walks.proofs.Steps.Data.{Datum, struct, word}
+use Rattle.walks.proofs.Steps.Locals.{Says, asks, mine, sets, less, no-less, over, freed}
+use Rattle.walks.proofs.Steps.Homes.{asks′, its, held, fills, refills, puts, puts-as, puts-last, arrives, part-of, beyond, gives, leaves-only, all-freed, Addresses, env, allocated, passed}
+use Rattle.lent_channel.proofs.Holding.{voice, points′, visits, copies-voice′}
 use Rattle.lent_channel.proofs.Start as S
 use Rattle.lent_channel.proofs.Start.Laws as S′
 use Rattle.lent_channel.proofs.Glided as G
@@ -247,9 +248,9 @@ module _ {M : Type 1} (𝓤 : URA M) (H : Heap 𝓤) (A : Atoms 𝓤) (W : Given
     abbrev Λ : Loops 𝓤 H
     Λ = 𝓣 .Λ
 
-    module _ (l₀ l₁ l₂ l₃ l₄ l₅ l₆ l₇ l₈ l₉ l₁₀ l₁₁ l₁₂ l₁₃ l₁₄ l₁₅ l₁₆ l₁₇ l₁₈ l₁₉ l₂₀ l₂₁ l₂₂ : ℕ) where
+    module _ (at : Addresses (code.function .locals)) where
       abbrev En : Env 𝓤 H
-      En = (sounded .ty, l₀) ∷ (ref, l₁) ∷ (tyInt w64, l₂) ∷ (tyInt w64, l₃) ∷ (params .ty, l₄) ∷ (slice, l₅) ∷ (start .ty, l₆) ∷ (tick .ty, l₇) ∷ (tyInt w64, l₈) ∷ (going .ty, l₉) ∷ (turned .ty, l₁₀) ∷ (tyInt w64, l₁₁) ∷ (glided .ty, l₁₂) ∷ (lent, l₁₃) ∷ (tyBool, l₁₄) ∷ (tyInt w64, l₁₅) ∷ (tyPtr, l₁₆) ∷ (tyPtr, l₁₇) ∷ (voice .ty, l₁₈) ∷ (tyInt w64, l₁₉) ∷ (tyPtr, l₂₀) ∷ (tyPtr, l₂₁) ∷ (tyInt w64, l₂₂) ∷ []
+      En = env (code.function .locals) at
 
       -- what the walk has throughout: the channel as c, its borrow opened, and the locals, of which those behind the parameters hold vs
       abbrev Has : Channel → List (Option Val) → List (Item 𝓤)
@@ -373,31 +374,31 @@ module _ {M : Type 1} (𝓤 : URA M) (H : Heap 𝓤) (A : Atoms 𝓤) (W : Given
           more : (X : SProp 𝓤) → ((s′ : State) → Still s′ r → ent 𝓤 (⋆ 𝓤 H A (At s′)) X) → ent 𝓤 (⋆ 𝓤 H A (At s)) (Wp 𝓤 H Cs Λ En code.Mir.turn-1 (afterTurn 𝓤 H X Left))
           unfolding afterTurn
           more X go =
-              qed W (At s) ∵ exec ! Cs Λ En code.Mir.turn-1 (anyQ (afterTurn 𝓤 H X Left)) $ sets ! (less ! (load ! (from ! (fld ! {τ = tyInt w64} {d = 0} refl (stop !))) (look-in ! 32 (sub ! {τs = in-going} 0 {τ = tyInt w64} {d = 0} refl (whole !)))) (mine ! 34 refl) small) (init ! 22 refl (tt, tt)) $ stays ! (mine ! 22 refl) $
+              qed W (At s) ∵ exec ! Cs Λ En code.Mir.turn-1 (anyQ (afterTurn 𝓤 H X Left)) $ puts ! (less ! (part-of ! {τ = tyInt w64} {d = 0} refl (sub ! {τs = in-going} 0 {τ = tyInt w64} {d = 0} refl (whole !))) (its ! refl) small) (fills ! refl (tt, tt)) $ stays ! (its ! refl) $
               -- voice i is copied
-              points i b o ! place-fits (load ! (from ! (fld ! {τ = tyInt w64} {d = 0} refl (stop !))) (look-in ! 32 (sub ! {τs = in-going} 0 {τ = tyInt w64} {d = 0} refl (whole !)))) (init ! 20 refl (tt, record { fits = place-fits })) (look ! 48 refl) (init ! 18 refl (tt, tt)) (look ! 18 refl) (look ! 20 refl) (init ! 16 refl (tt, tt)) $
-              copies-voice i b o fullShare (with-voices l) ! inside (look ! 18 refl) (init ! 16 refl) (λ isv.
+              points′ i b o ! place-fits (part-of ! {τ = tyInt w64} {d = 0} refl (sub ! {τs = in-going} 0 {τ = tyInt w64} {d = 0} refl (whole !))) (fills ! refl (tt, record { fits = place-fits })) (held ! refl) (fills ! refl (tt, tt)) (held ! refl) (held ! refl) (fills ! refl (tt, tt)) $
+              copies-voice′ i b o fullShare (with-voices l) ! inside (held ! refl) (fills ! refl) (λ isv.
               -- it takes its turn
               move ! (5 ∷ []) $ use1 W (‵ Sl ⊛ ‵ Sl) (shr-slice-copy 𝓤 H A W (named 0) κ₁ u32 .twice x₁ (sl ∷ [])) $ split ! $ move ! (6 ∷ 0 ∷ []) $
               use2 W (raw (Turned 𝓤 H A at-mem run .pre (to-turned (s .at) v))) (goes-turned (s .at) v may (g .is) isv) $
-              calls-at ! (fmOf 𝓤 H (W .laws) 𝓣) (Turned 𝓤 H A at-mem run) (known .turns) (to-turned (s .at) v) (and-then ! (mine ! 32 refl) (and-then ! (mine ! 14 refl) (and-then ! (mine ! 36 refl) (and-then ! (mine ! 40 refl) (no-more !))))) (λ a-x.
+              calls-at ! (fmOf 𝓤 H (W .laws) 𝓣) (Turned 𝓤 H A at-mem run) (known .turns) (to-turned (s .at) v) (and-then ! (its ! refl) (and-then ! (its ! refl) (and-then ! (its ! refl) (and-then ! (its ! refl) (no-more !))))) (λ a-x.
               use1 W (later (any (λ (x : Turn). (Tok ⊛ ‵ (Z.the-row .own x (a-x ∷ []))) ⊛ raw (ensured 𝓤 H A turn.ended (turn.clauses 𝓤 H A at-mem run) (κ₁, tt) (s .at, (v, (t, (x₁, tt)))) tt x)))) (id⊢ 𝓤 _) $ await ! tt $ pick ! (λ x.
               split ! $ move ! (1 ∷ []) $ use1 W (raw (fact 𝓤 (x ≡ turnedOf t ms (s .at) v))) (turned-of (s .at) v x) $ heard ! (x ≡ turnedOf t ms (s .at) v) (λ e. split ! $ move ! (1 ∷ []) $
               peeks ! Z.the-row (Is Z.the-row) (shows 𝓤 H A Z.the-row) x (a-x ∷ []) (λ is-x. drop ! $ move ! (2 ∷ 3 ∷ 4 ∷ 5 ∷ 0 ∷ []) $ let isx : Is Z.the-row x (turned .val x ∷ []) = subst (Is Z.the-row x) (turned .tells x _ is-x) is-x in
               let isw : Is R.the-row (x .voice) (vv (x .voice) ∷ []) = LL.owed Z.the-type Z′.the-laws x _ isx .0 in
               let isn : Is N.the-row (x .next) (going .val (x .next) ∷ []) = LL.owed Z.the-type Z′.the-laws x _ isx .1 .1 .0 in
-              land ! (from ! (stop !)) (init ! 30 refl (turned .typed 𝓤 H A W x _ is-x)) $ rewrite ! 30 (λ (z : Val). ‵ (fat fullShare (turned .ty) l₁₀ 0 z)) (ap only (turned .tells x _ is-x)) refl $
-              sets ! (of-opd ! (load ! (from ! (fld ! {τ = tyBool} {d = voice-bytes} refl (stop !))) (look-in ! 30 (sub ! {τs = in-turned} 1 {τ = tyBool} {d = voice-bytes} refl (whole !))))) (store ! 22 refl (tt, tt)) $
-              first ! $ branches ! (mine ! 22 refl)
+              arrives ! (ap only (turned .tells x _ is-x)) (fills ! refl (turned .typed 𝓤 H A W x _ isx)) $
+              puts ! (of-opd ! (part-of ! {τ = tyBool} {d = voice-bytes} refl (sub ! {τs = in-turned} 1 {τ = tyBool} {d = voice-bytes} refl (whole !)))) (refills ! refl (tt, tt)) $
+              first ! $ branches ! (its ! refl)
               -- it stays: voice k is overwritten
-              (λ y. points k b o ! put-fits (load ! (from ! (fld ! {τ = tyInt w64} {d = 8} refl (stop !))) (look-in ! 32 (sub ! {τs = in-going} 1 {τ = tyInt w64} {d = 8} refl (whole !)))) (init ! 12 refl (tt, record { fits = put-fits })) (look ! 48 refl) (init ! 10 refl (tt, tt)) (look ! 10 refl) (look ! 12 refl) (init ! 8 refl (tt, tt)) $
+              (λ y. points′ k b o ! put-fits (part-of ! {τ = tyInt w64} {d = 8} refl (sub ! {τs = in-going} 1 {τ = tyInt w64} {d = 8} refl (whole !))) (fills ! refl (tt, record { fits = put-fits })) (held ! refl) (fills ! refl (tt, tt)) (held ! refl) (held ! refl) (fills ! refl (tt, tt)) $
               visits k b o fullShare (with-voices l) (with-voices (set l k (x .voice))) (x .voice) ! (sets-voice 𝓤 H A W fullShare (with-voices l) k none b o inside-k (x .voice)) (λ _. isw)
-              (λ _. assigns-last ! (of-opd ! (load ! (from ! (fld ! {τ = voice .ty} {d = 0} refl (stop !))) (look-in ! 32 (sub ! {τs = in-turned} 0 {τ = voice .ty} {d = 0} refl (whole !))))) (from ! (hop ! (look ! 10 refl) (stop !))) (store-raw ! 0 refl (voice .typed 𝓤 H A W (x .voice) _ isw))) (λ _.
-              exec ! Cs Λ En (after 9 code.Mir.turn-1) (anyQ (afterTurn 𝓤 H X Left)) $ assigns-last ! (of-opd ! (load ! (from ! (fld ! {τ = going .ty} {d = voice-bytes + 8} refl (stop !))) (look-in ! 30 (sub ! {τs = in-turned} 2 {τ = going .ty} {d = voice-bytes + 8} refl (whole !))))) (from ! (stop !)) (store ! 32 refl (going .typed 𝓤 H A W (x .next) _ isn)) $
-              forget ! 8 refl $ forget ! 10 refl $ forget ! 12 refl $ forget ! 14 refl $ forget ! 16 refl $ forget ! 18 refl $ forget ! 20 refl $ forget ! 22 refl $ forget ! 30 refl $ by ! (go (kept x e isn) (stays-in x e isn y))))
+              (λ _. assigns-last ! (of-opd ! (part-of ! {τ = voice .ty} {d = 0} refl (sub ! {τs = in-turned} 0 {τ = voice .ty} {d = 0} refl (whole !)))) (beyond ! (held ! refl) (stop !)) (store-raw ! 0 refl (voice .typed 𝓤 H A W (x .voice) _ isw))) (λ _.
+              exec ! Cs Λ En (after 9 code.Mir.turn-1) (anyQ (afterTurn 𝓤 H X Left)) $ puts-last ! (of-opd ! (part-of ! {τ = going .ty} {d = voice-bytes + 8} refl (sub ! {τs = in-turned} 2 {τ = going .ty} {d = voice-bytes + 8} refl (whole !)))) (refills ! refl (going .typed 𝓤 H A W (x .next) _ isn)) $
+              leaves-only ! En 10 refl $ by ! (go (kept x e isn) (stays-in x e isn y))))
               -- it leaves
-              (λ y. skips ! $ exec ! Cs Λ En (after 9 code.Mir.turn-1) (anyQ (afterTurn 𝓤 H X Left)) $ assigns-last ! (of-opd ! (load ! (from ! (fld ! {τ = going .ty} {d = voice-bytes + 8} refl (stop !))) (look-in ! 30 (sub ! {τs = in-turned} 2 {τ = going .ty} {d = voice-bytes + 8} refl (whole !))))) (from ! (stop !)) (store ! 32 refl (going .typed 𝓤 H A W (x .next) _ isn)) $
-              forget ! 14 refl $ forget ! 16 refl $ forget ! 18 refl $ forget ! 20 refl $ forget ! 22 refl $ forget ! 30 refl $ by ! (go (left-out x e isn) (goes-out x e isn y))))))))
+              (λ y. skips ! $ exec ! Cs Λ En (after 9 code.Mir.turn-1) (anyQ (afterTurn 𝓤 H X Left)) $ puts-last ! (of-opd ! (part-of ! {τ = going .ty} {d = voice-bytes + 8} refl (sub ! {τs = in-turned} 2 {τ = going .ty} {d = voice-bytes + 8} refl (whole !)))) (refills ! refl (going .typed 𝓤 H A W (x .next) _ isn)) $
+              leaves-only ! En 10 refl $ by ! (go (left-out x e isn) (goes-out x e isn y))))))))
 
         module _ (s : State) (g : Still s 0) where
           at-end : s .at .place ≡ n
@@ -418,18 +419,18 @@ module _ {M : Type 1} (𝓤 : URA M) (H : Heap 𝓤) (A : Atoms 𝓤) (W : Given
           unfolding afterTurn
           ends X =
               qed W (At s) ∵ exec ! Cs Λ En code.Mir.turn-1 (anyQ (afterTurn 𝓤 H X Left)) $
-              sets ! (no-less ! (load ! (from ! (fld ! {τ = tyInt w64} {d = 0} refl (stop !))) (look-in ! 32 (sub ! {τs = in-going} 0 {τ = tyInt w64} {d = 0} refl (whole !)))) (mine ! 34 refl) at-end) (init ! 22 refl (tt, tt)) $ leaves-loop ! (mine ! 22 refl) $ exec ! Cs Λ En code.Mir.t-9 (atRet En Post) $
+              puts ! (no-less ! (part-of ! {τ = tyInt w64} {d = 0} refl (sub ! {τs = in-going} 0 {τ = tyInt w64} {d = 0} refl (whole !))) (its ! refl) at-end) (fills ! refl (tt, tt)) $ leaves-loop ! (its ! refl) $ exec ! Cs Λ En code.Mir.t-9 (atRet En Post) $
               -- the count is overwritten
               opened ! fullShare C.the-row (Is C.the-row) (shows 𝓤 H A C.the-row) (LL.vals C.the-type C′.the-laws) (LL.tells C.the-type C′.the-laws) (with-voices (s .voices)) b o (λ is. let fits : d .count < 2 ^ 64 = LL.owed C.the-type C′.the-laws (with-voices (s .voices)) _ is .1 .0 .1 in
               use1 W (‵ (fat fullShare C′.mir b o (cv (with-voices (s .voices))))) (W .laws .raw-at fullShare C′.mir b o (cv (with-voices (s .voices)))) $
-              sets ! (of-opd ! (load ! (from ! (hop ! (look ! 49 refl) (fld ! {τ = tyInt w64} {d = count-at} refl (stop !)))) (look-in ! 0 (sub ! 1 {τ = tyInt w64} {d = count-at} refl (whole !))))) (init ! 7 refl (tt, record { fits = fits })) $
-              asks ! (known .counts) (n, (s .at .kept, (d .count, tt))) ((refl, omega (arith, few)), ((refl, k-fits), ((refl, fits), tt)))
-              (and-then ! (mine ! 35 refl) (and-then ! (load ! (from ! (fld ! {τ = tyInt w64} {d = 8} refl (stop !))) (look-in ! 33 (sub ! {τs = in-going} 1 {τ = tyInt w64} {d = 8} refl (whole !)))) (and-then ! (mine ! 7 refl) (no-more !)))) (init ! 29 refl) (λ is-m.
-              assigns ! (of-opd ! (mine ! 29 refl)) (from ! (hop ! (look ! 49 refl) (fld ! {τ = tyInt w64} {d = count-at} refl (stop !)))) (store-in ! 0 (sub ! 1 {τ = tyInt w64} {d = count-at} refl (whole !)) (tt, record { fits = is-m .1 })) $
+              puts ! (of-opd ! (load ! (beyond ! (held ! refl) (fld ! {τ = tyInt w64} {d = count-at} refl (stop !))) (look-in ! 0 (sub ! 1 {τ = tyInt w64} {d = count-at} refl (whole !))))) (fills ! refl (tt, record { fits = fits })) $
+              asks′ ! (known .counts) (n, (s .at .kept, (d .count, tt))) ((refl, omega (arith, few)), ((refl, k-fits), ((refl, fits), tt)))
+              (and-then ! (its ! refl) (and-then ! (part-of ! {τ = tyInt w64} {d = 8} refl (sub ! {τs = in-going} 1 {τ = tyInt w64} {d = 8} refl (whole !))) (and-then ! (its ! refl) (no-more !)))) (fills ! refl) (λ is-m.
+              assigns ! (of-opd ! (its ! refl)) (beyond ! (held ! refl) (fld ! {τ = tyInt w64} {d = count-at} refl (stop !))) (store-in ! 0 (sub ! 1 {τ = tyInt w64} {d = count-at} refl (whole !)) (tt, record { fits = is-m .1 })) $
               move ! (1 ∷ []) $ drop ! $ owned ! C.the-row (Is C.the-row) (LL.makes C.the-type C′.the-plain 𝓤 H A) (last s) _ (counted-is (is-m .1) is) $ move ! (1 ∷ 0 ∷ []) $ use2 W (‵ (partAt C.the-row fullShare (last s) b o)) (part-in 𝓤 H A W C.the-row refl fullShare (last s) b o (cv (last s))) $
-              sets ! (agg ! (and-then ! (load ! (from ! (fld ! {τ = tyFloat binary32} {d = 16} refl (stop !))) (look-in ! 32 (sub ! {τs = in-going} 2 {τ = tyFloat binary32} {d = 16} refl (whole !)))) (and-then ! (load ! (from ! (fld ! {τ = tyInt w8} {d = 20} refl (stop !))) (look-in ! 32 (sub ! {τs = in-going} 3 {τ = tyInt w8} {d = 20} refl (whole !)))) (no-more !)))) (init ! 50 refl (sounded .typed 𝓤 H A W (given s) _ (is-given s (g .is)))) $
-              move ! (5 ∷ []) $ drop ! $ close-ref ! tt (mem C.the-row) (last s) {b = b} {o = o} $ returns ! (look ! 48 refl) $ forget ! 4 refl $
-              freed ! (Gone s) (some _ ∷ some _ ∷ some _ ∷ some _ ∷ some _ ∷ some _ ∷ some _ ∷ some _ ∷ some _ ∷ some _ ∷ empty ∷ some _ ∷ empty ∷ empty ∷ some _ ∷ []) $ by ! (exits s (is-given s (g .is)) done-so)))
+              puts ! (agg ! (and-then ! (part-of ! {τ = tyFloat binary32} {d = 16} refl (sub ! {τs = in-going} 2 {τ = tyFloat binary32} {d = 16} refl (whole !))) (and-then ! (part-of ! {τ = tyInt w8} {d = 20} refl (sub ! {τs = in-going} 3 {τ = tyInt w8} {d = 20} refl (whole !))) (no-more !)))) (fills ! refl (sounded .typed 𝓤 H A W (given s) _ (is-given s (g .is)))) $
+              move ! (5 ∷ []) $ drop ! $ close-ref ! tt (mem C.the-row) (last s) {b = b} {o = o} $ gives ! refl $
+              all-freed ! refl $ by ! (exits s (is-given s (g .is)) done-so)))
 
         -- the loop begins where the plain turns end
         abbrev first-state : State
@@ -451,21 +452,21 @@ module _ {M : Type 1} (𝓤 : URA M) (H : Heap 𝓤) (A : Atoms 𝓤) (W : Given
       lends-on iss all =
           qed W Shared ∵ exec ! Cs Λ En code.Mir.t-5 (atRet En Post) $
           -- the channel is lent on
-          sets ! (addr ! (from ! (hop ! (look ! 48 refl) (stop !)))) (init ! 24 refl (tt, tt)) $ lft-new ! tt (λ α. move ! (1 ∷ []) $
+          puts ! (addr ! (beyond ! (held ! refl) (stop !))) (fills ! refl (tt, tt)) $ lft-new ! tt (λ α. move ! (1 ∷ []) $
           use1 W (later (any (λ (δ : GName). ‵ (MutRef (named 0) (α ∷ []) C.the-row .own (at-channel δ) (vptr b o ∷ [])) ⊛ ‵ (flent (α ∷ []) (Body (mem C.the-row) b o δ))))) (lends-ref 𝓤 H A W C.the-row (named 0) (α ∷ []) h b o) $ await ! tt $
           pick ! (λ δ. split ! $ move ! (7 ∷ []) $ use1 W (‵ Sl ⊛ ‵ Sl) (shr-slice-copy 𝓤 H A W (named 0) κ₁ u32 .twice x₁ (sl ∷ [])) $ split ! $ move ! (4 ∷ 8 ∷ []) $ join ! $ move ! (0 ∷ 3 ∷ 1 ∷ []) $
           use3 W (raw (Glide 𝓤 H A at-mem run .pre (to-glide α δ))) (goes-glide α δ iss) $
-          calls-at ! (fmOf 𝓤 H (W .laws) 𝓣) (Glide 𝓤 H A at-mem run) (known .glides) (to-glide α δ) (and-then ! (mine ! 24 refl) (and-then ! (mine ! 38 refl) (and-then ! (mine ! 40 refl) (no-more !)))) (λ a-g.
+          calls-at ! (fmOf 𝓤 H (W .laws) 𝓣) (Glide 𝓤 H A at-mem run) (known .glides) (to-glide α δ) (and-then ! (its ! refl) (and-then ! (its ! refl) (and-then ! (its ! refl) (no-more !)))) (λ a-g.
           use1 W (later (any (λ (r : Glided). ((‵ (flft (α ∷ []) fullShare) ⊛ Tok) ⊛ ‵ (G.the-row .own r (a-g ∷ []))) ⊛ raw (ensured 𝓤 H A glide.ended (glide.clauses 𝓤 H A at-mem run) (α ∷ [], (κ₁, tt)) (at-channel δ, (s₀, (x₁, tt))) tt r)))) (id⊢ 𝓤 _) $ await ! tt $ pick ! (λ g₀.
           split ! $ move ! (1 ∷ []) $ use1 W (any (λ (zs : Channel × (Unit {0} × (Unit {0} × Unit {0}))). ‵ (lasts glide.ended (α ∷ [], (κ₁, tt)) (at-channel δ, (s₀, (x₁, tt))) zs) ⊛ raw (fact 𝓤 (Glides s₀ ms h (zs .0) g₀)))) (id⊢ 𝓤 _) $ pick ! (λ zs.
           split ! $ move ! (1 ∷ []) $ heard ! (Glides s₀ ms h (zs .0) g₀) (λ e₀. let d : Channel = zs .0 in fsplit ! $ move ! (1 ∷ []) $ drop ! $ use1 W (‵ (fres δ (C.the-row .coded .code d))) (id⊢ 𝓤 _) $ move ! (1 ∷ []) $ split ! $ move ! (1 ∷ []) $
           peeks ! G.the-row (Is G.the-row) (shows 𝓤 H A G.the-row) g₀ (a-g ∷ []) (λ is-g. drop ! $ let isg : Is G.the-row g₀ (glided .val g₀ ∷ []) = subst (Is G.the-row g₀) (glided .tells g₀ _ is-g) is-g in
-          land ! (from ! (stop !)) (init ! 27 refl (glided .typed 𝓤 H A W g₀ _ is-g)) $ rewrite ! 27 (λ (z : Val). ‵ (fat fullShare (glided .ty) l₁₂ 0 z)) (ap only (glided .tells g₀ _ is-g)) refl $ split ! $ lft-end ! tt $ move ! (0 ∷ 4 ∷ 2 ∷ []) $
+          arrives ! (ap only (glided .tells g₀ _ is-g)) (fills ! refl (glided .typed 𝓤 H A W g₀ _ isg)) $ split ! $ lft-end ! tt $ move ! (0 ∷ 4 ∷ 2 ∷ []) $
           use3 W (later (‵ (partAt C.the-row fullShare d b o))) (ref-back 𝓤 H A W C.the-row (α ∷ []) δ d b o) $ await ! tt $
           opened ! fullShare C.the-row (Is C.the-row) (shows 𝓤 H A C.the-row) (LL.vals C.the-type C′.the-laws) (LL.tells C.the-type C′.the-laws) d b o (λ is-d.
-          use1 W (‵ (fat fullShare C′.mir b o (cv d))) (W .laws .raw-at fullShare C′.mir b o (cv d)) $ use2 W (‵ (partAt C.the-row fullShare d b o)) (part-in 𝓤 H A W C.the-row refl fullShare d b o (cv d)) $ forget ! 24 refl $ move ! (0 ∷ 3 ∷ 4 ∷ 5 ∷ []) $
+          use1 W (‵ (fat fullShare C′.mir b o (cv d))) (W .laws .raw-at fullShare C′.mir b o (cv d)) $ use2 W (‵ (partAt C.the-row fullShare d b o)) (part-in 𝓤 H A W C.the-row refl fullShare d b o (cv d)) $ move ! (0 ∷ 3 ∷ 4 ∷ 5 ∷ []) $
           -- the loop begins where the plain turns end
-          asks ! (known .goes-on) (g₀, tt) (isg, tt) (and-then ! (mine ! 26 refl) (no-more !)) (init ! 32 refl) (λ isn. forget ! 26 refl $ by ! (loops (LL.owed S.the-type S′.the-laws s₀ _ iss .0) all d g₀ e₀ (places-are d is-d) isn))))))))))
+          asks′ ! (known .goes-on) (g₀, tt) (isg, tt) (and-then ! (its ! refl) (no-more !)) (fills ! refl) (λ isn. leaves-only ! En 10 refl $ by ! (loops (LL.owed S.the-type S′.the-laws s₀ _ iss .0) all d g₀ e₀ (places-are d is-d) isn))))))))))
 
       -- first: what the turns share
       shares : ent 𝓤 (⋆ 𝓤 H A (Has h [])) (Wp 𝓤 H Cs Λ En code.Mir.t-1 (atReturn 𝓤 H En Post))
@@ -473,23 +474,23 @@ module _ {M : Type 1} (𝓤 : URA M) (H : Heap 𝓤) (A : Atoms 𝓤) (W : Given
           qed W (Has h []) ∵ exec ! Cs Λ En code.Mir.t-1 (atRet En Post) $
           opened ! fullShare C.the-row (Is C.the-row) (shows 𝓤 H A C.the-row) (LL.vals C.the-type C′.the-laws) (LL.tells C.the-type C′.the-laws) h b o (λ g. let fits : h .count < 2 ^ 64 = LL.owed C.the-type C′.the-laws h _ g .1 .0 .1 in
           use1 W (‵ (fat fullShare C′.mir b o (cv h))) (W .laws .raw-at fullShare C′.mir b o (cv h)) $
-          sets ! (of-opd ! (load ! (from ! (hop ! (look ! 49 refl) (fld ! {τ = tyInt w64} {d = count-at} refl (stop !)))) (look-in ! 0 (sub ! 1 {τ = tyInt w64} {d = count-at} refl (whole !))))) (init ! 29 refl (tt, record { fits = fits })) $
+          puts ! (of-opd ! (load ! (beyond ! (held ! refl) (fld ! {τ = tyInt w64} {d = count-at} refl (stop !))) (look-in ! 0 (sub ! 1 {τ = tyInt w64} {d = count-at} refl (whole !))))) (fills ! refl (tt, record { fits = fits })) $
           use2 W (‵ (partAt C.the-row fullShare h b o)) (part-in 𝓤 H A W C.the-row refl fullShare h b o (cv h)) $
-          asks ! (known .begins) (time, (len, (h .count, (p, tt)))) ((refl, time-fits), ((refl, len-fits), ((refl, fits), (isp, tt)))) (and-then ! (mine ! 46 refl) (and-then ! (mine ! 44 refl) (and-then ! (mine ! 28 refl) (and-then ! (mine ! 42 refl) (no-more !))))) (init ! 38 refl) (λ iss.
-          sets ! (of-opd ! (load ! (from ! (fld ! {τ = tick .ty} {d = 0} refl (stop !))) (look-in ! 38 (sub ! {τs = in-start} 0 {τ = tick .ty} {d = 0} refl (whole !))))) (init ! 36 refl (tick .typed 𝓤 H A W t _ (LL.owed S.the-type S′.the-laws s₀ _ iss .0))) $
-          sets ! (of-opd ! (load ! (from ! (fld ! {τ = tyInt w64} {d = 40} refl (stop !))) (look-in ! 38 (sub ! {τs = in-start} 1 {τ = tyInt w64} {d = 40} refl (whole !))))) (init ! 34 refl (tt, record { fits = LL.owed S.the-type S′.the-laws s₀ _ iss .1 .0 .1 })) $
-          forget ! 28 refl $ by ! (lends-on iss (places-are h g))))
+          asks′ ! (known .begins) (time, (len, (h .count, (p, tt)))) ((refl, time-fits), ((refl, len-fits), ((refl, fits), (isp, tt)))) (and-then ! (its ! refl) (and-then ! (its ! refl) (and-then ! (its ! refl) (and-then ! (its ! refl) (no-more !))))) (fills ! refl) (λ iss.
+          puts ! (of-opd ! (part-of ! {τ = tick .ty} {d = 0} refl (sub ! {τs = in-start} 0 {τ = tick .ty} {d = 0} refl (whole !)))) (fills ! refl (tick .typed 𝓤 H A W t _ (LL.owed S.the-type S′.the-laws s₀ _ iss .0))) $
+          puts ! (of-opd ! (part-of ! {τ = tyInt w64} {d = 40} refl (sub ! {τs = in-start} 1 {τ = tyInt w64} {d = 40} refl (whole !)))) (fills ! refl (tt, record { fits = LL.owed S.the-type S′.the-laws s₀ _ iss .1 .0 .1 })) $
+          leaves-only ! En 9 refl $ by ! (lends-on iss (places-are h g))))
 
     walk : ent 𝓤 (onEntry 𝓤 H A play.signature (κ, (κ₁, tt)) (q, (q₁, tt)) a vals) (WpFn 𝓤 H Cs Λ code.function (vptr b o ∷ vint w64 time ∷ vint w64 len ∷ params .val p ∷ sl ∷ []) Post)
     walk =
         qed W ((‵ (flft κ q) ⊛ ‵ (flft κ₁ q₁) ⊛ ‵ ftrue) ∷ ‵ (owns (MutRef (named 0) κ C.the-row ∷ usize ∷ usize ∷ P.the-row ∷ ShrSlice (named 1) κ₁ u32 ∷ []) a vals) ∷ []) ∵ enter ! Cs Λ code.function (vptr b o ∷ vint w64 time ∷ vint w64 len ∷ params .val p ∷ sl ∷ []) _ $
-        alloc1 ! (λ l₀. alloc1 ! (λ l₁. alloc1 ! (λ l₂. alloc1 ! (λ l₃. alloc1 ! (λ l₄. alloc1 ! (λ l₅. alloc1 ! (λ l₆. alloc1 ! (λ l₇. alloc1 ! (λ l₈. alloc1 ! (λ l₉. alloc1 ! (λ l₁₀. alloc1 ! (λ l₁₁. alloc1 ! (λ l₁₂. alloc1 ! (λ l₁₃. alloc1 ! (λ l₁₄. alloc1 ! (λ l₁₅. alloc1 ! (λ l₁₆. alloc1 ! (λ l₁₇. alloc1 ! (λ l₁₈. alloc1 ! (λ l₁₉. alloc1 ! (λ l₂₀. alloc1 ! (λ l₂₁. alloc1 ! (λ l₂₂. alloc0 ! $ params1 ! $
-        pass1 ! (init ! 42 refl (tt, tt)) $ pass1 ! (init ! 40 refl (tt, record { fits = time-fits })) $ pass1 ! (init ! 38 refl (tt, record { fits = len-fits })) $
-        pass1 ! (init ! 36 refl (params .typed 𝓤 H A W p _ isp)) $ pass1 ! (init ! 34 refl (tt, (tt, (record { fits = room .0 }, tt)))) $ pass0 ! $ move ! (47 ∷ []) $ fsplit ! $ fsplit3 ! $ drop ! $ move ! (2 ∷ []) $ fsplit ! $ drop ! $ fsplit ! $ drop ! $ fsplit ! $ drop ! $ fsplit ! $ move ! (1 ∷ []) $ drop ! $
-        move ! (49 ∷ []) $ split ! $ move ! (3 ∷ 4 ∷ 0 ∷ []) $ opens ! tt C.the-row {h = h} b o (λ vs.
+        allocated ! (λ at. params1 ! $
+        passed ! 1 refl (tt, tt) $ passed ! 2 refl (tt, record { fits = time-fits }) $ passed ! 3 refl (tt, record { fits = len-fits }) $
+        passed ! 4 refl (params .typed 𝓤 H A W p _ isp) $ passed ! 5 refl (tt, (tt, (record { fits = room .0 }, tt))) $ pass0 ! $ move ! (1 ∷ []) $ fsplit ! $ fsplit3 ! $ drop ! $ move ! (2 ∷ []) $ fsplit ! $ drop ! $ fsplit ! $ drop ! $ fsplit ! $ drop ! $ fsplit ! $ move ! (1 ∷ []) $ drop ! $
+        move ! (3 ∷ []) $ split ! $ move ! (3 ∷ 4 ∷ 0 ∷ []) $ opens ! tt C.the-row {h = h} b o (λ vs.
         spelt ! C.the-row (Is C.the-row) (shows 𝓤 H A C.the-row) (LL.vals C.the-type C′.the-laws) (LL.tells C.the-type C′.the-laws) fullShare h vs b o $
         use1 W (‵ (fat fullShare C′.mir b o (cv h))) (W .laws .raw-at fullShare C′.mir b o (cv h)) $
-        use2 W (‵ (partAt C.the-row fullShare h b o)) (part-in 𝓤 H A W C.the-row refl fullShare h b o (cv h)) $ by ! (shares l₀ l₁ l₂ l₃ l₄ l₅ l₆ l₇ l₈ l₉ l₁₀ l₁₁ l₁₂ l₁₃ l₁₄ l₁₅ l₁₆ l₁₇ l₁₈ l₁₉ l₂₀ l₂₁ l₂₂)))))))))))))))))))))))))
+        use2 W (‵ (partAt C.the-row fullShare h b o)) (part-in 𝓤 H A W C.the-row refl fullShare h b o (cv h)) $ by ! (shares at)))
 
 module _ {M : Type 1} (𝓤 : URA M) (H : Heap 𝓤) (A : Atoms 𝓤) (W : Given 𝓤 H A) (mem : Memory → SProp 𝓤) (run : Routine → Fun 𝓤) (𝓣 : Tables 𝓤 H) (known : Known 𝓤 H A mem run 𝓣) where
   play-walks : Walks 𝓤 H A play.ended stayed (WpFn 𝓤 H (𝓣 .C) (𝓣 .Λ) code.function) (play.clauses 𝓤 H A mem run)

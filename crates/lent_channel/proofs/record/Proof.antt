@@ -71,8 +71,8 @@ use Rattle.channel.proofs.Head.recorded.Symbol as recorded-def
 use Rattle.channel.proofs.Head.recorded.Symbol.{name as #recorded}
 use Rattle.channel.proofs.Head.recorded.Met as recorded-thm
 use Rattle.lent_channel.proofs.Bytes.{at, head-at}
-use Rattle.lent_channel.proofs.Rows.{Datum, struct, truth}
-use Rattle.lent_channel.proofs.Steps.{Says, asks, mine, sets, over, freed}
+use Rattle.walks.proofs.Steps.Data.{Datum, struct, truth}
+use Rattle.walks.proofs.Steps.Locals.{Says, asks, mine, sets, over, freed}
 use Rattle.lent_channel.proofs.Places.{cv, ev, with-head}
 use Rattle.lent_channel.proofs.record.Key.{name as #f}
 use Rattle.lent_channel.proofs.record as f

@@ -11,7 +11,7 @@ use Rattle.lent_channel.proofs.good.Symbol.{name as #g}
 use Rattle.lent_channel.proofs.good.Met as g-thm
 use Rattle.lent_sampler.specs.ChangeNumbers.{rowsOf, changeNumberBy}
 use Rattle.lent_sampler.proofs.Numbering.{rows-are}
-use Rattle.lent_channel.proofs.Rows.{word}
+use Rattle.walks.proofs.Steps.Data.{word}
 use Rattle.lent_channel.proofs.Holding.{channel}
 use Rattle.lent_sampler.proofs.Lent.{sampler, change as changing}
 use Rattle.lent_sampler.proofs.Seats.{seats}

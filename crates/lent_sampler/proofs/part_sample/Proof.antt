@@ -56,14 +56,14 @@ use Rattle.lent_channel.specs.Turns.{heardOf}
 use Rattle.lent_channel.proofs.Heard as Y
 use Rattle.lent_channel.proofs.Heard.Laws as Y′
 use Rattle.lent_channel.proofs.Places.{yv}
-use Rattle.lent_channel.proofs.Rows.{Datum, struct}
-use Rattle.lent_channel.proofs.Steps.{Callee, Says, asks, mine, sets, freed}
+use Rattle.walks.proofs.Steps.Data.{Datum, struct}
+use Rattle.walks.proofs.Steps.Locals.{Callee, Says, asks, mine, sets, freed}
 use Rattle.lent_channel.proofs.with_sample as g
 use Rattle.lent_channel.proofs.with_sample.Symbol as g-def
 use Rattle.lent_channel.proofs.with_sample.Symbol.{name as #g}
 use Rattle.lent_channel.proofs.with_sample.Met as g-thm
 use Rattle.lent_sampler.specs.Hearing.{atVolume}
-use Rattle.lent_sampler.proofs.Middle.{start-is, lends-middle, comes-back}
+use Rattle.walks.proofs.Lending.Middle.{start-is, lends-middle, comes-back}
 use Rattle.lent_sampler.proofs.at_volume.Symbol as v-def
 use Rattle.lent_sampler.proofs.at_volume.Symbol.{name as #v}
 use Rattle.lent_sampler.proofs.at_volume.Met as v-thm

@@ -15,7 +15,7 @@ use Rattle.sampler.proofs.part_start.Symbol as start-def
 use Rattle.sampler.proofs.part_start.Symbol.{name as #start}
 use Rattle.sampler.proofs.part_start.Met as start-thm
 use Rattle.lent_channel.specs.Turns.{heardOf}
-use Rattle.lent_channel.proofs.Rows.{word}
+use Rattle.walks.proofs.Steps.Data.{word}
 use Rattle.lent_channel.proofs.Holding.{channel}
 use Rattle.lent_sampler.specs.Hearing.{atVolume}
 use Rattle.lent_sampler.specs.Numbers.{frameAsked}

@@ -1,4 +1,4 @@
--- One walk for every name `fn f(s: &mut T, x₀, .., xₙ) -> Q { j(s, k(x₀, .., xₙ)) }` of a call j on the record and one argument more, whatever values the name takes: k makes j's argument of them. Over rows of `Rows.antt`.
+-- One walk for every name `fn f(s: &mut T, x₀, .., xₙ) -> Q { j(s, k(x₀, .., xₙ)) }` of a call j on the record and one argument more, whatever values the name takes: k makes j's argument of them. Over the data of `Steps.Data`.
 --     k has    ensures λ r. r ≡ make x₀ .. xₙ
 --     j has    ensures λ r. Says (now (s .entry)) x r (now (s .exit))
 --     f has    ensures λ r. Says (now (s .entry)) (make x₀ .. xₙ) r (now (s .exit))
@@ -34,8 +34,8 @@ use denote.Triple.Call.{calls-at}
 use denote.Triple.Clauses.{Ended, Clauses, Lasts, ensured, lasts, closing}
 use denote.Triple.Walked.{says, Stays, gave-ref, fitsOf, hasOf, walkOf, goes-gave-ref, ends-at, walked, walk-meets}
 use denote.Exit.{yes}
-use Rattle.lent_channel.proofs.Rows.{Datum, row}
-use Rattle.lent_sampler.proofs.Arguments.{Arg, inner, outer, In, Out, Sound, Blocks, Again, handed, locals, again, past, past-again, lends, operands, env, env-again, no-local, behind, behind-again, stands, stands-again, spells-out, each, each-out, machine-out, tell-all, are-sound, same-owned, stays, last, lets-go, ends, allocates, allocates-again, passes-all, lends-all, reads-all, frees-all, frees-again, finds}
+use Rattle.walks.proofs.Steps.Data.{Datum, row}
+use Rattle.walks.proofs.Lending.Arguments.{Arg, inner, outer, In, Out, Sound, Blocks, Again, handed, locals, again, past, past-again, lends, operands, env, env-again, no-local, behind, behind-again, stands, stands-again, spells-out, each, each-out, machine-out, tell-all, are-sound, same-owned, stays, last, lets-go, ends, allocates, allocates-again, passes-all, lends-all, reads-all, frees-all, frees-again, finds}
 
 module _ (T Q X : Datum) (As : List (Arg 0)) (k j : Name) (make : In As tt → X .like .Denot) (Says : T .like .Denot → X .like .Denot → Q .like .Denot → T .like .Denot → Type 0) where
   abbrev Tr : RattleType

@@ -36,8 +36,8 @@ use denote.Triple.Spec.{tripleOf}
 use denote.Triple.Statement.{Contract, Triple}
 use denote.Triple.End.{all}
 use denote.Triple.Clauses.{Ended, Clauses, ensured, lasts, closing}
 use Rattle.walks.proofs.Tests.{holds, fails}
-use Rattle.lent_channel.proofs.Rows.{Datum, row, Typed}
+use Rattle.walks.proofs.Steps.Data.{Datum, row, Typed}
 
 -- ---- a local
 abbrev pub Holds : {M : Type 1} {𝓤 : URA M} {H : Heap 𝓤} {A : Atoms 𝓤} (K : Type 0) → Given 𝓤 H A → Env 𝓤 H → List (Item 𝓤) → ℕ → Val → Type 2
@@ -48,18 +48,18 @@ abbrev pub Takes : {M : Type 1} {𝓤 : URA M} {H : Heap 𝓤} {A : Atoms 𝓤} 
 Takes {𝓤 = 𝓤} {H} K W E Γ l v Γ′ = Writes K W Γ (spotOf 𝓤 H E l .0) (spotOf 𝓤 H E l .1) 0 v Γ′
 
 -- ---- a function of plain data
-abbrev slots : List Datum → List (Slot 0)
+abbrev pub slots : List Datum → List (Slot 0)
 slots [] = []
 slots (D ∷ Ds) = plain (λ _. row D) ∷ slots Ds
 
-abbrev Args : List Datum → Type 0
+abbrev pub Args : List Datum → Type 0
 Args Ds = Denots (typesAt (slots Ds) tt)
 
-abbrev vals : (Ds : List Datum) → Args Ds → Valss (typesAt (slots Ds) tt)
+abbrev pub vals : (Ds : List Datum) → Args Ds → Valss (typesAt (slots Ds) tt)
 vals [] a = tt
 vals (D ∷ Ds) a = (D .val (a .0) ∷ [], vals Ds (a .1))
 
-abbrev Fine : (Ds : List Datum) → Args Ds → Type 0
+abbrev pub Fine : (Ds : List Datum) → Args Ds → Type 0
 Fine [] a = Unit {0}
 Fine (D ∷ Ds) a = Is (D .like) (a .0) (D .val (a .0) ∷ []) × Fine Ds (a .1)
 
@@ -126,7 +126,7 @@ module _ {M : Type 1} {𝓤 : URA M} {H : Heap 𝓤} {A : Atoms 𝓤} {K : Type 
 
 -- ---- all locals
 -- one, and the right to free it
-abbrev cell : {M : Type 1} {𝓤 : URA M} → Ty × ℕ → Option Val → List (Item 𝓤)
+abbrev pub cell : {M : Type 1} {𝓤 : URA M} → Ty × ℕ → Option Val → List (Item 𝓤)
 cell e none = ‵ (froom (e .0) (e .1) 0) ∷ ‵ (fdies (e .0) (e .1)) ∷ []
 cell e (some v) = ‵ (fat fullShare (e .0) (e .1) 0 v) ∷ ‵ (fdies (e .0) (e .1)) ∷ []
 

@@ -1,5 +1,4 @@
 -- A `&κ mut [T]` whose elements from the a-th on, k of them, are lent for a lifetime κ′ of a call, and come back: `Borrow/Rule/Slice/PartMut.antt`'s `sl-relendᵐ` and `sl-relent-backᵐ`, with the machine values.
--- It says nothing of the crate.
 --     lends-middle     own (the `&κ mut [T]` ((b, o), γ, ys)) ∗ [κ]_q  ⊢ ⇛ ∃ γ₁. own (the `&κ′ mut [T]` at its start, γ₁, the part) ∗ what the holder keeps
 --     comes-back       given that zs are as many as the part:  [†κ′] ∗ what was kept ∗ finally γ₁ zs  ⊢ ⇛ (own (the `&κ mut [T]` ((b, o), γ, ys with zs in the part's place)) ∗ [κ]_q)
 --     start-is         where the part starts, as MIR's `offset` computes it

@@ -1,4 +1,4 @@
--- The walk of `fn f(mut s: T, x: X) -> S { let n = g(&mut s, x); S { sampler: s, number: n } }`, whatever row n has, over rows of `lent_channel`'s `Rows.antt`: a function that lends a record of its own for a call with one value beside it.
+-- The walk of `fn f(mut s: T, x: X) -> S { let n = g(&mut s, x); S { sampler: s, number: n } }`, whatever row n has, over the data of `Steps.Data`: a function that lends a record of its own for a call with one value beside it.
 --     g has    ensures λ r. Says (now (s .entry)) x (S of now (s .exit) and r)
 --     f has    ensures λ r. Says s x r
 --     keyed    f meets its contract, from g's
@@ -37,9 +37,9 @@ use denote.Triple.Call.{calls-at}
 use denote.Triple.Clauses.{Ended, Clauses, ensured, lasts, closing}
 use denote.Triple.Walked.{says, Stays, stay-none, walkOf, ends-at, walked, goes-none, walk-meets}
 use borrow.Table.OneValue.{part-in}
 use Rattle.walks.proofs.Steps.Inside.{opened}
-use Rattle.lent_channel.proofs.Rows.{Datum, row}
-use Rattle.own_sampler.proofs.Own.{Answered, answered, pair}
+use Rattle.walks.proofs.Steps.Data.{Datum, row}
+use Rattle.walks.proofs.Lending.Own.{Answered, answered, pair}
 
 module _ (T X Q : Datum) (S : Answered T Q) (k : Name) (Says : T .like .Denot → X .like .Denot → S .like .Denot → Type 0) where
   abbrev Tr : RattleType

@@ -1,4 +1,4 @@
--- One walk for every call `fn f(s: &mut T, x₀, .., xₙ) -> Q { let r = g(*s, x₀, .., xₙ); *s = r.sampler; r.answer }`, whatever its arguments, values and lent slices. Over rows of `Rows.antt`.
+-- One walk for every call `fn f(s: &mut T, x₀, .., xₙ) -> Q { let r = g(*s, x₀, .., xₙ); *s = r.sampler; r.answer }`, whatever its arguments, values and lent slices. Over the data of `Steps.Data`.
 --     g has    ensures λ r. what `Saying` says of s, x₀ .. xₙ and r, and of the slices at exit
 --     f has    ensures λ r. the same of now (s .entry), and of now (s .exit) and r together (`make`) where g has its r
 --     thin     f meets its contract, from g's
@@ -37,8 +37,8 @@ use denote.Triple.Call.{calls-at}
 use denote.Triple.Clauses.{Ended, Clauses, Lasts, ensured, lasts, closing}
 use denote.Triple.Walked.{says, Stays, stay-ref, fitsOf, hasOf, walkOf, goes-ref, ends-at, walked, walk-meets}
 use denote.Exit.{yes}
-use Rattle.lent_channel.proofs.Rows.{Datum, row, Answering, answer-ty, answer-row}
-use Rattle.lent_sampler.proofs.Arguments.{Arg, inner, outer, In, Out, Left, Saying, Sound, Blocks, Again, handed, left, locals, again, past, lends, operands, env, env-again, behind, stands, stands-again, spells-out, each, each-out, machine-out, tell-all, are-sound, same-owned, stays, last, left-last, lets-go, ends, allocates, allocates-again, passes-all, lends-all, reads-all, frees-all, frees-again, from-at, finds}
+use Rattle.walks.proofs.Steps.Data.{Datum, row, Answering, answer-ty, answer-row}
+use Rattle.walks.proofs.Lending.Arguments.{Arg, inner, outer, In, Out, Left, Saying, Sound, Blocks, Again, handed, left, locals, again, past, lends, operands, env, env-again, behind, stands, stands-again, spells-out, each, each-out, machine-out, tell-all, are-sound, same-owned, stays, last, left-last, lets-go, ends, allocates, allocates-again, passes-all, lends-all, reads-all, frees-all, frees-again, from-at, finds}
 
 module _ (T Q : Datum) (R : Answering T Q) (m : ℕ) (As : List (Arg m)) (k : Name) (S : Saying As (T .like .Denot) (R .like .Denot)) where
   abbrev Tr : RattleType

@@ -1,4 +1,4 @@
--- The walk of `fn f(mut s: T, frame: &mut [f32], params: P, memory: &mut [u32]) -> S { let n = g(&mut s, frame, params, memory); S { sampler: s, number: n } }`, whatever row n has, over rows of `lent`'s `Rows.antt`: a function that
+-- The walk of `fn f(mut s: T, frame: &mut [f32], params: P, memory: &mut [u32]) -> S { let n = g(&mut s, frame, params, memory); S { sampler: s, number: n } }`, whatever row n has, over the data of `Steps.Data`: a function that
 -- lends a record of its own for one call.
 --     Answered T Q     a struct of a T and a Q that a function makes
 --     g has            ensures λ r. Does (now (s .entry)) .. r (now (s .exit)) ..
@@ -42,8 +42,8 @@ use denote.Triple.Call.{calls-at}
 use denote.Triple.Clauses.{Ended, Clauses, ensured, lasts, closing}
 use denote.Triple.Walked.{says, Stays, stay-none, gave-slice, walkOf, ends-at, walked, goes-none, goes-gave-slice, walk-meets}
 use borrow.Table.OneValue.{part-in}
 use Rattle.walks.proofs.Steps.Inside.{opened}
-use Rattle.lent_channel.proofs.Rows.{Datum, Typed, row}
+use Rattle.walks.proofs.Steps.Data.{Datum, Typed, row}
 
 -- what a T and a Q are put together to
 abbrev pub pair : (T Q : Datum) → T .like .Denot → Q .like .Denot → Val

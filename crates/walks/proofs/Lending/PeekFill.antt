@@ -1,4 +1,4 @@
--- The walk of a function `fn f(s: &T, x: X, y: Y, l: &mut [E]) -> Q { let v = g(*s, x, y, l.len()); h(l, v) }`, over rows of `Rows.antt`: a question whose answer fills a lent list of records.
+-- The walk of a function `fn f(s: &T, x: X, y: Y, l: &mut [E]) -> Q { let v = g(*s, x, y, l.len()); h(l, v) }`, over the data of `Steps.Data`: a question whose answer fills a lent list of records.
 --     g has    ensures λ r. r ≡ gives s x y n
 --     h has    requires Fits (now l) v      ensures λ r. (r ≡ does v) × (now (l .exit) ≡ after v (now (l .entry)))
 --     f has    the same of `gives (now s) x y (length (now l))`, and asks nothing: that it fits is `fits`
@@ -36,8 +36,8 @@ use denote.Triple.Call.{calls-at}
 use denote.Triple.Clauses.{Ended, Clauses, ensured, lasts, closing}
 use denote.Triple.Walked.{says, Stays, stay-none, stay-dropped, gave-slice, walkOf, goes-none, goes-silent, goes-gave-slice, ends-at, walked, walk-meets}
 use denote.Exit.{yes}
-use Rattle.lent_channel.proofs.Rows.{Datum, row}
-use Rattle.lent_sampler.proofs.Copied.{copies-out}
+use Rattle.walks.proofs.Steps.Data.{Datum, row}
+use Rattle.walks.proofs.Lending.Copied.{copies-out}
 
 module _ (T X Y E I Q : Datum) (g h : Name) (gives : T .like .Denot → X .like .Denot → Y .like .Denot → ℕ → I .like .Denot) (Fits : List (E .like .Denot) → I .like .Denot → Type 0)
     (fits : (s : T .like .Denot) (x : X .like .Denot) (y : Y .like .Denot) (l : List (E .like .Denot)) → Fits l (gives s x y (length l)))

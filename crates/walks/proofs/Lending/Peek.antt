@@ -1,4 +1,4 @@
--- One walk for every question `fn f(s: &T, x₀, .., xₙ) -> Q { g(*s, x₀, .., xₙ) }`, whatever its arguments, values and lent slices. Over rows of `Rows.antt`.
+-- One walk for every question `fn f(s: &T, x₀, .., xₙ) -> Q { g(*s, x₀, .., xₙ) }`, whatever its arguments, values and lent slices. Over the data of `Steps.Data`.
 --     g has    ensures λ r. what `Saying` says of s, x₀ .. xₙ and r, and of the slices at exit
 --     f has    ensures λ r. the same of now (s .entry)
 --     peek     f meets its contract, from g's
@@ -33,9 +33,9 @@ use denote.Triple.Call.{calls-at}
 use denote.Triple.Clauses.{Ended, Clauses, Lasts, ensured, lasts, closing}
 use denote.Triple.Walked.{says, Stays, stay-dropped, fitsOf, hasOf, walkOf, goes-silent, ends-at, walked, walk-meets}
 use denote.Exit.{yes}
-use Rattle.lent_channel.proofs.Rows.{Datum, row}
-use Rattle.lent_sampler.proofs.Copied.{copies-out}
-use Rattle.lent_sampler.proofs.Arguments.{Arg, inner, outer, In, Out, Left, Saying, Sound, Blocks, Again, handed, left, locals, again, past, lends, operands, env, env-again, behind, stands, stands-again, spells-out, each, each-out, machine-out, tell-all, are-sound, same-owned, stays, last, left-last, lets-go, ends, allocates, allocates-again, passes-all, lends-all, reads-all, frees-all, frees-again, finds}
+use Rattle.walks.proofs.Steps.Data.{Datum, row}
+use Rattle.walks.proofs.Lending.Copied.{copies-out}
+use Rattle.walks.proofs.Lending.Arguments.{Arg, inner, outer, In, Out, Left, Saying, Sound, Blocks, Again, handed, left, locals, again, past, lends, operands, env, env-again, behind, stands, stands-again, spells-out, each, each-out, machine-out, tell-all, are-sound, same-owned, stays, last, left-last, lets-go, ends, allocates, allocates-again, passes-all, lends-all, reads-all, frees-all, frees-again, finds}
 
 module _ (T Q : Datum) (m : ℕ) (As : List (Arg m)) (k : Name) (S : Saying As (T .like .Denot) (Q .like .Denot)) where
   abbrev Tr : RattleType

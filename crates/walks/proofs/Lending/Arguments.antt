@@ -39,7 +39,7 @@ use denote.Steps.{nothing}
 use denote.Triple.End.{Fins, Outs, outs, lastsOf, all}
 use denote.Triple.Walked.{needs, Stays, stay-dropped, gave-slice, fitsOf, hasOf, AllGo, goes-dropped, goes-gave-slice}
 use denote.Exit.{yes}
-use Rattle.lent_channel.proofs.Rows.{Datum, row}
+use Rattle.walks.proofs.Steps.Data.{Datum, row}
 
 pub data Arg (m : ℕ) : Type 2 where
   value : Datum → Arg m
