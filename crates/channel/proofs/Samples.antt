@@ -47,7 +47,7 @@ unfolding memoryOf
 memory-kept x c m = memory-length (c .head .recorder) (bitsOf x) m
 
 -- ---- then played
-played-if-head : (p : Params) (at : Moment) (m : List ℕ) (c : Channel) → playedIfOf p at m c .channel .head ≡ c .head
+pub played-if-head : (p : Params) (at : Moment) (m : List ℕ) (c : Channel) → playedIfOf p at m c .channel .head ≡ c .head
 unfolding playedIfOf playedOf
 played-if-head p at m c = go (eqb (at .«data_len») 0)
   where

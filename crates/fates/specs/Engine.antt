@@ -87,7 +87,7 @@ unfoldable pub stepOf : Params → Float → Channel → List ℕ → Played
 stepOf p x c m =
     let d = takenOf m c in
     let r = cond {A = Played} (eqb (d .head .«data_len») 0) (record { channel = d; output = zero32; moved = 0 })
-    (turnsOf (tickOf p (d .head .now) (d .head .«data_len»)) (memoryOf x c m) d) in
+    (turnsOf (tickOf p (momentOf (d .head))) (memoryOf x c m) d) in
     record {
       channel = withHead (closedOf p (anyUnfinishedOf (r .channel)) (d .head)) (r .channel);
       output = add binary32 (add binary32 zero32 (r .output))

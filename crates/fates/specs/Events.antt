@@ -47,7 +47,7 @@ emptyAt m c = eqb (lengthAt m c) 0
 
 -- what its voices share
 abbrev pub tickAt : Params → List ℕ → Channel → Tick
-tickAt p m c = tickOf p (c .head .now) (lengthAt m c)
+tickAt p m c = tickOf p (record { now = c .head .now; «data_len» = lengthAt m c })
 
 -- the event is a sample with these parameters, and finds the recording not empty
 pub record Sampled (e : Event) (c : Channel) (p : Params) : Type 0 where

@@ -10,6 +10,7 @@ ghost use Rattle.channel.specs.Heads.{closedOf};
 ghost use Rattle.channel.specs.Channels.{
   anyUnfinishedOf,
   withHead,
+  playedIfOf,
   takenOf,
   memoryOf,
   processSampleOf,
@@ -22,7 +23,6 @@ ghost use Rattle.lent_channel.specs.Turns.{
   turnCountOf,
   sharedOf,
   voicesLeftOf,
-  playedBy,
   Glides,
   afterPlain,
   turnedOf,
@@ -273,8 +273,8 @@ fn turned(g: Going, v: Voice, t: Tick, data: &[u32]) -> Turn
 // Each voice takes its turn if the recording isn't empty; those that are then to be removed leave, and the others move
 // up in order. Plain turns go first, as far as they go. The clock and the recording's length are the head's.
 fn play(c: &mut Channel, at: Moment, params: Params, data: &[u32]) -> Heard
-    ensures { λ r. ⌜ (r ≡ heardOf (playedBy params time «data_len» (now («data» .entry)) (now (c .entry))))
-        × (now (c .exit) ≡ playedBy params time «data_len» (now («data» .entry)) (now (c .entry)) .channel) ⌝ }
+    ensures { λ r. ⌜ (r ≡ heardOf (playedIfOf params at (now («data» .entry)) (now (c .entry))))
+        × (now (c .exit) ≡ playedIfOf params at (now («data» .entry)) (now (c .entry)) .channel) ⌝ }
 {
     let b = begun(at, c.count, params);
     let t = b.tick;

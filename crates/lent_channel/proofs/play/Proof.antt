@@ -60,13 +60,16 @@ use Rattle.common_types.proofs.Params.Laws as P′
 use Rattle.binary32.specs.Leaves.{zero32}
 use Rattle.voice.specs.declared.Voice.{Voice}
 use Rattle.voice.specs.declared.Tick.{Tick}
+use Rattle.voice.specs.declared.Moment.{Moment}
+use Rattle.voice.proofs.Moment as O
+use Rattle.voice.proofs.Moment.Laws as O′
 use Rattle.voice.proofs.Tick as K
 use Rattle.voice.proofs.Tick.Laws as K′
 use Rattle.voice.proofs.Voice as R
 use Rattle.voice.proofs.Voice.Laws as R′
 use Rattle.channel.specs.declared.Channel.{Channel}
 use Rattle.channel.specs.declared.Played.{Played}
-use Rattle.channel.specs.Channels.{withVoices}
+use Rattle.channel.specs.Channels.{withVoices, playedIfOf}
 use Rattle.channel.proofs.Slots.{none}
 use Rattle.channel.proofs.Channel as C
 use Rattle.channel.proofs.Channel.Laws as C′
@@ -75,7 +78,7 @@ use Rattle.lent_channel.specs.declared.Glided.{Glided}
 use Rattle.lent_channel.specs.declared.Going.{Going}
 use Rattle.lent_channel.specs.declared.Turn.{Turn}
 use Rattle.lent_channel.specs.declared.Heard.{Heard}
-use Rattle.lent_channel.specs.Turns.{sharedOf, voicesLeftOf, playedBy, restFrom, Glides, afterPlain, turnedOf, heardOf}
+use Rattle.lent_channel.specs.Turns.{sharedOf, voicesLeftOf, restFrom, Glides, afterPlain, turnedOf, heardOf}
 use Rattle.lent_channel.proofs.Bytes.{voice-bytes, count-at}
 use Rattle.walks.proofs.Tests.{holds, denied}
 use Rattle.walks.proofs.Steps.Tails.{after}
@@ -130,6 +133,9 @@ slice = sliceTy (tyRef (named 1) imm (tyInt w32))
 abbrev params : Datum
 params = struct P.the-type P′.the-laws P′.the-plain
 
+abbrev moment : Datum
+moment = struct O.the-type O′.the-laws O′.the-plain
+
 abbrev start : Datum
 start = struct S.the-type S′.the-laws S′.the-plain
 
@@ -159,7 +165,7 @@ abbrev in-turned : Tys
 in-turned = tcons (voice .ty) (tcons tyBool (tcons (going .ty) tnil))
 
 abbrev stayed : Stays (play.ended .signature .params) (play.ended .kept)
-stayed = (stay-ref (0 ∷ []) tt (slot (λ _. C.the-row)), (stay-none (λ _. usize) yes, (stay-none (λ _. usize) yes, (stay-none (λ _. P.the-row) yes, (stay-dropped (SliceRefOf (1 ∷ []) tt (slot (λ _. u32)) (λ _. tt)) yes, tt)))))
+stayed = (stay-ref (0 ∷ []) tt (slot (λ _. C.the-row)), (stay-none (λ _. O.the-row) yes, (stay-none (λ _. P.the-row) yes, (stay-dropped (SliceRefOf (1 ∷ []) tt (slot (λ _. u32)) (λ _. tt)) yes, tt))))
 
 module _ {M : Type 1} (𝓤 : URA M) (H : Heap 𝓤) (A : Atoms 𝓤) (mem : Memory → SProp 𝓤) (run : Routine → Fun 𝓤) where
   abbrev Glide : Contract 𝓤
@@ -170,7 +176,7 @@ module _ {M : Type 1} (𝓤 : URA M) (H : Heap 𝓤) (A : Atoms 𝓤) (mem : Mem
 
   -- the calls
   record Known (𝓣 : Tables 𝓤 H) : Type 2 where
-    begins : Says 𝓤 H A 𝓣 #lent-channel·begun (record { takes = word w64 ∷ word w64 ∷ word w64 ∷ params ∷ []; gives = start; says = λ a. sharedOf (a .1 .1 .1 .0) (a .0) (a .1 .0) (a .1 .1 .0) })
+    begins : Says 𝓤 H A 𝓣 #lent-channel·begun (record { takes = moment ∷ word w64 ∷ params ∷ []; gives = start; says = λ a. sharedOf (a .1 .1 .0) (a .0) (a .1 .0) })
     glides : Triple 𝓤 (𝓣 .C #lent-channel·glide) Glide
     goes-on : Says 𝓤 H A 𝓣 #lent-channel·after-plain (record { takes = glided ∷ []; gives = going; says = λ a. afterPlain (a .0) })
     turns : Triple 𝓤 (𝓣 .C #lent-channel·turned) Turned
@@ -189,7 +195,7 @@ is-given : (s : State) → Is N.the-row (s .at) (going .val (s .at) ∷ []) → 
 is-given s is = LL.owes Y.the-type Y′.the-laws (given s) (LL.owed N.the-type N′.the-laws (s .at) _ is .1 .1 .0, (LL.owed N.the-type N′.the-laws (s .at) _ is .1 .1 .1 .0, tt))
 
 module _ {M : Type 1} (𝓤 : URA M) (H : Heap 𝓤) (A : Atoms 𝓤) (W : Given 𝓤 H A) (at-mem : Memory → SProp 𝓤) (run : Routine → Fun 𝓤) (κ κ₁ : Lft) (q q₁ : Share)
-    (b o : ℕ) (γ : GName) (h : Channel) (time len : ℕ) (p : Params) (b₁ o₁ : ℕ) (γ₁ : GName) (ms : List ℕ) (time-fits : time < 2 ^ 64) (len-fits : len < 2 ^ 64) (room : Room u32 (length ms)) (isp : Is P.the-row p (params .val p ∷ [])) where
+    (b o : ℕ) (γ : GName) (h : Channel) (here : Moment) (p : Params) (b₁ o₁ : ℕ) (γ₁ : GName) (ms : List ℕ) (ish : Is O.the-row here (moment .val here ∷ [])) (room : Room u32 (length ms)) (isp : Is P.the-row p (params .val p ∷ [])) where
   abbrev at-channel : GName → RefT Channel
   at-channel δ = record { ptr = (b, o); name = δ; now = h }
 
@@ -209,20 +215,20 @@ module _ {M : Type 1} (𝓤 : URA M) (H : Heap 𝓤) (A : Atoms 𝓤) (W : Given
   Tok = ‵ (flft κ₁ q₁) ⊛ ‵ ftrue
 
   abbrev Arg : Type 0
-  Arg = RefT Channel × (ℕ × (ℕ × (Params × (RefT (List ℕ) × Unit {0}))))
+  Arg = RefT Channel × (Moment × (Params × (RefT (List ℕ) × Unit {0})))
 
   abbrev a : Arg
-  a = (x, (time, (len, (p, (x₁, tt)))))
+  a = (x, (here, (p, (x₁, tt))))
 
-  abbrev vals : List Val × (List Val × (List Val × (List Val × (List Val × Unit {0}))))
-  vals = (vptr b o ∷ [], (vint w64 time ∷ [], (vint w64 len ∷ [], (params .val p ∷ [], (sl ∷ [], tt)))))
+  abbrev vals : List Val × (List Val × (List Val × (List Val × Unit {0})))
+  vals = (vptr b o ∷ [], (moment .val here ∷ [], (params .val p ∷ [], (sl ∷ [], tt))))
 
   abbrev Post : Val → SProp 𝓤
   Post = walkOf 𝓤 H A play.ended stayed (play.clauses 𝓤 H A at-mem run) .post (((κ, (κ₁, tt)), (q, (q₁, tt)), tt, a, vals), tt)
 
   -- what the turns share; how many there are; the channel with other voices
   abbrev s₀ : Start
-  s₀ = sharedOf p time len (h .count)
+  s₀ = sharedOf p here (h .count)
 
   abbrev t : Tick
   t = s₀ .tick
@@ -255,10 +261,10 @@ module _ {M : Type 1} (𝓤 : URA M) (H : Heap 𝓤) (A : Atoms 𝓤) (W : Given
       -- what the walk has throughout: the channel as c, its borrow opened, and the locals, of which those behind the parameters hold vs
       abbrev Has : Channel → List (Option Val) → List (Item 𝓤)
       Has c vs = over (‵ (partAt C.the-row fullShare c b o) ∷ ‵ (fobor κ q (Body (mem C.the-row) b o γ)) ∷ ‵ (fobs γ (C.the-row .coded .code h)) ∷ ‵ (fauth γ (C.the-row .coded .code h)) ∷ Tok ∷ ‵ Sl ∷ [])
-          En (empty ∷ some (vptr b o) ∷ some (vint w64 time) ∷ some (vint w64 len) ∷ some (params .val p) ∷ some sl ∷ vs)
+          En (empty ∷ some (vptr b o) ∷ some (moment .val here) ∷ some (params .val p) ∷ some sl ∷ vs)
 
       few : n ≤ 32
-      few = turns-few p time len (h .count)
+      few = turns-few p here (h .count)
 
       -- d is the channel that the plain turns left
       module _ (ist : Is K.the-row t (tick .val t ∷ [])) (all : length (h .voices) ≡ 32) (d : Channel) (g₀ : Glided) (e₀ : Glides s₀ ms h d g₀) (long : length (d .voices) ≡ 32) where
@@ -280,7 +286,7 @@ module _ {M : Type 1} (𝓤 : URA M) (H : Heap 𝓤) (A : Atoms 𝓤) (W : Given
         last s = withVoices (s .voices) (voicesLeftOf n (s .at .kept) (d .count)) d
 
         abbrev Done : State → Type 0
-        Done s = (given s ≡ heardOf (playedBy p time len ms h)) × (last s ≡ playedBy p time len ms h .channel)
+        Done s = (given s ≡ heardOf (playedIfOf p here ms h)) × (last s ≡ playedIfOf p here ms h .channel)
 
         -- the borrow at the end
         abbrev Gone : State → List (Item 𝓤)
@@ -288,10 +294,19 @@ module _ {M : Type 1} (𝓤 : URA M) (H : Heap 𝓤) (A : Atoms 𝓤) (W : Given
 
         exits : (s : State) → Is Y.the-row (given s) (yv (given s) ∷ []) → Done s → ent 𝓤 (⋆ 𝓤 H A (Gone s)) (Post (yv (given s)))
         exits s is said =
-            qed W (Gone s) ∵ suffices ! _ (ends-at 𝓤 H A play.ended stayed (play.clauses 𝓤 H A at-mem run) W (((κ, (κ₁, tt)), (q, (q₁, tt)), tt, a, vals), tt) (yv (given s)) (given s) (last s, (tt, (tt, (tt, (tt, tt))))) (tt, (tt, (tt, (tt, (tt, tt)))))) $ says ! said $
+            qed W (Gone s) ∵ suffices ! _ (ends-at 𝓤 H A play.ended stayed (play.clauses 𝓤 H A at-mem run) W (((κ, (κ₁, tt)), (q, (q₁, tt)), tt, a, vals), tt) (yv (given s)) (given s) (last s, (tt, (tt, (tt, tt)))) (tt, (tt, (tt, (tt, tt))))) $ says ! said $
             move ! (2 ∷ 3 ∷ []) $ join ! $ frame ! $ feqI ! (List Val) (vptr b o ∷ []) (vptr b o ∷ []) refl $ fjoin3 ! $
-            nothing ! $ nothing ! $ fjoin ! $ owned ! P.the-row (Is P.the-row) (LL.makes P.the-type P′.the-plain 𝓤 H A) p _ isp $ fjoin ! $ owned ! usize (Is usize) (uint-makes 𝓤 H A W w64) len _ (refl, len-fits) $ fjoin ! $ owned ! usize (Is usize) (uint-makes 𝓤 H A W w64) time _ (refl, time-fits) $ fjoin ! $ move ! (1 ∷ 0 ∷ []) $ fjoin ! $ frame ! $
+            nothing ! $ nothing ! $ fjoin ! $ owned ! P.the-row (Is P.the-row) (LL.makes P.the-type P′.the-plain 𝓤 H A) p _ isp $ fjoin ! $ owned ! O.the-row (Is O.the-row) (LL.makes O.the-type O′.the-plain 𝓤 H A) here _ ish $ fjoin ! $ move ! (1 ∷ 0 ∷ []) $ fjoin ! $ frame ! $
             owned ! Y.the-row (Is Y.the-row) (LL.makes Y.the-type Y′.the-plain 𝓤 H A) (given s) _ is $ done !
+
+        -- behind the loop, once the count is stored
+        hands-up : (s : State) → Is N.the-row (s .at) (going .val (s .at) ∷ []) → Done s
+            → ent 𝓤 (⋆ 𝓤 H A (Has (last s) (some (start .val s₀) ∷ some (tick .val t) ∷ some (vint w64 n) ∷ some (going .val (s .at)) ∷ []))) (Wp 𝓤 H Cs Λ En code.Mir.t-12 (atReturn 𝓤 H En Post))
+        hands-up s is said =
+            qed W (Has (last s) (some (start .val s₀) ∷ some (tick .val t) ∷ some (vint w64 n) ∷ some (going .val (s .at)) ∷ [])) ∵ exec ! Cs Λ En code.Mir.t-12 (atRet En Post) $
+            puts ! (agg ! (and-then ! (part-of ! {τ = tyFloat binary32} {d = 16} refl (sub ! {τs = in-going} 2 {τ = tyFloat binary32} {d = 16} refl (whole !))) (and-then ! (part-of ! {τ = tyInt w8} {d = 20} refl (sub ! {τs = in-going} 3 {τ = tyInt w8} {d = 20} refl (whole !))) (no-more !)))) (fills ! refl (sounded .typed 𝓤 H A W (given s) _ (is-given s is))) $
+            move ! (5 ∷ []) $ drop ! $ close-ref ! tt (mem C.the-row) (last s) {b = b} {o = o} $ gives ! refl $
+            all-freed ! refl $ by ! (exits s (is-given s is) said)
 
         abbrev to-turned : Going → Voice → Turned 𝓤 H A at-mem run .Ghost
         to-turned g v = (((κ₁, tt), (q₁, tt), tt, (g, (v, (t, (x₁, tt)))), (going .val g ∷ [], (vv v ∷ [], (tick .val t ∷ [], (sl ∷ [], tt))))), tt)
@@ -395,10 +410,10 @@ module _ {M : Type 1} (𝓤 : URA M) (H : Heap 𝓤) (A : Atoms 𝓤) (W : Given
               visits k b o fullShare (with-voices l) (with-voices (set l k (x .voice))) (x .voice) ! (sets-voice 𝓤 H A W fullShare (with-voices l) k none b o inside-k (x .voice)) (λ _. isw)
               (λ _. assigns-last ! (of-opd ! (part-of ! {τ = voice .ty} {d = 0} refl (sub ! {τs = in-turned} 0 {τ = voice .ty} {d = 0} refl (whole !)))) (beyond ! (held ! refl) (stop !)) (store-raw ! 0 refl (voice .typed 𝓤 H A W (x .voice) _ isw))) (λ _.
               exec ! Cs Λ En (after 9 code.Mir.turn-1) (anyQ (afterTurn 𝓤 H X Left)) $ puts-last ! (of-opd ! (part-of ! {τ = going .ty} {d = voice-bytes + 8} refl (sub ! {τs = in-turned} 2 {τ = going .ty} {d = voice-bytes + 8} refl (whole !)))) (refills ! refl (going .typed 𝓤 H A W (x .next) _ isn)) $
-              leaves-only ! En 10 refl $ by ! (go (kept x e isn) (stays-in x e isn y))))
+              leaves-only ! En 9 refl $ by ! (go (kept x e isn) (stays-in x e isn y))))
               -- it leaves
               (λ y. skips ! $ exec ! Cs Λ En (after 9 code.Mir.turn-1) (anyQ (afterTurn 𝓤 H X Left)) $ puts-last ! (of-opd ! (part-of ! {τ = going .ty} {d = voice-bytes + 8} refl (sub ! {τs = in-turned} 2 {τ = going .ty} {d = voice-bytes + 8} refl (whole !)))) (refills ! refl (going .typed 𝓤 H A W (x .next) _ isn)) $
-              leaves-only ! En 10 refl $ by ! (go (left-out x e isn) (goes-out x e isn y))))))))
+              leaves-only ! En 9 refl $ by ! (go (left-out x e isn) (goes-out x e isn y))))))))
 
         module _ (s : State) (g : Still s 0) where
           at-end : s .at .place ≡ n
@@ -407,7 +422,7 @@ module _ {M : Type 1} (𝓤 : URA M) (H : Heap 𝓤) (A : Atoms 𝓤) (W : Given
           done-so : Done s
           done-so =
               let e = ends-there (g .walk) (omega (arith, g .left)) in
-              (ended-heard p time len ms h all (s .voices) (s .at) d (e₀ .count) e, ended-channel p time len ms h all (s .voices) (s .at) d (e₀ .count) e)
+              (ended-heard p here ms h all (s .voices) (s .at) d (e₀ .count) e, ended-channel p here ms h all (s .voices) (s .at) d (e₀ .count) e)
 
           k-fits : s .at .kept < 2 ^ 64
           k-fits = omega (arith, g .less, at-end, few)
@@ -428,9 +443,7 @@ module _ {M : Type 1} (𝓤 : URA M) (H : Heap 𝓤) (A : Atoms 𝓤) (W : Given
               (and-then ! (its ! refl) (and-then ! (part-of ! {τ = tyInt w64} {d = 8} refl (sub ! {τs = in-going} 1 {τ = tyInt w64} {d = 8} refl (whole !))) (and-then ! (its ! refl) (no-more !)))) (fills ! refl) (λ is-m.
               assigns ! (of-opd ! (its ! refl)) (beyond ! (held ! refl) (fld ! {τ = tyInt w64} {d = count-at} refl (stop !))) (store-in ! 0 (sub ! 1 {τ = tyInt w64} {d = count-at} refl (whole !)) (tt, record { fits = is-m .1 })) $
               move ! (1 ∷ []) $ drop ! $ owned ! C.the-row (Is C.the-row) (LL.makes C.the-type C′.the-plain 𝓤 H A) (last s) _ (counted-is (is-m .1) is) $ move ! (1 ∷ 0 ∷ []) $ use2 W (‵ (partAt C.the-row fullShare (last s) b o)) (part-in 𝓤 H A W C.the-row refl fullShare (last s) b o (cv (last s))) $
-              puts ! (agg ! (and-then ! (part-of ! {τ = tyFloat binary32} {d = 16} refl (sub ! {τs = in-going} 2 {τ = tyFloat binary32} {d = 16} refl (whole !))) (and-then ! (part-of ! {τ = tyInt w8} {d = 20} refl (sub ! {τs = in-going} 3 {τ = tyInt w8} {d = 20} refl (whole !))) (no-more !)))) (fills ! refl (sounded .typed 𝓤 H A W (given s) _ (is-given s (g .is)))) $
-              move ! (5 ∷ []) $ drop ! $ close-ref ! tt (mem C.the-row) (last s) {b = b} {o = o} $ gives ! refl $
-              all-freed ! refl $ by ! (exits s (is-given s (g .is)) done-so)))
+              leaves-only ! En 9 refl $ by ! (hands-up s (g .is) done-so)))
 
         -- the loop begins where the plain turns end
         abbrev first-state : State
@@ -439,7 +452,7 @@ module _ {M : Type 1} (𝓤 : URA M) (H : Heap 𝓤) (A : Atoms 𝓤) (W : Given
         begins : Is N.the-row (afterPlain g₀) (going .val (afterPlain g₀) ∷ []) → Still first-state (n - g₀ .upto)
         unfolding afterPlain
         begins is =
-            let from-there = begins-there p time len ms h all d g₀ e₀ long in
+            let from-there = begins-there p here ms h all d g₀ e₀ long in
             record { left = omega (arith, from-there .upto); walk = from-there; less = le-refl (g₀ .upto); few = zero-le; is = is }
 
         loops : Is N.the-row (afterPlain g₀) (going .val (afterPlain g₀) ∷ []) → ent 𝓤 (⋆ 𝓤 H A (At first-state)) (Wp 𝓤 H Cs Λ En (loop code.Mir.turn-1) Left)
@@ -466,27 +479,35 @@ module _ {M : Type 1} (𝓤 : URA M) (H : Heap 𝓤) (A : Atoms 𝓤) (W : Given
           opened ! fullShare C.the-row (Is C.the-row) (shows 𝓤 H A C.the-row) (LL.vals C.the-type C′.the-laws) (LL.tells C.the-type C′.the-laws) d b o (λ is-d.
           use1 W (‵ (fat fullShare C′.mir b o (cv d))) (W .laws .raw-at fullShare C′.mir b o (cv d)) $ use2 W (‵ (partAt C.the-row fullShare d b o)) (part-in 𝓤 H A W C.the-row refl fullShare d b o (cv d)) $ move ! (0 ∷ 3 ∷ 4 ∷ 5 ∷ []) $
           -- the loop begins where the plain turns end
-          asks′ ! (known .goes-on) (g₀, tt) (isg, tt) (and-then ! (its ! refl) (no-more !)) (fills ! refl) (λ isn. leaves-only ! En 10 refl $ by ! (loops (LL.owed S.the-type S′.the-laws s₀ _ iss .0) all d g₀ e₀ (places-are d is-d) isn))))))))))
+          asks′ ! (known .goes-on) (g₀, tt) (isg, tt) (and-then ! (its ! refl) (no-more !)) (fills ! refl) (λ isn. leaves-only ! En 9 refl $ by ! (loops (LL.owed S.the-type S′.the-laws s₀ _ iss .0) all d g₀ e₀ (places-are d is-d) isn))))))))))
 
-      -- first: what the turns share
+      -- what the turns share, once the count is read
+      abbrev Counted : List (Item 𝓤)
+      Counted = Has h (empty ∷ empty ∷ empty ∷ empty ∷ empty ∷ some (vint w64 (h .count)) ∷ [])
+
+      begins-by : length (h .voices) ≡ 32 → h .count < 2 ^ 64 → ent 𝓤 (⋆ 𝓤 H A Counted) (Wp 𝓤 H Cs Λ En code.Mir.t-2 (atReturn 𝓤 H En Post))
+      begins-by all fits =
+          qed W Counted ∵ exec ! Cs Λ En code.Mir.t-2 (atRet En Post) $
+          asks′ ! (known .begins) (here, (h .count, (p, tt))) (ish, ((refl, fits), (isp, tt))) (and-then ! (its ! refl) (and-then ! (its ! refl) (and-then ! (its ! refl) (no-more !)))) (fills ! refl) (λ iss.
+          puts ! (of-opd ! (part-of ! {τ = tick .ty} {d = 0} refl (sub ! {τs = in-start} 0 {τ = tick .ty} {d = 0} refl (whole !)))) (fills ! refl (tick .typed 𝓤 H A W t _ (LL.owed S.the-type S′.the-laws s₀ _ iss .0))) $
+          puts ! (of-opd ! (part-of ! {τ = tyInt w64} {d = 40} refl (sub ! {τs = in-start} 1 {τ = tyInt w64} {d = 40} refl (whole !)))) (fills ! refl (tt, record { fits = LL.owed S.the-type S′.the-laws s₀ _ iss .1 .0 .1 })) $
+          leaves-only ! En 8 refl $ by ! (lends-on iss all))
+
+      -- first: the count is read
       shares : ent 𝓤 (⋆ 𝓤 H A (Has h [])) (Wp 𝓤 H Cs Λ En code.Mir.t-1 (atReturn 𝓤 H En Post))
       shares =
           qed W (Has h []) ∵ exec ! Cs Λ En code.Mir.t-1 (atRet En Post) $
           opened ! fullShare C.the-row (Is C.the-row) (shows 𝓤 H A C.the-row) (LL.vals C.the-type C′.the-laws) (LL.tells C.the-type C′.the-laws) h b o (λ g. let fits : h .count < 2 ^ 64 = LL.owed C.the-type C′.the-laws h _ g .1 .0 .1 in
           use1 W (‵ (fat fullShare C′.mir b o (cv h))) (W .laws .raw-at fullShare C′.mir b o (cv h)) $
           puts ! (of-opd ! (load ! (beyond ! (held ! refl) (fld ! {τ = tyInt w64} {d = count-at} refl (stop !))) (look-in ! 0 (sub ! 1 {τ = tyInt w64} {d = count-at} refl (whole !))))) (fills ! refl (tt, record { fits = fits })) $
-          use2 W (‵ (partAt C.the-row fullShare h b o)) (part-in 𝓤 H A W C.the-row refl fullShare h b o (cv h)) $
-          asks′ ! (known .begins) (time, (len, (h .count, (p, tt)))) ((refl, time-fits), ((refl, len-fits), ((refl, fits), (isp, tt)))) (and-then ! (its ! refl) (and-then ! (its ! refl) (and-then ! (its ! refl) (and-then ! (its ! refl) (no-more !))))) (fills ! refl) (λ iss.
-          puts ! (of-opd ! (part-of ! {τ = tick .ty} {d = 0} refl (sub ! {τs = in-start} 0 {τ = tick .ty} {d = 0} refl (whole !)))) (fills ! refl (tick .typed 𝓤 H A W t _ (LL.owed S.the-type S′.the-laws s₀ _ iss .0))) $
-          puts ! (of-opd ! (part-of ! {τ = tyInt w64} {d = 40} refl (sub ! {τs = in-start} 1 {τ = tyInt w64} {d = 40} refl (whole !)))) (fills ! refl (tt, record { fits = LL.owed S.the-type S′.the-laws s₀ _ iss .1 .0 .1 })) $
-          leaves-only ! En 9 refl $ by ! (lends-on iss (places-are h g))))
+          use2 W (‵ (partAt C.the-row fullShare h b o)) (part-in 𝓤 H A W C.the-row refl fullShare h b o (cv h)) $ leaves-only ! En 11 refl $ by ! (begins-by (places-are h g) fits))
 
-    walk : ent 𝓤 (onEntry 𝓤 H A play.signature (κ, (κ₁, tt)) (q, (q₁, tt)) a vals) (WpFn 𝓤 H Cs Λ code.function (vptr b o ∷ vint w64 time ∷ vint w64 len ∷ params .val p ∷ sl ∷ []) Post)
+    walk : ent 𝓤 (onEntry 𝓤 H A play.signature (κ, (κ₁, tt)) (q, (q₁, tt)) a vals) (WpFn 𝓤 H Cs Λ code.function (vptr b o ∷ moment .val here ∷ params .val p ∷ sl ∷ []) Post)
     walk =
-        qed W ((‵ (flft κ q) ⊛ ‵ (flft κ₁ q₁) ⊛ ‵ ftrue) ∷ ‵ (owns (MutRef (named 0) κ C.the-row ∷ usize ∷ usize ∷ P.the-row ∷ ShrSlice (named 1) κ₁ u32 ∷ []) a vals) ∷ []) ∵ enter ! Cs Λ code.function (vptr b o ∷ vint w64 time ∷ vint w64 len ∷ params .val p ∷ sl ∷ []) _ $
+        qed W ((‵ (flft κ q) ⊛ ‵ (flft κ₁ q₁) ⊛ ‵ ftrue) ∷ ‵ (owns (MutRef (named 0) κ C.the-row ∷ O.the-row ∷ P.the-row ∷ ShrSlice (named 1) κ₁ u32 ∷ []) a vals) ∷ []) ∵ enter ! Cs Λ code.function (vptr b o ∷ moment .val here ∷ params .val p ∷ sl ∷ []) _ $
         allocated ! (λ at. params1 ! $
-        passed ! 1 refl (tt, tt) $ passed ! 2 refl (tt, record { fits = time-fits }) $ passed ! 3 refl (tt, record { fits = len-fits }) $
-        passed ! 4 refl (params .typed 𝓤 H A W p _ isp) $ passed ! 5 refl (tt, (tt, (record { fits = room .0 }, tt))) $ pass0 ! $ move ! (1 ∷ []) $ fsplit ! $ fsplit3 ! $ drop ! $ move ! (2 ∷ []) $ fsplit ! $ drop ! $ fsplit ! $ drop ! $ fsplit ! $ drop ! $ fsplit ! $ move ! (1 ∷ []) $ drop ! $
+        passed ! 1 refl (tt, tt) $ passed ! 2 refl (moment .typed 𝓤 H A W here _ ish) $
+        passed ! 3 refl (params .typed 𝓤 H A W p _ isp) $ passed ! 4 refl (tt, (tt, (record { fits = room .0 }, tt))) $ pass0 ! $ move ! (1 ∷ []) $ fsplit ! $ fsplit3 ! $ drop ! $ move ! (2 ∷ []) $ fsplit ! $ drop ! $ fsplit ! $ drop ! $ fsplit ! $ move ! (1 ∷ []) $ drop ! $
         move ! (3 ∷ []) $ split ! $ move ! (3 ∷ 4 ∷ 0 ∷ []) $ opens ! tt C.the-row {h = h} b o (λ vs.
         spelt ! C.the-row (Is C.the-row) (shows 𝓤 H A C.the-row) (LL.vals C.the-type C′.the-laws) (LL.tells C.the-type C′.the-laws) fullShare h vs b o $
         use1 W (‵ (fat fullShare C′.mir b o (cv h))) (W .laws .raw-at fullShare C′.mir b o (cv h)) $
@@ -495,24 +516,21 @@ module _ {M : Type 1} (𝓤 : URA M) (H : Heap 𝓤) (A : Atoms 𝓤) (W : Given
 module _ {M : Type 1} (𝓤 : URA M) (H : Heap 𝓤) (A : Atoms 𝓤) (W : Given 𝓤 H A) (mem : Memory → SProp 𝓤) (run : Routine → Fun 𝓤) (𝓣 : Tables 𝓤 H) (known : Known 𝓤 H A mem run 𝓣) where
   play-walks : Walks 𝓤 H A play.ended stayed (WpFn 𝓤 H (𝓣 .C) (𝓣 .Λ) code.function) (play.clauses 𝓤 H A mem run)
   play-walks = walked 𝓤 H A play.ended stayed (play.clauses 𝓤 H A mem run) (WpFn 𝓤 H (𝓣 .C) (𝓣 .Λ) code.function)
-      (λ κs. (ptr-vals, (uint-vals w64, (uint-vals w64, (LL.vals P.the-type P′.the-laws, (slice-vals, tt))))))
-      (λ κs. (mut-tells (named 0) (κs .0) C.the-row, (uint-tells w64, (uint-tells w64, (LL.tells P.the-type P′.the-laws, (shr-slice-tells (named 1) (κs .1 .0) u32, tt))))))
+      (λ κs. (ptr-vals, (LL.vals O.the-type O′.the-laws, (LL.vals P.the-type P′.the-laws, (slice-vals, tt)))))
+      (λ κs. (mut-tells (named 0) (κs .0) C.the-row, (LL.tells O.the-type O′.the-laws, (LL.tells P.the-type P′.the-laws, (shr-slice-tells (named 1) (κs .1 .0) u32, tt)))))
       (λ κs qs bounds a _ are. via 𝓤 _ (fst∗ 𝓤 _ (emp 𝓤))
-      (walk 𝓤 H A W mem run (κs .0) (κs .1 .0) (qs .0) (qs .1 .0) (a .0 .ptr .0) (a .0 .ptr .1) (a .0 .name) (a .0 .now) (a .1 .0) (a .1 .1 .0) (a .1 .1 .1 .0) (a .1 .1 .1 .1 .0 .ptr .0) (a .1 .1 .1 .1 .0 .ptr .1) (a .1 .1 .1 .1 .0 .name) (a .1 .1 .1 .1 .0 .now)
-      (are .1 .0 .1) (are .1 .1 .0 .1) (are .1 .1 .1 .1 .0 .0 .1) (are .1 .1 .1 .0) 𝓣 known))
+      (walk 𝓤 H A W mem run (κs .0) (κs .1 .0) (qs .0) (qs .1 .0) (a .0 .ptr .0) (a .0 .ptr .1) (a .0 .name) (a .0 .now) (a .1 .0) (a .1 .1 .0) (a .1 .1 .1 .0 .ptr .0) (a .1 .1 .1 .0 .ptr .1) (a .1 .1 .1 .0 .name) (a .1 .1 .1 .0 .now)
+      (are .1 .0) (are .1 .1 .1 .0 .0 .1) (are .1 .1 .0) 𝓣 known))
 
   play-meets : Meets 𝓤 H A play.signature (WpFn 𝓤 H (𝓣 .C) (𝓣 .Λ) code.function) (play.spec 𝓤 H A mem run)
   play-meets =
       walk-meets 𝓤 H A play.ended stayed W (
         goes-ref 𝓤 H A W 2 0 tt (slot (λ _. C.the-row)),
         (
-          goes-none 𝓤 H A W 2 (λ _. usize) yes (λ κs x f. refl),
+          goes-none 𝓤 H A W 2 (λ _. O.the-row) yes (λ κs x f. refl),
           (
-            goes-none 𝓤 H A W 2 (λ _. usize) yes (λ κs x f. refl),
-            (
-              goes-none 𝓤 H A W 2 (λ _. P.the-row) yes (λ κs x f. refl),
-              (goes-silent 𝓤 H A W 2 (SliceRefOf (1 ∷ []) tt (slot (λ _. u32)) (λ _. tt)) yes (stay-dropped (SliceRefOf (1 ∷ []) tt (slot (λ _. u32)) (λ _. tt)) yes) (λ κs x f. refl), tt),
-            ),
+            goes-none 𝓤 H A W 2 (λ _. P.the-row) yes (λ κs x f. refl),
+            (goes-silent 𝓤 H A W 2 (SliceRefOf (1 ∷ []) tt (slot (λ _. u32)) (λ _. tt)) yes (stay-dropped (SliceRefOf (1 ∷ []) tt (slot (λ _. u32)) (λ _. tt)) yes) (λ κs x f. refl), tt),
           ),
         ),
       )
