@@ -21,7 +21,7 @@ use Rattle.voice.specs.declared.Tick.{Tick}
 use Rattle.voice.specs.Voices.{tickOf, lateOf, shouldRemoveOf, productOf, soundedOf, endedOf, volumeStepped, freshOf}
 use Rattle.channel.specs.declared.Channel.{Channel}
 use Rattle.channel.specs.declared.Played.{Played}
-use Rattle.channel.specs.Heads.{closedOf}
+use Rattle.channel.specs.Heads.{closedOf, momentOf}
 use Rattle.channel.specs.Channels.{
   live,
   withHead,

@@ -27,10 +27,11 @@ use Rattle路clip.proofs.Lengths.{float-length}
 use Rattle路clip.proofs.Offsets.{clip-offset-inside}
 use Rattle路clip.proofs.Kept.{with-speed-sound, with-length-sound, with-data-length-sound}
 use Rattle路clip.proofs.Answers.{speed-found, mode-found, length-asked}
-use Rattle路voice.specs.Voices.{clipModeOf, tickOf, movedOf, blankVoice}
+use Rattle路voice.specs.Voices.{clipModeOf, spanOf, tickOf, movedOf, blankVoice}
 use Rattle路voice.specs.Soundness.{SoundParams, SoundVoice}
 use Rattle路voice.proofs.Moves.{loop-length-good, moved-sound}
 use Rattle路voice.proofs.Kept.{clip-sound}
+use Rattle路channel.specs.Heads.{momentOf}
 use Rattle路channel.specs.Channels.{live, takenOf, memoryOf}
 use Rattle路channel.specs.Soundness.{FittingChange, SoundChannel}
 use Rattle路channel.proofs.Parts.{data-within, voice-at}
@@ -161,24 +162,24 @@ module _ (w : World) (st : Standing w) (h : SoundSampler (w .sampler)) (j n : 鈩
   voice-sound = clip-sound (chan w j .head .now) v (subst (SoundVoice (chan w j .head .now)) itself (voice-at (w .sampler .capacity) (takenOf m (chan w j)) taken n blankVoice place))
 
   lengthened-sound : Sound (lengthened (tickAt p m (chan w j)) v)
-  unfolding tickOf
+  unfolding tickOf spanOf takenOf
   lengthened-sound =
       let l = lengthAt m (chan w j) in
       with-length-sound (v .clip2) (chan w j .head .now) (loopLengthOf p l) (loop-length-fits p l (sound-params .fitting)) (loop-length-good p l sound-params short) voice-sound
 
   sped-sound : Sound (sped (tickAt p m (chan w j)) v)
-  unfolding tickOf
+  unfolding tickOf spanOf takenOf
   sped-sound =
       with-speed-sound (lengthened (tickAt p m (chan w j)) v) (chan w j .head .now) (mul binary32 (v .speed) (speedOf p)) (mul-fits binary32 (v .speed) (speedOf p)) lengthened-sound
 
   told-sound : Sound (toldLength (tickAt p m (chan w j)) v)
-  unfolding tickOf
+  unfolding tickOf spanOf takenOf
   told-sound =
       let l = lengthAt m (chan w j) in
       with-data-length-sound (sped (tickAt p m (chan w j)) v) (chan w j .head .now) (asFloat l) (ofInt-fits binary32 (pos l)) (float-length l some-data short) sped-sound
 
   all-placed : AllPlaced (tickAt p m (chan w j)) v
-  unfolding tickOf
+  unfolding tickOf spanOf takenOf
   all-placed =
       let t = tickAt p m (chan w j) in
       let now = chan w j .head .now in
@@ -187,11 +188,11 @@ module _ (w : World) (st : Standing w) (h : SoundSampler (w .sampler)) (j n : 鈩
         before-speed = clip-offset-inside (lengthened t v) now lengthened-sound;
         before-data-length = clip-offset-inside (sped t v) now sped-sound;
         before-mode = clip-offset-inside (toldLength t v) now told-sound;
-        sounding = clip-offset-inside (movedOf t v) now (moved-sound p now (lengthAt m (chan w j)) sound-params some-data short v voice-sound);
+        sounding = clip-offset-inside (movedOf t v) now (moved-sound p (momentOf (takenOf m (chan w j) .head)) sound-params some-data short v voice-sound);
       }
 
   updates-asked : Asked (tickAt p m (chan w j)) v
-  unfolding tickOf
+  unfolding tickOf spanOf takenOf
   updates-asked =
       let now = chan w j .head .now in
       let l = lengthAt m (chan w j) in
