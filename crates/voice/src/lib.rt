@@ -233,7 +233,7 @@ impl Voice {
     {
         let moved = self.moved(t);
         let clip2 = moved.clip;
-        let index = moved.index;
+        let index = moved.position.index;
         let volume = self.volume;
         let note = self.note;
         let value = recorded(data, index) * volume.level(t.now);
@@ -371,7 +371,8 @@ impl Voice {
         let clip2 = self.clip2;
         let mode = t.mode;
         let speed = self.speed * t.speed;
-        let index = clip2.quick_index(t.now, t.length, speed, t.data_length, mode);
+        let near = clip2.quick_index(t.now, t.length, speed, t.data_length, mode);
+        let index = near.index;
         if clip::NONE <= index {
             return otherwise;
         }
