@@ -14,6 +14,7 @@ pub mod Tops
 pub mod Casts
 pub mod Floors
 pub mod Sizes
+pub mod Parts
 pub mod Signs
 pub mod Extremes
 pub mod BelowZero

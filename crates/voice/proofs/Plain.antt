@@ -12,6 +12,7 @@ use Rattle.volume.specs.Levels.{keepsOf}
 use Rattle.volume.proofs.Ends.{stepped-keeps}
 use Rattle.clip.specs.Positions.{indexAt}
 use Rattle.clip.specs.Quick.{noIndex, QuickIndex}
+use Rattle.clip.specs.declared.Near.{Near}
 use Rattle.voice.specs.Voices.{productOf, soundedOf, playedOutOf, endedOf, shouldRemoveOf, volumeStepped, turnOf}
 use Rattle.voice.specs.Agreeing.{agreesOf}
 use Rattle.voice.specs.Plain.{plainOf, soundedAt, glidedOf, goesOnOf, Quickly}
@@ -115,10 +116,11 @@ module _ (t : Tick) (m : List ℕ) (v : Voice) where
       (simp (a, k, out, stays, turned, stays-after), sym turned)
 
   -- each as a call answers it, and of a voice that is the one sounded at that index
-  pub answered : (index : ℕ) (w : Voice) (keeps goes : Bool) → QuickIndex (v .clip2) (t .now) (t .span .length) (mul binary32 (v .speed) (t .speed)) (t .span .«data_length») (t .mode) index
-      → w ≡ soundedAt t m v index → keeps ≡ keepsOf (v .volume) (t .now) → goes ≡ goesOnOf t v w → keeps ≡ true → index < noIndex → Quickly t m v (record { voice = w; plain = goes })
-  answered index w keeps goes found is k g kept some plain =
+  pub answered : (near : Near) (w : Voice) (keeps goes : Bool) → QuickIndex (v .clip2) (t .now) (t .span .length) (mul binary32 (v .speed) (t .speed)) (t .span .«data_length») (t .mode) near
+      → w ≡ soundedAt t m v (near .index) → keeps ≡ keepsOf (v .volume) (t .now) → goes ≡ goesOnOf t v w → keeps ≡ true → near .index < noIndex
+      → Quickly t m v (record { voice = w; plain = goes })
+  answered near w keeps goes found is k g kept some plain =
       let at = found some in
       let on : goesOnOf t v w ≡ true = sym g ∙ plain in
-      let all = going index (agrees t v (at .0)) (at .1) (sym k ∙ kept) (subst (λ (z : Voice). goesOnOf t v z ≡ true) is on) in
+      let all = going (near .index) (agrees t v (at .0)) (at .1) (sym k ∙ kept) (subst (λ (z : Voice). goesOnOf t v z ≡ true) is on) in
       (all .0, is ∙ all .1)

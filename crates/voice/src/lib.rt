@@ -262,7 +262,7 @@ impl Voice {
     {
         let moved = self.moved(t);
         let clip2 = moved.clip;
-        let index = moved.index;
+        let index = moved.position.index;
         let volume = self.volume;
         let note = self.note;
         let value = recorded(data, index) * volume.level(t.now);
@@ -402,7 +402,8 @@ impl Voice {
         let mode = t.mode;
         let span = t.span;
         let speed = self.speed * t.speed;
-        let index = clip2.quick_index(t.now, span.length, speed, span.data_length, mode);
+        let near = clip2.quick_index(t.now, span.length, speed, span.data_length, mode);
+        let index = near.index;
         if clip::NONE <= index {
             return otherwise;
         }
