@@ -15,7 +15,7 @@ use Rattle.binary32.proofs.Units.{Units, units-sign, units-unique, zero
 use Rattle.binary32.proofs.Between.{at-least, total, lt-le-clash}
 use Rattle.binary32.proofs.Signs.{sign-bit, signed}
 
-abbrev minus-zero : Float
+abbrev pub minus-zero : Float
 minus-zero = fin true 0 (pos 0)
 
 minus-zero-bits : toBits binary32 minus-zero ≡ 0x8000_0000
@@ -37,7 +37,7 @@ finite-zero x t f s h =
     let none : w .count ≡ 0 = w .is .null (subst T (sym (sym (units-sign (w .is)) ∙ s)) tt) in
     units-unique t (zero-fits binary32 true) s (subst (Units binary32 x) none (w .is)) (zero-units binary32 true)
 
-signed-zero : (x : Float) → T (fits binary32 x) → signOf x ≡ true → T (le zero32 x) → x ≡ minus-zero
+pub signed-zero : (x : Float) → T (fits binary32 x) → signOf x ≡ true → T (le zero32 x) → x ≡ minus-zero
 unfolding le lt eq
 signed-zero nan t s h = absurd h
 signed-zero (inf true) t s h = absurd h
