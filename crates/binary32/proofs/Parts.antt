@@ -1,7 +1,7 @@
 -- A value from 0 on as its floor and what remains of it. That is from +0 to below 1, and with the floor as a whole number it adds up to the value, and to +0 for -0.
 -- It can be had by taking that whole number off. Assumes nothing.
 use mathlib.Core.Path.{_≡_, refl, sym, ap, _∙_, subst}
-use Prim.Native.Nat.{ℕ, _+_, _-_, _*_, _/_, _%_, _^_, _≤_, _<_, zero-le, min}
+use Prim.Native.Nat.{ℕ, _-_, _*_, _/_, _%_, _^_, _≤_, _<_, zero-le, min}
 use native.Mathlib.Nat.{le-trans, le-of-eq, le-of-lt, lt-of-lt-of-le, lt-irrefl, mod-lt, mod-add-div', div-add-mod', add-zero, add-sub-cancel, div-mul-le-self, le-div-iff-mul-le, zero-div, sub-self}
 use native.Mathlib.Omega.{arith}
 use mathlib.Core.Bool.{Bool, true, false, not, _&&_, and-false}
@@ -15,7 +15,7 @@ use lib.Ieee.Exact.{HasValue}
 use lib.Ieee.Scale.{finite, overflow}
 use Rattle.binary32.specs.Leaves.{zero32, one32, asFloat, asWhole, absOf, signOf, floorOf}
 use Rattle.binary32.proofs.Values.{value-size, value-toUnsigned, negative-toUnsigned}
-use Rattle.binary32.proofs.Units.{Grid, Units, lt-units, le-units, eq-units, grid-of, under-of, units-unique, zero-units, one-units, power-units}
+use Rattle.binary32.proofs.Units.{Grid, Units, lt-units, le-units, eq-units, grid-of, under-of, units-unique, zero-units, zero-fits, one-units, power-units}
 use Rattle.binary32.proofs.Sums.{add-exact, add-sign, sub-exact, sub-grid, sub-sign}
 use Rattle.binary32.proofs.Between.{at-least}
 use Rattle.binary32.proofs.Wholes.{float-is-units, float-sign, units-is, cast-is}
@@ -34,10 +34,6 @@ size-units : (x : Float) (n : ℕ) → Units binary32 x n → Units binary32 (ab
 size-units nan n p = absurd (p .is)
 size-units (inf s) n p = absurd (p .is)
 size-units (fin s m e) n p = record { sign = false; is = (refl, p .is .1); null = λ t. absurd t }
-
-zero-fits : T (fits binary32 zero32)
-unfolding fits
-zero-fits = tt
 
 -- the cast of n units
 pub cast-units : (w : ℕ) (x : Float) (n : ℕ) → Units binary32 x n → toUnsigned w x ≡ min (n / 2 ^ 149) (2 ^ w - 1)
@@ -118,7 +114,7 @@ module _ {x : Float} {n : ℕ} (t : T (fits binary32 x)) (p : Units binary32 x n
 
   -- of a whole number nothing remains, and from 2 ^ 23 on there are no others
   pub whole-rest : n % 2 ^ 149 ≡ 0 → rest ≡ zero32
-  whole-rest z = units-unique (sub-fits binary32 x (floorOf x)) zero-fits rest-sign (subst (Units binary32 rest) z rest-units) (zero-units binary32 false)
+  whole-rest z = units-unique (sub-fits binary32 x (floorOf x)) (zero-fits binary32 false) rest-sign (subst (Units binary32 rest) z rest-units) (zero-units binary32 false)
 
   large-rest : 2 ^ 23 * 2 ^ 149 ≤ n → rest ≡ zero32
   large-rest h =

@@ -18,7 +18,7 @@ use Rattle.clip.specs.Bounds.{Sound, Inside, Within, AddsUp}
 use Rattle.clip.specs.declared.Clip.{Clip}
 use Rattle.clip.proofs.Lengths.{good-parts, length-units, float-units}
 use Rattle.clip.proofs.Bounds.{placed-fits}
-use Rattle.clip.proofs.Offsets.{data-fits, data-within, travel-fits, rules-inside, clip-offset-fits, clip-offset-inside, offset-fits, offset-within}
+use Rattle.clip.proofs.Offsets.{data-fits, data-within, rules-inside, clip-offset-fits, clip-offset-inside, offset-fits, offset-within}
 
 pub position-index : (c : Clip) (now : ℕ) → positionAt c now .index ≡ indexAt c now
 unfolding positionOf indexAt

@@ -95,7 +95,7 @@ pub rules-inside : (c : Clip) → Sound c → (x : Float) → T (fits binary32 x
 rules-inside c h x t = placed-inside (c .mode) x (c .length) t (h .fitting .length) (good-parts c (h .good) .length)
 
 -- ---- at a time
-pub travel-fits : (c : Clip) (now : ℕ) → T (fits binary32 (travelAt c now))
+travel-fits : (c : Clip) (now : ℕ) → T (fits binary32 (travelAt c now))
 unfolding travelAt
 travel-fits c now = add-fits binary32 (c .shift) (mul binary32 (add binary32 (asFloat (elapsedAt c now)) (leadOf (c .speed))) (c .speed))
 

@@ -1,6 +1,6 @@
 -- True positions (request 8/12): a clip in loop mode, at speed 1, with shift 0 and with whole start, length and data length, sounds the sample (start + elapsed mod length) mod data length,
 -- up to an elapsed count of 2 ^ 24. There all that the position is worked out by is exact. Assumes nothing.
-use mathlib.Core.Path.{_≡_, refl, sym, ap, _∙_, subst}
+use mathlib.Core.Path.{_≡_, sym, ap, _∙_, subst}
 use Prim.Native.Nat.{ℕ, _+_, _-_, _%_, _^_, _≤_, zero-le}
 use native.Mathlib.Nat.{le-trans, mod-lt, mod-le, mul-mod-left, mul-one, add-zero, zero-add}
 use native.Mathlib.Omega.{arith}

@@ -608,7 +608,8 @@ impl Clip {
         }
     }
 
-    // The next index of such a clip, where it is quickly worked out; elsewhere NONE.
+    // The next index of such a clip, where it is quickly worked out; elsewhere NONE. Of a clip that `quick_index`
+    // answers for, both tests in front hold.
     pub fn quick_next(self, now: usize, length: f32, data_length: f32, mode: Mode) -> usize
         ensures { λ r. ⌜ QuickNext self now length «data_length» mode r ⌝ }
     {
