@@ -41,6 +41,7 @@ fn begun(scenario: &Scenario, p: &Params) -> Sampler {
     }
     for c in &mut s.channels {
         inside::put_clock(c, scenario.clock as usize);
+        c.interpolates = scenario.smooth;
     }
     (0..scenario.voices).for_each(|i| start(&mut s, i, p));
     (0..scenario.voices).filter(|&i| scenario.stops(i)).for_each(|i| s.stop_playing(note_of(i), p));

@@ -26,12 +26,13 @@ pub const VOICE_INFO: u8 = 18;
 pub const FRAMES: u8 = 19;
 pub const WAVEFORM: u8 = 20;
 pub const RUN: u8 = 21;
+pub const INTERPOLATION: u8 = 22;
 
 /// The kinds by their numbers. Those in brackets are no calls.
-pub const NAMES: [&str; 22] = [
+pub const NAMES: [&str; 23] = [
     "set-up", "parameters", "start_playing", "stop_playing", "set_note_speed", "start_recording", "stop_recording", "reset", "process_sample",
     "process_frame", "(a field put)", "(recordings)", "get_frames_processed", "get_data_len", "is_recording", "get_last_recorded_offset",
-    "print_error_info", "iter_active_notes", "get_voice_info", "many of process_frame", "get_waveform_summary", "process_frames",
+    "print_error_info", "iter_active_notes", "get_voice_info", "many of process_frame", "get_waveform_summary", "process_frames", "set_interpolation",
 ];
 
 /// How many samples of memory the port has to lend.

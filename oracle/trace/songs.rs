@@ -43,7 +43,29 @@ pub fn listing(seed: u64, number: u64) -> (usize, Vec<Record>) {
     let mut s = Song { r, records: Vec::new(), hostile: 0, bad: 0, count: 1, memory: 0, room: 0, recorder: None, data: 0 };
     (STYLES[style].make)(&mut s);
     s.records.push(Record::new(RECORDINGS));
-    (style, s.records)
+    let records = sprinkled(s.records, seed, number);
+    (style, records)
+}
+
+/// The listing with 7/12's setting put on and off: never in one of eight, once behind each set-up in three of eight, and anywhere in the others.
+fn sprinkled(records: Vec<Record>, seed: u64, number: u64) -> Vec<Record> {
+    let mut r = Random::new(seed.wrapping_mul(77).wrapping_add(number).wrapping_mul(0x9e37_79b9_7f4a_7c15) ^ 0x5eed);
+    let way = r.below(8);
+    let mut out = Vec::new();
+    for record in records {
+        let set_up = record.u8_at(0) == SET_UP;
+        out.push(record);
+        let put = match way {
+            0 => false,
+            1..=3 => set_up,
+            _ => (set_up && r.below(2) == 0) || r.below(9) == 0,
+        };
+        if put {
+            let on = way <= 3 || r.below(3) > 0;
+            out.push(Record::new(INTERPOLATION).with_u8(1, on as u8));
+        }
+    }
+    out
 }
 
 /// A listing in the making, with what its maker knows of the sampler.

@@ -2,7 +2,7 @@
 -- definition takes every clip and every time. Definitions only. Assumes nothing.
 use mathlib.Core.Path.{_≡_}
 use Prim.Native.Nat.{ℕ, _-_}
-use mathlib.Core.Bool.{false, cond}
+use mathlib.Core.Bool.{Bool, false, cond}
 use lib.IntN.{pos}
 use lib.Ieee.{Float, fin, binary32, add, sub, mul, rem, lt, le}
 use Rattle.binary32.specs.Leaves.{zero32, one32, asFloat, asWhole, floorOf, minOf, maxOf, absOf}
@@ -111,6 +111,10 @@ standingOf c now = record { clip = c; now = now; elapsed = asFloat (elapsedAt c 
 abbrev pub Stands : Standing → Type 0
 Stands s = s .elapsed ≡ asFloat (elapsedAt (s .clip) (s .now))
 
+-- the next index where it is asked for, else the index
+abbrev pub besideOf : Clip → ℕ → Bool → ℕ
+besideOf c now smooth = cond smooth (nextAt c now) (indexAt c now)
+
 -- with its position
-unfoldable pub soundingOf : Clip → ℕ → Sounding
-soundingOf c now = record { clip = c; position = positionAt c now }
+unfoldable pub soundingOf : Clip → ℕ → Bool → Sounding
+soundingOf c now smooth = record { clip = c; position = positionAt c now; next = besideOf c now smooth }

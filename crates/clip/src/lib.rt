@@ -5,7 +5,7 @@
 // under the Rust's names, and `update_all`, first refuse bad arguments (number 7 of document 01), and then answer the
 // same.
 ghost use mathlib.Core.Path.{_≡_};
-ghost use mathlib.Core.Bool.{not};
+ghost use mathlib.Core.Bool.{not, cond};
 ghost use lib.Dec.{T};
 ghost use lib.Ieee.{binary32, add, rem, isNan};
 ghost use Rattle.binary32.specs.Leaves.{OrLess, asFloat};
@@ -99,10 +99,11 @@ pub struct Position {
     pub fraction: f32,
 }
 
-// A clip as it sounds at a time: with where it does.
+// A clip as it sounds at a time: with where it does, and the next index where that is asked for.
 pub struct Sounding {
     pub clip: Clip,
     pub position: Position,
+    pub next: usize,
 }
 
 // An index, or NONE, with the offset that it is of: the fraction takes some work, and is wanted by few.
@@ -558,14 +559,17 @@ impl Clip {
         speed: f32,
         data_length: f32,
         mode: Mode,
+        smooth: bool,
     ) -> Sounding
-        ensures { λ r. ⌜ r ≡ soundingOf (withAll self now length speed «data_length» mode) now ⌝ }
+        ensures { λ r. ⌜ r ≡ soundingOf (withAll self now length speed «data_length» mode) now smooth ⌝ }
     {
         let moved = self.moved_at(now, length, speed, data_length, mode);
         let clip = moved.clip;
+        let position = moved.position();
         Sounding {
             clip,
-            position: moved.position(),
+            position,
+            next: moved.beside(position.index, smooth),
         }
     }
 
@@ -789,6 +793,14 @@ impl Standing {
         let mode = clip.mode;
         let place = placed(mode, ahead(self.travel(), clip.speed), clip.length);
         binary32::f32_to_usize(clip.clip_to_data(place))
+    }
+
+    // The next index where it is asked for, else the one given.
+    fn beside(self, index: usize, smooth: bool) -> usize
+        requires { ⌜ Stands self ⌝ }
+        ensures { λ r. ⌜ r ≡ cond smooth (nextAt (self .clip) (self .now)) index ⌝ }
+    {
+        if smooth { self.next() } else { index }
     }
 
     fn reversing(self) -> bool

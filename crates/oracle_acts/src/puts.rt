@@ -133,6 +133,7 @@ fn passing(h: Head, volume: Volume) -> Head {
         passthru_volume: volume,
         recorder,
         passthru_on: h.passthru_on,
+        interpolates: h.interpolates,
     }
 }
 

@@ -11,6 +11,7 @@ use clip::ElapsedAnswer;
 use clip::Found;
 use clip::FoundAnswer;
 use clip::Mode;
+use clip::OffsetAnswer;
 use clip::PositionAnswer;
 use clip::ReversingAnswer;
 use oracle_lines::field::f32_at;
@@ -53,7 +54,7 @@ fn after_update(fields: &[u8], out: &mut [u8; 65536], at: usize, c: Clip) -> usi
     let a = update(fields, c, u64_at(fields, 40) as usize);
     let d = updated(c, a);
     let first = put_change(out, at, a);
-    put_position(out, first, d.offset(u64_at(fields, 48) as usize))
+    put_offset(out, first, d.offset(u64_at(fields, 48) as usize))
 }
 
 // What is asked of a clip at a time.
@@ -63,7 +64,7 @@ fn read(out: &mut [u8; 65536], at: usize, c: Clip, now: usize) -> usize
 {
     let first = put_elapsed(out, at, c.elapsed(now));
     let second = put_position(out, first, c.clip_offset(now));
-    let third = put_position(out, second, c.offset(now));
+    let third = put_offset(out, second, c.offset(now));
     put_reversing(out, third, c.is_pingpong_reversing(now))
 }
 
@@ -138,6 +139,13 @@ fn put_elapsed(out: &mut [u8; 65536], at: usize, a: ElapsedAnswer) -> usize
             let first = begin(out, at, 1, 7);
             put_u64(out, first, 0)
         }
+    }
+}
+
+fn put_offset(out: &mut [u8; 65536], at: usize, a: OffsetAnswer) -> usize {
+    match a {
+        OffsetAnswer::Done(p) => put_position(out, at, PositionAnswer::Done(p.sum())),
+        OffsetAnswer::Refused => put_position(out, at, PositionAnswer::Refused),
     }
 }
 

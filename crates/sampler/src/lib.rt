@@ -449,6 +449,12 @@ impl Sampler {
         self.changed(Change::Speed { note, speed })
     }
 
+    pub fn set_interpolation(self, on: bool) -> Answer
+        ensures { λ r. ⌜ r ≡ setInterpolationOf self on ⌝ }
+    {
+        self.changed(Change::Head(HeadChange::Interpolate(on)))
+    }
+
     pub fn start_recording(self) -> Answer
         ensures { λ r. ⌜ r ≡ startRecordingOf self ⌝ }
     {

@@ -12,9 +12,9 @@ use Rattle.volume.specs.declared.Volume.the-variants.{Static, Linear}
 use Rattle.volume.specs.Levels.{levelOf, steppedOf, keepsOf}
 use Rattle.clip.specs.declared.Mode.{Mode}
 use Rattle.clip.specs.declared.Mode.the-variants.{Loop, PingPong}
-use Rattle.clip.specs.Positions.{leadOf, travelAt, loopedOf, wrappedOf, placedOf, clipOffsetAt, clipToDataOf, offsetAt, indexAt}
+use Rattle.clip.specs.Positions.{positionOf, leadOf, travelAt, loopedOf, wrappedOf, placedOf, clipOffsetAt, clipToDataOf, offsetAt, indexAt}
 use Rattle.clip.specs.Updates.{madeOf, withLength, withSpeed, withDataLength, withMode}
-use Rattle.voice.specs.Voices.{lateOf, overOf, shouldRemoveOf, movedOf, productOf, soundedOf, playedOutOf, endedOf, volumeStepped, turnOf}
+use Rattle.voice.specs.Voices.{lateOf, overOf, shouldRemoveOf, movedOf, valueOf, productOf, soundedOf, playedOutOf, endedOf, volumeStepped, turnOf}
 use Rattle.voice.specs.Agreeing.{agreesOf}
 use Rattle.voice.specs.Plain.{plainOf, soundedAt}
 use Rattle.voice.specs.declared.Voice.{Voice}
@@ -22,7 +22,7 @@ use Rattle.voice.specs.declared.Tick.{Tick}
 
 -- whatever a turn computes by
 unfoldable computing : Unit {0}
-unfolding plainOf soundedAt agreesOf keepsOf turnOf volumeStepped endedOf playedOutOf shouldRemoveOf overOf lateOf soundedOf productOf movedOf withLength withSpeed withDataLength withMode madeOf indexAt offsetAt clipToDataOf clipOffsetAt placedOf wrappedOf loopedOf travelAt leadOf levelOf steppedOf floorOf minOf crossingOf ofInt ofBits neg add sub mul div rem lt le eq isNan toUnsigned
+unfolding plainOf soundedAt agreesOf keepsOf turnOf volumeStepped endedOf playedOutOf shouldRemoveOf overOf lateOf soundedOf productOf valueOf positionOf movedOf withLength withSpeed withDataLength withMode madeOf indexAt offsetAt clipToDataOf clipOffsetAt placedOf wrappedOf loopedOf travelAt leadOf levelOf steppedOf floorOf minOf crossingOf ofInt ofBits neg add sub mul div rem lt le eq isNan toUnsigned
 computing = tt
 
 -- at the clock 4, with a decay of 3, a loop length of 4 and 10 samples recorded, each of them 1
@@ -35,6 +35,7 @@ tickWith behaviour once length total mode = record {
   mode = mode;
   once = once;
   «note_off_behavior» = behaviour;
+  interpolates = false;
 }
 
 abbrev tick : NoteOffBehaviour → Bool → Tick

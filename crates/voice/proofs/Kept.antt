@@ -24,7 +24,7 @@ use Rattle.clip.specs.Bounds.{Sound}
 use Rattle.clip.proofs.Lengths.{float-length}
 use Rattle.clip.proofs.Kept.{made-sound}
 use Rattle.clip.proofs.Indices.{index-below}
-use Rattle.voice.specs.Voices.{clipModeOf, tickOf, shouldRemoveOf, movedOf, recordedValueOf, productOf, soundedOf, finishOf, playedOutOf, endedOf, volumeStepped, turnOf, freshOf, atSpeedOf, goodVoice}
+use Rattle.voice.specs.Voices.{clipModeOf, tickOf, shouldRemoveOf, movedOf, valueOf, productOf, soundedOf, finishOf, playedOutOf, endedOf, volumeStepped, turnOf, freshOf, atSpeedOf, goodVoice}
 use Rattle.voice.specs.Soundness.{Fits, SoundParams, SoundPosition, SoundVolume, SoundVoice}
 use Rattle.voice.specs.declared.Voice.{Voice}
 use Rattle.voice.specs.declared.Moment.{Moment}
@@ -156,7 +156,7 @@ module _ (p : Params) (at : Moment) (ok : SoundParams p) (some : 1 ≤ at .«dat
             ended = g .ended;
             volume = g .volume;
             clip = moved-sound p at ok some short v (g .clip);
-            floats = (g .floats .0, add-fits binary32 (v .played) (mul binary32 (v .speed) (t .speed)), mul-fits binary32 (recordedValueOf m (indexAt (movedOf t v) now)) (levelOf (v .volume) now), g .floats .3);
+            floats = (g .floats .0, add-fits binary32 (v .played) (mul binary32 (v .speed) (t .speed)), mul-fits binary32 (valueOf t m (movedOf t v)) (levelOf (v .volume) now), g .floats .3);
           })
 
       pub turn-sound : SoundVoice now (turnOf (tickOf p at) m v)

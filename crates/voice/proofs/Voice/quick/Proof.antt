@@ -20,11 +20,20 @@ quick-index-requires c κs = search needs
 returns-2 : tie.Need-returns-2
 returns-2 c plain = absurd (true≢false (sym plain))
 
+quick-beside-requires : tie.Need-quick-beside-requires
+quick-beside-requires c κs = search needs
+
+returns-3 : tie.Need-returns-3
+returns-3 c plain = absurd (true≢false (sym plain))
+
 level-requires : tie.Need-level-requires
 level-requires c κs = search needs
 
-recorded-requires : tie.Need-recorded-requires
-recorded-requires c κs = search needs
+fraction-requires : tie.Need-fraction-requires
+fraction-requires c κs = search needs
+
+valued-requires : tie.Need-valued-requires
+valued-requires c κs = search needs
 
 crossing-requires : tie.Need-crossing-requires
 crossing-requires c κs = search needs
@@ -32,15 +41,16 @@ crossing-requires c κs = search needs
 goes-on-requires : tie.Need-goes-on-requires
 goes-on-requires c κs = search needs
 
-returns-3 : tie.Need-returns-3
+returns-4 : tie.Need-returns-4
 unfolding soundedAt
-returns-3 c =
-    let a = c .before .before .before .before .before .before .before .before .before .before .before .before .before .before .before .args in
-    let found = c .before .before .before .before .before .before .before .quick-index in
-    let keeps = c .before .before .before .before .before .before .before .before .before .before .before .before .before .keeps in
-    answered (a .t) (a .«data» .now) (a .self) (found .result) _ (keeps .result) (c .goes-on .result) (found .ensures)
-    (simp (c .before .crossing .ensures, c .before .before .before .recorded .ensures, c .before .before .before .before .level .ensures))
-    (keeps .ensures) (c .goes-on .ensures) (not-false (keeps .result) (c .before .before .before .before .before .before .before .before .before .before .before .before .if1 .left)) (c .before .before .before .before .before .before .if2 .left)
+returns-4 c =
+    let a = c .before .before .before .before .before .before .before .before .before .before .before .before .before .before .before .before .before .before .args in
+    let found = c .before .before .before .before .before .before .before .before .before .before .quick-index in
+    let keeps = c .before .before .before .before .before .before .before .before .before .before .before .before .before .before .before .before .keeps in
+    answered (a .t) (a .«data» .now) (a .self) (found .result) (c .before .before .before .before .fraction .result) (c .before .before .before .before .before .before .before .before .quick-beside .result) (found .ensures) (c .before .before .before .before .fraction .ensures) (c .before .before .before .before .before .before .before .before .quick-beside .ensures)
+    (c .before .before .before .before .before .before .before .before .before .if2 .left) (c .before .before .before .before .before .before .before .if3 .left) _ (keeps .result) (c .goes-on .result)
+    (simp (c .before .crossing .ensures, c .before .before .before .valued .ensures, c .before .before .before .before .before .level .ensures))
+    (keeps .ensures) (c .goes-on .ensures) (not-false (keeps .result) (c .before .before .before .before .before .before .before .before .before .before .before .before .before .before .before .if1 .left))
 
 pub quick-spec : {M : Type 1} → statement M
 quick-spec =
@@ -50,8 +60,11 @@ quick-spec =
     returns
     quick-index-requires
     returns-2
+    quick-beside-requires
+    returns-3
     level-requires
-    recorded-requires
+    fraction-requires
+    valued-requires
     crossing-requires
     goes-on-requires
-    returns-3)
+    returns-4)
