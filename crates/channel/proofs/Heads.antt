@@ -21,7 +21,7 @@ use Rattle.voice.proofs.Volumes.{static-sound, volume-later, volume-stepped, vo
 use Rattle.channel.specs.Heads.{withRecorded, withPassthru, lastTime, nextTime, headOf, headChangedOf, passesOf, rampOf, passthruOf, closedOf, goodHead}
 use Rattle.channel.specs.declared.Head.{Head}
 use Rattle.channel.specs.declared.HeadChange.{HeadChange}
-use Rattle.channel.specs.declared.HeadChange.the-variants.{StartRecording, StopRecording}
+use Rattle.channel.specs.declared.HeadChange.the-variants.{StartRecording, StopRecording, Interpolate}
 
 pub record SoundHead (capacity : ℕ) (h : Head) : Type 0 where
   pub time : h .now ≤ 2 ^ 48
@@ -51,15 +51,16 @@ module _ (capacity : ℕ) (h : Head) where
       let c : Bool = goodRecorder (h .recorder) (h .«data_len») capacity in
       is-true (a && b && c) (and-i (a && b) c (and-i a b (le→leb (h .now) lastTime (s .time)) (s .volume .good)) (yes (s .recorder)))
 
-pub new-sound : (capacity : ℕ) (level : Float) → Fits level → SoundHead capacity (headOf level)
+pub new-sound : (capacity : ℕ) (level : Float) (interpolates : Bool) → Fits level → SoundHead capacity (headOf level interpolates)
 unfolding headOf
-new-sound capacity level t = record { time = zero-le; volume = static-sound level 0 t; recorder = new-good capacity }
+new-sound capacity level interpolates t = record { time = zero-le; volume = static-sound level 0 t; recorder = new-good capacity }
 
 -- a change that touches no voice leaves the clock
 pub head-change-now : (d : HeadChange) (h : Head) → headChangedOf d h .now ≡ h .now
 unfolding headChangedOf
 head-change-now StartRecording h = refl
 head-change-now StopRecording h = refl
+head-change-now (Interpolate on) h = refl
 
 -- ---- changes
 pub passthru-now : (p : Params) (unfinished : Bool) (h : Head) → passthruOf p unfinished h .now ≡ h .now

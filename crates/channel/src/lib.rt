@@ -11,7 +11,7 @@ ghost use lib.ListN.{length};
 ghost use Rattle.binary32.specs.Leaves.{bitsOf, zero32, one32};
 ghost use Rattle.recorder.specs.Recording.{recordedOf, dataAfter, isRecordingOf};
 ghost use Rattle.voice.specs.Voices.{shouldRemoveOf};
-ghost use Rattle.channel.specs.declared.HeadChange.the-variants.{StartRecording, StopRecording};
+ghost use Rattle.channel.specs.declared.HeadChange.the-variants.{StartRecording, StopRecording, Interpolate};
 ghost use Rattle.channel.specs.Heads.{
   nextTime,
   headOf,
@@ -127,7 +127,7 @@ pub enum HeadChange {
 
 impl Head {
     pub fn new(level: f32, interpolates: bool) -> Self
-        ensures { λ r. ⌜ r ≡ headOf level ⌝ }
+        ensures { λ r. ⌜ r ≡ headOf level interpolates ⌝ }
     {
         Self {
             now: 0,
