@@ -123,6 +123,12 @@ module _ {M : Type 1} {𝓤 : URA M} {H : Heap 𝓤} {A : Atoms 𝓤} {K : Type 
     pub reads-head : K → (x : RefT Channel) → Through K W Γ E c q x (field 2 ∷ []) (ev (x .now .head))
     reads-head t x r = load t (from t (hop t r (fld t refl (stop t)))) (look-in t 0 (sub t 2 refl (whole t)))
 
+    pub reads-head′ : K → (x : RefT Channel) → Held K W E (‵ (Cell q x) ∷ Γ) c (vptr (x .ptr .0) (x .ptr .1)) → Opd K W (‵ (Cell q x) ∷ Γ) E (copy (place c (deref C′.mir ∷ field 2 ∷ []))) (ev (x .now .head))
+    reads-head′ t x r = reads-head t x (r .reads)
+
+    pub reads-time′ : K → (x : RefT Channel) → Held K W E (‵ (Cell q x) ∷ Γ) c (vptr (x .ptr .0) (x .ptr .1)) → Opd K W (‵ (Cell q x) ∷ Γ) E (copy (place c (deref C′.mir ∷ field 2 ∷ field 0 ∷ []))) (vint w64 (x .now .head .now))
+    reads-time′ t x r = load t (from t (hop t (r .reads) (fld t refl (fld t refl (stop t))))) (look-in t 0 (sub t 0 refl (sub t 2 refl (whole t))))
+
     pub reads-time : K → (x : RefT Channel) → Through K W Γ E c q x (field 2 ∷ field 0 ∷ []) (vint w64 (x .now .head .now))
     reads-time t x r = load t (from t (hop t r (fld t refl (fld t refl (stop t))))) (look-in t 0 (sub t 0 refl (sub t 2 refl (whole t))))
 
