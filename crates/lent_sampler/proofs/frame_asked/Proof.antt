@@ -6,13 +6,13 @@ use denote.Triple.Spec.{tripleOf}
 use denote.Triple.Table.{entered, cited}
 use mathlib.Core.List.{[], _∷_}
 use Rattle.channel.specs.Channels.{goodChannel}
-use Rattle.sampler.specs.Refusals.{frameNumber}
+use Rattle.sampler.specs.Refusals.{frameRows, frameNumber}
 use Rattle.lent_channel.proofs.good as g
 use Rattle.lent_channel.proofs.good.Symbol as g-def
 use Rattle.lent_channel.proofs.good.Symbol.{name as #g}
 use Rattle.lent_channel.proofs.good.Met as g-thm
-use Rattle.lent_sampler.specs.Numbers.{numberOf, frameAsked}
-use Rattle.lent_sampler.proofs.Numbers.{number-is}
+use Rattle.lent_sampler.specs.Numbers.{frameAskedBy, framing}
+use Rattle.lent_sampler.proofs.Numbers.{frame-is}
 use Rattle.lent_channel.proofs.Holding.{channel}
 use Rattle.lent_sampler.proofs.Lent.{sampler, params, frame-asked}
 use Rattle.lent_sampler.proofs.Seats.{seats}
@@ -31,8 +31,8 @@ unfolding code.routine tablesOf
 frame-asked-spec 𝓤 H 𝓜 𝓖 𝓡 =
     entered 𝓤 H (tripleOf 𝓤 H (𝓖 .A) f.signature (f.spec 𝓤 H (𝓖 .A) (𝓜 .mem) (𝓡 .run)))
     (tables 𝓤 H 𝓜 𝓡 code.env .C) (tables 𝓤 H 𝓜 𝓡 code.env .Λ) #f code.function (code.unfolded 𝓤 H 𝓜 𝓡)
-    (judges sampler channel params frame-asked seats #g #n goodChannel (λ count capacity first second time other k p size. frameAsked (numberOf count capacity (first ∷ second ∷ []) (time ∷ other ∷ []) k p size) k) (λ h k p size. frameAsked (frameNumber h k p size) k)
-    (λ h k p size two. ap (λ (r : ℕ). frameAsked r k) (number-is h k p size two))
+    (judges sampler channel params frame-asked seats #g #n goodChannel (λ count capacity first second time other k p size. framing (frameRows (frameAskedBy count capacity (first ∷ second ∷ []) (time ∷ other ∷ []) k size) k p) k) (λ h k p size. framing (frameNumber h k p size) k)
+    (λ h k p size two. ap (λ (r : ℕ). framing r k) (frame-is h two k p size))
     𝓤 H (𝓖 .A) (givenOf 𝓤 H 𝓜 𝓖) (tablesOf 𝓤 H 𝓜 (tables 𝓤 H 𝓜 𝓡 code.env))
     (cited 𝓤 H (tripleOf 𝓤 H (𝓖 .A) g.signature (g.spec 𝓤 H (𝓖 .A) (𝓜 .mem) (𝓡 .run))) 𝓜 𝓡 code.env #g g-def.routine code.calls-lent-channel·good (g-thm.met 𝓤 H 𝓜 𝓖 𝓡))
     (cited 𝓤 H (tripleOf 𝓤 H (𝓖 .A) n.signature (n.spec 𝓤 H (𝓖 .A) (𝓜 .mem) (𝓡 .run))) 𝓜 𝓡 code.env #n n-def.routine code.calls-lent-sampler·frame-of (n-thm.met 𝓤 H 𝓜 𝓖 𝓡)))
