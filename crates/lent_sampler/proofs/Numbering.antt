@@ -10,12 +10,12 @@ use Rattle.walks.proofs.Lists.Loops.{take-most}
 use Rattle.walks.specs.Walks.{any}
 use Rattle.channel.specs.declared.Change.{Change}
 use Rattle.channel.specs.declared.Channel.{Channel}
-use Rattle.channel.specs.Channels.{goodChannel, fullOf}
+use Rattle.channel.specs.Channels.{fullOf}
 use Rattle.sampler.specs.declared.Sampler.{Sampler}
 use Rattle.sampler.specs.Refusals.{channelAt, goodSampler, changeRows, changeNumber}
 use Rattle.sampler.specs.Samplers.{eachOf, answerOf}
 use Rattle.sampler.proofs.Seats.{eachFrom}
-use Rattle.lent_sampler.specs.Numbers.{anyOf, placesTaken, askedBy, changeNumberBy}
+use Rattle.lent_sampler.specs.Numbers.{anyOf, readingsIn, placesTaken, askedBy, changeNumberBy}
 use Rattle.lent_sampler.proofs.Numbers.{any-first-of, are-two, good-is}
 
 -- ---- the record's number
@@ -32,7 +32,7 @@ full-is c = go (eqb (c .head .«data_len») 0)
 
 -- whether each is good, by the two that there are
 pub rows-are : (s : Sampler) (a : ℕ) (x : Change) (b : ℕ) → length (s .channels) ≡ 2
-    → changeRows (askedBy (s .count) (s .capacity) (goodChannel (s .capacity) (channelAt s 0) ∷ goodChannel (s .capacity) (channelAt s 1) ∷ []) (a ∷ b ∷ [])) x ≡ changeNumberBy s a x b
+    → changeRows (askedBy (readingsIn s) a b) x ≡ changeNumberBy s a x b
 unfolding changeNumberBy
 rows-are s a x b two = ap (λ (good : Bool). changeRows (record { good = good; full = anyOf (s .count) (leb 32 a ∷ leb 32 b ∷ []) }) x) (good-is s two)
 

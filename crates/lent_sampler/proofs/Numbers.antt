@@ -20,7 +20,8 @@ use Rattle.sampler.specs.declared.Ran.{Ran}
 use Rattle.sampler.specs.Refusals.{channelAt, goodSizes, goodSampler, goodWith, atEnd, frameRows, frameNumber, latestOf, roomOf, runRows, runDone}
 use Rattle.sampler.specs.Samplers.{runAnswer}
 use Rattle.sampler.proofs.RunRows.{run-asked}
-use Rattle.lent_sampler.specs.Numbers.{allOf, anyOf, goodBy, goodWithBy, frameAskedBy, latestTime, roomLeft, runAskedBy}
+use Rattle.lent_sampler.specs.declared.Readings.{Readings}
+use Rattle.lent_sampler.specs.Numbers.{allOf, anyOf, readingsIn, goodBy, goodWithBy, frameAskedBy, latestTime, roomLeft, runAskedBy}
 
 -- ---- of two, the first n
 pub all-first : (a b : Bool) → a ≡ allOf 1 (a ∷ b ∷ [])
@@ -90,12 +91,8 @@ fold-first f (suc n) t (x ∷ l) = fold-first f n (max t (f x)) l
 
 -- ---- of a record with two channels
 module _ (s : Sampler) (two : length (s .channels) ≡ 2) where
-  -- whether each is good, and its clock
-  abbrev good : List Bool
-  good = goodChannel (s .capacity) (channelAt s 0) ∷ goodChannel (s .capacity) (channelAt s 1) ∷ []
-
-  abbrev times : List ℕ
-  times = channelAt s 0 .head .now ∷ channelAt s 1 .head .now ∷ []
+  abbrev t : Readings
+  t = readingsIn s
 
   pub are-two : channelAt s 0 ∷ channelAt s 1 ∷ [] ≡ s .channels
   are-two = go (s .channels) refl
@@ -106,27 +103,27 @@ module _ (s : Sampler) (two : length (s .channels) ≡ 2) where
       go (c ∷ d ∷ []) e = simp e
       go (c ∷ d ∷ x ∷ l) e = absurd (omega (arith, two, ap length e))
 
-  pub good-is : goodBy (s .count) (s .capacity) good ≡ goodSampler s
+  pub good-is : goodBy t ≡ goodSampler s
   unfolding goodBy allOf goodSampler
   good-is = ap (λ (b : Bool). goodSizes (s .count) (s .capacity) && b)
       (every-first (goodChannel (s .capacity)) (λ (b : Bool). b) (s .count) (channelAt s 0 ∷ channelAt s 1 ∷ []) ∙ ap (λ (l : List Channel). every (goodChannel (s .capacity)) (take (s .count) l)) are-two)
 
-  with-is : (size : ℕ) → goodWithBy (s .count) (s .capacity) good size ≡ goodWith s size
+  with-is : (size : ℕ) → goodWithBy t size ≡ goodWith s size
   unfolding goodWithBy goodWith
   with-is size = ap (λ (b : Bool). b && leb (s .count * s .capacity) size) good-is
 
-  ended-is : (n : ℕ) → anyOf n (map (leb lastTime) times) ≡ any atEnd (take n (s .channels))
+  ended-is : (n : ℕ) → anyOf n (leb lastTime (t .time) ∷ leb lastTime (t .other) ∷ []) ≡ any atEnd (take n (s .channels))
   unfolding anyOf
   ended-is n = any-first-of atEnd (λ (b : Bool). b) n (channelAt s 0 ∷ channelAt s 1 ∷ []) ∙ ap (λ (l : List Channel). any atEnd (take n l)) are-two
 
-  room-is : roomLeft (s .count) times ≡ roomOf s
+  room-is : roomLeft t ≡ roomOf s
   unfolding roomLeft latestTime roomOf latestOf
-  room-is = ap (λ (t : ℕ). lastTime - t)
-      (fold-first (λ (c : Channel). c .head .now) (s .count) 0 (channelAt s 0 ∷ channelAt s 1 ∷ []) ∙ ap (λ (l : List Channel). fold (λ (t : ℕ) (c : Channel). max t (c .head .now)) 0 (take (s .count) l)) are-two)
+  room-is = ap (λ (latest : ℕ). lastTime - latest)
+      (fold-first (λ (c : Channel). c .head .now) (s .count) 0 (channelAt s 0 ∷ channelAt s 1 ∷ []) ∙ ap (λ (l : List Channel). fold (λ (u : ℕ) (c : Channel). max u (c .head .now)) 0 (take (s .count) l)) are-two)
 
-  pub frame-is : (n : ℕ) (p : Params) (size : ℕ) → frameRows (frameAskedBy (s .count) (s .capacity) good times n size) n p ≡ frameNumber s n p size
+  pub frame-is : (n : ℕ) (p : Params) (size : ℕ) → frameRows (frameAskedBy t n size) n p ≡ frameNumber s n p size
   unfolding frameNumber
   frame-is n p size = λ i. frameRows (record { good = with-is size i; count = s .count; ended = ended-is n i }) n p
 
-  pub run-is : (n : ℕ) (p : Params) (size : ℕ) → runDone (runAskedBy (s .count) (s .capacity) good times size) n p ≡ runAnswer s n p size
-  run-is n p size = run-asked s n p size _ (runAskedBy (s .count) (s .capacity) good times size) refl (λ i. record { good = with-is size i; count = s .count; room = room-is i })
+  pub run-is : (n : ℕ) (p : Params) (size : ℕ) → runDone (runAskedBy t size) n p ≡ runAnswer s n p size
+  run-is n p size = run-asked s n p size _ (runAskedBy t size) refl (λ i. record { good = with-is size i; count = s .count; room = room-is i })

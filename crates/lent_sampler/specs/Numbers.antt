@@ -1,19 +1,21 @@
--- What the rows of a call ask of a record, from what is asked of its two channels: of each whether it is good, how many
--- of its places are taken, and its clock. Definitions only. Assumes nothing.
+-- What the rows of a call ask of a record, from what is read of it and of its two channels. Definitions only. Assumes
+-- nothing.
 use Prim.Native.Nat.{ℕ, _*_, _%_, _-_, max}
 use mathlib.Core.Bool.{Bool, _&&_, cond}
-use mathlib.Core.List.{List, [], _∷_, map}
+use mathlib.Core.List.{List, [], _∷_}
 use lib.Dec.{leb, eqb}
 use lib.ListN.{take}
 use Rattle.walks.specs.Walks.{any, every, fold}
 use Rattle.channel.specs.declared.Change.{Change}
 use Rattle.channel.specs.Heads.{lastTime}
+use Rattle.channel.specs.Channels.{goodChannel}
 use Rattle.sampler.specs.declared.Sampler.{Sampler}
 use Rattle.sampler.specs.declared.Asked.{Asked}
 use Rattle.sampler.specs.declared.FrameAsked.{FrameAsked}
 use Rattle.sampler.specs.declared.RunAsked.{RunAsked}
 use Rattle.sampler.specs.declared.Ran.{Ran}
-use Rattle.sampler.specs.Refusals.{goodSizes, goodSampler, changeRows}
+use Rattle.sampler.specs.Refusals.{channelAt, goodSizes, goodSampler, changeRows}
+use Rattle.lent_sampler.specs.declared.Readings.{Readings}
 use Rattle.lent_sampler.specs.declared.Framing.{Framing}
 use Rattle.lent_sampler.specs.declared.Running.{Running}
 
@@ -24,13 +26,31 @@ allOf n l = every (λ (b : Bool). b) (take n l)
 unfoldable pub anyOf : ℕ → List Bool → Bool
 anyOf n l = any (λ (b : Bool). b) (take n l)
 
--- `goodSampler` of a record whose channels are so
-unfoldable pub goodBy : ℕ → ℕ → List Bool → Bool
-goodBy count capacity good = goodSizes count capacity && allOf count good
+abbrev pub readingsOf : ℕ → ℕ → Bool → Bool → ℕ → ℕ → Readings
+readingsOf count capacity first second time other = record {
+  count = count;
+  capacity = capacity;
+  first = first;
+  second = second;
+  time = time;
+  other = other;
+}
+
+-- what is read of a record
+abbrev pub readingsIn : Sampler → Readings
+readingsIn s =
+    let c = channelAt s 0 in
+    let d = channelAt s 1 in
+    readingsOf (s .count) (s .capacity) (goodChannel (s .capacity) c) (goodChannel (s .capacity) d) (c .head .now)
+    (d .head .now)
+
+-- `goodSampler` of such a record
+unfoldable pub goodBy : Readings → Bool
+goodBy t = goodSizes (t .count) (t .capacity) && allOf (t .count) (t .first ∷ t .second ∷ [])
 
 -- `goodWith`
-unfoldable pub goodWithBy : ℕ → ℕ → List Bool → ℕ → Bool
-goodWithBy count capacity good size = goodBy count capacity good && leb (count * capacity) size
+unfoldable pub goodWithBy : Readings → ℕ → Bool
+goodWithBy t size = goodBy t && leb (t .count * t .capacity) size
 
 -- ---- a change
 
@@ -39,9 +59,8 @@ unfoldable pub placesTaken : ℕ → ℕ → ℕ
 placesTaken len count = cond (eqb len 0) 0 count
 
 -- `askedOf`; a channel takes no further voice where all 32 places are taken
-abbrev pub askedBy : ℕ → ℕ → List Bool → List ℕ → Asked
-askedBy count capacity good taken =
-    record { good = goodBy count capacity good; full = anyOf count (map (leb 32) taken) }
+abbrev pub askedBy : Readings → ℕ → ℕ → Asked
+askedBy t taken other = record { good = goodBy t; full = anyOf (t .count) (leb 32 taken ∷ leb 32 other ∷ []) }
 
 -- the number of a change of a record, given how many places its channels have taken
 unfoldable pub changeNumberBy : Sampler → ℕ → Change → ℕ → ℕ
@@ -51,11 +70,11 @@ changeNumberBy s taken x other =
 -- ---- a frame
 
 -- `frameAskedOf`
-abbrev pub frameAskedBy : ℕ → ℕ → List Bool → List ℕ → ℕ → ℕ → FrameAsked
-frameAskedBy count capacity good times n size = record {
-  good = goodWithBy count capacity good size;
-  count = count;
-  ended = anyOf n (map (leb lastTime) times);
+abbrev pub frameAskedBy : Readings → ℕ → ℕ → FrameAsked
+frameAskedBy t n size = record {
+  good = goodWithBy t size;
+  count = t .count;
+  ended = anyOf n (leb lastTime (t .time) ∷ leb lastTime (t .other) ∷ []);
 }
 
 -- a frame with that number: all its entries are played, or none
@@ -69,13 +88,12 @@ unfoldable pub latestTime : ℕ → List ℕ → ℕ
 latestTime n times = fold max 0 (take n times)
 
 -- `roomOf`
-unfoldable pub roomLeft : ℕ → List ℕ → ℕ
-roomLeft n times = lastTime - latestTime n times
+unfoldable pub roomLeft : Readings → ℕ
+roomLeft t = lastTime - latestTime (t .count) (t .time ∷ t .other ∷ [])
 
 -- `runAskedOf`
-abbrev pub runAskedBy : ℕ → ℕ → List Bool → List ℕ → ℕ → RunAsked
-runAskedBy count capacity good times size =
-    record { good = goodWithBy count capacity good size; count = count; room = roomLeft count times }
+abbrev pub runAskedBy : Readings → ℕ → RunAsked
+runAskedBy t size = record { good = goodWithBy t size; count = t .count; room = roomLeft t }
 
 -- a run with that answer: the entries of the frames that are done are played
 abbrev pub running : ℕ → Ran → Running

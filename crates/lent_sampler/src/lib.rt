@@ -43,6 +43,7 @@ ghost use Rattle.lent_sampler.specs.Numbers.{
   placesTaken,
   allOf,
   anyOf,
+  readingsOf,
   goodBy,
   goodWithBy,
   askedBy,
@@ -106,32 +107,51 @@ fn any_of(n: usize, first: bool, second: bool) -> bool
     first | second
 }
 
-// Whether a record is good, from whether its two channels are.
-fn good_by(count: usize, capacity: usize, first: bool, second: bool) -> bool
-    ensures { λ r. ⌜ r ≡ goodBy count capacity (first ∷ second ∷ []) ⌝ }
-{
-    sampler::good_sizes(count, capacity) & all_of(count, first, second)
-}
-
-// The number of a change, from what is asked of the two channels: whether each is good, and how many of its places are
-// taken. The clocks are read for a frame, whose number has the same walk, and not looked at.
-fn change_of(
+// What is read of a record before a call: what it says of itself, whether each of its two channels is good, and their
+// clocks.
+struct Readings {
     count: usize,
     capacity: usize,
     first: bool,
     second: bool,
-    _time: usize,
-    _other: usize,
-    taken: usize,
-    change: Change,
-    other_taken: usize,
-) -> u8
-    ensures { λ r. ⌜ r
-        ≡ changeRows (askedBy count capacity (first ∷ second ∷ []) (taken ∷ «other_taken» ∷ [])) change ⌝ }
+    time: usize,
+    other: usize,
+}
+
+fn read_of(
+    count: usize,
+    capacity: usize,
+    first: bool,
+    second: bool,
+    time: usize,
+    other: usize,
+) -> Readings
+    ensures { λ r. ⌜ r ≡ readingsOf count capacity first second time other ⌝ }
+{
+    Readings {
+        count,
+        capacity,
+        first,
+        second,
+        time,
+        other,
+    }
+}
+
+// Whether the record is good.
+fn good(t: Readings) -> bool
+    ensures { λ r. ⌜ r ≡ goodBy t ⌝ }
+{
+    sampler::good_sizes(t.count, t.capacity) & all_of(t.count, t.first, t.second)
+}
+
+// The number of a change; `taken` and `other_taken` are the channels' places taken.
+fn change_of(t: Readings, taken: usize, change: Change, other_taken: usize) -> u8
+    ensures { λ r. ⌜ r ≡ changeRows (askedBy t taken «other_taken») change ⌝ }
 {
     let asked = Asked {
-        good: good_by(count, capacity, first, second),
-        full: any_of(count, 32 <= taken, 32 <= other_taken),
+        good: good(t),
+        full: any_of(t.count, 32 <= taken, 32 <= other_taken),
     };
     sampler::change_rows(asked, change)
 }
@@ -145,17 +165,8 @@ fn change_number(s: &Sampler, taken: usize, change: Change, other_taken: usize) 
     let second = lent_channel::good(&s.channels[1], capacity);
     let time = s.channels[0].head.now;
     let other = s.channels[1].head.now;
-    change_of(
-        s.count,
-        capacity,
-        first,
-        second,
-        time,
-        other,
-        taken,
-        change,
-        other_taken,
-    )
+    let t = read_of(s.count, capacity, first, second, time, other);
+    change_of(t, taken, change, other_taken)
 }
 
 // The call that makes a change of every channel, all or none, where the record stands. The six names are it, each at
@@ -415,12 +426,12 @@ fn steps(number: u8, n: usize) -> usize
     if number == 0 { n } else { 0 }
 }
 
-// Whether record and memory are good, from whether the two channels are.
-fn good_with(count: usize, capacity: usize, first: bool, second: bool, size: usize) -> bool
-    ensures { λ r. ⌜ r ≡ goodWithBy count capacity (first ∷ second ∷ []) size ⌝ }
+// Whether record and memory are good.
+fn good_with(t: Readings, size: usize) -> bool
+    ensures { λ r. ⌜ r ≡ goodWithBy t size ⌝ }
 {
-    if good_by(count, capacity, first, second) {
-        sampler::enough(count, capacity, size)
+    if good(t) {
+        sampler::enough(t.count, t.capacity, size)
     } else {
         false
     }
@@ -432,29 +443,17 @@ struct Framing {
     number: u8,
 }
 
-fn frame_of(
-    count: usize,
-    capacity: usize,
-    first: bool,
-    second: bool,
-    time: usize,
-    other: usize,
-    entries: usize,
-    params: Params,
-    size: usize,
-) -> Framing
-    ensures { λ r. ⌜ r ≡ framing
-        (frameRows (frameAskedBy count capacity (first ∷ second ∷ []) (time ∷ other ∷ []) entries size) entries params)
-        entries ⌝ }
+fn frame_of(t: Readings, entries: usize, params: Params, size: usize) -> Framing
+    ensures { λ r. ⌜ r ≡ framing (frameRows (frameAskedBy t entries size) entries params) entries ⌝ }
 {
     let ended = any_of(
         entries,
-        channel::LAST_TIME <= time,
-        channel::LAST_TIME <= other,
+        channel::LAST_TIME <= t.time,
+        channel::LAST_TIME <= t.other,
     );
     let asked = FrameAsked {
-        good: good_with(count, capacity, first, second, size),
-        count,
+        good: good_with(t, size),
+        count: t.count,
         ended,
     };
     let number = sampler::frame_rows(asked, entries, params);
@@ -473,17 +472,8 @@ fn frame_asked(s: &Sampler, entries: usize, params: Params, size: usize) -> Fram
     let second = lent_channel::good(&s.channels[1], capacity);
     let time = s.channels[0].head.now;
     let other = s.channels[1].head.now;
-    frame_of(
-        s.count,
-        capacity,
-        first,
-        second,
-        time,
-        other,
-        entries,
-        params,
-        size,
-    )
+    let t = read_of(s.count, capacity, first, second, time, other);
+    frame_of(t, entries, params, size)
 }
 
 fn latest(n: usize, time: usize, other: usize) -> usize
@@ -499,10 +489,10 @@ fn latest(n: usize, time: usize, other: usize) -> usize
 }
 
 // The frames that are left until a clock stands at its end.
-fn room(count: usize, time: usize, other: usize) -> usize
-    ensures { λ r. ⌜ r ≡ roomLeft count (time ∷ other ∷ []) ⌝ }
+fn room(t: Readings) -> usize
+    ensures { λ r. ⌜ r ≡ roomLeft t ⌝ }
 {
-    let latest = latest(count, time, other);
+    let latest = latest(t.count, t.time, t.other);
     if latest < channel::LAST_TIME {
         channel::LAST_TIME - latest
     } else {
@@ -516,28 +506,17 @@ struct Running {
     ran: Ran,
 }
 
-fn run_of(
-    count: usize,
-    capacity: usize,
-    first: bool,
-    second: bool,
-    time: usize,
-    other: usize,
-    entries: usize,
-    params: Params,
-    size: usize,
-) -> Running
-    ensures { λ r. ⌜ r ≡ running count
-        (runDone (runAskedBy count capacity (first ∷ second ∷ []) (time ∷ other ∷ []) size) entries params) ⌝ }
+fn run_of(t: Readings, entries: usize, params: Params, size: usize) -> Running
+    ensures { λ r. ⌜ r ≡ running (t .count) (runDone (runAskedBy t size) entries params) ⌝ }
 {
-    let room = room(count, time, other);
+    let room = room(t);
     let asked = RunAsked {
-        good: good_with(count, capacity, first, second, size),
-        count,
+        good: good_with(t, size),
+        count: t.count,
         room,
     };
     let ran = sampler::run_done(asked, entries, params);
-    let played = ran.frames * count;
+    let played = ran.frames * t.count;
     Running {
         entries: played,
         ran,
@@ -553,17 +532,8 @@ fn run_asked(s: &Sampler, entries: usize, params: Params, size: usize) -> Runnin
     let second = lent_channel::good(&s.channels[1], capacity);
     let time = s.channels[0].head.now;
     let other = s.channels[1].head.now;
-    run_of(
-        s.count,
-        capacity,
-        first,
-        second,
-        time,
-        other,
-        entries,
-        params,
-        size,
-    )
+    let t = read_of(s.count, capacity, first, second, time, other);
+    run_of(t, entries, params, size)
 }
 
 // Whose entry i is: of a frame channel i's, of a run that of its place in its frame. Both calls have one shape, and so

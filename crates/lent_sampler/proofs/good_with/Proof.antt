@@ -4,19 +4,19 @@ use borrow.Author.Needs.{needs}
 use Rattle.lent_sampler.proofs.good_with.Statement.{statement}
 use Rattle.lent_sampler.proofs.good_with.Tie as tie
 
-good-by-requires : tie.Need-good-by-requires
-good-by-requires c κs = search needs
+good-requires : tie.Need-good-requires
+good-requires c κs = search needs
 
 enough-requires : tie.Need-enough-requires
 enough-requires c κs = search needs
 
 returns : tie.Need-returns
 unfolding goodWithBy
-returns c = simp (c .enough .ensures, ← (c .before .before .good-by .ensures), c .before .if1 .taken)
+returns c = simp (c .enough .ensures, ← (c .before .before .good2 .ensures), c .before .if1 .taken)
 
 returns-2 : tie.Need-returns-2
 unfolding goodWithBy
-returns-2 c = simp (← (c .before .good-by .ensures), c .if1 .left)
+returns-2 c = simp (← (c .before .good2 .ensures), c .if1 .left)
 
 pub good-with-spec : {M : Type 1} → statement M
-good-with-spec = tie.close (tie.spec good-by-requires enough-requires returns returns-2)
+good-with-spec = tie.close (tie.spec good-requires enough-requires returns returns-2)

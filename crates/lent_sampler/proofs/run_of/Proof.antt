@@ -14,10 +14,10 @@ run-done-requires : tie.Need-run-done-requires
 run-done-requires c κs = search needs
 
 mul-played : tie.Need-mul-played
-mul-played c = record { fits = played-fit _ _ _ _ (c .before .run-done .ensures) (search needs) }
+mul-played c = record { fits = played-fit _ _ _ _ (c .before .before .run-done .ensures) (search needs) }
 
 returns : tie.Need-returns
-returns c = simp (c .before .run-done .ensures, c .before .before .good-with .ensures, c .before .before .before .room .ensures)
+returns c = simp (c .before .before .run-done .ensures, c .before .before .before .good-with .ensures, c .before .before .before .before .room .ensures)
 
 pub run-of-spec : {M : Type 1} → statement M
 run-of-spec = tie.close (tie.spec room-requires good-with-requires run-done-requires mul-played returns)

@@ -1,8 +1,8 @@
--- `good_by` meets its contract. Assumes nothing.
+-- `good` meets its contract. Assumes nothing.
 use Rattle.lent_sampler.specs.Numbers.{goodBy}
 use borrow.Author.Needs.{needs}
-use Rattle.lent_sampler.proofs.good_by.Statement.{statement}
-use Rattle.lent_sampler.proofs.good_by.Tie as tie
+use Rattle.lent_sampler.proofs.good.Statement.{statement}
+use Rattle.lent_sampler.proofs.good.Tie as tie
 
 good-sizes-requires : tie.Need-good-sizes-requires
 good-sizes-requires c κs = search needs
@@ -14,5 +14,5 @@ returns : tie.Need-returns
 unfolding goodBy
 returns c = simp (c .all-of .ensures, c .before .good-sizes .ensures)
 
-pub good-by-spec : {M : Type 1} → statement M
-good-by-spec = tie.close (tie.spec good-sizes-requires all-of-requires returns)
+pub good-spec : {M : Type 1} → statement M
+good-spec = tie.close (tie.spec good-sizes-requires all-of-requires returns)
