@@ -78,13 +78,13 @@ memory-run w [] = refl
 memory-run w (c ∷ cs) = memory-run (after w c) cs ∙ memory-after w c
 
 -- ---- row 9
+not-nine : (b : Bool) (rest : ℕ) → row (not b) 9 rest ≢ 9 → b ≡ true
+not-nine true rest h = refl
+not-nine false rest h = absurd (h refl)
+
 good-with : (s : Sampler) (size : ℕ) → Unbroken s size → goodWith s size ≡ true
 unfolding frameNumber
-good-with s size u = go (goodWith s size) refl
-  where
-    go : (b : Bool) → goodWith s size ≡ b → goodWith s size ≡ true
-    go true e = e
-    go false e = absurd (u .frame 0 defaultParams (simp e))
+good-with s size u = not-nine (goodWith s size) _ (u .frame 0 defaultParams)
 
 asked-nine : (w : World) → goodSampler (w .sampler) ≡ true → goodWith (w .sampler) (length (w .memory)) ≡ true → (q : Question) → questionNumber w q ≢ 9
 unfolding questionNumber channelNumber listNumber infoNumber waveformNumber
@@ -112,12 +112,8 @@ no-nine w h u (asks q) = asked-nine w (h .good) (good-with (w .sampler) (length 
 run-nine : (w : World) → Unbroken (w .sampler) (length (w .memory)) → (xs : List Float) (p : Params) → runNumber (w .sampler) (length xs) p (length (w .memory)) ≢ 9
 unfolding frameNumber runNumber
 run-nine w u xs p =
-    passes (goodWith (w .sampler) (length (w .memory))) _ (good (goodWith (w .sampler) (length (w .memory))) _ (u .frame 0 p))
+    passes (goodWith (w .sampler) (length (w .memory))) _ (not-nine (goodWith (w .sampler) (length (w .memory))) _ (u .frame 0 p))
     (another (not (eqb (length xs % w .sampler .count) 0)) 10 _ tt (another (beyondLimits p) 4 _ tt (another (ltb (roomOf (w .sampler)) (length xs / w .sampler .count)) 6 0 tt none)))
-  where
-    good : (b : Bool) (rest : ℕ) → row (not b) 9 rest ≢ 9 → b ≡ true
-    good true rest h = refl
-    good false rest h = absurd (h refl)
 
 -- ---- what a voice sounds by
 module _ (w : World) (st : Standing w) (h : SoundSampler (w .sampler)) (j n : ℕ) (v : Voice) (c : Call) (p : Params) (x : Float) (m : List ℕ) (y : Plays w j n v c p x m) where

@@ -1,6 +1,6 @@
 -- Steps that proofs by hand share: the parts of a record in memory (`Inside`, `Shared`), a slice lent again (`Again`), a
--- loop whose turns are counted down (`Rounds`), types as walks take them (`Data`), calls and locals (`Locals`), places
--- that are computed (`Homes`), what follows a statement (`Tails`).
+-- loop whose turns are counted down (`Rounds`), types as walks take them (`Data`), locals and their places (`Locals`),
+-- calls of functions of plain data (`Calls`), what follows a statement (`Tails`).
 pub mod Again
 pub mod Inside
 pub mod Rounds
@@ -8,4 +8,4 @@ pub mod Shared
 pub mod Data
 pub mod Tails
 pub mod Locals
-pub mod Homes
+pub mod Calls
