@@ -8,6 +8,7 @@ ghost use Rattle.sampler.specs.Samplers.{
   setNoteSpeedOf,
   startRecordingOf,
   stopRecordingOf,
+  setInterpolationOf,
   resetOf,
   changeOf,
   sampleMemory,

@@ -46,6 +46,7 @@ ghost use Rattle.sampler.specs.Samplers.{
   setNoteSpeedOf,
   startRecordingOf,
   stopRecordingOf,
+  setInterpolationOf,
   resetOf,
   channelSteppedOf,
   outputOf,
@@ -631,6 +632,7 @@ fn head_rows(change: HeadChange) -> u8
     match change {
         HeadChange::StartRecording => 0,
         HeadChange::StopRecording => 0,
+        HeadChange::Interpolate(_) => 0,
     }
 }
 
