@@ -4,6 +4,7 @@ pub mod Values
 pub mod Units
 pub mod Rounding
 pub mod Sums
+pub mod Zeros
 pub mod Snap
 pub mod Between
 pub mod Remainders
