@@ -446,12 +446,12 @@ impl Voice {
         if clip::NONE <= index {
             return otherwise;
         }
+        let level = volume.level(t.now);
         let next = quick_beside(clip2, index, t);
         if clip::NONE <= next {
             return otherwise;
         }
         let note = self.note;
-        let level = volume.level(t.now);
         let position = Position {
             index,
             fraction: near.fraction(),

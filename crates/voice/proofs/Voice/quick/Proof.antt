@@ -20,14 +20,14 @@ quick-index-requires c κs = search needs
 returns-2 : tie.Need-returns-2
 returns-2 c plain = absurd (true≢false (sym plain))
 
+level-requires : tie.Need-level-requires
+level-requires c κs = search needs
+
 quick-beside-requires : tie.Need-quick-beside-requires
 quick-beside-requires c κs = search needs
 
 returns-3 : tie.Need-returns-3
 returns-3 c plain = absurd (true≢false (sym plain))
-
-level-requires : tie.Need-level-requires
-level-requires c κs = search needs
 
 fraction-requires : tie.Need-fraction-requires
 fraction-requires c κs = search needs
@@ -47,9 +47,9 @@ returns-4 c =
     let a = c .before .before .before .before .before .before .before .before .before .before .before .before .before .before .before .before .before .before .args in
     let found = c .before .before .before .before .before .before .before .before .before .before .quick-index in
     let keeps = c .before .before .before .before .before .before .before .before .before .before .before .before .before .before .before .before .keeps in
-    answered (a .t) (a .«data» .now) (a .self) (found .result) (c .before .before .before .before .fraction .result) (c .before .before .before .before .before .before .before .before .quick-beside .result) (found .ensures) (c .before .before .before .before .fraction .ensures) (c .before .before .before .before .before .before .before .before .quick-beside .ensures)
-    (c .before .before .before .before .before .before .before .before .before .if2 .left) (c .before .before .before .before .before .before .before .if3 .left) _ (keeps .result) (c .goes-on .result)
-    (simp (c .before .crossing .ensures, c .before .before .before .valued .ensures, c .before .before .before .before .before .level .ensures))
+    answered (a .t) (a .«data» .now) (a .self) (found .result) (c .before .before .before .before .fraction .result) (c .before .before .before .before .before .before .before .quick-beside .result) (found .ensures) (c .before .before .before .before .fraction .ensures) (c .before .before .before .before .before .before .before .quick-beside .ensures)
+    (c .before .before .before .before .before .before .before .before .before .if2 .left) (c .before .before .before .before .before .before .if3 .left) _ (keeps .result) (c .goes-on .result)
+    (simp (c .before .crossing .ensures, c .before .before .before .valued .ensures, c .before .before .before .before .before .before .before .before .level .ensures))
     (keeps .ensures) (c .goes-on .ensures) (not-false (keeps .result) (c .before .before .before .before .before .before .before .before .before .before .before .before .before .before .before .if1 .left))
 
 pub quick-spec : {M : Type 1} → statement M
@@ -60,9 +60,9 @@ quick-spec =
     returns
     quick-index-requires
     returns-2
+    level-requires
     quick-beside-requires
     returns-3
-    level-requires
     fraction-requires
     valued-requires
     crossing-requires
