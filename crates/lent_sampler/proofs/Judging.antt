@@ -47,8 +47,8 @@ use Rattle.lent_channel.proofs.Bytes.{channel-bytes}
 use Rattle.lent_sampler.proofs.Bytes.{count-at, capacity-at}
 use Rattle.walks.proofs.Steps.Data.{Datum, row, lies, word, truth}
 use Rattle.walks.proofs.Steps.Data.{copy as twice}
-use Rattle.walks.proofs.Steps.Locals.{Callee, Says}
-use Rattle.walks.proofs.Steps.Homes.{its, held, fills, beyond, puts, puts-as, arrives, asks′, gives, allocated, passed, all-freed}
+use Rattle.walks.proofs.Steps.Calls.{Callee, Says, asks}
+use Rattle.walks.proofs.Steps.Locals.{its, held, fills, beyond, puts, puts-as, arrives, gives, allocated, passed, all-freed}
 use Rattle.lent_sampler.proofs.Seats.{Seats, seat, clock}
 
 module _ (T C P Q St : Datum) (S : Seats T C) (g m n : Name) (good : ℕ → C .like .Denot → Bool) (stands : ℕ → ℕ → Bool → Bool → ℕ → ℕ → St .like .Denot) (given : St .like .Denot → ℕ → P .like .Denot → ℕ → Q .like .Denot) (answer : T .like .Denot → ℕ → P .like .Denot → ℕ → Q .like .Denot)
@@ -203,9 +203,9 @@ module _ (T C P Q St : Datum) (S : Seats T C) (g m n : Name) (good : ℕ → C .
         goes-in ! q′ Tr usize (Is usize) (shows 𝓤 H A usize) (uint-vals w64) (uint-tells w64) h h (S .count h) (S .count h) b o (o + count-at) (S .reads-count 𝓤 H A W q′ h b o) (λ is-count.
         puts ! (of-opd ! (load ! (beyond ! (held ! refl) (fld ! (S .field₁) (stop !))) (look ! 0 refl))) (fills ! refl (tt, record { fits = is-count .1 })) $ comes-out ! q′ Tr usize h (S .count h) (vint w64 (S .count h) ∷ []) b o (o + count-at) $
         move ! (1 ∷ 0 ∷ []) $ obor-close ! tt $ drop ! $
-        asks′ ! known-m (S .count h, (S .capacity h, (ok 0, (ok 1, (time 0, (time 1, tt)))))) ((refl, is-count .1), ((refl, is-capacity .1), (refl, (refl, ((refl, is-time₀ .1), ((refl, is-time₁ .1), tt))))))
+        asks ! known-m (S .count h, (S .capacity h, (ok 0, (ok 1, (time 0, (time 1, tt)))))) ((refl, is-count .1), ((refl, is-capacity .1), (refl, (refl, ((refl, is-time₀ .1), ((refl, is-time₁ .1), tt))))))
         (and-then ! (its ! refl) (and-then ! (its ! refl) (and-then ! (its ! refl) (and-then ! (its ! refl) (and-then ! (its ! refl) (and-then ! (its ! refl) (no-more !))))))) (fills ! refl) (λ is-t.
-        asks′ ! known-n (t, (k, (p, (size, tt)))) (is-t, ((refl, k-fits), (isp, ((refl, size-fits), tt)))) (and-then ! (its ! refl) (and-then ! (its ! refl) (and-then ! (its ! refl) (and-then ! (its ! refl) (no-more !))))) (fills ! refl) (λ is-r.
+        asks ! known-n (t, (k, (p, (size, tt)))) (is-t, ((refl, k-fits), (isp, ((refl, size-fits), tt)))) (and-then ! (its ! refl) (and-then ! (its ! refl) (and-then ! (its ! refl) (and-then ! (its ! refl) (no-more !))))) (fills ! refl) (λ is-r.
         gives ! refl $ all-freed ! refl $ keep ! (0 ∷ 2 ∷ []) $ by ! (exits (given t k p size) (same h k p size two) is-r))))))))))))
 
   pub judges : {M : Type 1} (𝓤 : URA M) (H : Heap 𝓤) (A : Atoms 𝓤) (W : Given 𝓤 H A) (𝓣 : Tables 𝓤 H) → Triple 𝓤 (𝓣 .C g) (G 𝓤 H A) → Says 𝓤 H A 𝓣 m standing → Says 𝓤 H A 𝓣 n answering
