@@ -506,7 +506,7 @@ filled-met =
 
 -- ---- each number of the table, given
 abbrev timed : ℕ → Head → Head
-timed n h = record { now = n; «data_len» = h .«data_len»; «passthru_volume» = h .«passthru_volume»; recorder = h .recorder; «passthru_on» = h .«passthru_on» }
+timed n h = record { now = n; «data_len» = h .«data_len»; «passthru_volume» = h .«passthru_volume»; recorder = h .recorder; «passthru_on» = h .«passthru_on»; interpolates = h .interpolates }
 
 -- channel 0's clock at its end
 abbrev late : World
