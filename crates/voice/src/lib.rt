@@ -28,7 +28,7 @@ ghost use Rattle.voice.specs.Voices.{
   atSpeedOf,
   goodVoice,
 };
-ghost use Rattle.voice.specs.Plain.{goesOnOf, QuickBeside, Quickly};
+ghost use Rattle.voice.specs.Plain.{goesOnOf, QuickBeside, QuickValue, Quickly};
 use clip::Clip;
 use clip::Mode;
 use clip::Near;
@@ -167,6 +167,17 @@ fn valued(position: Position, next: usize, t: Tick, data: &[u32]) -> f32
         return a;
     }
     between(a, recorded(data, next), position.fraction)
+}
+
+// The same of what is quickly found. What remains of the offset is worked out only where it is heard.
+fn near_valued(near: Near, next: usize, t: Tick, data: &[u32]) -> f32
+    ensures { λ r. ⌜ QuickValue t (now («data» .entry)) near next r ⌝ }
+{
+    let a = recorded(data, near.index);
+    if !t.interpolates {
+        return a;
+    }
+    between(a, recorded(data, next), near.fraction())
 }
 
 // The next index of a clip where voices interpolate and it is quickly worked out; elsewhere NONE. Where they don't, the
@@ -452,11 +463,7 @@ impl Voice {
             return otherwise;
         }
         let note = self.note;
-        let position = Position {
-            index,
-            fraction: near.fraction(),
-        };
-        let value = valued(position, next, t, data) * level;
+        let value = near_valued(near, next, t, data) * level;
         let sounded = Self {
             finished_at: self.finished_at,
             last_sample_index: index,
