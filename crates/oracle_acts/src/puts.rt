@@ -89,7 +89,7 @@ fn put_in(s: Sampler, first: bool, p: Order) -> Sampler {
     r
 }
 
-// 3 the voice count, 4 to 7 of its head, 8 to 13 of a voice.
+// 3 the voice count, 4 to 7 of its head, 8 to 13 of a voice, 14 request 7/12's setting.
 fn put_channel(c: Channel, capacity: usize, p: Order) -> Channel {
     let mut r = c;
     let head = c.head;
@@ -97,6 +97,7 @@ fn put_channel(c: Channel, capacity: usize, p: Order) -> Channel {
     match what {
         3 => r.count = p.n,
         4..=7 => r.head = put_head(head, capacity, p),
+        14 => r.head.interpolates = p.n != 0,
         _ => r = put_voices(c, p),
     }
     r
