@@ -49,7 +49,7 @@ const VECTORS: [Vector; 7] = [
     // At speed 0 it stands between two samples, and in a loop of one sample on it.
     Vector { recording: STAIRS, mode: LOOP, length: 8.0, speed: 0.0, position: 0.3125, outputs: &[2.5, 2.5, 2.5] },
     Vector { recording: STAIRS, mode: LOOP, length: 1.0, speed: 0.25, position: 0.625, outputs: &[5.0, 5.0, 5.0] },
-    // An offset of -0 has the fraction +0, and so -0 is heard as +0: `last_sample_value` has the sign, which the sum of outputs loses.
+    // An offset of -0 has the fraction +0, and so a recorded -0 becomes +0: in `last_sample_value`, as the sum of the voices loses the sign.
     Vector { recording: &[-0.0], mode: LOOP, length: 1.0, speed: -0.5, position: -0.0, outputs: &[0.0, 0.0, 0.0] },
 ];
 
