@@ -3,13 +3,17 @@
 
 use crate::clip::Clip;
 
-/// The sample at the index; with the setting on a + (b - a) * fraction, b being the sample at the next index.
+/// The sample at the index, or with the setting on what lies between it and that at the next index. With the setting off this costs the Rust a test.
+#[inline(always)]
 pub fn taken(on: bool, data: &[f32], index: usize, clip: &Clip, now: usize) -> f32 {
-    if !on {
-        return data[index];
-    }
-    let offset = clip.offset(now);
+    if on { between(data, index, clip, now) } else { data[index] }
+}
+
+/// a + (b - a) * fraction, b being the sample at the next index.
+#[inline(never)]
+fn between(data: &[f32], index: usize, clip: &Clip, now: usize) -> f32 {
     let (a, b) = (data[index], data[next_index(clip, now)]);
+    let offset = clip.offset(now);
     a + (b - a) * (offset - offset.floor())
 }
 
