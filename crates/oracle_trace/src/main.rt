@@ -145,8 +145,8 @@ fn plain(run: Run, fields: &[u8], out: &mut [u8; 65536], at: usize) -> Run
         1 => parameters(run, fields).told(kind, out, at),
         2..=7 => run.answered(kind, calls::call(s, p, fields), out, at),
         10 => run.answered(kind, puts::put(s, fields), out, at),
-        22 => run.answered(kind, s.set_interpolation(fields[1] != 0), out, at),
         12..=18 => run.on(s, query(s, p, fields, out, at)),
+        22 => run.answered(kind, s.set_interpolation(fields[1] != 0), out, at),
         _ => bad(run, out, at),
     }
 }
