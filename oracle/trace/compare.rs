@@ -3,7 +3,7 @@
 use crate::engine::{play, Calls};
 use crate::listing::bytes;
 use crate::port::Port;
-use crate::report::disagreement;
+use crate::report::{disagreement, edges};
 use crate::songs::{listing, STYLES};
 use crate::tally::Tally;
 use crate::text::Text;
@@ -28,7 +28,7 @@ pub fn run(seed: u64, count: u64, port: &Port) -> Result<bool, String> {
     let calls = if port.calls == Calls::Lent { " on a lent record" } else { "" };
     println!("seed {seed}{calls}: {} listings, {} calls, {} fields equal, none differs", tally.listings, tally.calls, tally.fields);
     tally.print();
-    Ok(true)
+    edges(port)
 }
 
 /// Hands the port a run's listings.

@@ -12,7 +12,8 @@ const LENT_MEMORY: u32 = 16;
 const MOST_VOICES: usize = 32;
 
 pub fn listing() -> Vec<Record> {
-    [refused_set_ups(), rows(), full(), tidied(), clock_end(), emptied(), broken(), broken_sizes(), judged(), waveforms(), runs(), runs_refused(), runs_at_the_end(), setting(), vectors::listing()].concat()
+    let refused = [refused_set_ups(), rows(), full(), tidied(), clock_end(), emptied(), broken(), broken_sizes(), judged()].concat();
+    [refused, waveforms(), runs(), runs_refused(), runs_at_the_end(), setting(), vectors::listing()].concat()
 }
 
 /// Row 9: after each refused set-up every call is refused.
@@ -185,8 +186,8 @@ fn runs_at_the_end() -> Vec<Record> {
     l
 }
 
-/// 7/12's setting put on and off under voices, one of them on its way back, by every call that plays; kept by a reset and not by a set-up; and of one
-/// channel alone, which a call for all of them ends.
+/// 7/12's setting put on and off under voices in ping-pong and in a loop, by every call that plays; of one channel alone; kept by a reset, and not by
+/// a set-up.
 fn setting() -> Vec<Record> {
     let slow = |mode: u8| settings(2.5, 0).with_u8(params::MODE, mode).with_u32(params::SPEED, level(0.375));
     let mut l = begun();
