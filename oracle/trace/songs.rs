@@ -46,8 +46,8 @@ pub fn listing(seed: u64, number: u64) -> (usize, Vec<Record>) {
     (style, sprinkled(s.records, seed, number))
 }
 
-/// The listing with 7/12's setting: in two of six it stays off, in one it is put on behind each set-up, and in the others on and off anywhere. It has
-/// random numbers of its own.
+/// The listing with 7/12's setting: two of six are left as they are, in one it is put on behind each set-up, and in the others on and off anywhere. It
+/// has random numbers of its own.
 fn sprinkled(records: Vec<Record>, seed: u64, number: u64) -> Vec<Record> {
     let mut r = Random::new(seed.wrapping_mul(0x1_0000_0001).wrapping_add(number).wrapping_mul(0xbf58_476d_1ce4_e5b9));
     let way = r.below(6);
