@@ -1,4 +1,4 @@
-//! The Rust's side: the same scenario, played on the original.
+//! The Rust's side: the same scenario, played on the original, in which 7/12's setting costs a test for each voice where it is off (oracle/model).
 
 use crate::scenario::{input_at, Act, Scenario, BEAT, SIZE};
 use audio_sampler_lib::common_types::{InitParams, Note, Params};

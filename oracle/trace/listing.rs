@@ -51,6 +51,7 @@ pub const NOTE: usize = 1;
 pub const NOTE_CHANNEL: usize = 2;
 pub const ENTRIES: usize = 1;
 pub const AUTO: usize = 1;
+pub const ON: usize = 1;
 pub const FLOAT: usize = 4;
 pub const SEED: usize = 4;
 pub const COUNT: usize = 4;
@@ -73,6 +74,10 @@ pub fn start(note: (u8, u8), position: u32, velocity: u32) -> Record {
 
 pub fn of_note(kind: u8, note: (u8, u8)) -> Record {
     Record::new(kind).with_u8(NOTE, note.0).with_u8(NOTE_CHANNEL, note.1)
+}
+
+pub fn interpolation(on: bool) -> Record {
+    Record::new(INTERPOLATION).with_u8(ON, on as u8)
 }
 
 pub fn sample(channel: u32, input: u32, lent: u32) -> Record {
@@ -141,6 +146,7 @@ pub fn describe(r: &Record) -> String {
         ),
         RUN => format!("{} entries from the seed {}, {} samples lent", r.u32_at(RUN_LENGTH), r.u32_at(SEED), r.u32_at(LENT)),
         PUT => puts::describe(r),
+        INTERPOLATION => (if r.u8_at(ON) != 0 { "on" } else { "off" }).into(),
         FRAMES_PROCESSED..=LAST_OFFSET => format!("channel {}", r.u32_at(CHANNEL)),
         ERROR_TEXT..=VOICE_INFO => format!("channel {}, room for {}", r.u32_at(CHANNEL), r.u32_at(ROOM)),
         WAVEFORM => format!("{} columns, room for {}, {} samples lent", r.u32_at(COLUMNS), r.u32_at(ROOM), r.u32_at(LENT)),
