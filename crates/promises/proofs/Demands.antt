@@ -25,6 +25,8 @@ use Rattle.common_types.specs.Times.{asSamplesOf}
 use Rattle.common_types.specs.Settings.{lengthOf, loopLengthOf}
 use Rattle.recorder.specs.ErrorText.{errorText}
 use Rattle.clip.proofs.AtOnce.{at-once, skips-length, skips-speed, skips-data-length, skips-mode}
+use Rattle.clip.proofs.Indices.{adds-up}
+use Rattle.voice.proofs.Values.{value-off, value-whole}
 use Rattle.clip.proofs.Offsets.{clip-offset-inside, offset-within}
 use Rattle.channel.specs.declared.Change.{Change}
 use Rattle.channel.specs.Channels.{live, recordingOf}
@@ -83,6 +85,7 @@ use Rattle.promises.proofs.Whole.{memory-after}
 use Rattle.promises.proofs.Turns.{in-turn}
 use Rattle.promises.proofs.Makes.{no-panic, third, true-positions, spreads, count-makes, capacity-makes, whole}
 use Rattle.promises.proofs.RunEnds.{run-held, run-done, run-ends}
+use Rattle.promises.proofs.Settings.{one-setting}
 use Rattle.promises.proofs.Tidying.{tidying}
 
 -- ---- a refusal

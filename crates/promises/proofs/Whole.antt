@@ -20,7 +20,7 @@ use Rattle.common_types.specs.declared.Params.{Params}
 use Rattle.common_types.specs.Settings.{speedOf, loopLengthOf, beyondLimits, defaultParams}
 use Rattle.common_types.proofs.LoopLengths.{loop-length-fits}
 use Rattle.recorder.specs.ErrorText.{errorText}
-use Rattle.clip.specs.Positions.{indexAt}
+use Rattle.clip.specs.Positions.{indexAt, nextAt}
 use Rattle.voice.specs.declared.Voice.{Voice}
 use Rattle.clip.specs.Bounds.{Sound}
 use Rattle.clip.proofs.Lengths.{float-length}
@@ -30,7 +30,7 @@ use Rattle.clip.proofs.Answers.{speed-found, mode-found, length-asked}
 use Rattle.voice.specs.Voices.{clipModeOf, spanOf, tickOf, movedOf, blankVoice}
 use Rattle.voice.specs.Soundness.{SoundParams, SoundVoice}
 use Rattle.voice.proofs.Moves.{loop-length-good, moved-sound}
-use Rattle.voice.proofs.Kept.{clip-sound}
+use Rattle.voice.proofs.Kept.{next-recorded, clip-sound}
 use Rattle.channel.specs.Heads.{momentOf}
 use Rattle.channel.specs.Channels.{live, takenOf, memoryOf}
 use Rattle.channel.specs.Soundness.{FittingChange, SoundChannel}

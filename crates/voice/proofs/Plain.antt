@@ -12,11 +12,11 @@ use Rattle.volume.specs.Levels.{keepsOf}
 use Rattle.volume.proofs.Ends.{stepped-keeps}
 use Rattle.clip.specs.declared.Position.{Position}
 use Rattle.clip.specs.Positions.{indexOf, positionOf, positionAt, indexAt, nextAt}
-use Rattle.clip.specs.Quick.{noIndex, QuickIndex, QuickFraction}
+use Rattle.clip.specs.Quick.{noIndex, QuickIndex}
 use Rattle.clip.specs.declared.Near.{Near}
 use Rattle.voice.specs.Voices.{recordedValueOf, betweenOf, valueAt, valueOf, productOf, soundedOf, playedOutOf, endedOf, shouldRemoveOf, volumeStepped, turnOf}
 use Rattle.voice.specs.Agreeing.{agreesOf}
-use Rattle.voice.specs.Plain.{plainOf, soundedAt, glidedOf, goesOnOf, QuickBeside, Quickly}
+use Rattle.voice.specs.Plain.{plainOf, soundedAt, glidedOf, goesOnOf, QuickBeside, QuickValue, Quickly}
 use Rattle.voice.specs.declared.Voice.{Voice}
 use Rattle.voice.specs.declared.Tick.{Tick}
 use Rattle.voice.proofs.Unmoved.{unmoved, agrees}
@@ -116,32 +116,28 @@ module _ (t : Tick) (m : List ℕ) (v : Voice) where
       (simp (a, k, out, stays, turned, stays-after), sym turned)
 
   -- ---- each as a call answers it
-  module _ (near : Near) (fraction : Float) (next : ℕ) (found : QuickIndex (v .clip2) (t .now) (t .span .length) (mul binary32 (v .speed) (t .speed)) (t .span .«data_length») (t .mode) near)
-      (rest : QuickFraction near fraction) (beside : QuickBeside (v .clip2) (near .index) t next) (some : near .index < noIndex) (more : next < noIndex) where
+  module _ (near : Near) (next : ℕ) (sample : Float) (found : QuickIndex (v .clip2) (t .now) (t .span .length) (mul binary32 (v .speed) (t .speed)) (t .span .«data_length») (t .mode) near)
+      (beside : QuickBeside (v .clip2) (near .index) t next) (value : QuickValue t m near next sample) (some : near .index < noIndex) (more : next < noIndex) where
     -- what was found quickly is the clip's position, and its next index where that is heard
-    placed : record { index = near .index; fraction = fraction } ≡ positionAt (v .clip2) (t .now)
-    unfolding positionOf indexAt
-    placed =
+    valued : sample ≡ valueOf t m (v .clip2)
+    unfolding valueOf indexAt
+    valued =
         let at = found some in
-        let index : near .index ≡ indexOf (near .offset) = at .1 ∙ ap indexOf (sym (at .2)) in
-        let is = rest some index (at .3) in
-        (λ i. record { index = index i; fraction = is i }) ∙ ap positionOf (at .2)
-
-    valued : valueAt t m (record { index = near .index; fraction = fraction }) next ≡ valueOf t m (v .clip2)
-    unfolding valueOf
-    valued = ap (λ (p : Position). valueAt t m p next) placed ∙ go (t .interpolates) (beside more (mul binary32 (v .speed) (t .speed)) (found some .0))
+        value some (at .1 ∙ ap indexOf (sym (at .2))) (at .3)
+        ∙ ap (λ (x : Float). valueAt t m (positionOf x) next) (at .2)
+        ∙ go (t .interpolates) (beside more (mul binary32 (v .speed) (t .speed)) (at .0))
       where
-        a : Float
-        a = recordedValueOf m (positionAt (v .clip2) (t .now) .index)
+        p : Position
+        p = positionAt (v .clip2) (t .now)
 
         go : (b : Bool) → next ≡ cond b (nextAt (v .clip2) (t .now)) (near .index)
-            → cond b (betweenOf a (recordedValueOf m next) (positionAt (v .clip2) (t .now) .fraction)) a ≡ cond b (betweenOf a (recordedValueOf m (nextAt (v .clip2) (t .now))) (positionAt (v .clip2) (t .now) .fraction)) a
-        go true e = ap (λ (i : ℕ). betweenOf a (recordedValueOf m i) (positionAt (v .clip2) (t .now) .fraction)) e
+            → cond b (betweenOf (recordedValueOf m (p .index)) (recordedValueOf m next) (p .fraction)) (recordedValueOf m (p .index))
+            ≡ cond b (betweenOf (recordedValueOf m (p .index)) (recordedValueOf m (nextAt (v .clip2) (t .now))) (p .fraction)) (recordedValueOf m (p .index))
+        go true e = ap (λ (i : ℕ). betweenOf (recordedValueOf m (p .index)) (recordedValueOf m i) (p .fraction)) e
         go false e = refl
 
-    pub answered : (w : Voice) (keeps goes : Bool) → w ≡ soundedAt t v (near .index) (valueAt t m (record { index = near .index; fraction = fraction }) next)
-        → keeps ≡ keepsOf (v .volume) (t .now) → goes ≡ goesOnOf t v w → keeps ≡ true → Quickly t m v (record { voice = w; plain = goes })
+    pub answered : (w : Voice) (keeps goes : Bool) → w ≡ soundedAt t v (near .index) sample → keeps ≡ keepsOf (v .volume) (t .now) → goes ≡ goesOnOf t v w → keeps ≡ true → Quickly t m v (record { voice = w; plain = goes })
     answered w keeps goes is k g kept plain =
         let at = found some in
-        let same : w ≡ glidedOf t m v = is ∙ ap (λ (i : ℕ). soundedAt t v i (valueAt t m (record { index = near .index; fraction = fraction }) next)) (at .1) ∙ ap (soundedAt t v (indexAt (v .clip2) (t .now))) valued in
+        let same : w ≡ glidedOf t m v = is ∙ ap (λ (i : ℕ). soundedAt t v i sample) (at .1) ∙ ap (soundedAt t v (indexAt (v .clip2) (t .now))) valued in
         going w (agrees t v (at .0)) same (sym k ∙ kept) (sym g ∙ plain)

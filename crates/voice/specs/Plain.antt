@@ -4,14 +4,16 @@ use mathlib.Core.Path.{_≡_}
 use Prim.Native.Nat.{ℕ, _<_}
 use mathlib.Core.Bool.{Bool, true, not, _&&_, cond}
 use mathlib.Core.List.{List}
-use lib.Ieee.{Float, binary32, add, mul}
-use Rattle.binary32.specs.Leaves.{crossingOf}
+use lib.Dec.{T}
+use lib.Ieee.{Float, binary32, add, mul, le}
+use Rattle.binary32.specs.Leaves.{crossingOf, zero32}
 use Rattle.volume.specs.Levels.{levelOf, keepsOf}
 use Rattle.clip.specs.declared.Clip.{Clip}
-use Rattle.clip.specs.Positions.{indexAt, nextAt}
+use Rattle.clip.specs.declared.Near.{Near}
+use Rattle.clip.specs.Positions.{indexOf, positionOf, indexAt, nextAt}
 use Rattle.clip.specs.Updates.{sameAll}
 use Rattle.clip.specs.Quick.{noIndex}
-use Rattle.voice.specs.Voices.{valueOf, soundedOf, playedOutOf, shouldRemoveOf, turnOf}
+use Rattle.voice.specs.Voices.{valueAt, valueOf, soundedOf, playedOutOf, shouldRemoveOf, turnOf}
 use Rattle.voice.specs.Agreeing.{agreesOf}
 use Rattle.voice.specs.declared.Voice.{Voice}
 use Rattle.voice.specs.declared.Tick.{Tick}
@@ -59,6 +61,12 @@ abbrev pub QuickBeside : Clip → ℕ → Tick → ℕ → Type 0
 QuickBeside c index t r =
     r < noIndex → (speed : Float) → sameAll c (t .span .length) speed (t .span .«data_length») (t .mode) ≡ true
     → r ≡ cond (t .interpolates) (nextAt c (t .now)) index
+
+-- near has no index, or not that of its offset, or an offset below 0; or r is the value at its offset
+abbrev pub QuickValue : Tick → List ℕ → Near → ℕ → Float → Type 0
+QuickValue t m near next r =
+    near .index < noIndex → near .index ≡ indexOf (near .offset) → T (le zero32 (near .offset))
+    → r ≡ valueAt t m (positionOf (near .offset)) next
 
 -- What a quick turn promises: where it answers that the turn is plain, it is, and its voice is the voice after it.
 -- Elsewhere its voice is not to be looked at.

@@ -29,11 +29,8 @@ quick-beside-requires c κs = search needs
 returns-3 : tie.Need-returns-3
 returns-3 c plain = absurd (true≢false (sym plain))
 
-fraction-requires : tie.Need-fraction-requires
-fraction-requires c κs = search needs
-
-valued-requires : tie.Need-valued-requires
-valued-requires c κs = search needs
+near-valued-requires : tie.Need-near-valued-requires
+near-valued-requires c κs = search needs
 
 crossing-requires : tie.Need-crossing-requires
 crossing-requires c κs = search needs
@@ -44,13 +41,13 @@ goes-on-requires c κs = search needs
 returns-4 : tie.Need-returns-4
 unfolding soundedAt
 returns-4 c =
-    let a = c .before .before .before .before .before .before .before .before .before .before .before .before .before .before .before .before .before .before .args in
-    let found = c .before .before .before .before .before .before .before .before .before .before .quick-index in
-    let keeps = c .before .before .before .before .before .before .before .before .before .before .before .before .before .before .before .before .keeps in
-    answered (a .t) (a .«data» .now) (a .self) (found .result) (c .before .before .before .before .fraction .result) (c .before .before .before .before .before .before .before .quick-beside .result) (found .ensures) (c .before .before .before .before .fraction .ensures) (c .before .before .before .before .before .before .before .quick-beside .ensures)
-    (c .before .before .before .before .before .before .before .before .before .if2 .left) (c .before .before .before .before .before .before .if3 .left) _ (keeps .result) (c .goes-on .result)
-    (simp (c .before .crossing .ensures, c .before .before .before .valued .ensures, c .before .before .before .before .before .before .before .before .level .ensures))
-    (keeps .ensures) (c .goes-on .ensures) (not-false (keeps .result) (c .before .before .before .before .before .before .before .before .before .before .before .before .before .before .before .if1 .left))
+    let a = c .before .before .before .before .before .before .before .before .before .before .before .before .before .before .before .before .before .args in
+    let found = c .before .before .before .before .before .before .before .before .before .quick-index in
+    let keeps = c .before .before .before .before .before .before .before .before .before .before .before .before .before .before .before .keeps in
+    let valued = c .before .before .before .near-valued in
+    answered (a .t) (a .«data» .now) (a .self) (found .result) (c .before .before .before .before .before .before .quick-beside .result) (valued .result) (found .ensures) (c .before .before .before .before .before .before .quick-beside .ensures) (valued .ensures)
+    (c .before .before .before .before .before .before .before .before .if2 .left) (c .before .before .before .before .before .if3 .left) _ (keeps .result) (c .goes-on .result) (simp (c .before .crossing .ensures, c .before .before .before .before .before .before .before .level .ensures)) (keeps .ensures) (c .goes-on .ensures)
+    (not-false (keeps .result) (c .before .before .before .before .before .before .before .before .before .before .before .before .before .before .if1 .left))
 
 pub quick-spec : {M : Type 1} → statement M
 quick-spec =
@@ -63,8 +60,7 @@ quick-spec =
     level-requires
     quick-beside-requires
     returns-3
-    fraction-requires
-    valued-requires
+    near-valued-requires
     crossing-requires
     goes-on-requires
     returns-4)
