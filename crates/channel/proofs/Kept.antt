@@ -25,7 +25,7 @@ use Rattle.voice.specs.declared.Voice.{Voice}
 use Rattle.voice.specs.Voices.{finishOf, freshOf, atSpeedOf, blankVoice}
 use Rattle.voice.specs.Soundness.{Fits, SoundParams, SoundPosition, SoundVoice}
 use Rattle.voice.proofs.Kept.{finish-sound, at-speed-sound, fresh-sound}
-use Rattle.channel.specs.Heads.{passthruOf, headChangedOf}
+use Rattle.channel.specs.Heads.{momentOf, passthruOf, headChangedOf}
 use Rattle.channel.specs.Channels.{withHead, withVoices, live, channelOf, resetOf, anyUnfinishedOf, handledOf, pushedOf, startPlayingOf, sameNote, findOf, finishedAtOf, stopPlayingOf, spedOf, setNoteSpeedOf, changedOf}
 use Rattle.channel.specs.Soundness.{SoundChannel, SoundChange}
 use Rattle.channel.specs.declared.Channel.{Channel}
@@ -109,7 +109,7 @@ module _ (capacity : ℕ) (c : Channel) (s : SoundChannel capacity c) where
       let v = freshOf p position note velocity (c .head .now) n in
       cond-split (SoundChannel capacity) (eqb n 0) c (handledOf p (pushedOf v c)) (λ e. s)
       (λ e. handled-sound capacity (pushedOf v c)
-      (pushed-sound v (fresh-sound p (c .head .now) n ok (some n e) (le-trans (data-within capacity c s) small) (parts s .head .time) position note velocity at t)) p ok)
+      (pushed-sound v (fresh-sound p (momentOf (c .head)) ok (some n e) (le-trans (data-within capacity c s) small) (parts s .head .time) position note velocity at t)) p ok)
 
   -- ---- every change
   head-change-sound : (d : HeadChange) → SoundChannel capacity (withHead (headChangedOf d (c .head)) c)

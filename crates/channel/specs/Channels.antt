@@ -15,6 +15,7 @@ use Rattle.common_types.specs.declared.Params.{Params}
 use Rattle.common_types.specs.declared.Note.{Note}
 use Rattle.recorder.specs.Recording.{recordedOf, dataAfter}
 use Rattle.voice.specs.declared.Voice.{Voice}
+use Rattle.voice.specs.declared.Moment.{Moment}
 use Rattle.voice.specs.declared.Tick.{Tick}
 use Rattle.voice.specs.Voices.{
   tickOf,
@@ -27,7 +28,7 @@ use Rattle.voice.specs.Voices.{
   blankVoice,
   atSpeedOf,
 }
-use Rattle.channel.specs.Heads.{headOf, headChangedOf, withRecorded, passthruOf, mixedOf, closedOf, goodHead}
+use Rattle.channel.specs.Heads.{headOf, headChangedOf, momentOf, withRecorded, passthruOf, mixedOf, closedOf, goodHead}
 use Rattle.channel.specs.declared.Head.{Head}
 use Rattle.channel.specs.declared.Channel.{Channel}
 use Rattle.channel.specs.declared.Change.{Change}
@@ -137,10 +138,9 @@ playedOf t m c = record {
 }
 
 -- the voices play if the recording isn't empty
-unfoldable pub playedIfOf : Params → List ℕ → Channel → Played
-playedIfOf p m c =
-    cond (eqb (c .head .«data_len») 0) (record { channel = c; output = zero32; moved = 0 })
-    (playedOf (tickOf p (c .head .now) (c .head .«data_len»)) m c)
+unfoldable pub playedIfOf : Params → Moment → List ℕ → Channel → Played
+playedIfOf p at m c = cond (eqb (at .«data_len») 0) (record { channel = c; output = zero32; moved = 0 })
+    (playedOf (tickOf p at) m c)
 
 -- the channel once the sample x has been recorded, and its memory
 unfoldable pub takenOf : List ℕ → Channel → Channel
@@ -152,8 +152,8 @@ memoryOf x c m = dataAfter (c .head .recorder) (bitsOf x) m
 -- records first, then plays, then adds the input at its level, and closes
 unfoldable pub processSampleOf : Params → Float → Channel → List ℕ → Played
 processSampleOf p x c m =
-    let r = playedIfOf p (memoryOf x c m) (takenOf m c) in
     let h = takenOf m c .head in
+    let r = playedIfOf p (momentOf h) (memoryOf x c m) (takenOf m c) in
     record {
       channel = withHead (closedOf p (anyUnfinishedOf (r .channel)) h) (r .channel);
       output = mixedOf x (r .output) h;

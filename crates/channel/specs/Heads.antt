@@ -11,6 +11,7 @@ use Rattle.volume.specs.Levels.{isStaticOf, levelOf, towardOf, steppedOf, goodV
 use Rattle.binary32.specs.Leaves.{zero32, one32}
 use Rattle.recorder.specs.declared.Recorded.{Recorded}
 use Rattle.recorder.specs.Recording.{newRecorderOf, startOf, stopOf, goodRecorder}
+use Rattle.voice.specs.declared.Moment.{Moment}
 use Rattle.channel.specs.declared.Head.{Head}
 use Rattle.channel.specs.declared.HeadChange.{HeadChange}
 use Rattle.channel.specs.declared.HeadChange.the-variants.{StartRecording, StopRecording}
@@ -35,6 +36,10 @@ withPassthru on volume
       recorder = h .recorder;
       «passthru_on» = on;
     }
+
+-- ---- what the voices go by in one sample
+abbrev pub momentOf : Head → Moment
+momentOf h = record { now = h .now; «data_len» = h .«data_len» }
 
 -- ---- the clock: it ends at 2 ^ 48, and a sample then is refused (row 6)
 abbrev pub lastTime : ℕ

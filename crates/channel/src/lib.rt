@@ -15,6 +15,7 @@ ghost use Rattle.channel.specs.declared.HeadChange.the-variants.{StartRe
 ghost use Rattle.channel.specs.Heads.{
   nextTime,
   headOf,
+  momentOf,
   headChangedOf,
   clockedOf,
   passesOf,
@@ -60,6 +61,7 @@ use common_types::Note;
 use common_types::Params;
 use recorder::Recorded;
 use recorder::Recorder;
+use voice::Moment;
 use voice::Tick;
 use voice::Voice;
 use volume::Volume;
@@ -273,6 +275,15 @@ impl Head {
     {
         let recorder = self.recorder;
         recorder.is_recording()
+    }
+
+    pub fn moment(self) -> Moment
+        ensures { λ r. ⌜ r ≡ momentOf self ⌝ }
+    {
+        Moment {
+            now: self.now,
+            data_len: self.data_len,
+        }
     }
 
     pub fn good(self, capacity: usize) -> bool
@@ -530,7 +541,7 @@ impl Channel {
     }
 
     fn play_voices(self, params: Params, data: &[u32]) -> Played
-        ensures { λ r. ⌜ r ≡ playedIfOf params (now («data» .entry)) self ⌝ }
+        ensures { λ r. ⌜ r ≡ playedIfOf params (momentOf (self .head)) (now («data» .entry)) self ⌝ }
         ensures { λ r. ⌜ r .moved ≤ 32 ⌝ }
     {
         let head = self.head;
@@ -541,7 +552,7 @@ impl Channel {
                 moved: 0,
             };
         }
-        self.play(Tick::new(params, head.now, head.data_len), data)
+        self.play(Tick::new(params, head.moment()), data)
     }
 
     pub fn with_sample(self, params: Params, input: f32, data: &mut [u32]) -> Played

@@ -101,7 +101,7 @@ not-out : (t : Tick) (v : Voice) → v .finished ≡ true → playedOutOf t v �
 unfolding playedOutOf
 not-out t v h = go (t .once)
   where
-    go : (b : Bool) → (b && not (v .finished) && le (t .«whole_length») (absOf (v .played))) ≡ false
+    go : (b : Bool) → (b && not (v .finished) && le (t .span .«whole_length») (absOf (v .played))) ≡ false
     go true = rw h
     go false = refl
 

@@ -17,7 +17,7 @@ use Rattle.channel.specs.declared.Channel.{Channel}
 use Rattle.channel.specs.declared.Change.the-variants as change
 use Rattle.channel.specs.declared.Found.{Found}
 use Rattle.channel.specs.declared.Found.the-variants.{At, Nothing}
-use Rattle.channel.specs.Channels.{sameNote, unfinishedOf, wantedOf, findOf, memoryOf}
+use Rattle.channel.specs.Channels.{sameNote, unfinishedOf, wantedOf, findOf, takenOf, memoryOf}
 use Rattle.fates.specs.Engine.{turnedOf}
 use Rattle.fates.specs.Events.{Event, idle, changes, sounds, act, emptyAt, tickAt, Sampled, decayOf, lastOf, beforeLast}
 use Rattle.fates.specs.Places.{Housed, voiceAt, Place, at, gone, fateOf, follow, findsAt, becomes, stops, outOf, playsOut, finishes, onward, followAll}
@@ -65,7 +65,7 @@ out-true true t m o v s h = absurd (true≢false (sym h))
 out-true false t m o v s h = (refl, out-turns t m v (subst (λ (z : Option Voice). outOf t m z ≡ true) s h))
 
 finished-ending : (e : Event) (c : Channel) (n : ℕ) (v : Voice) → voiceAt c n ≡ some v → finishes e c n ≡ true → Ending (c .head .now) (decayOf e) (becomes e c n v)
-unfolding stops playsOut becomes decayOf tickOf
+unfolding stops playsOut becomes decayOf tickOf takenOf
 finished-ending idle c n v s f = absurd (true≢false (sym f))
 finished-ending (changes (change.Start p position note velocity)) c n v s f = absurd (true≢false (sym f))
 finished-ending (changes (change.Stop p note)) c n v s f = go (findsAt (findOf note c) n) f
@@ -84,7 +84,7 @@ finished-ending (sounds p x m) c n v s f =
 -- ---- a late sample
 turns-gone : (p : Params) (x : Float) (m : List ℕ) (c : Channel) (n : ℕ) (v : Voice) (r d : ℕ) → voiceAt c n ≡ some v → emptyAt m c ≡ false
     → Turns (tickAt p m c) (memoryOf x c m) v r d → r + max d (p .«decay_samples») ≤ c .head .now → follow (sounds p x m) c n ≡ gone
-unfolding follow fateOf tickOf
+unfolding follow fateOf tickOf takenOf
 turns-gone p x m c n v r d s e h l = rw (e, s, turns-over (tickAt p m c) (memoryOf x c m) v r d h l)
 
 -- the place after an event, if there is one, and then whatever holds from there on
@@ -115,7 +115,7 @@ pub goes : (e : Event) (es : List Event) (c : Channel) → Housed c → (n : ℕ
     → (p : Params) → Sampled (lastOf e es) (beforeLast e es c) p
     → c .head .now + max (decayOf e) (p .«decay_samples») ≤ beforeLast e es c .head .now
     → followAll (e ∷ es) c n ≡ gone
-unfolding beforeLast decayOf playsOut stops tickOf
+unfolding beforeLast decayOf playsOut stops tickOf takenOf
 goes e [] c h n v s f p q l =
     let t : Tick = tickAt p (q .memory) c in
     let mem : List ℕ = memoryOf (q .input) c (q .memory) in

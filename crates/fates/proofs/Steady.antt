@@ -17,7 +17,7 @@ use Rattle.voice.specs.Agreeing.{agreesOf}
 use Rattle.voice.proofs.Unmoved.{unmoved}
 use Rattle.channel.specs.declared.Channel.{Channel}
 use Rattle.channel.specs.declared.Change.the-variants as change
-use Rattle.channel.specs.Channels.{findOf, sameNote, spedOf, memoryOf}
+use Rattle.channel.specs.Channels.{findOf, sameNote, spedOf, takenOf, memoryOf}
 use Rattle.fates.specs.Engine.{passesOver, turnedOf}
 use Rattle.fates.specs.Events.{Event, idle, changes, sounds, act, acts, isReset, emptyAt, tickAt}
 use Rattle.fates.specs.Places.{Housed, voiceAt, Place, at, gone, follow, findsAt, becomes, onward, followAll, somewhere, finishedIn}
@@ -145,7 +145,7 @@ pub record Beats (p : Params) (x : Float) (m : List ℕ) (c : Channel) (n : ℕ)
 
 module _ (p : Params) (x : Float) (m : List ℕ) where
   beat : (c : Channel) (n : ℕ) (v : Voice) → voiceAt c n ≡ some v → v .finished ≡ false → emptyAt m c ≡ false → alters (sounds p x m) c n ≡ false → Beats p x m c n (v .clip2)
-  unfolding tickOf
+  unfolding tickOf takenOf
   beat c n v s u e a =
       let t = tickAt p m c in
       let mem = memoryOf x c m in

@@ -21,7 +21,7 @@ use Rattle.voice.specs.declared.Tick.{Tick}
 use Rattle.voice.specs.Voices.{tickOf, lateOf, shouldRemoveOf, productOf, soundedOf, endedOf, volumeStepped, freshOf}
 use Rattle.channel.specs.declared.Channel.{Channel}
 use Rattle.channel.specs.declared.Played.{Played}
-use Rattle.channel.specs.Heads.{closedOf}
+use Rattle.channel.specs.Heads.{closedOf, momentOf}
 use Rattle.channel.specs.Channels.{
   live,
   withHead,
@@ -87,7 +87,7 @@ unfoldable pub stepOf : Params → Float → Channel → List ℕ → Played
 stepOf p x c m =
     let d = takenOf m c in
     let r = cond {A = Played} (eqb (d .head .«data_len») 0) (record { channel = d; output = zero32; moved = 0 })
-    (turnsOf (tickOf p (d .head .now) (d .head .«data_len»)) (memoryOf x c m) d) in
+    (turnsOf (tickOf p (momentOf (d .head))) (memoryOf x c m) d) in
     record {
       channel = withHead (closedOf p (anyUnfinishedOf (r .channel)) (d .head)) (r .channel);
       output = add binary32 (add binary32 zero32 (r .output))

@@ -13,7 +13,7 @@ use Rattle.voice.specs.Voices.{tickOf}
 use Rattle.channel.specs.declared.Channel.{Channel}
 use Rattle.channel.specs.declared.Change.{Change}
 use Rattle.channel.specs.declared.Change.the-variants as change
-use Rattle.channel.specs.Heads.{headChangedOf}
+use Rattle.channel.specs.Heads.{headChangedOf, momentOf}
 use Rattle.channel.specs.Channels.{withHead, resetOf, stopPlayingOf, setNoteSpeedOf, takenOf}
 use Rattle.fates.specs.Engine.{begunOf, stepOf}
 
@@ -47,7 +47,7 @@ emptyAt m c = eqb (lengthAt m c) 0
 
 -- what its voices share
 abbrev pub tickAt : Params → List ℕ → Channel → Tick
-tickAt p m c = tickOf p (c .head .now) (lengthAt m c)
+tickAt p m c = tickOf p (momentOf (takenOf m c .head))
 
 -- the event is a sample with these parameters, and finds the recording not empty
 pub record Sampled (e : Event) (c : Channel) (p : Params) : Type 0 where

@@ -1,10 +1,12 @@
--- How many bytes a voice and a channel take, and at which byte of a channel its count and its head stand, as the declared records are laid out. Assumes nothing.
+-- How many bytes a voice and a channel take, at which byte of a channel its count and its head stand, and at which byte of a head its clock, its memory's length and its recorder, as the declared records are laid out.
+-- Assumes nothing.
 use Prim.Native.Nat.{ℕ}
 use mathlib.Core.Option.{Option, none, some}
 use mir.Syntax.{Ty}
 use prog.Memory.{size, fieldOf}
 use denote.Memory.{lone}
 use Rattle.voice.proofs.Voice as R
+use Rattle.channel.proofs.Head as E
 use Rattle.channel.proofs.Channel as C
 
 -- where a field begins
@@ -23,3 +25,12 @@ count-at = at (fieldOf (lone (C.the-row .mir)) 1)
 
 abbrev pub head-at : ℕ
 head-at = at (fieldOf (lone (C.the-row .mir)) 2)
+
+abbrev pub time-at : ℕ
+time-at = at (fieldOf (lone (E.the-row .mir)) 0)
+
+abbrev pub length-at : ℕ
+length-at = at (fieldOf (lone (E.the-row .mir)) 1)
+
+abbrev pub recorder-at : ℕ
+recorder-at = at (fieldOf (lone (E.the-row .mir)) 3)

@@ -17,6 +17,7 @@ use Rattle.common_types.specs.declared.Params.{Params}
 use Rattle.binary32.specs.Leaves.{zero32}
 use Rattle.voice.specs.declared.Voice.{Voice}
 use Rattle.voice.specs.declared.Tick.{Tick}
+use Rattle.voice.specs.declared.Moment.{Moment}
 use Rattle.voice.specs.declared.Quick.{Quick}
 use Rattle.voice.specs.Voices.{tickOf, turnOf, shouldRemoveOf}
 use Rattle.voice.specs.Plain.{Quickly}
@@ -24,13 +25,14 @@ use Rattle.voice.proofs.Plain.{glides}
 use Rattle.channel.specs.declared.Head.{Head}
 use Rattle.channel.specs.declared.Channel.{Channel}
 use Rattle.channel.specs.declared.Played.{Played}
-use Rattle.channel.specs.Heads.{mixedOf, closedOf}
+use Rattle.channel.specs.Heads.{momentOf, mixedOf, closedOf}
 use Rattle.channel.specs.Channels.{withHead, withVoices, anyUnfinishedOf, keptOf, tidiedOf, addedOf, heardOf as heard-of, playedOf, playedIfOf}
+use Rattle.channel.proofs.Samples.{played-if-head}
 use Rattle.channel.proofs.Turns.{Walked, restOf, rest-start, rest-end, rest-keep, rest-gone, tidiedFrom, tidied-end, tidied-same, tidied-keep, tidied-gone, step-up}
 use Rattle.lent_channel.specs.declared.Glided.{Glided}
 use Rattle.lent_channel.specs.declared.Going.{Going}
 use Rattle.lent_channel.specs.declared.Turn.{Turn}
-use Rattle.lent_channel.specs.Turns.{unusedTick, silent, turnCountOf, sharedOf, voicesLeftOf, playedBy, restFrom, Glides, afterPlain, turnedOf, heardOf}
+use Rattle.lent_channel.specs.Turns.{unusedTick, silent, turnCountOf, sharedOf, voicesLeftOf, restFrom, Glides, afterPlain, turnedOf, heardOf}
 
 -- what a walk leaves and what is heard of it, with how many have moved up
 abbrev counting : Walked → ℕ → Played
@@ -122,32 +124,32 @@ module _ (t : Tick) (m : List ℕ) (c : Channel) (g : Going) (v : Voice) (less :
         go true = omega (arith, few)
         go false = step-up (g .moved) (g .kept) (g .place) _ few refl
 
-pub turns-few : (p : Params) (time len count : ℕ) → sharedOf p time len count .turns ≤ 32
+pub turns-few : (p : Params) (at : Moment) (count : ℕ) → sharedOf p at count .turns ≤ 32
 unfolding sharedOf turnCountOf
-turns-few p time len count = go (eqb len 0)
+turns-few p at count = go (eqb (at .«data_len») 0)
   where
     go : (z : Bool) → cond z 0 (min count 32) ≤ 32
     go true = omega arith
     go false = omega arith
 
-module _ (p : Params) (time len : ℕ) (ms : List ℕ) (h : Channel) (all : length (h .voices) ≡ 32) where
+module _ (p : Params) (at : Moment) (ms : List ℕ) (h : Channel) (all : length (h .voices) ≡ 32) where
   abbrev t : Tick
-  t = sharedOf p time len (h .count) .tick
+  t = sharedOf p at (h .count) .tick
 
   abbrev n : ℕ
-  n = sharedOf p time len (h .count) .turns
+  n = sharedOf p at (h .count) .turns
 
   abbrev goal : Played
   goal = restFrom t ms h 0 zero32 (take n (h .voices))
 
   all-few : min n 32 ≡ n
-  all-few = omega (arith, turns-few p time len (h .count))
+  all-few = omega (arith, turns-few p at (h .count))
 
   -- the loop begins where the plain turns end
-  pub begins-there : (d : Channel) (g : Glided) → Glides (sharedOf p time len (h .count)) ms h d g → length (d .voices) ≡ 32 → Walk goal (restBy t ms (withVoices (d .voices) (d .count) d) (afterPlain g)) (d .voices) n (g .upto)
+  pub begins-there : (d : Channel) (g : Glided) → Glides (sharedOf p at (h .count)) ms h d g → length (d .voices) ≡ 32 → Walk goal (restBy t ms (withVoices (d .voices) (d .count) d) (afterPlain g)) (d .voices) n (g .upto)
   begins-there d g e long = record {
     upto = subst (λ (j : ℕ). g .upto ≤ j) all-few (e .few);
-    within = omega (arith, turns-few p time len (h .count), long);
+    within = omega (arith, turns-few p at (h .count), long);
     same = rest-plain t ms d g _ ∙ subst (λ (j : ℕ). restFrom t ms d (g .upto) (g .output) (slice (g .upto) j (d .voices)) ≡ restFrom t ms h 0 zero32 (take j (h .voices))) all-few (e .same);
   }
 
@@ -190,11 +192,11 @@ module _ (p : Params) (time len : ℕ) (ms : List ℕ) (h : Channel) (all : leng
     by-tick u v m false f = refl
 
     module _ (e : restBy t ms (withVoices l (h .count) h) g [] ≡ goal) where
-      ended : left (voicesLeftOf n (g .kept) (h .count)) ≡ playedBy p time len ms h
-      unfolding playedBy sharedOf turnCountOf
+      ended : left (voicesLeftOf n (g .kept) (h .count)) ≡ playedIfOf p at ms h
+      unfolding playedIfOf sharedOf turnCountOf
       ended =
-          let v = tickOf p time len in
-          ended-at v (eqb len 0) (sym (rest-none t ms (withVoices l (h .count) h) g) ∙ e ∙ by-tick unusedTick v n (eqb n 0) refl)
+          let v = tickOf p at in
+          ended-at v (eqb (at .«data_len») 0) (sym (rest-none t ms (withVoices l (h .count) h) g) ∙ e ∙ by-tick unusedTick v n (eqb n 0) refl)
 
     -- the same of the channel that the plain turns left
     module _ (d : Channel) (count : d .count ≡ h .count) (e : restBy t ms (withVoices l (d .count) d) g [] ≡ goal) where
@@ -204,38 +206,28 @@ module _ (p : Params) (time len : ℕ) (ms : List ℕ) (h : Channel) (all : leng
       back : withVoices l (d .count) d ≡ withVoices l (h .count) h
       back = ap (λ (c : ℕ). record { voices = l; count = c; head = d .head }) count ∙ ap (λ (t : Head). record { voices = l; count = h .count; head = t }) head
 
-      ends-so : left (voicesLeftOf n (g .kept) (h .count)) ≡ playedBy p time len ms h
+      ends-so : left (voicesLeftOf n (g .kept) (h .count)) ≡ playedIfOf p at ms h
       ends-so = ended (ap (λ (c : Channel). restBy t ms c g []) (sym back) ∙ e)
 
-      pub ended-heard : record { output = g .output; moved = g .moved } ≡ heardOf (playedBy p time len ms h)
+      pub ended-heard : record { output = g .output; moved = g .moved } ≡ heardOf (playedIfOf p at ms h)
       ended-heard = ap heardOf ends-so
 
-      pub ended-channel : withVoices l (voicesLeftOf n (g .kept) (d .count)) d ≡ playedBy p time len ms h .channel
+      pub ended-channel : withVoices l (voicesLeftOf n (g .kept) (d .count)) d ≡ playedIfOf p at ms h .channel
       ended-channel = ap (λ (c : Channel). withVoices l (voicesLeftOf n (g .kept) (c .count)) c) back ∙ ap (λ (r : Played). r .channel) ends-so
 
 -- ---- a sample, once it is recorded: the voices play and leave the head as it was, which is closed
-module _ (p : Params) (time len : ℕ) (m : List ℕ) (c : Channel) where
-  same-head : playedBy p time len m c .channel .head ≡ c .head
-  unfolding playedBy playedOf
-  same-head = go (eqb len 0)
-    where
-      go : (z : Bool) → cond z (record { channel = c; output = zero32; moved = 0 }) (playedOf (tickOf p time len) m c) .channel .head ≡ c .head
-      go true = refl
-      go false = refl
-
 abbrev closing : Params → Float → Head → Played → Played
 closing p x t r = record { channel = withHead (closedOf p (anyUnfinishedOf (r .channel)) t) (r .channel); output = mixedOf x (r .output) t; moved = r .moved }
 
 module _ (p : Params) (x : Float) (m : List ℕ) (c : Channel) where
   abbrev given : Played
-  given = playedBy p (c .head .now) (c .head .«data_len») m c
+  given = playedIfOf p (momentOf (c .head)) m c
 
-  pub sample-by : closing p x (given .channel .head) given ≡ closing p x (c .head) (playedIfOf p m c)
-  unfolding playedIfOf playedBy
-  sample-by = ap (λ (t : Head). closing p x t given) (same-head p (c .head .now) (c .head .«data_len») m c)
+  pub sample-by : closing p x (given .channel .head) given ≡ closing p x (c .head) given
+  sample-by = ap (λ (t : Head). closing p x t given) (played-if-head p (momentOf (c .head)) m c)
 
 -- ---- a channel without voices: nothing is heard of it, it stays as it is, and no voice is unfinished
-module _ (p : Params) (time len : ℕ) (m : List ℕ) (c : Channel) (none : c .count ≡ 0) where
+module _ (p : Params) (at : Moment) (m : List ℕ) (c : Channel) (none : c .count ≡ 0) where
   abbrev with-none : Channel → Played
   with-none d = record { channel = d; output = zero32; moved = 0 }
 
@@ -246,17 +238,17 @@ module _ (p : Params) (time len : ℕ) (m : List ℕ) (c : Channel) (none : c .c
   unfolding playedOf keptOf tidiedOf heard-of without behind fold
   played-none u = subst (λ (n : ℕ). playedOf u m (of-count n) ≡ with-none (of-count n)) (sym none) refl
 
-  plays-none : playedBy p time len m c ≡ with-none c
-  unfolding playedBy
-  plays-none = either (λ (r : Played). r) (eqb len 0) _ _ (with-none c) refl (played-none _)
+  plays-none : playedIfOf p at m c ≡ with-none c
+  unfolding playedIfOf
+  plays-none = either (λ (r : Played). r) (eqb (at .«data_len») 0) _ _ (with-none c) refl (played-none _)
 
-  pub none-heard : silent ≡ heardOf (playedBy p time len m c)
+  pub none-heard : silent ≡ heardOf (playedIfOf p at m c)
   unfolding silent
   none-heard = sym (ap heardOf plays-none)
 
-  pub none-gone : c ≡ playedBy p time len m c .channel
+  pub none-gone : c ≡ playedIfOf p at m c .channel
   none-gone = sym (ap (λ (r : Played). r .channel) plays-none)
 
-  pub none-unfinished : false ≡ anyUnfinishedOf (playedBy p time len m c .channel)
+  pub none-unfinished : false ≡ anyUnfinishedOf (playedIfOf p at m c .channel)
   unfolding anyUnfinishedOf any
   none-unfinished = subst (λ (n : ℕ). false ≡ anyUnfinishedOf (of-count n)) (sym none) refl ∙ ap anyUnfinishedOf none-gone

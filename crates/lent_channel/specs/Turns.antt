@@ -13,13 +13,14 @@ use Rattle.clip.specs.declared.Mode.the-variants.{Loop}
 use Rattle.binary32.specs.Leaves.{zero32}
 use Rattle.walks.specs.Walks.{fold}
 use Rattle.voice.specs.declared.Voice.{Voice}
+use Rattle.voice.specs.declared.Moment.{Moment}
 use Rattle.voice.specs.declared.Tick.{Tick}
 use Rattle.voice.specs.Voices.{tickOf, turnOf, shouldRemoveOf, productOf}
 use Rattle.channel.specs.declared.Head.{Head}
 use Rattle.channel.specs.declared.Channel.{Channel}
 use Rattle.channel.specs.declared.Played.{Played}
 use Rattle.channel.specs.Heads.{goodHead, mixedOf}
-use Rattle.channel.specs.Channels.{withVoices, keptOf, tidiedOf, addedOf, playedOf}
+use Rattle.channel.specs.Channels.{withVoices, keptOf, tidiedOf, addedOf}
 use Rattle.lent_channel.specs.declared.Start.{Start}
 use Rattle.lent_channel.specs.declared.Heard.{Heard}
 use Rattle.lent_channel.specs.declared.Glided.{Glided}
@@ -40,29 +41,21 @@ unfoldable pub unusedTick : Tick
 unusedTick = record {
   now = 0;
   «decay_samples» = 0;
-  length = zero32;
-  «whole_length» = zero32;
-  «data_length» = zero32;
+  span = record { length = zero32; «whole_length» = zero32; «data_length» = zero32 };
   speed = zero32;
   mode = Loop;
   once = false;
   «note_off_behavior» = Decay;
 }
 
-unfoldable pub sharedOf : Params → ℕ → ℕ → ℕ → Start
-sharedOf p time len count =
-    let n = turnCountOf len count in
-    record { tick = cond (eqb n 0) unusedTick (tickOf p time len); turns = n }
+unfoldable pub sharedOf : Params → Moment → ℕ → Start
+sharedOf p at count =
+    let n = turnCountOf (at .«data_len») count in
+    record { tick = cond (eqb n 0) unusedTick (tickOf p at); turns = n }
 
 -- how many voices there are after the turns: where there was none, as many as before
 unfoldable pub voicesLeftOf : ℕ → ℕ → ℕ → ℕ
 voicesLeftOf turns kept count = cond (eqb turns 0) count kept
-
--- the voices play if the recording isn't empty: a channel's `playedIfOf`, at a clock and with a recording's length that
--- are given
-unfoldable pub playedBy : Params → ℕ → ℕ → List ℕ → Channel → Played
-playedBy p time len m c = cond (eqb len 0) (record { channel = c; output = zero32; moved = 0 })
-    (playedOf (tickOf p time len) m c)
 
 -- what the turns of the voices vs give, where k voices before them took theirs and all stayed, and `out` was heard of
 -- them: those that stay stand behind the k, what is heard is added, and none of the k moved up

@@ -10,6 +10,7 @@ ghost use Rattle.channel.specs.Heads.{closedOf};
 ghost use Rattle.channel.specs.Channels.{
   anyUnfinishedOf,
   withHead,
+  playedIfOf,
   takenOf,
   memoryOf,
   processSampleOf,
@@ -22,7 +23,6 @@ ghost use Rattle.lent_channel.specs.Turns.{
   turnCountOf,
   sharedOf,
   voicesLeftOf,
-  playedBy,
   Glides,
   afterPlain,
   turnedOf,
@@ -35,6 +35,8 @@ use channel::Head;
 use clip::Mode;
 use common_types::NoteOffBehaviour;
 use common_types::Params;
+use voice::Moment;
+use voice::Span;
 use voice::Tick;
 use voice::Voice;
 
@@ -67,9 +69,11 @@ fn unused() -> Tick
     Tick {
         now: 0,
         decay_samples: 0,
-        length: 0.0,
-        whole_length: 0.0,
-        data_length: 0.0,
+        span: Span {
+            length: 0.0,
+            whole_length: 0.0,
+            data_length: 0.0,
+        },
         speed: 0.0,
         mode: Mode::Loop,
         once: false,
@@ -87,10 +91,10 @@ fn turns_of(data_len: usize, count: usize) -> usize
     channel::places(count)
 }
 
-fn begun(time: usize, data_len: usize, count: usize, params: Params) -> Start
-    ensures { λ r. ⌜ r ≡ sharedOf params time «data_len» count ⌝ }
+fn begun(at: Moment, count: usize, params: Params) -> Start
+    ensures { λ r. ⌜ r ≡ sharedOf params at count ⌝ }
 {
-    let turns = turns_of(data_len, count);
+    let turns = turns_of(at.data_len, count);
     if turns == 0 {
         return Start {
             tick: unused(),
@@ -98,7 +102,7 @@ fn begun(time: usize, data_len: usize, count: usize, params: Params) -> Start
         };
     }
     Start {
-        tick: Tick::new(params, time, data_len),
+        tick: Tick::new(params, at),
         turns,
     }
 }
@@ -268,11 +272,11 @@ fn turned(g: Going, v: Voice, t: Tick, data: &[u32]) -> Turn
 
 // Each voice takes its turn if the recording isn't empty; those that are then to be removed leave, and the others move
 // up in order. Plain turns go first, as far as they go. The clock and the recording's length are the head's.
-fn play(c: &mut Channel, time: usize, data_len: usize, params: Params, data: &[u32]) -> Heard
-    ensures { λ r. ⌜ (r ≡ heardOf (playedBy params time «data_len» (now («data» .entry)) (now (c .entry))))
-        × (now (c .exit) ≡ playedBy params time «data_len» (now («data» .entry)) (now (c .entry)) .channel) ⌝ }
+fn play(c: &mut Channel, at: Moment, params: Params, data: &[u32]) -> Heard
+    ensures { λ r. ⌜ (r ≡ heardOf (playedIfOf params at (now («data» .entry)) (now (c .entry))))
+        × (now (c .exit) ≡ playedIfOf params at (now («data» .entry)) (now (c .entry)) .channel) ⌝ }
 {
-    let b = begun(time, data_len, c.count, params);
+    let b = begun(at, c.count, params);
     let t = b.tick;
     let n = b.turns;
     let mut g = after_plain(glide(c, b, data));
@@ -337,7 +341,7 @@ pub fn with_sample(c: &mut Channel, params: Params, input: f32, data: &mut [u32]
     let mut played = silence();
     let mut unfinished = false;
     if c.count != 0 {
-        played = play(c, c.head.now, c.head.data_len, params, data);
+        played = play(c, c.head.moment(), params, data);
         unfinished = any_unfinished(c);
     }
     close(c, params, unfinished, input, played)

@@ -1,4 +1,4 @@
--- The walk of a change of every channel of a lent record T, over rows of `Rows.antt`. What the two channels have taken is read where it stands, and the record is shared with `#number` for its call; then each turn lends channel j, where it stands, to `#changes`, for a lifetime that is made for the call.
+-- The walk of a change of every channel of a lent record T, over the data of `walks`. What the two channels have taken is read where it stands, and the record is shared with `#number` for its call; then each turn lends channel j, where it stands, to `#changes`, for a lifetime that is made for the call.
 --     Changing         what the five calls ensure, and what stands after j turns (`Turned`), with its laws
 --     changes-each     the function meets its contract, from those of the calls
 -- Assumes `Given`.
@@ -48,7 +48,7 @@ use Rattle.walks.proofs.Steps.Rounds.{rounds}
 use Rattle.walks.proofs.Tests.{holds, fails}
 use Rattle.lent_channel.proofs.Bytes.{channel-bytes, head-at}
 use Rattle.lent_channel.proofs.Bytes.{count-at as voices-at}
-use Rattle.lent_channel.proofs.Rows.{Datum, row, lies}
+use Rattle.walks.proofs.Steps.Data.{Datum, row, lies}
 use Rattle.lent_sampler.proofs.Bytes.{count-at}
 use Rattle.lent_sampler.proofs.Seats.{Seats, seat}
 

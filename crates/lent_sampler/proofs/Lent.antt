@@ -1,4 +1,4 @@
--- The sampler and what its calls answer, as rows of `Rows.antt`.
+-- The sampler and what its calls answer, as the data of `walks`.
 use mathlib.Core.Path.{_≡_, refl, ap}
 use Prim.Native.Nat.{ℕ}
 use mir.Syntax.{w8, w64, tyInt, tcons, tnil}
@@ -9,12 +9,14 @@ use Rattle.sampler.proofs.Sampler as T
 use Rattle.sampler.proofs.Sampler.Laws as T′
 use Rattle.sampler.proofs.Ran as R
 use Rattle.sampler.proofs.Ran.Laws as R′
-use Rattle.lent_sampler.proofs.FrameAsked as F
-use Rattle.lent_sampler.proofs.FrameAsked.Laws as F′
+use Rattle.lent_sampler.proofs.Readings as M
+use Rattle.lent_sampler.proofs.Readings.Laws as M′
+use Rattle.lent_sampler.proofs.Framing as F
+use Rattle.lent_sampler.proofs.Framing.Laws as F′
 use Rattle.lent_sampler.proofs.FrameDone as D
 use Rattle.lent_sampler.proofs.FrameDone.Laws as D′
-use Rattle.lent_sampler.proofs.RunAsked as G
-use Rattle.lent_sampler.proofs.RunAsked.Laws as G′
+use Rattle.lent_sampler.proofs.Running as G
+use Rattle.lent_sampler.proofs.Running.Laws as G′
 use Rattle.lent_sampler.proofs.Sampled as Y
 use Rattle.lent_sampler.proofs.Sampled.Laws as Y′
 use Rattle.lent_sampler.proofs.Sampling as Z
@@ -42,7 +44,7 @@ use Rattle.lent_channel.proofs.Heard.Laws as Up′
 use Rattle.channel.specs.declared.Change.{Change}
 use Rattle.sampler.specs.declared.Sampler.{Sampler}
 use Rattle.sampler.specs.Samplers.{changeOf}
-use Rattle.lent_channel.proofs.Rows.{Datum, struct, enum, word, Answering, Sounding}
+use Rattle.walks.proofs.Steps.Data.{Datum, struct, enum, word, Answering, Sounding}
 
 abbrev pub sampler : Datum
 sampler = struct T.the-type T′.the-laws T′.the-plain
@@ -95,6 +97,10 @@ ran = struct R.the-type R′.the-laws R′.the-plain
 
 abbrev pub frame-done : Datum
 frame-done = struct D.the-type D′.the-laws D′.the-plain
+
+-- what is read of a record before a call
+abbrev pub readings : Datum
+readings = struct M.the-type M′.the-laws M′.the-plain
 
 -- what is asked before a frame, and before a run, is played
 abbrev pub frame-asked : Datum

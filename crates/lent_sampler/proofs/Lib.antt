@@ -1,12 +1,5 @@
-pub mod Arguments
 pub mod Lent
-pub mod Thin
-pub mod Named
-pub mod Copied
-pub mod Peek
-pub mod PeekFill
 pub mod Numbers
-pub mod Middle
 pub mod Bytes
 pub mod Seats
 pub mod Judging

@@ -40,7 +40,7 @@ use Rattle.sampler.proofs.Sampler as T
 use Rattle.sampler.proofs.Sampler.Laws as T′
 use Rattle.lent_channel.proofs.Bytes.{channel-bytes, head-at}
 use Rattle.lent_sampler.proofs.Bytes.{count-at, capacity-at}
-use Rattle.lent_channel.proofs.Rows.{Datum, row}
+use Rattle.walks.proofs.Steps.Data.{Datum, row}
 use Rattle.lent_channel.proofs.Holding.{channel}
 use Rattle.lent_sampler.proofs.Lent.{sampler}
 

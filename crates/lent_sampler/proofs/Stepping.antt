@@ -1,4 +1,4 @@
--- The walk of a frame, and of a run of frames, on a lent record T of two channels, over rows of `Rows.antt`. The record is shared with `#asked` for its call, which says how many entries are played and what is answered of them; then each turn lends the channel of entry i, where it stands, and the memory to `#sample`, for lifetimes that are made for the call, stores the output of what comes back in the entry and gathers it all in a byte by `#gather`. Of what was asked and of that byte `#answer` makes the answer.
+-- The walk of a frame, and of a run of frames, on a lent record T of two channels, over the data of `walks`. The record is shared with `#asked` for its call, which says how many entries are played and what is answered of them; then each turn lends the channel of entry i, where it stands, and the memory to `#sample`, for lifetimes that are made for the call, stores the output of what comes back in the entry and gathers it all in a byte by `#gather`. Of what was asked and of that byte `#answer` makes the answer.
 --     Turning          what the six calls ensure, and what stands after i turns (`Turned`), with its laws
 --     steps-run        the function meets its contract, from those of the calls
 -- Assumes `Given`.
@@ -57,7 +57,7 @@ use Rattle.walks.proofs.Steps.Rounds.{rounds}
 use Rattle.lent_channel.proofs.Bytes.{channel-bytes}
 use Rattle.sampler.proofs.Parts.{starts-at}
 use Rattle.lent_sampler.proofs.Bytes.{count-at, capacity-at}
-use Rattle.lent_channel.proofs.Rows.{Datum, row, lies, word, Answering, answer-ty, answer-row, Sounding, sounding-ty, sounding-row}
+use Rattle.walks.proofs.Steps.Data.{Datum, row, lies, word, Answering, answer-ty, answer-row, Sounding, sounding-ty, sounding-row}
 use Rattle.lent_sampler.proofs.Seats.{Seats, seat}
 
 pub record Turning (T C P Q R : Datum) (Y : Sounding) (J : Answering (word w64) Q) (S : Seats T C) : Type 1 where

@@ -1,36 +1,85 @@
--- The number of a frame, and what a run of frames answers, from what is asked of the record's channels: of each whether
--- it is good, and its clock. Definitions only. Assumes nothing.
-use Prim.Native.Nat.{ℕ, _*_, _/_, _%_, _-_, min, max}
-use mathlib.Core.Bool.{Bool, not, _&&_, _||_, cond}
-use mathlib.Core.List.{List}
-use lib.Dec.{leb, ltb, eqb}
+-- What the rows of a call ask of a record, from what is read of it and of its two channels. Definitions only. Assumes
+-- nothing.
+use Prim.Native.Nat.{ℕ, _*_, _%_, _-_, max}
+use mathlib.Core.Bool.{Bool, _&&_, cond}
+use mathlib.Core.List.{List, [], _∷_}
+use lib.Dec.{leb, eqb}
 use lib.ListN.{take}
 use Rattle.walks.specs.Walks.{any, every, fold}
-use Rattle.common_types.specs.declared.Params.{Params}
-use Rattle.common_types.specs.Settings.{beyondLimits}
+use Rattle.channel.specs.declared.Change.{Change}
 use Rattle.channel.specs.Heads.{lastTime}
-use Rattle.sampler.specs.Refusals.{row, goodSizes}
+use Rattle.channel.specs.Channels.{goodChannel}
+use Rattle.sampler.specs.declared.Sampler.{Sampler}
+use Rattle.sampler.specs.declared.Asked.{Asked}
+use Rattle.sampler.specs.declared.FrameAsked.{FrameAsked}
+use Rattle.sampler.specs.declared.RunAsked.{RunAsked}
 use Rattle.sampler.specs.declared.Ran.{Ran}
-use Rattle.lent_sampler.specs.declared.FrameAsked.{FrameAsked}
-use Rattle.lent_sampler.specs.declared.RunAsked.{RunAsked}
+use Rattle.sampler.specs.Refusals.{channelAt, goodSizes, goodSampler, changeRows}
+use Rattle.lent_sampler.specs.declared.Readings.{Readings}
+use Rattle.lent_sampler.specs.declared.Framing.{Framing}
+use Rattle.lent_sampler.specs.declared.Running.{Running}
 
--- the first n of them are good
-unfoldable pub allGood : ℕ → List Bool → Bool
-allGood n good = every (λ (b : Bool). b) (take n good)
+-- of these answers the first n: all hold, or one
+unfoldable pub allOf : ℕ → List Bool → Bool
+allOf n l = every (λ (b : Bool). b) (take n l)
 
--- a clock of the first n stands at its end
-unfoldable pub anyEnded : ℕ → List ℕ → Bool
-anyEnded n times = any (leb lastTime) (take n times)
+unfoldable pub anyOf : ℕ → List Bool → Bool
+anyOf n l = any (λ (b : Bool). b) (take n l)
 
--- `frameNumber` of a record whose channels are so
-unfoldable pub numberOf : ℕ → ℕ → List Bool → List ℕ → ℕ → Params → ℕ → ℕ
-numberOf count capacity good times n p size =
-    row (not ((goodSizes count capacity && allGood count good) && leb (count * capacity) size)) 9
-    (row (ltb count n) 1 (row (beyondLimits p) 4 (row (anyEnded n times) 6 0)))
+abbrev pub readingsOf : ℕ → ℕ → Bool → Bool → ℕ → ℕ → Readings
+readingsOf count capacity first second time other = record {
+  count = count;
+  capacity = capacity;
+  first = first;
+  second = second;
+  time = time;
+  other = other;
+}
+
+-- what is read of a record
+abbrev pub readingsIn : Sampler → Readings
+readingsIn s =
+    let c = channelAt s 0 in
+    let d = channelAt s 1 in
+    readingsOf (s .count) (s .capacity) (goodChannel (s .capacity) c) (goodChannel (s .capacity) d) (c .head .now)
+    (d .head .now)
+
+-- `goodSampler` of such a record
+unfoldable pub goodBy : Readings → Bool
+goodBy t = goodSizes (t .count) (t .capacity) && allOf (t .count) (t .first ∷ t .second ∷ [])
+
+-- `goodWith`
+unfoldable pub goodWithBy : Readings → ℕ → Bool
+goodWithBy t size = goodBy t && leb (t .count * t .capacity) size
+
+-- ---- a change
+
+-- how many voices stand in the way of one more: none where there is no recording
+unfoldable pub placesTaken : ℕ → ℕ → ℕ
+placesTaken len count = cond (eqb len 0) 0 count
+
+-- `askedOf`; a channel takes no further voice where all 32 places are taken
+abbrev pub askedBy : Readings → ℕ → ℕ → Asked
+askedBy t taken other = record { good = goodBy t; full = anyOf (t .count) (leb 32 taken ∷ leb 32 other ∷ []) }
+
+-- the number of a change of a record, given how many places its channels have taken
+unfoldable pub changeNumberBy : Sampler → ℕ → Change → ℕ → ℕ
+changeNumberBy s taken x other =
+    changeRows (record { good = goodSampler s; full = anyOf (s .count) (leb 32 taken ∷ leb 32 other ∷ []) }) x
+
+-- ---- a frame
+
+-- `frameAskedOf`
+abbrev pub frameAskedBy : Readings → ℕ → ℕ → FrameAsked
+frameAskedBy t n size = record {
+  good = goodWithBy t size;
+  count = t .count;
+  ended = anyOf n (leb lastTime (t .time) ∷ leb lastTime (t .other) ∷ []);
+}
 
 -- a frame with that number: all its entries are played, or none
-abbrev pub frameAsked : ℕ → ℕ → FrameAsked
-frameAsked number entries = record { entries = cond (eqb number 0) entries 0; number = number }
+abbrev pub framing : ℕ → ℕ → Framing
+framing number entries = record { entries = cond (eqb number 0) entries 0; number = number }
 
 -- ---- a run of frames (request 3/12)
 
@@ -38,25 +87,17 @@ frameAsked number entries = record { entries = cond (eqb number 0) entries 0; nu
 unfoldable pub latestTime : ℕ → List ℕ → ℕ
 latestTime n times = fold max 0 (take n times)
 
--- `roomOf` a record whose clocks are so
-unfoldable pub roomLeft : ℕ → List ℕ → ℕ
-roomLeft n times = lastTime - latestTime n times
+-- `roomOf`
+unfoldable pub roomLeft : Readings → ℕ
+roomLeft t = lastTime - latestTime (t .count) (t .time ∷ t .other ∷ [])
 
--- `runNumber` of a record whose channels are so
-unfoldable pub runRows : ℕ → ℕ → List Bool → List ℕ → ℕ → Params → ℕ → ℕ
-runRows count capacity good times n p size =
-    row (not ((goodSizes count capacity && allGood count good) && leb (count * capacity) size)) 9
-    (row (not (eqb (n % count) 0)) 10 (row (beyondLimits p) 4 (row (ltb (roomLeft count times) (n / count)) 6 0)))
-
--- `runAnswer` of such a record
-unfoldable pub ranFrom : ℕ → ℕ → List Bool → List ℕ → ℕ → Params → ℕ → Ran
-ranFrom count capacity good times n p size =
-    let number = runRows count capacity good times n p size in
-    record { frames = cond (eqb number 0 || eqb number 6) (min (n / count) (roomLeft count times)) 0; number = number }
+-- `runAskedOf`
+abbrev pub runAskedBy : Readings → ℕ → RunAsked
+runAskedBy t size = record { good = goodWithBy t size; count = t .count; room = roomLeft t }
 
 -- a run with that answer: the entries of the frames that are done are played
-abbrev pub runAsked : ℕ → Ran → RunAsked
-runAsked count ran = record { entries = ran .frames * count; ran = ran }
+abbrev pub running : ℕ → Ran → Running
+running count ran = record { entries = ran .frames * count; ran = ran }
 
 -- the channel of entry i of a run: it has one channel, or two in turn
 unfoldable pub runSeat : ℕ → ℕ → ℕ

@@ -18,12 +18,12 @@ ghost use Rattle.sampler.specs.Samplers.{
   runAnswer,
 };
 ghost use Rattle.sampler.specs.Samplers.{processSampleOf as sampleOf};
-ghost use Rattle.sampler.specs.Refusals.{goodSizes, frameNumber};
+ghost use Rattle.sampler.specs.Refusals.{changeRows, frameRows, frameNumber, runDone};
 ghost use Rattle.channel.specs.Channels.{processSampleOf, memoryOf};
 ghost use Prim.Native.Nat.{_+_, _*_, _-_, _%_, _^_, _≤_, _<_};
-ghost use mathlib.Core.Bool.{_&&_, cond};
+ghost use mathlib.Core.Bool.{cond};
 ghost use mathlib.Core.List.{[], _∷_, _++_};
-ghost use lib.Dec.{leb, eqb};
+ghost use lib.Dec.{eqb};
 ghost use lib.ListN.{length, getD, take, drop};
 ghost use Rattle.questions.specs.Questions.{
   getFramesProcessedOf,
@@ -40,27 +40,23 @@ ghost use Rattle.questions.specs.Waveforms.{getWaveformSummaryOf, waveformAfter
 ghost use Rattle.lent_sampler.specs.Lists.{countedOf, listedOf, voiceInfoCounted, voiceInfoAfter};
 ghost use Rattle.lent_channel.specs.Turns.{heardOf};
 ghost use Rattle.lent_sampler.specs.Numbers.{
-  allGood,
-  anyEnded,
-  numberOf,
-  frameAsked,
+  placesTaken,
+  allOf,
+  anyOf,
+  readingsOf,
+  goodBy,
+  goodWithBy,
+  askedBy,
+  changeNumberBy,
+  frameAskedBy,
+  framing,
   latestTime,
   roomLeft,
-  runRows,
-  ranFrom,
-  runAsked,
+  runAskedBy,
+  running,
   runSeat,
 };
 ghost use Rattle.lent_sampler.specs.Hearing.{atVolume};
-ghost use Rattle.lent_sampler.specs.ChangeNumbers.{
-  placesTaken,
-  anyTaken,
-  startRows,
-  stopRows,
-  changeRows,
-  rowsOf,
-  changeNumberBy,
-};
 use channel::Change;
 use channel::Channel;
 use channel::HeadChange;
@@ -73,9 +69,11 @@ use questions::Told;
 use questions::VoiceInfo;
 use questions::VoiceInfos;
 use questions::WaveformSummary;
+use sampler::Asked;
+use sampler::FrameAsked;
 use sampler::Ran;
+use sampler::RunAsked;
 use sampler::Sampler;
-use sampler::first_of;
 
 // How many voices stand in the way of one more: none where there is no recording.
 fn places_taken(data_len: usize, count: usize) -> usize
@@ -84,70 +82,78 @@ fn places_taken(data_len: usize, count: usize) -> usize
     if data_len == 0 { 0 } else { count }
 }
 
-fn any_full(n: usize, taken: usize, other: usize) -> bool
-    ensures { λ r. ⌜ r ≡ anyTaken n (taken ∷ other ∷ []) ⌝ }
+// Of two answers, the first n: whether all hold, and whether one does.
+fn all_of(n: usize, first: bool, second: bool) -> bool
+    ensures { λ r. ⌜ r ≡ allOf n (first ∷ second ∷ []) ⌝ }
+{
+    if n == 0 {
+        return true;
+    }
+    if n == 1 {
+        return first;
+    }
+    first & second
+}
+
+fn any_of(n: usize, first: bool, second: bool) -> bool
+    ensures { λ r. ⌜ r ≡ anyOf n (first ∷ second ∷ []) ⌝ }
 {
     if n == 0 {
         return false;
     }
     if n == 1 {
-        return 32 <= taken;
+        return first;
     }
-    (32 <= taken) | (32 <= other)
+    first | second
 }
 
-fn start_rows(position: f32, note: Note, params: Params, full: bool) -> u8
-    ensures { λ r. ⌜ r ≡ startRows position note params full ⌝ }
-{
-    let full = first_of(full, 5, 0);
-    let beyond = first_of(params.beyond_limits(), 4, full);
-    let position = first_of(!sampler::in_range(position), 3, beyond);
-    first_of(note.channel > 15, 2, position)
-}
-
-fn stop_rows(note: Note, params: Params) -> u8
-    ensures { λ r. ⌜ r ≡ stopRows note params ⌝ }
-{
-    let beyond = first_of(params.beyond_limits(), 4, 0);
-    first_of(note.channel > 15, 2, beyond)
-}
-
-// The rows of a change but for the record's own.
-fn change_rows(full: bool, change: Change) -> u8
-    ensures { λ r. ⌜ r ≡ changeRows full change ⌝ }
-{
-    match change {
-        Change::Start {
-            params,
-            position,
-            note,
-            ..
-        } => start_rows(position, note, params, full),
-        Change::Stop { params, note } => stop_rows(note, params),
-        Change::Speed { note, .. } => first_of(note.channel > 15, 2, 0),
-        Change::Head(_) => 0,
-        Change::Reset => 0,
-    }
-}
-
-// The rows of a change's number, from what is asked of the two channels: whether each is good, and how many of its
-// places are taken. The clocks are read for a frame, whose number has the same walk, and not looked at.
-fn rows_of(
+// What is read of a record before a call: what it says of itself, whether each of its two channels is good, and their
+// clocks.
+struct Readings {
     count: usize,
     capacity: usize,
     first: bool,
     second: bool,
-    _time: usize,
-    _other: usize,
-    taken: usize,
-    change: Change,
-    other_taken: usize,
-) -> u8
-    ensures { λ r. ⌜ r ≡ rowsOf count capacity (first ∷ second ∷ []) (taken ∷ «other_taken» ∷ []) change ⌝ }
+    time: usize,
+    other: usize,
+}
+
+fn read_of(
+    count: usize,
+    capacity: usize,
+    first: bool,
+    second: bool,
+    time: usize,
+    other: usize,
+) -> Readings
+    ensures { λ r. ⌜ r ≡ readingsOf count capacity first second time other ⌝ }
 {
-    let rows = change_rows(any_full(count, taken, other_taken), change);
-    let good = sampler::good_sizes(count, capacity) & all_good(count, first, second);
-    first_of(!good, 9, rows)
+    Readings {
+        count,
+        capacity,
+        first,
+        second,
+        time,
+        other,
+    }
+}
+
+// Whether the record is good.
+fn good(t: Readings) -> bool
+    ensures { λ r. ⌜ r ≡ goodBy t ⌝ }
+{
+    sampler::good_sizes(t.count, t.capacity) & all_of(t.count, t.first, t.second)
+}
+
+// The number of a change; `taken` and `other_taken` are the channels' places taken.
+fn change_of(t: Readings, taken: usize, change: Change, other_taken: usize) -> u8
+    ensures { λ r. ⌜ r ≡ changeRows (askedBy t taken «other_taken») change ⌝ }
+{
+    let asked = Asked {
+        good: good(t),
+        full: any_of(t.count, 32 <= taken, 32 <= other_taken),
+    };
+    sampler::change_rows(asked, change)
 }
 
 // The number of a change, with no channel copied; `taken` and `other_taken` are the channels' places taken.
@@ -159,17 +165,8 @@ fn change_number(s: &Sampler, taken: usize, change: Change, other_taken: usize) 
     let second = lent_channel::good(&s.channels[1], capacity);
     let time = s.channels[0].head.now;
     let other = s.channels[1].head.now;
-    rows_of(
-        s.count,
-        capacity,
-        first,
-        second,
-        time,
-        other,
-        taken,
-        change,
-        other_taken,
-    )
+    let t = read_of(s.count, capacity, first, second, time, other);
+    change_of(t, taken, change, other_taken)
 }
 
 // The call that makes a change of every channel, all or none, where the record stands. The six names are it, each at
@@ -422,145 +419,80 @@ pub fn get_waveform_summary(
     questions::get_waveform_summary(*s, columns, list, memory)
 }
 
-fn all_good(count: usize, first: bool, second: bool) -> bool
-    ensures { λ r. ⌜ r ≡ allGood count (first ∷ second ∷ []) ⌝ }
+// How many of n turns are taken: a call that is refused takes none. A frame's are its entries, a change's its channels.
+fn steps(number: u8, n: usize) -> usize
+    ensures { λ r. ⌜ r ≡ cond (eqb number 0) n 0 ⌝ }
 {
-    if count == 0 {
-        return true;
-    }
-    if count == 1 {
-        return first;
-    }
-    first & second
+    if number == 0 { n } else { 0 }
 }
 
-fn any_ended(n: usize, first: usize, second: usize) -> bool
-    ensures { λ r. ⌜ r ≡ anyEnded n (first ∷ second ∷ []) ⌝ }
+// Whether record and memory are good.
+fn good_with(t: Readings, size: usize) -> bool
+    ensures { λ r. ⌜ r ≡ goodWithBy t size ⌝ }
 {
-    if n == 0 {
-        return false;
-    }
-    if n == 1 {
-        return channel::LAST_TIME <= first;
-    }
-    (channel::LAST_TIME <= first) | (channel::LAST_TIME <= second)
-}
-
-fn sizes_good(count: usize, capacity: usize, first: bool, second: bool, size: usize) -> bool
-    ensures { λ r. ⌜ r
-        ≡ ((goodSizes count capacity && allGood count (first ∷ second ∷ [])) && leb (count * capacity) size) ⌝ }
-{
-    if sampler::good_sizes(count, capacity) {
-        all_good(count, first, second) & sampler::enough(count, capacity, size)
+    if good(t) {
+        sampler::enough(t.count, t.capacity, size)
     } else {
         false
     }
 }
 
-// The rows of a frame's number, from what is asked of the two channels: whether each is good, and its clock.
-fn number_of(
-    count: usize,
-    capacity: usize,
-    first: bool,
-    second: bool,
-    time: usize,
-    other: usize,
-    entries: usize,
-    params: Params,
-    size: usize,
-) -> u8
-    ensures { λ r. ⌜ r ≡ numberOf count capacity (first ∷ second ∷ []) (time ∷ other ∷ []) entries params size ⌝ }
-{
-    let end = first_of(any_ended(entries, time, other), 6, 0);
-    let beyond = first_of(params.beyond_limits(), 4, end);
-    let good = sizes_good(count, capacity, first, second, size);
-    first_of(!good, 9, first_of(count < entries, 1, beyond))
-}
-
-// A refused frame steps no channel.
-fn steps(number: u8, entries: usize) -> usize
-    ensures { λ r. ⌜ r ≡ cond (eqb number 0) entries 0 ⌝ }
-{
-    if number == 0 { entries } else { 0 }
-}
-
 // What is asked before a frame is played: how many entries are, and its number.
-struct FrameAsked {
+struct Framing {
     entries: usize,
     number: u8,
 }
 
-fn frame_of(
-    count: usize,
-    capacity: usize,
-    first: bool,
-    second: bool,
-    time: usize,
-    other: usize,
-    entries: usize,
-    params: Params,
-    size: usize,
-) -> FrameAsked
-    ensures { λ r. ⌜ r
-        ≡ frameAsked (numberOf count capacity (first ∷ second ∷ []) (time ∷ other ∷ []) entries params size) entries ⌝ }
+fn frame_of(t: Readings, entries: usize, params: Params, size: usize) -> Framing
+    ensures { λ r. ⌜ r ≡ framing (frameRows (frameAskedBy t entries size) entries params) entries ⌝ }
 {
-    let number = number_of(
-        count,
-        capacity,
-        first,
-        second,
-        time,
-        other,
+    let ended = any_of(
         entries,
-        params,
-        size,
+        channel::LAST_TIME <= t.time,
+        channel::LAST_TIME <= t.other,
     );
-    let played = steps(number, entries);
-    FrameAsked {
-        entries: played,
+    let asked = FrameAsked {
+        good: good_with(t, size),
+        count: t.count,
+        ended,
+    };
+    let number = sampler::frame_rows(asked, entries, params);
+    Framing {
+        entries: steps(number, entries),
         number,
     }
 }
 
 // What is asked of a frame, with no channel copied.
-fn frame_asked(s: &Sampler, entries: usize, params: Params, size: usize) -> FrameAsked
-    ensures { λ r. ⌜ r ≡ frameAsked (frameNumber (now (s .entry)) entries params size) entries ⌝ }
+fn frame_asked(s: &Sampler, entries: usize, params: Params, size: usize) -> Framing
+    ensures { λ r. ⌜ r ≡ framing (frameNumber (now (s .entry)) entries params size) entries ⌝ }
 {
     let capacity = s.capacity;
     let first = lent_channel::good(&s.channels[0], capacity);
     let second = lent_channel::good(&s.channels[1], capacity);
     let time = s.channels[0].head.now;
     let other = s.channels[1].head.now;
-    frame_of(
-        s.count,
-        capacity,
-        first,
-        second,
-        time,
-        other,
-        entries,
-        params,
-        size,
-    )
+    let t = read_of(s.count, capacity, first, second, time, other);
+    frame_of(t, entries, params, size)
 }
 
-fn latest(count: usize, time: usize, other: usize) -> usize
-    ensures { λ r. ⌜ r ≡ latestTime count (time ∷ other ∷ []) ⌝ }
+fn latest(n: usize, time: usize, other: usize) -> usize
+    ensures { λ r. ⌜ r ≡ latestTime n (time ∷ other ∷ []) ⌝ }
 {
-    if count == 0 {
+    if n == 0 {
         return 0;
     }
-    if count == 1 {
+    if n == 1 {
         return time;
     }
     if time < other { other } else { time }
 }
 
 // The frames that are left until a clock stands at its end.
-fn room(count: usize, time: usize, other: usize) -> usize
-    ensures { λ r. ⌜ r ≡ roomLeft count (time ∷ other ∷ []) ⌝ }
+fn room(t: Readings) -> usize
+    ensures { λ r. ⌜ r ≡ roomLeft t ⌝ }
 {
-    let latest = latest(count, time, other);
+    let latest = latest(t.count, t.time, t.other);
     if latest < channel::LAST_TIME {
         channel::LAST_TIME - latest
     } else {
@@ -568,93 +500,40 @@ fn room(count: usize, time: usize, other: usize) -> usize
     }
 }
 
-// The rows of a run's number. Nothing is divided before row 9: a broken record may say that it has no channels.
-fn run_number(
-    count: usize,
-    capacity: usize,
-    first: bool,
-    second: bool,
-    time: usize,
-    other: usize,
-    entries: usize,
-    params: Params,
-    size: usize,
-) -> u8
-    ensures { λ r. ⌜ r ≡ runRows count capacity (first ∷ second ∷ []) (time ∷ other ∷ []) entries params size ⌝ }
-{
-    if !sizes_good(count, capacity, first, second, size) {
-        return 9;
-    }
-    let end = first_of(room(count, time, other) < entries / count, 6, 0);
-    let beyond = first_of(params.beyond_limits(), 4, end);
-    first_of(entries % count != 0, 10, beyond)
-}
-
 // What is asked before a run is played: how many entries are, and what it answers.
-struct RunAsked {
+struct Running {
     entries: usize,
     ran: Ran,
 }
 
-fn run_of(
-    count: usize,
-    capacity: usize,
-    first: bool,
-    second: bool,
-    time: usize,
-    other: usize,
-    entries: usize,
-    params: Params,
-    size: usize,
-) -> RunAsked
-    ensures { λ r. ⌜ r
-        ≡ runAsked count (ranFrom count capacity (first ∷ second ∷ []) (time ∷ other ∷ []) entries params size) ⌝ }
+fn run_of(t: Readings, entries: usize, params: Params, size: usize) -> Running
+    ensures { λ r. ⌜ r ≡ running (t .count) (runDone (runAskedBy t size) entries params) ⌝ }
 {
-    let number = run_number(
-        count,
-        capacity,
-        first,
-        second,
-        time,
-        other,
-        entries,
-        params,
-        size,
-    );
-    if (number == 0) | (number == 6) {
-        let frames = sampler::smaller(entries / count, room(count, time, other));
-        RunAsked {
-            entries: frames * count,
-            ran: Ran { frames, number },
-        }
-    } else {
-        RunAsked {
-            entries: 0,
-            ran: Ran { frames: 0, number },
-        }
+    let room = room(t);
+    let asked = RunAsked {
+        good: good_with(t, size),
+        count: t.count,
+        room,
+    };
+    let ran = sampler::run_done(asked, entries, params);
+    let played = ran.frames * t.count;
+    Running {
+        entries: played,
+        ran,
     }
 }
 
 // What is asked of a run, with no channel copied: record, memory and parameters are judged once.
-fn run_asked(s: &Sampler, entries: usize, params: Params, size: usize) -> RunAsked
-    ensures { λ r. ⌜ r ≡ runAsked (now (s .entry) .count) (runAnswer (now (s .entry)) entries params size) ⌝ }
+fn run_asked(s: &Sampler, entries: usize, params: Params, size: usize) -> Running
+    ensures { λ r. ⌜ r ≡ running (now (s .entry) .count) (runAnswer (now (s .entry)) entries params size) ⌝ }
 {
     let capacity = s.capacity;
     let first = lent_channel::good(&s.channels[0], capacity);
     let second = lent_channel::good(&s.channels[1], capacity);
     let time = s.channels[0].head.now;
     let other = s.channels[1].head.now;
-    run_of(
-        s.count,
-        capacity,
-        first,
-        second,
-        time,
-        other,
-        entries,
-        params,
-        size,
-    )
+    let t = read_of(s.count, capacity, first, second, time, other);
+    run_of(t, entries, params, size)
 }
 
 // Whose entry i is: of a frame channel i's, of a run that of its place in its frame. Both calls have one shape, and so

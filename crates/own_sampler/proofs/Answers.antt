@@ -5,9 +5,9 @@ use Rattle.sampler.proofs.Answer as S
 use Rattle.sampler.proofs.Answer.Laws as S′
 use Rattle.sampler.proofs.RunAnswer as R
 use Rattle.sampler.proofs.RunAnswer.Laws as R′
-use Rattle.lent_channel.proofs.Rows.{word}
+use Rattle.walks.proofs.Steps.Data.{word}
 use Rattle.lent_sampler.proofs.Lent.{sampler, ran, frame-done}
-use Rattle.own_sampler.proofs.Own.{Answered}
+use Rattle.walks.proofs.Lending.Own.{Answered}
 use Rattle.own_sampler.proofs.FramePlayed as P
 use Rattle.own_sampler.proofs.FramePlayed.Laws as P′
 

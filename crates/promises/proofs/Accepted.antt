@@ -22,7 +22,7 @@ use Rattle.channel.specs.Heads.{lastTime}
 use Rattle.channel.specs.Channels.{channelOf, fullOf}
 use Rattle.channel.specs.Channels.{processSampleOf as channelSampleOf}
 use Rattle.sampler.specs.declared.Sampler.{Sampler}
-use Rattle.sampler.specs.Refusals.{present, channelAt, goodSampler, goodWith, noChannel, badNote, badPosition, anyFull, atEnd, startNumber, sampleNumber, frameNumber}
+use Rattle.sampler.specs.Refusals.{present, channelAt, goodSampler, goodWith, noChannel, badNote, badPosition, anyFull, atEnd, startRows, sampleNumber, frameNumber}
 use Rattle.sampler.specs.Samplers.{partOf, playedAt, outputOf, processSampleOf, framed, entriesOf, framedOf}
 use Rattle.sampler.proofs.Rows.{passed, frame-steps}
 use Rattle.sampler.proofs.Entries.{sample-reaches, frame-reaches}
@@ -50,7 +50,7 @@ module _ {A : Type 0} (p : A → Bool) where
 
 -- ---- a start
 start-fits : (w : World) (position : Float) (note : Note) (velocity : Float) (p : Params) → code w (start position note velocity p) ≡ 0 → anyFull (w .sampler) ≡ false
-unfolding code startNumber
+unfolding code startRows
 start-fits w position note velocity p h =
     passed (anyFull (w .sampler)) 4 0 (passed (beyondLimits p) 3 _ (passed (badPosition position) 2 _ (passed (badNote note) 1 _ (passed (not (goodSampler (w .sampler))) 8 _ h .1) .1) .1) .1) .0
 
@@ -63,7 +63,7 @@ start-room w s j h position note velocity p k e =
 
 pub start-opens : (w : World) → Standing w → (position : Float) (note : Note) (velocity : Float) (p : Params) → goodSampler (w .sampler) ≡ true → badNote note ≡ false → badPosition position ≡ false
     → beyondLimits p ≡ false → ((j : ℕ) → j < w .sampler .count → fullOf (chan w j) ≡ false) → code w (start position note velocity p) ≡ 0
-unfolding code startNumber
+unfolding code startRows
 start-opens w s position note velocity p g a b c f =
     let none : Channel = channelOf (record { «auto_passthru» = false }) in
     let l : length (present (w .sampler)) ≡ w .sampler .count = length-take-le (w .sampler .count) (w .sampler .channels) (omega (arith, s .two, s .few)) in

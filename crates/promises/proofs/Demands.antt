@@ -31,7 +31,7 @@ use Rattle.channel.specs.Channels.{live, recordingOf}
 use Rattle.sampler.specs.declared.Sampler.{Sampler}
 use Rattle.sampler.specs.declared.Answer.{Answer}
 use Rattle.sampler.specs.declared.Ran.{Ran}
-use Rattle.sampler.specs.Refusals.{channelAt, goodSizes, goodSampler, capacityOf, goodWith, noChannel, row, setUpNumber, startNumber, stopNumber, speedNumber, plainNumber, sampleNumber, frameNumber, runNumber, channelNumber}
+use Rattle.sampler.specs.Refusals.{channelAt, goodSizes, goodSampler, capacityOf, goodWith, noChannel, row, setUpNumber, startRows, stopRows, speedRows, sampleNumber, frameNumber, runNumber, channelNumber}
 use Rattle.sampler.specs.Samplers.{samplerOf, setUpOf, eachOf, answerOf, processSampleOf, sampleMemory, channelSteppedOf, memoryAt, Framed, framed, entriesOf, framedOf, runAnswer}
 use Rattle.questions.specs.Questions.{recorderAt, notesOf, inFront, listNumber, listAfter, infoNumber, answered, noInfos, infosWith, getVoiceInfoOf}
 use Rattle.questions.specs.declared.VoiceInfos.{VoiceInfos}
@@ -144,7 +144,7 @@ untouched w (asks (getWaveformSummary columns list)) r h n =
 
 -- ---- a refused set-up
 empty-record : (p : InitParams) (m : List ℕ) (c : Call) → code (record { sampler = samplerOf 0 p 0; memory = m }) c ≡ 9
-unfolding code questionNumber startNumber stopNumber speedNumber plainNumber sampleNumber frameNumber channelNumber listNumber infoNumber waveformNumber goodWith goodSampler goodSizes
+unfolding code questionNumber startRows stopRows speedRows sampleNumber frameNumber channelNumber listNumber infoNumber waveformNumber goodWith goodSampler goodSizes
 empty-record p m (change (Start q position note velocity)) = refl
 empty-record p m (change (Stop q note)) = refl
 empty-record p m (change (Speed note s)) = refl
@@ -178,7 +178,7 @@ query-rows w j q (inr (inr (inl e))) = ap (λ (q : Question). code w (asks q)) e
 query-rows w j q (inr (inr (inr e))) = ap (λ (q : Question). code w (asks q)) e
 
 plain-rows : (w : World) (c : Call) → (c ≡ startRecording) ⊎ ((c ≡ stopRecording) ⊎ (c ≡ reset)) → code w c ≡ row (not (goodSampler (w .sampler))) 9 0
-unfolding code plainNumber
+unfolding code
 plain-rows w c (inl e) = ap (code w) e
 plain-rows w c (inr (inl e)) = ap (code w) e
 plain-rows w c (inr (inr e)) = ap (code w) e
@@ -193,7 +193,7 @@ summary-given w columns list n =
     (sym (done .0), sym (done .1) ∙ ap (λ (k : ℕ). waveform w columns ++ drop k list) count)
 
 demand1 : Demand1
-unfolding setUpOf setUpNumber code questionNumber startNumber stopNumber speedNumber sampleNumber frameNumber infoNumber listNumber waveformNumber runNumber runAnswer
+unfolding setUpOf setUpNumber code questionNumber startRows stopRows speedRows sampleNumber frameNumber infoNumber listNumber waveformNumber runNumber runAnswer
 demand1 = record {
   takes = settled;
   one = one-outcome;

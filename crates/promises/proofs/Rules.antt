@@ -239,9 +239,7 @@ abbrev all-change : Tick
 all-change = record {
   now = 1;
   «decay_samples» = 0;
-  length = asFloat 3;
-  «whole_length» = asFloat 3;
-  «data_length» = two;
+  span = record { length = asFloat 3; «whole_length» = asFloat 3; «data_length» = two };
   speed = neg one32;
   mode = PingPong;
   once = false;

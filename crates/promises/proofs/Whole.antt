@@ -27,10 +27,11 @@ use Rattle.clip.proofs.Lengths.{float-length}
 use Rattle.clip.proofs.Offsets.{clip-offset-inside}
 use Rattle.clip.proofs.Kept.{with-speed-sound, with-length-sound, with-data-length-sound}
 use Rattle.clip.proofs.Answers.{speed-found, mode-found, length-asked}
-use Rattle.voice.specs.Voices.{clipModeOf, tickOf, movedOf, blankVoice}
+use Rattle.voice.specs.Voices.{clipModeOf, spanOf, tickOf, movedOf, blankVoice}
 use Rattle.voice.specs.Soundness.{SoundParams, SoundVoice}
 use Rattle.voice.proofs.Moves.{loop-length-good, moved-sound}
 use Rattle.voice.proofs.Kept.{clip-sound}
+use Rattle.channel.specs.Heads.{momentOf}
 use Rattle.channel.specs.Channels.{live, takenOf, memoryOf}
 use Rattle.channel.specs.Soundness.{FittingChange, SoundChannel}
 use Rattle.channel.proofs.Parts.{data-within, voice-at}
@@ -77,13 +78,13 @@ memory-run w [] = refl
 memory-run w (c ∷ cs) = memory-run (after w c) cs ∙ memory-after w c
 
 -- ---- row 9
+not-nine : (b : Bool) (rest : ℕ) → row (not b) 9 rest ≢ 9 → b ≡ true
+not-nine true rest h = refl
+not-nine false rest h = absurd (h refl)
+
 good-with : (s : Sampler) (size : ℕ) → Unbroken s size → goodWith s size ≡ true
 unfolding frameNumber
-good-with s size u = go (goodWith s size) refl
-  where
-    go : (b : Bool) → goodWith s size ≡ b → goodWith s size ≡ true
-    go true e = e
-    go false e = absurd (u .frame 0 defaultParams (simp e))
+good-with s size u = not-nine (goodWith s size) _ (u .frame 0 defaultParams)
 
 asked-nine : (w : World) → goodSampler (w .sampler) ≡ true → goodWith (w .sampler) (length (w .memory)) ≡ true → (q : Question) → questionNumber w q ≢ 9
 unfolding questionNumber channelNumber listNumber infoNumber waveformNumber
@@ -111,12 +112,8 @@ no-nine w h u (asks q) = asked-nine w (h .good) (good-with (w .sampler) (length 
 run-nine : (w : World) → Unbroken (w .sampler) (length (w .memory)) → (xs : List Float) (p : Params) → runNumber (w .sampler) (length xs) p (length (w .memory)) ≢ 9
 unfolding frameNumber runNumber
 run-nine w u xs p =
-    passes (goodWith (w .sampler) (length (w .memory))) _ (good (goodWith (w .sampler) (length (w .memory))) _ (u .frame 0 p))
+    passes (goodWith (w .sampler) (length (w .memory))) _ (not-nine (goodWith (w .sampler) (length (w .memory))) _ (u .frame 0 p))
     (another (not (eqb (length xs % w .sampler .count) 0)) 10 _ tt (another (beyondLimits p) 4 _ tt (another (ltb (roomOf (w .sampler)) (length xs / w .sampler .count)) 6 0 tt none)))
-  where
-    good : (b : Bool) (rest : ℕ) → row (not b) 9 rest ≢ 9 → b ≡ true
-    good true rest h = refl
-    good false rest h = absurd (h refl)
 
 -- ---- what a voice sounds by
 module _ (w : World) (st : Standing w) (h : SoundSampler (w .sampler)) (j n : ℕ) (v : Voice) (c : Call) (p : Params) (x : Float) (m : List ℕ) (y : Plays w j n v c p x m) where
@@ -161,24 +158,24 @@ module _ (w : World) (st : Standing w) (h : SoundSampler (w .sampler)) (j n : �
   voice-sound = clip-sound (chan w j .head .now) v (subst (SoundVoice (chan w j .head .now)) itself (voice-at (w .sampler .capacity) (takenOf m (chan w j)) taken n blankVoice place))
 
   lengthened-sound : Sound (lengthened (tickAt p m (chan w j)) v)
-  unfolding tickOf
+  unfolding tickOf spanOf takenOf
   lengthened-sound =
       let l = lengthAt m (chan w j) in
       with-length-sound (v .clip2) (chan w j .head .now) (loopLengthOf p l) (loop-length-fits p l (sound-params .fitting)) (loop-length-good p l sound-params short) voice-sound
 
   sped-sound : Sound (sped (tickAt p m (chan w j)) v)
-  unfolding tickOf
+  unfolding tickOf spanOf takenOf
   sped-sound =
       with-speed-sound (lengthened (tickAt p m (chan w j)) v) (chan w j .head .now) (mul binary32 (v .speed) (speedOf p)) (mul-fits binary32 (v .speed) (speedOf p)) lengthened-sound
 
   told-sound : Sound (toldLength (tickAt p m (chan w j)) v)
-  unfolding tickOf
+  unfolding tickOf spanOf takenOf
   told-sound =
       let l = lengthAt m (chan w j) in
       with-data-length-sound (sped (tickAt p m (chan w j)) v) (chan w j .head .now) (asFloat l) (ofInt-fits binary32 (pos l)) (float-length l some-data short) sped-sound
 
   all-placed : AllPlaced (tickAt p m (chan w j)) v
-  unfolding tickOf
+  unfolding tickOf spanOf takenOf
   all-placed =
       let t = tickAt p m (chan w j) in
       let now = chan w j .head .now in
@@ -187,11 +184,11 @@ module _ (w : World) (st : Standing w) (h : SoundSampler (w .sampler)) (j n : �
         before-speed = clip-offset-inside (lengthened t v) now lengthened-sound;
         before-data-length = clip-offset-inside (sped t v) now sped-sound;
         before-mode = clip-offset-inside (toldLength t v) now told-sound;
-        sounding = clip-offset-inside (movedOf t v) now (moved-sound p now (lengthAt m (chan w j)) sound-params some-data short v voice-sound);
+        sounding = clip-offset-inside (movedOf t v) now (moved-sound p (momentOf (takenOf m (chan w j) .head)) sound-params some-data short v voice-sound);
       }
 
   updates-asked : Asked (tickAt p m (chan w j)) v
-  unfolding tickOf
+  unfolding tickOf spanOf takenOf
   updates-asked =
       let now = chan w j .head .now in
       let l = lengthAt m (chan w j) in

@@ -147,19 +147,19 @@ pub record Demand1 : Type 0 where
 -- a voice's clip in a sample, after the updates of its length, speed and data length; after that of its mode it is
 -- `movedOf`
 abbrev pub lengthened : Tick → Voice → Clip
-lengthened t v = withLength (v .clip2) (t .now) (t .length)
+lengthened t v = withLength (v .clip2) (t .now) (t .span .length)
 
 abbrev pub sped : Tick → Voice → Clip
 sped t v = withSpeed (lengthened t v) (t .now) (mul binary32 (v .speed) (t .speed))
 
 abbrev pub toldLength : Tick → Voice → Clip
-toldLength t v = withDataLength (sped t v) (t .now) (t .«data_length»)
+toldLength t v = withDataLength (sped t v) (t .now) (t .span .«data_length»)
 
 -- the updates ask where the old offset lies in the clip as it is to be: it is in the data, and after another speed or
 -- mode it is found
 pub record Asked (t : Tick) (v : Voice) : Type 0 where
-  pub length : dataToClipOf (atLength (v .clip2) (t .length)) (offsetAt (v .clip2) (t .now))
-      ≡ Done (foundAt (atLength (v .clip2) (t .length)) (offsetAt (v .clip2) (t .now)))
+  pub length : dataToClipOf (atLength (v .clip2) (t .span .length)) (offsetAt (v .clip2) (t .now))
+      ≡ Done (foundAt (atLength (v .clip2) (t .span .length)) (offsetAt (v .clip2) (t .now)))
   pub speed : dataToClipOf (atSpeed (lengthened t v) (mul binary32 (v .speed) (t .speed)))
       (offsetAt (lengthened t v) (t .now)) ≡ Done (At (backOf (lengthened t v) (offsetAt (lengthened t v) (t .now))))
   pub mode : dataToClipOf (atMode (toldLength t v) (t .mode)) (offsetAt (toldLength t v) (t .now))

@@ -26,7 +26,7 @@ use Rattle.channel.specs.Channels.{channelOf, changedOf, goodChannel}
 use Rattle.channel.specs.Soundness.{FittingChannel, SoundChannel, FittingChange, SoundChange}
 use Rattle.channel.proofs.Kept.{new-channel-sound, change-sound}
 use Rattle.channel.proofs.Samples.{sample-sound}
-use Rattle.sampler.specs.Refusals.{present, channelAt, goodSizes, goodSampler, badNote, badPosition, startNumber, stopNumber, changeNumber, setUpNumber, sampleNumber, capacityOf}
+use Rattle.sampler.specs.Refusals.{present, channelAt, goodSizes, goodSampler, badNote, badPosition, startRows, stopRows, changeNumber, setUpNumber, sampleNumber, capacityOf}
 use Rattle.sampler.specs.Samplers.{withChannels, samplerOf, setUpOf, eachOf, answerOf, changeOf, partOf, playedAt, channelSteppedOf, processSampleOf, Framed, entryOf, framedOf}
 use Rattle.sampler.specs.Soundness.{SoundSampler}
 use Rattle.sampler.specs.declared.Sampler.{Sampler}
@@ -100,7 +100,7 @@ set-up-sound count p size h =
 
 -- what the number 0 says of a change
 change-let-through : (s : Sampler) (x : Change) → changeNumber s x ≡ 0 → FittingChange x → SoundChange x
-unfolding startNumber stopNumber FittingChange SoundChange
+unfolding startRows stopRows FittingChange SoundChange
 change-let-through s (change.Start p position note velocity) h f =
     let a = passed (not (goodSampler s)) 8 _ h .1 in
     let b = passed (badPosition position) 2 _ (passed (badNote note) 1 _ a .1) in

@@ -1,5 +1,5 @@
 -- What a number of 0 says: the record is good, and what a step asks holds. Assumes nothing.
-use mathlib.Core.Path.{_≡_, refl, sym}
+use mathlib.Core.Path.{_≡_, refl, sym, ap, _∙_}
 use mathlib.Core.Bool.{Bool, true, false, not, _&&_, _||_, true≢false}
 use Prim.Native.Nat.{ℕ, suc, _*_, _/_, _≤_, _<_}
 use native.Mathlib.Nat.{le-trans, le-of-eq, mul-comm, mul-le-mul-right, suc-mul, le-div-iff-mul-le}
@@ -11,9 +11,10 @@ use Rattle.binary32.proofs.Truth.{same-test}
 use Rattle.common_types.specs.declared.Params.{Params}
 use Rattle.walks.proofs.Lists.Every.{both}
 use Rattle.channel.specs.Channels.{live}
-use Rattle.sampler.specs.Refusals.{row, channelAt, goodSizes, goodSampler, goodWith, sampleNumber, frameNumber}
+use Rattle.sampler.specs.Refusals.{row, channelAt, goodSizes, goodSampler, goodWith, sampleNumber, frameAskedOf, frameRows, frameNumber}
 use Rattle.sampler.specs.Samplers.{Ready, Steps}
 use Rattle.sampler.specs.declared.Sampler.{Sampler}
+use Rattle.sampler.specs.declared.FrameAsked.{FrameAsked}
 use Rattle.sampler.proofs.Channels.{few-live}
 
 -- a row that does not hold leaves the number to the rest
@@ -79,6 +80,11 @@ frame-steps s n p size h =
       below = le-trans b (f .few);
       parts = le-trans (mul-le-mul-right (s .capacity) b) (f .fits);
     }
+
+-- what is asked of the record gives its number
+pub frame-asked : (s : Sampler) (n : ℕ) (p : Params) (size number : ℕ) (a : FrameAsked) → number ≡ frameRows a n p → a ≡ frameAskedOf s n size → number ≡ frameNumber s n p size
+unfolding frameNumber
+frame-asked s n p size number a e f = e ∙ ap (λ (b : FrameAsked). frameRows b n p) f
 
 -- a channel that a frame steps has at most 32 voices
 pub frame-few : (s : Sampler) (n : ℕ) (p : Params) (size : ℕ) → frameNumber s n p size ≡ 0 → (j : ℕ) → j < n → length (live (channelAt s j)) ≤ 32

@@ -1,5 +1,5 @@
 -- What the number of a run of frames says, and what its frames that are done ask. Assumes nothing.
-use mathlib.Core.Path.{_≡_, refl, sym}
+use mathlib.Core.Path.{_≡_, refl, sym, ap, _∙_}
 use mathlib.Core.Bool.{Bool, true, false, not, _||_, cond, true≢false}
 use Prim.Native.Nat.{ℕ, _/_, _%_, min, zero-le}
 use native.Mathlib.Nat.{le-trans, le-of-eq, mul-le-mul-right, zero-mul, div-mul-le-self, min-le-left}
@@ -8,9 +8,11 @@ use borrow.Author.Tests.{eqb-true}
 use lib.Dec.{eqb, ltb}
 use Rattle.common_types.specs.declared.Params.{Params}
 use Rattle.common_types.specs.Settings.{beyondLimits}
-use Rattle.sampler.specs.Refusals.{row, goodWith, roomOf, runNumber, doneOf}
-use Rattle.sampler.specs.Samplers.{Turns}
+use Rattle.sampler.specs.Refusals.{row, goodWith, roomOf, runAskedOf, runNumber, doneOf, runDone}
+use Rattle.sampler.specs.Samplers.{Turns, runAnswer}
 use Rattle.sampler.specs.declared.Sampler.{Sampler}
+use Rattle.sampler.specs.declared.RunAsked.{RunAsked}
+use Rattle.sampler.specs.declared.Ran.{Ran}
 use Rattle.sampler.proofs.Rows.{is-true, fitting}
 
 -- rows 9, 10 and 4 don't hold
@@ -35,6 +37,11 @@ module _ (s : Sampler) (n : ℕ) (p : Params) (size : ℕ) where
   run-begins h =
       let r = rows (not (goodWith s size)) (not (eqb (n % s .count) 0)) (beyondLimits p) (ltb (roomOf s) (n / s .count)) h in
       record { good = is-true (goodWith s size) (r .0); whole = eqb-true (n % s .count) 0 (is-true (eqb (n % s .count) 0) (r .1)); within = r .2 }
+
+  -- what is asked of the record gives its answer
+  pub run-asked : (ran : Ran) (a : RunAsked) → ran ≡ runDone a n p → a ≡ runAskedOf s size → ran ≡ runAnswer s n p size
+  unfolding runDone runAnswer doneOf runNumber
+  run-asked ran a e f = e ∙ ap (λ (b : RunAsked). runDone b n p) f
 
   pub done-turns : Turns s (doneOf s n p size) n size
   unfolding doneOf

@@ -13,10 +13,16 @@ use Rattle.common_types.specs.declared.Note.{Note}
 use Rattle.common_types.specs.Settings.{beyondLimits}
 use Rattle.channel.specs.declared.Change.{Change}
 use Rattle.channel.specs.declared.Change.the-variants as change
+use Rattle.channel.specs.declared.HeadChange.{HeadChange}
+use Rattle.channel.specs.declared.HeadChange.the-variants.{StartRecording, StopRecording}
 use Rattle.channel.specs.declared.Channel.{Channel}
 use Rattle.channel.specs.Heads.{lastTime}
 use Rattle.channel.specs.Channels.{channelOf, fullOf, goodChannel}
 use Rattle.sampler.specs.declared.Sampler.{Sampler}
+use Rattle.sampler.specs.declared.Asked.{Asked}
+use Rattle.sampler.specs.declared.FrameAsked.{FrameAsked}
+use Rattle.sampler.specs.declared.RunAsked.{RunAsked}
+use Rattle.sampler.specs.declared.Ran.{Ran}
 
 -- the channels that there are
 abbrev pub present : Sampler → List Channel
@@ -59,45 +65,58 @@ anyFull s = any fullOf (present s)
 abbrev pub atEnd : Channel → Bool
 atEnd c = leb lastTime (c .head .now)
 
--- ---- the number of each call: `firstOf` the row whose test holds, and 0 at the end of a chain
+-- ---- what the rows of a call ask of the record. Each engine answers in its own way, and the rows stand once
+abbrev pub askedOf : Sampler → Asked
+askedOf s = record { good = goodSampler s; full = anyFull s }
+
+-- a frame of n entries steps the first n channels
+abbrev pub frameAskedOf : Sampler → ℕ → ℕ → FrameAsked
+frameAskedOf s n size = record { good = goodWith s size; count = s .count; ended = any atEnd (take n (s .channels)) }
+
+-- ---- the number of each call: that of the first `row` whose test holds, and 0 at the end of a chain
 abbrev pub row : Bool → ℕ → ℕ → ℕ
 row test number rest = cond test number rest
 
 unfoldable pub setUpNumber : ℕ → ℕ → ℕ
 setUpNumber count size = row (not (goodSizes count (capacityOf count size))) 9 0
 
-unfoldable pub startNumber : Sampler → Float → Note → Params → ℕ
-startNumber s position note p =
-    row (not (goodSampler s)) 9
-    (row (badNote note) 2 (row (badPosition position) 3 (row (beyondLimits p) 4 (row (anyFull s) 5 0))))
+unfoldable pub startRows : Asked → Float → Note → Params → ℕ
+startRows a position note p =
+    row (not (a .good)) 9
+    (row (badNote note) 2 (row (badPosition position) 3 (row (beyondLimits p) 4 (row (a .full) 5 0))))
 
-unfoldable pub stopNumber : Sampler → Note → Params → ℕ
-stopNumber s note p = row (not (goodSampler s)) 9 (row (badNote note) 2 (row (beyondLimits p) 4 0))
+unfoldable pub stopRows : Asked → Note → Params → ℕ
+stopRows a note p = row (not (a .good)) 9 (row (badNote note) 2 (row (beyondLimits p) 4 0))
 
-unfoldable pub speedNumber : Sampler → Note → ℕ
-speedNumber s note = row (not (goodSampler s)) 9 (row (badNote note) 2 0)
+unfoldable pub speedRows : Asked → Note → ℕ
+speedRows a note = row (not (a .good)) 9 (row (badNote note) 2 0)
 
--- start and stop of recording, and reset
-unfoldable pub plainNumber : Sampler → ℕ
-plainNumber s = row (not (goodSampler s)) 9 0
+-- what a change of the heads has behind row 9: start and stop of recording nothing
+abbrev pub headRows : HeadChange → ℕ
+headRows StartRecording = 0
+headRows StopRecording = 0
 
 -- a call that changes every channel, by its change
+abbrev pub changeRows : Asked → Change → ℕ
+changeRows a (change.Start p position note velocity) = startRows a position note p
+changeRows a (change.Stop p note) = stopRows a note p
+changeRows a (change.Speed note speed) = speedRows a note
+changeRows a (change.Head d) = row (not (a .good)) 9 (headRows d)
+changeRows a change.Reset = row (not (a .good)) 9 0
+
 abbrev pub changeNumber : Sampler → Change → ℕ
-changeNumber s (change.Start p position note velocity) = startNumber s position note p
-changeNumber s (change.Stop p note) = stopNumber s note p
-changeNumber s (change.Speed note speed) = speedNumber s note
-changeNumber s (change.Head d) = plainNumber s
-changeNumber s change.Reset = plainNumber s
+changeNumber s x = changeRows (askedOf s) x
 
 unfoldable pub sampleNumber : Sampler → ℕ → Params → ℕ → ℕ
 sampleNumber s j p size = row (not (goodWith s size)) 9
     (row (noChannel s j) 1 (row (beyondLimits p) 4 (row (atEnd (channelAt s j)) 6 0)))
 
 -- a frame of n entries
+abbrev pub frameRows : FrameAsked → ℕ → Params → ℕ
+frameRows a n p = row (not (a .good)) 9 (row (ltb (a .count) n) 1 (row (beyondLimits p) 4 (row (a .ended) 6 0)))
+
 unfoldable pub frameNumber : Sampler → ℕ → Params → ℕ → ℕ
-frameNumber s n p size =
-    row (not (goodWith s size)) 9
-    (row (ltb (s .count) n) 1 (row (beyondLimits p) 4 (row (any atEnd (take n (s .channels))) 6 0)))
+frameNumber s n p size = frameRows (frameAskedOf s n size) n p
 
 -- ---- a run of frames (request 3/12): each entry of it is one channel's, frame after frame
 
@@ -112,18 +131,30 @@ latestOf cs = fold laterOf 0 cs
 unfoldable pub roomOf : Sampler → ℕ
 roomOf s = lastTime - latestOf (present s)
 
+-- what its rows ask
+abbrev pub runAskedOf : Sampler → ℕ → RunAsked
+runAskedOf s size = record { good = goodWith s size; count = s .count; room = roomOf s }
+
 -- a run of n entries: "9, then 10 for a length that isn't a whole number of frames, then 4, then 6"
+abbrev pub runRows : RunAsked → ℕ → Params → ℕ
+runRows a n p =
+    row (not (a .good)) 9
+    (row (not (eqb (n % a .count) 0)) 10 (row (beyondLimits p) 4 (row (ltb (a .room) (n / a .count)) 6 0)))
+
 unfoldable pub runNumber : Sampler → ℕ → Params → ℕ → ℕ
-runNumber s n p size =
-    row (not (goodWith s size)) 9
-    (row (not (eqb (n % s .count) 0)) 10 (row (beyondLimits p) 4 (row (ltb (roomOf s) (n / s .count)) 6 0)))
+runNumber s n p size = runRows (runAskedOf s size) n p
 
 -- the frames of it that are done: with 6, "the one refusal after work has begun", those that there is room for; with 9,
 -- 10 and 4 none
+abbrev pub doneWith : ℕ → RunAsked → ℕ → ℕ
+doneWith number a n = cond (eqb number 0 || eqb number 6) (min (n / a .count) (a .room)) 0
+
 unfoldable pub doneOf : Sampler → ℕ → Params → ℕ → ℕ
-doneOf s n p size =
-    let number = runNumber s n p size in
-    cond (eqb number 0 || eqb number 6) (min (n / s .count) (roomOf s)) 0
+doneOf s n p size = doneWith (runNumber s n p size) (runAskedOf s size) n
+
+-- both
+unfoldable pub runDone : RunAsked → ℕ → Params → Ran
+runDone a n p = record { frames = doneWith (runRows a n p) a n; number = runRows a n p }
 
 -- a question of one channel
 unfoldable pub channelNumber : Sampler → ℕ → ℕ

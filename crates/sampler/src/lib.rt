@@ -1,7 +1,7 @@
 // The sampler by value: every public call, with the refusals of document 01's table. Each takes every value of its
 // arguments, and equals a definition in specs/. On a refusal the record and what is lent with it hold what they held.
 ghost use mathlib.Core.Path.{_≡_};
-ghost use Prim.Native.Nat.{_+_, _*_, _≤_, _<_, min, max};
+ghost use Prim.Native.Nat.{_+_, _*_, _/_, _%_, _≤_, _<_, min, max};
 ghost use mathlib.Core.Bool.{_&&_};
 ghost use lib.Dec.{leb};
 ghost use lib.Ieee.{le};
@@ -19,16 +19,21 @@ ghost use Rattle.sampler.specs.Refusals.{
   goodWith,
   atEnd,
   setUpNumber,
-  startNumber,
-  stopNumber,
-  speedNumber,
-  plainNumber,
-  changeNumber,
+  askedOf,
+  startRows,
+  stopRows,
+  speedRows,
+  headRows,
+  changeRows,
   sampleNumber,
+  frameAskedOf,
+  frameRows,
   frameNumber,
   latestOf,
   roomOf,
-  runNumber,
+  runAskedOf,
+  runRows,
+  runDone,
   channelNumber,
 };
 ghost use Rattle.sampler.specs.Samplers.{
@@ -110,6 +115,28 @@ pub struct Ran {
 pub struct RunAnswer {
     pub sampler: Sampler,
     pub ran: Ran,
+}
+
+// What the rows of a change ask of a record: whether it is good, and whether a channel takes no further voice. Each
+// engine answers in its own way, and the rows stand once.
+pub struct Asked {
+    pub good: bool,
+    pub full: bool,
+}
+
+// What those of a frame ask: whether record and memory are good, how many channels there are, and whether the clock of
+// one that would be stepped stands at its end.
+pub struct FrameAsked {
+    pub good: bool,
+    pub count: usize,
+    pub ended: bool,
+}
+
+// What those of a run of frames ask: the same, and how many frames there is room for.
+pub struct RunAsked {
+    pub good: bool,
+    pub count: usize,
+    pub room: usize,
 }
 
 struct Stepped {
@@ -300,32 +327,15 @@ impl Sampler {
         }
     }
 
-    fn start_number(self, position: f32, note: Note, params: Params) -> u8
-        ensures { λ r. ⌜ r ≡ startNumber self position note params ⌝ }
+    // What the rows of a change ask of the record.
+    fn asked(self) -> Asked
+        ensures { λ r. ⌜ r ≡ askedOf self ⌝ }
     {
-        let full = first_of(self.any_full(), 5, 0);
-        let beyond = first_of(params.beyond_limits(), 4, full);
-        let position = first_of(!in_range(position), 3, beyond);
-        first_of(!self.good(), 9, first_of(note.channel > 15, 2, position))
-    }
-
-    fn stop_number(self, note: Note, params: Params) -> u8
-        ensures { λ r. ⌜ r ≡ stopNumber self note params ⌝ }
-    {
-        let beyond = first_of(params.beyond_limits(), 4, 0);
-        first_of(!self.good(), 9, first_of(note.channel > 15, 2, beyond))
-    }
-
-    fn speed_number(self, note: Note) -> u8
-        ensures { λ r. ⌜ r ≡ speedNumber self note ⌝ }
-    {
-        first_of(!self.good(), 9, first_of(note.channel > 15, 2, 0))
-    }
-
-    fn plain_number(self) -> u8
-        ensures { λ r. ⌜ r ≡ plainNumber self ⌝ }
-    {
-        first_of(!self.good(), 9, 0)
+        let full = self.any_full();
+        Asked {
+            good: self.good(),
+            full,
+        }
     }
 
     // Whether the record is good, and memory of that size long enough for it.
@@ -361,60 +371,25 @@ impl Sampler {
         )
     }
 
-    fn frame_number(self, entries: usize, params: Params, size: usize) -> u8
-        ensures { λ r. ⌜ r ≡ frameNumber self entries params size ⌝ }
+    fn frame_asked(self, entries: usize, size: usize) -> FrameAsked
+        ensures { λ r. ⌜ r ≡ frameAskedOf self entries size ⌝ }
     {
-        let end = first_of(self.any_at_end(entries), 6, 0);
-        let beyond = first_of(params.beyond_limits(), 4, end);
-        first_of(
-            !self.good_with(size),
-            9,
-            first_of(self.count < entries, 1, beyond),
-        )
-    }
-
-    // A broken record may say that it has no channels, so that nothing is divided before row 9.
-    fn run_number(self, entries: usize, params: Params, size: usize) -> u8
-        ensures { λ r. ⌜ r ≡ runNumber self entries params size ⌝ }
-    {
-        if !self.good_with(size) {
-            return 9;
-        }
-        let count = self.count;
-        let end = first_of(self.room() < entries / count, 6, 0);
-        let beyond = first_of(params.beyond_limits(), 4, end);
-        first_of(entries % count != 0, 10, beyond)
-    }
-
-    fn ran(self, entries: usize, params: Params, size: usize) -> Ran
-        ensures { λ r. ⌜ r ≡ runAnswer self entries params size ⌝ }
-    {
-        let number = self.run_number(entries, params, size);
-        if (number == 0) | (number == 6) {
-            let count = self.count;
-            Ran {
-                frames: smaller(entries / count, self.room()),
-                number,
-            }
-        } else {
-            Ran { frames: 0, number }
+        let ended = self.any_at_end(entries);
+        FrameAsked {
+            good: self.good_with(size),
+            count: self.count,
+            ended,
         }
     }
 
-    fn change_number(self, change: Change) -> u8
-        ensures { λ r. ⌜ r ≡ changeNumber self change ⌝ }
+    fn run_asked(self, size: usize) -> RunAsked
+        ensures { λ r. ⌜ r ≡ runAskedOf self size ⌝ }
     {
-        match change {
-            Change::Start {
-                params,
-                position,
-                note,
-                ..
-            } => self.start_number(position, note, params),
-            Change::Stop { params, note } => self.stop_number(note, params),
-            Change::Speed { note, .. } => self.speed_number(note),
-            Change::Head(_) => self.plain_number(),
-            Change::Reset => self.plain_number(),
+        let room = self.room();
+        RunAsked {
+            good: self.good_with(size),
+            count: self.count,
+            room,
         }
     }
 
@@ -422,7 +397,7 @@ impl Sampler {
     pub fn changed(self, change: Change) -> Answer
         ensures { λ r. ⌜ r ≡ changeOf self change ⌝ }
     {
-        let number = self.change_number(change);
+        let number = change_rows(self.asked(), change);
         self.answer(number, change)
     }
 
@@ -552,7 +527,8 @@ impl Sampler {
             (now (frame .exit)) (now (memory .exit)) ⌝ }
         ensures { λ r. ⌜ r .moved ≡ frameMoved self (now (frame .entry)) params (now (memory .entry)) ⌝ }
     {
-        let number = self.frame_number(frame.len(), params, memory.len());
+        let asked = self.frame_asked(frame.len(), memory.len());
+        let number = frame_rows(asked, frame.len(), params);
         if number != 0 {
             return FrameAnswer {
                 sampler: self,
@@ -595,7 +571,7 @@ impl Sampler {
         ensures { λ r. ⌜ Frames (ranOf self (now (run .entry)) params (now (memory .entry))) (r .sampler)
             (now (run .exit)) (now (memory .exit)) ⌝ }
     {
-        let ran = self.ran(run.len(), params, memory.len());
+        let ran = run_done(self.run_asked(memory.len()), run.len(), params);
         let sampler = self.frames(ran.frames, run, params, memory);
         RunAnswer { sampler, ran }
     }
@@ -618,6 +594,109 @@ pub fn first_of(test: bool, number: u8, rest: u8) -> u8
     ensures { λ r. ⌜ r ≡ row test number rest ⌝ }
 {
     if test { number } else { rest }
+}
+
+fn start_rows(asked: Asked, position: f32, note: Note, params: Params) -> u8
+    ensures { λ r. ⌜ r ≡ startRows asked position note params ⌝ }
+{
+    let full = first_of(asked.full, 5, 0);
+    let beyond = first_of(params.beyond_limits(), 4, full);
+    let position = first_of(!in_range(position), 3, beyond);
+    first_of(!asked.good, 9, first_of(note.channel > 15, 2, position))
+}
+
+fn stop_rows(asked: Asked, note: Note, params: Params) -> u8
+    ensures { λ r. ⌜ r ≡ stopRows asked note params ⌝ }
+{
+    let beyond = first_of(params.beyond_limits(), 4, 0);
+    first_of(!asked.good, 9, first_of(note.channel > 15, 2, beyond))
+}
+
+fn speed_rows(asked: Asked, note: Note) -> u8
+    ensures { λ r. ⌜ r ≡ speedRows asked note ⌝ }
+{
+    first_of(!asked.good, 9, first_of(note.channel > 15, 2, 0))
+}
+
+// The rows of a change of the heads behind row 9.
+fn head_rows(change: HeadChange) -> u8
+    ensures { λ r. ⌜ r ≡ headRows change ⌝ }
+{
+    match change {
+        HeadChange::StartRecording => 0,
+        HeadChange::StopRecording => 0,
+    }
+}
+
+// The number of a change, from what its rows ask of a record.
+pub fn change_rows(asked: Asked, change: Change) -> u8
+    ensures { λ r. ⌜ r ≡ changeRows asked change ⌝ }
+{
+    match change {
+        Change::Start {
+            params,
+            position,
+            note,
+            ..
+        } => start_rows(asked, position, note, params),
+        Change::Stop { params, note } => stop_rows(asked, note, params),
+        Change::Speed { note, .. } => speed_rows(asked, note),
+        Change::Head(change) => first_of(!asked.good, 9, head_rows(change)),
+        Change::Reset => first_of(!asked.good, 9, 0),
+    }
+}
+
+// The number of a frame.
+pub fn frame_rows(asked: FrameAsked, entries: usize, params: Params) -> u8
+    ensures { λ r. ⌜ r ≡ frameRows asked entries params ⌝ }
+{
+    let end = first_of(asked.ended, 6, 0);
+    let beyond = first_of(params.beyond_limits(), 4, end);
+    first_of(!asked.good, 9, first_of(asked.count < entries, 1, beyond))
+}
+
+// How many whole frames so many entries are: none for a broken record that says that it has no channels.
+fn frames_of(entries: usize, count: usize) -> usize
+    ensures { λ r. ⌜ r ≡ entries / count ⌝ }
+{
+    if count == 0 {
+        return 0;
+    }
+    entries / count
+}
+
+// The entries behind these.
+fn left_over(entries: usize, count: usize) -> usize
+    ensures { λ r. ⌜ r ≡ entries % count ⌝ }
+{
+    if count == 0 {
+        return entries;
+    }
+    entries % count
+}
+
+fn run_rows(asked: RunAsked, entries: usize, params: Params) -> u8
+    ensures { λ r. ⌜ r ≡ runRows asked entries params ⌝ }
+{
+    let end = first_of(asked.room < frames_of(entries, asked.count), 6, 0);
+    let beyond = first_of(params.beyond_limits(), 4, end);
+    let whole = first_of(left_over(entries, asked.count) != 0, 10, beyond);
+    first_of(!asked.good, 9, whole)
+}
+
+// What a run of frames answers.
+pub fn run_done(asked: RunAsked, entries: usize, params: Params) -> Ran
+    ensures { λ r. ⌜ r ≡ runDone asked entries params ⌝ }
+{
+    let number = run_rows(asked, entries, params);
+    if (number == 0) | (number == 6) {
+        Ran {
+            frames: smaller(frames_of(entries, asked.count), asked.room),
+            number,
+        }
+    } else {
+        Ran { frames: 0, number }
+    }
 }
 
 // From 0 to 1, which NaN is not.

@@ -30,9 +30,7 @@ abbrev tickWith : NoteOffBehaviour → Bool → Float → Float → Mode → Tic
 tickWith behaviour once length total mode = record {
   now = 4;
   «decay_samples» = 3;
-  length = length;
-  «whole_length» = asFloat 4;
-  «data_length» = total;
+  span = record { length = length; «whole_length» = asFloat 4; «data_length» = total };
   speed = one32;
   mode = mode;
   once = once;

@@ -27,6 +27,7 @@ use Rattle.clip.proofs.Indices.{index-below}
 use Rattle.voice.specs.Voices.{clipModeOf, tickOf, shouldRemoveOf, movedOf, recordedValueOf, productOf, soundedOf, finishOf, playedOutOf, endedOf, volumeStepped, turnOf, freshOf, atSpeedOf, goodVoice}
 use Rattle.voice.specs.Soundness.{Fits, SoundParams, SoundPosition, SoundVolume, SoundVoice}
 use Rattle.voice.specs.declared.Voice.{Voice}
+use Rattle.voice.specs.declared.Moment.{Moment}
 use Rattle.voice.proofs.Volumes.{static-sound, volume-later, volume-stepped, volume-toward}
 use Rattle.voice.proofs.Starts.{start-low, start-top}
 use Rattle.voice.proofs.Moves.{loop-length-good, moved-sound, moved-data-length, moved-since}
@@ -129,33 +130,39 @@ module _ (now : ℕ) (v : Voice) (h : SoundVoice now v) where
         floats = g .floats;
       })
 
--- ---- a sample at `now`, with n samples recorded
-module _ (p : Params) (now n : ℕ) (ok : SoundParams p) (some : 1 ≤ n) (short : n ≤ 2 ^ 22) where
+-- ---- a sample
+module _ (p : Params) (at : Moment) (ok : SoundParams p) (some : 1 ≤ at .«data_len») (short : at .«data_len» ≤ 2 ^ 22) where
+  abbrev now : ℕ
+  now = at .now
+
+  abbrev n : ℕ
+  n = at .«data_len»
+
   -- the value that sounds is one recorded
-  pub index-recorded : (v : Voice) → SoundVoice now v → indexAt (movedOf (tickOf p now n) v) now < n
+  pub index-recorded : (v : Voice) → SoundVoice now v → indexAt (movedOf (tickOf p at) v) now < n
   index-recorded v h =
       let c = clip-sound now v h in
-      index-below (movedOf (tickOf p now n) v) now n (moved-sound p now n ok some short v c) (moved-data-length p now n ok some short v c) short
+      index-below (movedOf (tickOf p at) v) now n (moved-sound p at ok some short v c) (moved-data-length p at ok some short v c) short
 
   module _ (time : now ≤ 2 ^ 48) where
     module _ (m : List ℕ) (v : Voice) (h : SoundVoice now v) where
-      sounded-sound : SoundVoice now (soundedOf (tickOf p now n) m v)
+      sounded-sound : SoundVoice now (soundedOf (tickOf p at) m v)
       unfolding soundedOf productOf tickOf
       sounded-sound =
           let g = parts h in
-          let t = tickOf p now n in
+          let t = tickOf p at in
           joined {v = soundedOf t m v} (record {
-            since = moved-since p now n ok some short v (g .clip) (g .since);
+            since = moved-since p at ok some short v (g .clip) (g .since);
             ended = g .ended;
             volume = g .volume;
-            clip = moved-sound p now n ok some short v (g .clip);
+            clip = moved-sound p at ok some short v (g .clip);
             floats = (g .floats .0, add-fits binary32 (v .played) (mul binary32 (v .speed) (t .speed)), mul-fits binary32 (recordedValueOf m (indexAt (movedOf t v) now)) (levelOf (v .volume) now), g .floats .3);
           })
 
-      pub turn-sound : SoundVoice now (turnOf (tickOf p now n) m v)
+      pub turn-sound : SoundVoice now (turnOf (tickOf p at) m v)
       unfolding turnOf endedOf tickOf
       turn-sound =
-          let t = tickOf p now n in
+          let t = tickOf p at in
           let w = soundedOf t m v in
           let k = sounded-sound in
           stepped-sound now _

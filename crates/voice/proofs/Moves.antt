@@ -22,9 +22,10 @@ use Rattle.clip.specs.Refusals.{most32, goodLength}
 use Rattle.clip.specs.Bounds.{Sound}
 use Rattle.clip.proofs.Lengths.{good-parts, length-units, float-units, float-length}
 use Rattle.clip.proofs.Kept.{with-speed-sound, with-mode-sound, with-length-sound, with-data-length-sound, with-speed-since, with-mode-since, with-length-since, with-data-length-since}
-use Rattle.voice.specs.Voices.{clipModeOf, tickOf, movedOf}
+use Rattle.voice.specs.Voices.{clipModeOf, spanOf, tickOf, movedOf}
 use Rattle.voice.specs.Soundness.{Fits, SoundParams}
 use Rattle.voice.specs.declared.Voice.{Voice}
+use Rattle.voice.specs.declared.Moment.{Moment}
 
 pub loop-length-good : (p : Params) (n : ℕ) → SoundParams p → n ≤ 2 ^ 22 → T (goodLength (loopLengthOf p n))
 unfolding goodLength
@@ -60,8 +61,14 @@ with-mode-data c now mode = go (sameMode mode (c .mode))
     go true = refl
     go false = refl
 
--- ---- the four updates of a sample at `now`, with n samples recorded
-module _ (p : Params) (now n : ℕ) (ok : SoundParams p) (some : 1 ≤ n) (short : n ≤ 2 ^ 22) (v : Voice) (h : Sound (v .clip2)) where
+-- ---- the four updates of a sample
+module _ (p : Params) (at : Moment) (ok : SoundParams p) (some : 1 ≤ at .«data_len») (short : at .«data_len» ≤ 2 ^ 22) (v : Voice) (h : Sound (v .clip2)) where
+  abbrev now : ℕ
+  now = at .now
+
+  abbrev n : ℕ
+  n = at .«data_len»
+
   abbrev sized : Clip
   sized = withLength (v .clip2) now (loopLengthOf p n)
 
@@ -77,18 +84,18 @@ module _ (p : Params) (now n : ℕ) (ok : SoundParams p) (some : 1 ≤ n) (short
   abbrev told : Clip
   told = withDataLength sped now (asFloat n)
 
-  pub moved-sound : Sound (movedOf (tickOf p now n) v)
-  unfolding movedOf tickOf
+  pub moved-sound : Sound (movedOf (tickOf p at) v)
+  unfolding movedOf tickOf spanOf
   moved-sound =
       with-mode-sound told now (clipModeOf (p .«loop_mode»))
       (with-data-length-sound sped now (asFloat n) (ofInt-fits binary32 (pos n)) (float-length n some short) sped-sound)
 
-  pub moved-data-length : movedOf (tickOf p now n) v .«data_length» ≡ asFloat n
-  unfolding movedOf tickOf
+  pub moved-data-length : movedOf (tickOf p at) v .«data_length» ≡ asFloat n
+  unfolding movedOf tickOf spanOf
   moved-data-length = with-mode-data told now (clipModeOf (p .«loop_mode»)) ∙ with-data-length-is sped now n sped-sound short
 
-  pub moved-since : v .clip2 .since ≤ now → movedOf (tickOf p now n) v .since ≤ now
-  unfolding movedOf tickOf
+  pub moved-since : v .clip2 .since ≤ now → movedOf (tickOf p at) v .since ≤ now
+  unfolding movedOf tickOf spanOf
   moved-since k =
       with-mode-since told now
       (with-data-length-since sped now (with-speed-since sized now (with-length-since (v .clip2) now k (loopLengthOf p n)) (mul binary32 (v .speed) (speedOf p))) (asFloat n))

@@ -115,7 +115,7 @@ module _ (t : Tick) (m : List ℕ) (v : Voice) where
       (simp (a, k, out, stays, turned, stays-after), sym turned)
 
   -- each as a call answers it, and of a voice that is the one sounded at that index
-  pub answered : (index : ℕ) (w : Voice) (keeps goes : Bool) → QuickIndex (v .clip2) (t .now) (t .length) (mul binary32 (v .speed) (t .speed)) (t .«data_length») (t .mode) index
+  pub answered : (index : ℕ) (w : Voice) (keeps goes : Bool) → QuickIndex (v .clip2) (t .now) (t .span .length) (mul binary32 (v .speed) (t .speed)) (t .span .«data_length») (t .mode) index
       → w ≡ soundedAt t m v index → keeps ≡ keepsOf (v .volume) (t .now) → goes ≡ goesOnOf t v w → keeps ≡ true → index < noIndex → Quickly t m v (record { voice = w; plain = goes })
   answered index w keeps goes found is k g kept some plain =
       let at = found some in

@@ -29,14 +29,14 @@ unfolding movedOf agreesOf
 unmoved t v h =
     let c : Clip = v .clip2 in
     let speed : Float = mul binary32 (v .speed) (t .speed) in
-    let l : Bool = eq (t .length) (c .length) in
+    let l : Bool = eq (t .span .length) (c .length) in
     let s : Bool = eq speed (c .speed) in
-    let d : Bool = eq (t .«data_length») (c .«data_length») in
+    let d : Bool = eq (t .span .«data_length») (c .«data_length») in
     let m : Bool = sameMode (t .mode) (c .mode) in
     let h₁ = yes h in
     let h₂ = and-r l (s && (d && m)) h₁ in
     let h₃ = and-r s (d && m) h₂ in
-    all-equal c (t .now) (t .length) speed (t .«data_length») (t .mode) (is-true l (and-l l (s && (d && m)) h₁)) (is-true s (and-l s (d && m) h₂)) (is-true d (and-l d m h₃)) (is-true m (and-r d m h₃))
+    all-equal c (t .now) (t .span .length) speed (t .span .«data_length») (t .mode) (is-true l (and-l l (s && (d && m)) h₁)) (is-true s (and-l s (d && m) h₂)) (is-true d (and-l d m h₃)) (is-true m (and-r d m h₃))
 
 -- the test of a clip's one update, and the sample's
 same-agrees : (a b c d : Bool) → (a && b && c && d) ≡ true → (a && (b && (c && d))) ≡ true
@@ -44,7 +44,7 @@ same-agrees true true c d h = h
 same-agrees true false c d h = h
 same-agrees false b c d h = h
 
-pub agrees : (t : Tick) (v : Voice) → sameAll (v .clip2) (t .length) (mul binary32 (v .speed) (t .speed)) (t .«data_length») (t .mode) ≡ true → agreesOf t v ≡ true
+pub agrees : (t : Tick) (v : Voice) → sameAll (v .clip2) (t .span .length) (mul binary32 (v .speed) (t .speed)) (t .span .«data_length») (t .mode) ≡ true → agreesOf t v ≡ true
 unfolding sameAll agreesOf
 agrees t v h =
-    same-agrees (eq (t .length) (v .clip2 .length)) (eq (mul binary32 (v .speed) (t .speed)) (v .clip2 .speed)) (eq (t .«data_length») (v .clip2 .«data_length»)) (sameMode (t .mode) (v .clip2 .mode)) h
+    same-agrees (eq (t .span .length) (v .clip2 .length)) (eq (mul binary32 (v .speed) (t .speed)) (v .clip2 .speed)) (eq (t .span .«data_length») (v .clip2 .«data_length»)) (sameMode (t .mode) (v .clip2 .mode)) h

@@ -8,6 +8,6 @@ use Rattle.voice.specs.declared.Tick.{Tick}
 -- the length, speed, data length and mode that the sample asks for are those that the clip has
 unfoldable pub agreesOf : Tick → Voice → Bool
 agreesOf t v =
-    eq (t .length) (v .clip2 .length)
+    eq (t .span .length) (v .clip2 .length)
     && (eq (mul binary32 (v .speed) (t .speed)) (v .clip2 .speed)
-    && (eq (t .«data_length») (v .clip2 .«data_length») && sameMode (t .mode) (v .clip2 .mode)))
+    && (eq (t .span .«data_length») (v .clip2 .«data_length») && sameMode (t .mode) (v .clip2 .mode)))

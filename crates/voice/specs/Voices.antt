@@ -25,6 +25,8 @@ use Rattle.clip.specs.Positions.{indexAt}
 use Rattle.clip.specs.Updates.{withAll}
 use Rattle.clip.specs.Refusals.{goodClip}
 use Rattle.voice.specs.declared.Voice.{Voice}
+use Rattle.voice.specs.declared.Moment.{Moment}
+use Rattle.voice.specs.declared.Span.{Span}
 use Rattle.voice.specs.declared.Tick.{Tick}
 
 -- ---- what the voices of a channel share in one sample
@@ -40,14 +42,19 @@ playsOnceOf loop.PlayOnce = true
 playsOnceOf loop.Loop = false
 playsOnceOf loop.PingPong = false
 
--- at the clock `now`, with n samples recorded
-unfoldable pub tickOf : Params → ℕ → ℕ → Tick
-tickOf p now n = record {
-  now = now;
-  «decay_samples» = p .«decay_samples»;
+-- what depends on the recording: n samples
+unfoldable pub spanOf : Params → ℕ → Span
+spanOf p n = record {
   length = loopLengthOf p n;
   «whole_length» = floorOf (loopLengthOf p n);
   «data_length» = asFloat n;
+}
+
+unfoldable pub tickOf : Params → Moment → Tick
+tickOf p at = record {
+  now = at .now;
+  «decay_samples» = p .«decay_samples»;
+  span = spanOf p (at .«data_len»);
   speed = speedOf p;
   mode = clipModeOf (p .«loop_mode»);
   once = playsOnceOf (p .«loop_mode»);
@@ -72,7 +79,8 @@ shouldRemoveOf t v = v .finished && overOf (t .«note_off_behavior») (isStaticA
 
 -- the clip, brought up to this sample's length, speed, data length and mode, in that order
 unfoldable pub movedOf : Tick → Voice → Clip
-movedOf t v = withAll (v .clip2) (t .now) (t .length) (mul binary32 (v .speed) (t .speed)) (t .«data_length») (t .mode)
+movedOf t v =
+    withAll (v .clip2) (t .now) (t .span .length) (mul binary32 (v .speed) (t .speed)) (t .span .«data_length») (t .mode)
 
 -- the value recorded at a place of the channel's memory
 abbrev pub recordedValueOf : List ℕ → ℕ → Float
@@ -117,7 +125,7 @@ finishOf now decay v = record {
 
 -- play-once has played a whole loop length
 unfoldable pub playedOutOf : Tick → Voice → Bool
-playedOutOf t v = t .once && not (v .finished) && le (t .«whole_length») (absOf (v .played))
+playedOutOf t v = t .once && not (v .finished) && le (t .span .«whole_length») (absOf (v .played))
 
 unfoldable pub endedOf : Tick → Voice → Voice
 endedOf t v = cond (playedOutOf t v) (finishOf (t .now) (t .«decay_samples») v) v

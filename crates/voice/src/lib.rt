@@ -5,6 +5,7 @@ ghost use Prim.Native.Nat.{_-_};
 ghost use mathlib.Core.Bool.{cond};
 ghost use Rattle.clip.specs.Positions.{soundingOf};
 ghost use Rattle.voice.specs.Voices.{
+  spanOf,
   tickOf,
   clipModeOf,
   playsOnceOf,
@@ -50,13 +51,24 @@ pub struct Voice {
     pub is_at_zero_crossing: bool,
 }
 
+// What a channel's voices go by in one sample: its clock, and how many samples are recorded.
+pub struct Moment {
+    pub now: usize,
+    pub data_len: usize,
+}
+
+// What of a sample's settings depends on the recording: the loop length, that rounded down, and the recording's length.
+pub struct Span {
+    pub length: f32,
+    pub whole_length: f32,
+    pub data_length: f32,
+}
+
 // What all voices of a channel share in one sample, worked out once.
 pub struct Tick {
     pub now: usize,
     pub decay_samples: usize,
-    pub length: f32,
-    pub whole_length: f32,
-    pub data_length: f32,
+    pub span: Span,
     pub speed: f32,
     pub mode: Mode,
     pub once: bool,
@@ -69,19 +81,29 @@ pub struct Quick {
     pub plain: bool,
 }
 
-impl Tick {
-    pub fn new(params: Params, now: usize, data_len: usize) -> Self
-        ensures { λ r. ⌜ r ≡ tickOf params now «data_len» ⌝ }
+impl Span {
+    fn new(params: Params, data_len: usize) -> Self
+        ensures { λ r. ⌜ r ≡ spanOf params «data_len» ⌝ }
     {
         let length = params.loop_length(data_len);
-        let loop_mode = params.loop_mode;
-        let note_off_behavior = params.note_off_behavior;
         Self {
-            now,
-            decay_samples: params.decay_samples,
             length,
             whole_length: binary32::floor(length),
             data_length: binary32::usize_to_f32(data_len),
+        }
+    }
+}
+
+impl Tick {
+    pub fn new(params: Params, at: Moment) -> Self
+        ensures { λ r. ⌜ r ≡ tickOf params at ⌝ }
+    {
+        let loop_mode = params.loop_mode;
+        let note_off_behavior = params.note_off_behavior;
+        Self {
+            now: at.now,
+            decay_samples: params.decay_samples,
+            span: Span::new(params, at.data_len),
             speed: params.speed(),
             mode: clip_mode(loop_mode),
             once: plays_once(loop_mode),
@@ -225,7 +247,14 @@ impl Voice {
     {
         let clip2 = self.clip2;
         let mode = t.mode;
-        clip2.sounding(t.now, t.length, self.speed * t.speed, t.data_length, mode)
+        let span = t.span;
+        clip2.sounding(
+            t.now,
+            span.length,
+            self.speed * t.speed,
+            span.data_length,
+            mode,
+        )
     }
 
     fn sounded(self, t: Tick, data: &[u32]) -> Self
@@ -284,7 +313,8 @@ impl Voice {
         if self.finished {
             return false;
         }
-        t.whole_length <= binary32::abs(self.played)
+        let span = t.span;
+        span.whole_length <= binary32::abs(self.played)
     }
 
     // The end of its turn: play-once may finish it, and its level makes its step. It is `finish` and `volume_stepped`
@@ -370,8 +400,9 @@ impl Voice {
         }
         let clip2 = self.clip2;
         let mode = t.mode;
+        let span = t.span;
         let speed = self.speed * t.speed;
-        let index = clip2.quick_index(t.now, t.length, speed, t.data_length, mode);
+        let index = clip2.quick_index(t.now, span.length, speed, span.data_length, mode);
         if clip::NONE <= index {
             return otherwise;
         }

@@ -1,3 +1,4 @@
 pub mod Tests
 pub mod Lists
 pub mod Steps
+pub mod Lending

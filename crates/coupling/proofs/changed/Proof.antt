@@ -5,13 +5,13 @@ use mir.Syntax.{w8}
 use denote.Triple.Spec.{tripleOf}
 use denote.Triple.Table.{entered, cited}
 use Rattle.sampler.specs.Samplers.{changeOf}
-use Rattle.lent_channel.proofs.Rows.{word}
+use Rattle.walks.proofs.Steps.Data.{word}
 use Rattle.lent_sampler.proofs.Lent.{sampler, change}
 use Rattle.lent_sampler.proofs.change as g
 use Rattle.lent_sampler.proofs.change.Symbol as g-def
 use Rattle.lent_sampler.proofs.change.Symbol.{name as #g}
 use Rattle.lent_sampler.proofs.change.Met as g-thm
-use Rattle.own_sampler.proofs.Keys.{keyed}
+use Rattle.walks.proofs.Lending.Keys.{keyed}
 use Rattle.own_sampler.proofs.Answers.{answer}
 use Rattle.coupling.proofs.changed.Key.{name as #f}
 use Rattle.coupling.proofs.changed as f

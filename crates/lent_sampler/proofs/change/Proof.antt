@@ -37,7 +37,7 @@ use Rattle.lent_changes.proofs.change as g
 use Rattle.lent_changes.proofs.change.Symbol as g-def
 use Rattle.lent_changes.proofs.change.Symbol.{name as #g}
 use Rattle.lent_changes.proofs.change.Met as g-thm
-use Rattle.lent_sampler.specs.ChangeNumbers.{placesTaken, changeNumberBy}
+use Rattle.lent_sampler.specs.Numbers.{placesTaken, changeNumberBy}
 use Rattle.lent_sampler.proofs.Lent.{sampler, changes}
 use Rattle.lent_sampler.proofs.Lent.{change as change-row}
 use Rattle.lent_sampler.proofs.Seats.{seats, seat, channel-read}

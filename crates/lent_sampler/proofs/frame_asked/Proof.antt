@@ -1,23 +1,24 @@
--- `lent_sampler::frame_asked` meets its contract: `Judging.antt`'s walk, over `lent_channel::good` and `frame_of`.
+-- `lent_sampler::frame_asked` meets its contract: `Judging.antt`'s walk, over `lent_channel::good`, `read_of` and `frame_of`.
 use mathlib.Core.Path.{ap}
 use Prim.Native.Nat.{ℕ}
 use contract.Running.{givenOf, tables, tablesOf}
 use denote.Triple.Spec.{tripleOf}
 use denote.Triple.Table.{entered, cited}
-use mathlib.Core.List.{[], _∷_}
 use Rattle.channel.specs.Channels.{goodChannel}
-use Rattle.sampler.specs.Refusals.{frameNumber}
+use Rattle.sampler.specs.Refusals.{frameRows, frameNumber}
 use Rattle.lent_channel.proofs.good as g
 use Rattle.lent_channel.proofs.good.Symbol as g-def
 use Rattle.lent_channel.proofs.good.Symbol.{name as #g}
 use Rattle.lent_channel.proofs.good.Met as g-thm
-use Rattle.lent_sampler.specs.Numbers.{numberOf, frameAsked}
-use Rattle.lent_sampler.proofs.Numbers.{number-is}
+use Rattle.lent_sampler.specs.Numbers.{readingsOf, frameAskedBy, framing}
+use Rattle.lent_sampler.proofs.Numbers.{frame-is}
 use Rattle.lent_channel.proofs.Holding.{channel}
-use Rattle.lent_sampler.proofs.Lent.{sampler, params, frame-asked}
+use Rattle.lent_sampler.proofs.Lent.{sampler, params, readings, frame-asked}
 use Rattle.lent_sampler.proofs.Seats.{seats}
 use Rattle.lent_sampler.proofs.Judging.{judges}
-use Rattle.lent_sampler.proofs.frame_of as n
+use Rattle.lent_sampler.proofs.read_of.Symbol as m-def
+use Rattle.lent_sampler.proofs.read_of.Symbol.{name as #m}
+use Rattle.lent_sampler.proofs.read_of.Met as m-thm
 use Rattle.lent_sampler.proofs.frame_of.Symbol as n-def
 use Rattle.lent_sampler.proofs.frame_of.Symbol.{name as #n}
 use Rattle.lent_sampler.proofs.frame_of.Met as n-thm
@@ -31,8 +32,9 @@ unfolding code.routine tablesOf
 frame-asked-spec 𝓤 H 𝓜 𝓖 𝓡 =
     entered 𝓤 H (tripleOf 𝓤 H (𝓖 .A) f.signature (f.spec 𝓤 H (𝓖 .A) (𝓜 .mem) (𝓡 .run)))
     (tables 𝓤 H 𝓜 𝓡 code.env .C) (tables 𝓤 H 𝓜 𝓡 code.env .Λ) #f code.function (code.unfolded 𝓤 H 𝓜 𝓡)
-    (judges sampler channel params frame-asked seats #g #n goodChannel (λ count capacity first second time other k p size. frameAsked (numberOf count capacity (first ∷ second ∷ []) (time ∷ other ∷ []) k p size) k) (λ h k p size. frameAsked (frameNumber h k p size) k)
-    (λ h k p size two. ap (λ (r : ℕ). frameAsked r k) (number-is h k p size two))
+    (judges sampler channel params frame-asked readings seats #g #m #n goodChannel readingsOf (λ t k p size. framing (frameRows (frameAskedBy t k size) k p) k) (λ h k p size. framing (frameNumber h k p size) k)
+    (λ h k p size two. ap (λ (r : ℕ). framing r k) (frame-is h two k p size))
     𝓤 H (𝓖 .A) (givenOf 𝓤 H 𝓜 𝓖) (tablesOf 𝓤 H 𝓜 (tables 𝓤 H 𝓜 𝓡 code.env))
     (cited 𝓤 H (tripleOf 𝓤 H (𝓖 .A) g.signature (g.spec 𝓤 H (𝓖 .A) (𝓜 .mem) (𝓡 .run))) 𝓜 𝓡 code.env #g g-def.routine code.calls-lent-channel·good (g-thm.met 𝓤 H 𝓜 𝓖 𝓡))
-    (cited 𝓤 H (tripleOf 𝓤 H (𝓖 .A) n.signature (n.spec 𝓤 H (𝓖 .A) (𝓜 .mem) (𝓡 .run))) 𝓜 𝓡 code.env #n n-def.routine code.calls-lent-sampler·frame-of (n-thm.met 𝓤 H 𝓜 𝓖 𝓡)))
+    (record { met = cited 𝓤 H _ 𝓜 𝓡 code.env #m m-def.routine code.calls-lent-sampler·read-of (m-thm.met 𝓤 H 𝓜 𝓖 𝓡) })
+    (record { met = cited 𝓤 H _ 𝓜 𝓡 code.env #n n-def.routine code.calls-lent-sampler·frame-of (n-thm.met 𝓤 H 𝓜 𝓖 𝓡) }))

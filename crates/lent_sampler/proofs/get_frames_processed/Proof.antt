@@ -10,10 +10,10 @@ use Rattle.questions.proofs.get_frames_processed as g
 use Rattle.questions.proofs.get_frames_processed.Symbol as g-def
 use Rattle.questions.proofs.get_frames_processed.Symbol.{name as #g}
 use Rattle.questions.proofs.get_frames_processed.Met as g-thm
-use Rattle.lent_channel.proofs.Rows.{word}
+use Rattle.walks.proofs.Steps.Data.{word}
 use Rattle.lent_sampler.proofs.Lent.{sampler, counted}
-use Rattle.lent_sampler.proofs.Arguments.{value, once}
-use Rattle.lent_sampler.proofs.Peek.{peek}
+use Rattle.walks.proofs.Lending.Arguments.{value, once}
+use Rattle.walks.proofs.Lending.Peek.{peek}
 use Rattle.lent_sampler.proofs.get_frames_processed.Key.{name as #f}
 use Rattle.lent_sampler.proofs.get_frames_processed as f
 use Rattle.lent_sampler.proofs.get_frames_processed.Statement as stated

@@ -10,10 +10,10 @@ use Rattle.questions.proofs.get_last_recorded_offset as g
 use Rattle.questions.proofs.get_last_recorded_offset.Symbol as g-def
 use Rattle.questions.proofs.get_last_recorded_offset.Symbol.{name as #g}
 use Rattle.questions.proofs.get_last_recorded_offset.Met as g-thm
-use Rattle.lent_channel.proofs.Rows.{word}
+use Rattle.walks.proofs.Steps.Data.{word}
 use Rattle.lent_sampler.proofs.Lent.{sampler, offset}
-use Rattle.lent_sampler.proofs.Arguments.{value, once}
-use Rattle.lent_sampler.proofs.Peek.{peek}
+use Rattle.walks.proofs.Lending.Arguments.{value, once}
+use Rattle.walks.proofs.Lending.Peek.{peek}
 use Rattle.lent_sampler.proofs.get_last_recorded_offset.Key.{name as #f}
 use Rattle.lent_sampler.proofs.get_last_recorded_offset as f
 use Rattle.lent_sampler.proofs.get_last_recorded_offset.Statement as stated

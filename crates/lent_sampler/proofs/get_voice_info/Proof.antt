@@ -12,9 +12,9 @@ use Rattle.questions.proofs.get_voice_info.Symbol as g-def
 use Rattle.questions.proofs.get_voice_info.Symbol.{name as #g}
 use Rattle.questions.proofs.get_voice_info.Met as g-thm
 use Rattle.lent_sampler.specs.Lists.{countedOf, listedOf}
-use Rattle.lent_channel.proofs.Rows.{word}
+use Rattle.walks.proofs.Steps.Data.{word}
 use Rattle.lent_sampler.proofs.Lent.{sampler, params, info, infos, counted}
-use Rattle.lent_sampler.proofs.PeekFill.{peek}
+use Rattle.walks.proofs.Lending.PeekFill.{peek}
 use Rattle.lent_sampler.proofs.fill as h
 use Rattle.lent_sampler.proofs.fill.Symbol as h-def
 use Rattle.lent_sampler.proofs.fill.Symbol.{name as #h}

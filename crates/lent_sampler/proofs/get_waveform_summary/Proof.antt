@@ -13,10 +13,10 @@ use Rattle.questions.proofs.get_waveform_summary as g
 use Rattle.questions.proofs.get_waveform_summary.Symbol as g-def
 use Rattle.questions.proofs.get_waveform_summary.Symbol.{name as #g}
 use Rattle.questions.proofs.get_waveform_summary.Met as g-thm
-use Rattle.lent_channel.proofs.Rows.{word, float}
+use Rattle.walks.proofs.Steps.Data.{word, float}
 use Rattle.lent_sampler.proofs.Lent.{sampler, summary}
-use Rattle.lent_sampler.proofs.Arguments.{value, slice, shared, twice}
-use Rattle.lent_sampler.proofs.Peek.{peek}
+use Rattle.walks.proofs.Lending.Arguments.{value, slice, shared, twice}
+use Rattle.walks.proofs.Lending.Peek.{peek}
 use Rattle.lent_sampler.proofs.get_waveform_summary.Key.{name as #f}
 use Rattle.lent_sampler.proofs.get_waveform_summary as f
 use Rattle.lent_sampler.proofs.get_waveform_summary.Statement as stated

@@ -10,10 +10,10 @@ use Rattle.questions.proofs.is_recording as g
 use Rattle.questions.proofs.is_recording.Symbol as g-def
 use Rattle.questions.proofs.is_recording.Symbol.{name as #g}
 use Rattle.questions.proofs.is_recording.Met as g-thm
-use Rattle.lent_channel.proofs.Rows.{word}
+use Rattle.walks.proofs.Steps.Data.{word}
 use Rattle.lent_sampler.proofs.Lent.{sampler, told}
-use Rattle.lent_sampler.proofs.Arguments.{value, once}
-use Rattle.lent_sampler.proofs.Peek.{peek}
+use Rattle.walks.proofs.Lending.Arguments.{value, once}
+use Rattle.walks.proofs.Lending.Peek.{peek}
 use Rattle.lent_sampler.proofs.is_recording.Key.{name as #f}
 use Rattle.lent_sampler.proofs.is_recording as f
 use Rattle.lent_sampler.proofs.is_recording.Statement as stated

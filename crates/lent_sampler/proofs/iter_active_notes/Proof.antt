@@ -12,10 +12,10 @@ use Rattle.questions.proofs.iter_active_notes as g
 use Rattle.questions.proofs.iter_active_notes.Symbol as g-def
 use Rattle.questions.proofs.iter_active_notes.Symbol.{name as #g}
 use Rattle.questions.proofs.iter_active_notes.Met as g-thm
-use Rattle.lent_channel.proofs.Rows.{word}
+use Rattle.walks.proofs.Steps.Data.{word}
 use Rattle.lent_sampler.proofs.Lent.{sampler, counted}
-use Rattle.lent_sampler.proofs.Arguments.{value, slice, twice}
-use Rattle.lent_sampler.proofs.Peek.{peek}
+use Rattle.walks.proofs.Lending.Arguments.{value, slice, twice}
+use Rattle.walks.proofs.Lending.Peek.{peek}
 use Rattle.lent_sampler.proofs.iter_active_notes.Key.{name as #f}
 use Rattle.lent_sampler.proofs.iter_active_notes as f
 use Rattle.lent_sampler.proofs.iter_active_notes.Statement as stated

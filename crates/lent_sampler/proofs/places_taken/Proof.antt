@@ -1,6 +1,6 @@
 -- `places_taken` meets its contract: its test is that of `placesTaken`. Assumes nothing.
 use borrow.Author.Tests.{eq-eqb, ne-eqb}
-use Rattle.lent_sampler.specs.ChangeNumbers.{placesTaken}
+use Rattle.lent_sampler.specs.Numbers.{placesTaken}
 use Rattle.lent_sampler.proofs.places_taken.Statement.{statement}
 use Rattle.lent_sampler.proofs.places_taken.Tie as tie
 

@@ -12,10 +12,10 @@ use Rattle.questions.proofs.print_error_info as g
 use Rattle.questions.proofs.print_error_info.Symbol as g-def
 use Rattle.questions.proofs.print_error_info.Symbol.{name as #g}
 use Rattle.questions.proofs.print_error_info.Met as g-thm
-use Rattle.lent_channel.proofs.Rows.{word}
+use Rattle.walks.proofs.Steps.Data.{word}
 use Rattle.lent_sampler.proofs.Lent.{sampler, counted}
-use Rattle.lent_sampler.proofs.Arguments.{value, slice, twice}
-use Rattle.lent_sampler.proofs.Peek.{peek}
+use Rattle.walks.proofs.Lending.Arguments.{value, slice, twice}
+use Rattle.walks.proofs.Lending.Peek.{peek}
 use Rattle.lent_sampler.proofs.print_error_info.Key.{name as #f}
 use Rattle.lent_sampler.proofs.print_error_info as f
 use Rattle.lent_sampler.proofs.print_error_info.Statement as stated

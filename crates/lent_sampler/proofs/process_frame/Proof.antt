@@ -15,10 +15,10 @@ use Rattle.sampler.proofs.part_start.Symbol as start-def
 use Rattle.sampler.proofs.part_start.Symbol.{name as #start}
 use Rattle.sampler.proofs.part_start.Met as start-thm
 use Rattle.lent_channel.specs.Turns.{heardOf}
-use Rattle.lent_channel.proofs.Rows.{word}
+use Rattle.walks.proofs.Steps.Data.{word}
 use Rattle.lent_channel.proofs.Holding.{channel}
 use Rattle.lent_sampler.specs.Hearing.{atVolume}
-use Rattle.lent_sampler.specs.Numbers.{frameAsked}
+use Rattle.lent_sampler.specs.Numbers.{framing}
 use Rattle.lent_sampler.proofs.Lent.{sampler, params, sounded, frame-done, frame-asking}
 use Rattle.lent_sampler.proofs.Seats.{seats}
 use Rattle.lent_sampler.proofs.Turned.{Turned, turned-starts, turned-low, turned-on, turned-ends, turned-moved}
@@ -50,7 +50,7 @@ use Rattle.lent_sampler.proofs.process_frame.Code as code
 
 abbrev turning : Turning sampler channel params (word w8) frame-done sounded frame-asking seats
 turning = record {
-  askedOf = λ s n p size. frameAsked (frameNumber s n p size) n;
+  askedOf = λ s n p size. framing (frameNumber s n p size) n;
   seatOf = λ i count. i;
   sounds = λ p x c k. atVolume p (heardOf (processSampleOf p x c k));
   plays = λ p x c k. processSampleOf p x c k .channel;

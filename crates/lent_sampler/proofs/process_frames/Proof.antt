@@ -14,7 +14,7 @@ use Rattle.sampler.proofs.part_start.Met as start-thm
 use Rattle.lent_channel.specs.Turns.{heardOf}
 use Rattle.lent_channel.proofs.Holding.{channel}
 use Rattle.lent_sampler.specs.Hearing.{atVolume}
-use Rattle.lent_sampler.specs.Numbers.{runAsked, runSeat}
+use Rattle.lent_sampler.specs.Numbers.{running, runSeat}
 use Rattle.lent_sampler.proofs.Lent.{sampler, params, ran, sounded, run-asking}
 use Rattle.lent_sampler.proofs.Seats.{seats}
 use Rattle.lent_sampler.proofs.RunTurned.{Turned, turned-starts, turned-low, turned-on, turned-ends}
@@ -46,7 +46,7 @@ use Rattle.lent_sampler.proofs.process_frames.Code as code
 
 abbrev turning : Turning sampler channel params ran ran sounded run-asking seats
 turning = record {
-  askedOf = λ s n p size. runAsked (s .count) (runAnswer s n p size);
+  askedOf = λ s n p size. running (s .count) (runAnswer s n p size);
   seatOf = runSeat;
   sounds = λ p x c k. atVolume p (heardOf (processSampleOf p x c k));
   plays = λ p x c k. processSampleOf p x c k .channel;

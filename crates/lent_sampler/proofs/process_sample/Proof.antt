@@ -12,10 +12,10 @@ use Rattle.lent_sampler.proofs.sample_of as g
 use Rattle.lent_sampler.proofs.sample_of.Symbol as g-def
 use Rattle.lent_sampler.proofs.sample_of.Symbol.{name as #g}
 use Rattle.lent_sampler.proofs.sample_of.Met as g-thm
-use Rattle.lent_channel.proofs.Rows.{word, float}
+use Rattle.walks.proofs.Steps.Data.{word, float}
 use Rattle.lent_sampler.proofs.Lent.{sampler, params, sampled, sampling}
-use Rattle.lent_sampler.proofs.Arguments.{value, slice, twice}
-use Rattle.lent_sampler.proofs.Thin.{thin}
+use Rattle.walks.proofs.Lending.Arguments.{value, slice, twice}
+use Rattle.walks.proofs.Lending.Thin.{thin}
 use Rattle.lent_sampler.proofs.process_sample.Key.{name as #f}
 use Rattle.lent_sampler.proofs.process_sample as f
 use Rattle.lent_sampler.proofs.process_sample.Statement as stated

@@ -1,37 +1,23 @@
--- `run_of` meets its contract: the frames that there is room for, where work begins. Assumes nothing.
-use mathlib.Core.Path.{sym, ap, _∙_}
-use native.Mathlib.Nat.{zero-mul}
-use Rattle.sampler.proofs.RunRows.{working}
-use Rattle.lent_sampler.specs.Numbers.{ranFrom}
-use Rattle.lent_sampler.proofs.Numbers.{working-channel, played-fit}
+-- `run_of` meets its contract: the entries of the frames that are done are among the run's. Assumes nothing.
+use Rattle.lent_sampler.proofs.Numbers.{played-fit}
 use borrow.Author.Needs.{needs}
 use Rattle.lent_sampler.proofs.run_of.Statement.{statement}
 use Rattle.lent_sampler.proofs.run_of.Tie as tie
 
-run-number-requires : tie.Need-run-number-requires
-run-number-requires c κs = search needs
-
-div-smaller : tie.Need-div-smaller
-div-smaller c = working-channel _ _ _ _ _ _ _ (ap working (sym (c .before .run-number .ensures)) ∙ c .if1 .taken)
-
 room-requires : tie.Need-room-requires
 room-requires c κs = search needs
 
-smaller-requires : tie.Need-smaller-requires
-smaller-requires c κs = search needs
+good-with-requires : tie.Need-good-with-requires
+good-with-requires c κs = search needs
 
-mul-t16 : tie.Need-mul-t16
-mul-t16 c = record { fits = played-fit _ _ _ _ (c .smaller .ensures) (search needs) }
+run-done-requires : tie.Need-run-done-requires
+run-done-requires c κs = search needs
+
+mul-played : tie.Need-mul-played
+mul-played c = record { fits = played-fit _ _ _ _ (c .before .before .run-done .ensures) (search needs) }
 
 returns : tie.Need-returns
-unfolding ranFrom
-returns c = simp (c .smaller .ensures, c .before .room .ensures, ← (c .before .before .before .run-number .ensures), c .before .before .if1 .taken)
-
-returns-2 : tie.Need-returns-2
-unfolding ranFrom
-returns-2 c = simp (← (c .before .run-number .ensures), c .if1 .left, zero-mul)
+returns c = simp (c .before .before .run-done .ensures, c .before .before .before .good-with .ensures, c .before .before .before .before .room .ensures)
 
 pub run-of-spec : {M : Type 1} → statement M
-run-of-spec =
-    tie.close
-    (tie.spec run-number-requires div-smaller room-requires smaller-requires mul-t16 returns returns-2)
+run-of-spec = tie.close (tie.spec room-requires good-with-requires run-done-requires mul-played returns)

@@ -6,10 +6,10 @@ use lib.Ieee.{binary32}
 use mathlib.Core.List.{[], _∷_}
 use mir.Syntax.{w8}
 use Rattle.channel.specs.declared.Change.the-variants as change
-use Rattle.lent_channel.proofs.Rows.{float, word}
+use Rattle.walks.proofs.Steps.Data.{float, word}
 use Rattle.lent_sampler.proofs.Lent.{sampler, change as changing, note, params, changes}
-use Rattle.lent_sampler.proofs.Arguments.{value}
-use Rattle.lent_sampler.proofs.Named.{named}
+use Rattle.walks.proofs.Lending.Arguments.{value}
+use Rattle.walks.proofs.Lending.Named.{named}
 use Rattle.lent_sampler.proofs.change as j
 use Rattle.lent_sampler.proofs.change.Symbol as j-def
 use Rattle.lent_sampler.proofs.change.Symbol.{name as #j}

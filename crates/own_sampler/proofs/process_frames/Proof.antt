@@ -10,7 +10,7 @@ use Rattle.lent_sampler.proofs.process_frames as g
 use Rattle.lent_sampler.proofs.process_frames.Symbol as g-def
 use Rattle.lent_sampler.proofs.process_frames.Symbol.{name as #g}
 use Rattle.lent_sampler.proofs.process_frames.Met as g-thm
-use Rattle.own_sampler.proofs.Own.{own}
+use Rattle.walks.proofs.Lending.Own.{own}
 use Rattle.own_sampler.proofs.Answers.{run-answer}
 use Rattle.own_sampler.proofs.process_frames.Key.{name as #f}
 use Rattle.own_sampler.proofs.process_frames as f

@@ -11,6 +11,9 @@ returns : tie.Need-returns
 unfolding playedIfOf ofBits
 returns c = (simp (eq-eqb _ _ (c .if1 .taken)), zero-le)
 
+moment-requires : tie.Need-moment-requires
+moment-requires c κs = search needs
+
 new-requires : tie.Need-new-requires
 new-requires c κs = search needs
 
@@ -19,7 +22,7 @@ play-requires c κs = search needs
 
 returns-2 : tie.Need-returns-2
 unfolding playedIfOf
-returns-2 c = (simp (c .play .ensures .0, c .before .new .ensures, ne-eqb _ _ (c .before .before .if1 .left)), c .play .ensures .1)
+returns-2 c = (simp (c .play .ensures .0, c .before .new .ensures, c .before .before .moment .ensures, ne-eqb _ _ (c .before .before .before .if1 .left)), c .play .ensures .1)
 
 pub play-voices-spec : {M : Type 1} → statement M
-play-voices-spec = tie.close (tie.spec returns new-requires play-requires returns-2)
+play-voices-spec = tie.close (tie.spec returns moment-requires new-requires play-requires returns-2)

@@ -4,14 +4,8 @@ use borrow.Author.Needs.{needs}
 use Rattle.voice.proofs.Tick.new.Statement.{statement}
 use Rattle.voice.proofs.Tick.new.Tie as tie
 
-loop-length-requires : tie.Need-loop-length-requires
-loop-length-requires c κs = search needs
-
-floor-requires : tie.Need-floor-requires
-floor-requires c κs = search needs
-
-usize-to-f32-requires : tie.Need-usize-to-f32-requires
-usize-to-f32-requires c κs = search needs
+new-requires : tie.Need-new-requires
+new-requires c κs = search needs
 
 speed-requires : tie.Need-speed-requires
 speed-requires c κs = search needs
@@ -24,16 +18,7 @@ plays-once-requires c κs = search needs
 
 returns : tie.Need-returns
 unfolding tickOf
-returns c = simp (c .plays-once .ensures, c .before .clip-mode .ensures, c .before .before .speed .ensures, c .before .before .before .usize-to-f32 .ensures, c .before .before .before .before .floor .ensures, c .before .before .before .before .before .loop-length .ensures)
+returns c = simp (c .plays-once .ensures, c .before .clip-mode .ensures, c .before .before .speed .ensures, c .before .before .before .new .ensures)
 
 pub new-spec : {M : Type 1} → statement M
-new-spec =
-    tie.close
-    (tie.spec
-    loop-length-requires
-    floor-requires
-    usize-to-f32-requires
-    speed-requires
-    clip-mode-requires
-    plays-once-requires
-    returns)
+new-spec = tie.close (tie.spec new-requires speed-requires clip-mode-requires plays-once-requires returns)

@@ -18,7 +18,7 @@ abs-requires c κs = search needs
 
 returns-3 : tie.Need-returns-3
 unfolding playedOutOf
-returns-3 c = simp (c .before .abs .ensures, not-false (c .before .before .before .before .before .args .t .once) (c .before .before .before .if1 .left), c .before .before .if2 .left)
+returns-3 c = simp (c .before .abs .ensures, not-false (c .before .before .before .before .before .before .args .t .once) (c .before .before .before .before .if1 .left), c .before .before .before .if2 .left)
 
 pub played-out-spec : {M : Type 1} → statement M
 played-out-spec = tie.close (tie.spec returns returns-2 abs-requires returns-3)

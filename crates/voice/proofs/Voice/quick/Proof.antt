@@ -35,12 +35,12 @@ goes-on-requires c κs = search needs
 returns-3 : tie.Need-returns-3
 unfolding soundedAt
 returns-3 c =
-    let a = c .before .before .before .before .before .before .before .before .before .before .before .before .before .before .args in
+    let a = c .before .before .before .before .before .before .before .before .before .before .before .before .before .before .before .args in
     let found = c .before .before .before .before .before .before .before .quick-index in
-    let keeps = c .before .before .before .before .before .before .before .before .before .before .before .before .keeps in
+    let keeps = c .before .before .before .before .before .before .before .before .before .before .before .before .before .keeps in
     answered (a .t) (a .«data» .now) (a .self) (found .result) _ (keeps .result) (c .goes-on .result) (found .ensures)
     (simp (c .before .crossing .ensures, c .before .before .before .recorded .ensures, c .before .before .before .before .level .ensures))
-    (keeps .ensures) (c .goes-on .ensures) (not-false (keeps .result) (c .before .before .before .before .before .before .before .before .before .before .before .if1 .left)) (c .before .before .before .before .before .before .if2 .left)
+    (keeps .ensures) (c .goes-on .ensures) (not-false (keeps .result) (c .before .before .before .before .before .before .before .before .before .before .before .before .if1 .left)) (c .before .before .before .before .before .before .if2 .left)
 
 pub quick-spec : {M : Type 1} → statement M
 quick-spec =

@@ -1,0 +1,19 @@
+-- `change_of` meets its contract. Assumes nothing.
+use borrow.Author.Needs.{needs}
+use Rattle.lent_sampler.proofs.change_of.Statement.{statement}
+use Rattle.lent_sampler.proofs.change_of.Tie as tie
+
+good-requires : tie.Need-good-requires
+good-requires c κs = search needs
+
+any-of-requires : tie.Need-any-of-requires
+any-of-requires c κs = search needs
+
+change-rows-requires : tie.Need-change-rows-requires
+change-rows-requires c κs = search needs
+
+returns : tie.Need-returns
+returns c = simp (c .change-rows .ensures, c .before .any-of .ensures, c .before .before .good2 .ensures)
+
+pub change-of-spec : {M : Type 1} → statement M
+change-of-spec = tie.close (tie.spec good-requires any-of-requires change-rows-requires returns)
