@@ -1,4 +1,4 @@
-//! The Rust's side: the same scenario, played on the original.
+//! The Rust's side: the same scenario, played on the original, in which 7/12's setting costs a test for each voice where it is off (oracle/model).
 
 use crate::scenario::{input_at, Act, Scenario, BEAT, SIZE};
 use audio_sampler_lib::common_types::{InitParams, Note, Params};
@@ -41,6 +41,7 @@ fn begun(scenario: &Scenario, p: &Params) -> Sampler {
     }
     for c in &mut s.channels {
         inside::put_clock(c, scenario.clock as usize);
+        c.interpolates = scenario.smooth;
     }
     (0..scenario.voices).for_each(|i| start(&mut s, i, p));
     (0..scenario.voices).filter(|&i| scenario.stops(i)).for_each(|i| s.stop_playing(note_of(i), p));

@@ -53,6 +53,8 @@ pub struct Scenario {
     pub frames: u32,
     /// How many frames the port plays in one call: 1 by the frame call, more by the run's.
     pub run: u32,
+    /// 7/12's setting.
+    pub smooth: bool,
 }
 
 const ONCE: u8 = 0;
@@ -79,6 +81,7 @@ const PLAIN: Scenario = Scenario {
     clock: 10,
     frames: 50_000,
     run: 1,
+    smooth: false,
 };
 
 /// One frame of 32 voices, over and over.
@@ -121,6 +124,16 @@ pub const SCENARIOS: &[Scenario] = &[
     Scenario { name: "call: start of recording", act: Act::StartRecording, ..CALL },
     Scenario { name: "call: stop of recording", act: Act::StopRecording, grows: true, ..CALL },
     Scenario { name: "call: reset", act: Act::Reset, ..CALL },
+    Scenario { name: "smooth: 1 voice, loop", voices: 1, frames: 200_000, smooth: true, ..PLAIN },
+    Scenario { name: "smooth: 8 voices, loop", smooth: true, ..PLAIN },
+    Scenario { name: "smooth: 32 voices, loop", voices: 32, frames: 20_000, smooth: true, ..PLAIN },
+    Scenario { name: "smooth: 8 voices, ping-pong", mode: PING_PONG, smooth: true, ..PLAIN },
+    Scenario { name: "smooth: 32 voices, ping-pong", voices: 32, mode: PING_PONG, frames: 20_000, smooth: true, ..PLAIN },
+    Scenario { name: "smooth: 8 voices, reverse speed", reverse: -1.0, smooth: true, ..PLAIN },
+    Scenario { name: "smooth: 8 voices, play-once", mode: ONCE, speed: 0.05, ratio: 1.0, smooth: true, ..PLAIN },
+    Scenario { name: "smooth: 8 voices, parameters change", changes: true, smooth: true, ..PLAIN },
+    Scenario { name: "smooth: 8 voices, loop, runs of 64", run: 64, smooth: true, ..PLAIN },
+    Scenario { name: "smooth: 32 voices, loop, runs of 64", voices: 32, frames: 20_000, run: 64, smooth: true, ..PLAIN },
 ];
 
 /// The scenario of a row, with so many turns; an idle one has all but what is timed.
@@ -195,7 +208,8 @@ impl Scenario {
             .with_u32(32, self.grows.into())
             .with_u32(36, self.leaves.into())
             .with_u32(40, self.put_back)
-            .with_u32(44, self.act as u32);
+            .with_u32(44, self.act as u32)
+            .with_u32(48, self.smooth.into());
         [self.settings().0, self.other_settings().0, plan.0].concat()
     }
 }

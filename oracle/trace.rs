@@ -39,6 +39,8 @@ mod text;
 #[allow(dead_code)]
 #[path = "shared/values.rs"]
 mod values;
+#[path = "trace/vectors.rs"]
+mod vectors;
 
 use engine::Calls;
 use port::Port;

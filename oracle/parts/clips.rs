@@ -5,6 +5,7 @@ use crate::random::Random;
 use crate::record::Record;
 use crate::values::{hostile_float, hostile_whole, ordinary_float, quiet, special_floats};
 use audio_sampler_lib::clip::{Clip, Mode};
+use audio_sampler_lib::smooth::next_index;
 
 /// 0 for a loop, 1 for ping-pong.
 const MODE: Arg = Arg("mode", 1, 1);
@@ -42,6 +43,7 @@ pub const PART: Part = Part {
         Function { name: "Clip::elapsed", args: &[START, LENGTH, DATA_LENGTH, SINCE, NOW] },
         Function { name: "Clip::clip_offset", args: &[MODE, START, SPEED, LENGTH, DATA_LENGTH, SHIFT, SINCE, NOW] },
         Function { name: "Clip::offset", args: &[MODE, START, SPEED, LENGTH, DATA_LENGTH, SHIFT, SINCE, NOW] },
+        Function { name: "Clip::next_at", args: &[MODE, START, SPEED, LENGTH, DATA_LENGTH, SHIFT, SINCE, NOW] },
         Function { name: "Clip::is_pingpong_reversing", args: &[MODE, START, SPEED, LENGTH, DATA_LENGTH, SHIFT, SINCE, NOW] },
         Function { name: "Clip::data_to_clip", args: &[START, LENGTH, DATA_LENGTH, X] },
         Function { name: "Clip::update_..", args: &[MODE, KIND, NEW_MODE, START, SPEED, LENGTH, DATA_LENGTH, SHIFT, VALUE, SINCE, NOW, NEW_SPEED, NEW_DATA_LENGTH] },
@@ -363,17 +365,20 @@ fn answer(record: &Record, line: &mut Line) {
     let done = !refused(&clip, now);
     line.answer(done, &[(16, if done { clip.elapsed(now as usize) as u64 } else { 0 })]);
     line.answer(done, &[place(if done { clip.clip_offset(now as usize) } else { 0.0 })]);
-    put_offset(&clip, now, line);
+    put_position(&clip, now, line);
+    line.answer(done, &[(16, if done { next_index(&clip, now as usize) as u64 } else { 0 })]);
     line.answer(done, &[(1, (done && clip.is_pingpong_reversing(now as usize)) as u64)]);
     put_found(&clip, float(record, X), line);
     let changed = updated(record);
     put_clip(changed, line);
-    put_offset(&changed.unwrap_or(clip), later, line);
+    put_position(&changed.unwrap_or(clip), later, line);
 }
 
-fn put_offset(clip: &Clip, now: u64, line: &mut Line) {
+/// The offset, and its index and fraction (request 7/12).
+fn put_position(clip: &Clip, now: u64, line: &mut Line) {
     let done = !refused(clip, now);
-    line.answer(done, &[place(if done { clip.offset(now as usize) } else { 0.0 })]);
+    let offset = if done { clip.offset(now as usize) } else { 0.0 };
+    line.answer(done, &[place(offset), (16, offset.floor() as u64), bits(offset - offset.floor())]);
 }
 
 /// Whether there is a place in the clip, and the place.

@@ -3,14 +3,16 @@
 use crate::engine::{play, Calls};
 use crate::listing::bytes;
 use crate::port::Port;
-use crate::report::disagreement;
+use crate::report::{disagreement, edges};
 use crate::songs::{listing, STYLES};
 use crate::tally::Tally;
 use crate::text::Text;
+use crate::vectors;
 use std::io::{BufReader, BufWriter, Read, Write};
 
 /// Whether all is equal.
 pub fn run(seed: u64, count: u64, port: &Port) -> Result<bool, String> {
+    vectors::held()?;
     let mut child = port.start()?;
     let input = child.stdin.take().unwrap();
     let writer = std::thread::spawn(move || ask(seed, count, input));
@@ -26,7 +28,7 @@ pub fn run(seed: u64, count: u64, port: &Port) -> Result<bool, String> {
     let calls = if port.calls == Calls::Lent { " on a lent record" } else { "" };
     println!("seed {seed}{calls}: {} listings, {} calls, {} fields equal, none differs", tally.listings, tally.calls, tally.fields);
     tally.print();
-    Ok(true)
+    edges(port)
 }
 
 /// Hands the port a run's listings.
@@ -67,7 +69,7 @@ fn compare(seed: u64, count: u64, calls: Calls, mut output: impl Read) -> Result
     }
     if let Some(way) = tally.seldom().filter(|_| calls == Calls::Lent) {
         tally.print();
-        return Err(format!("too few samples of a channel on a lent record go this way: {way}"));
+        return Err(format!("too few on a lent record go this way: {way}"));
     }
     tally.styles(STYLES.iter().map(|s| s.name).zip(styles));
     Ok((tally, None))

@@ -107,6 +107,7 @@ impl Engine {
             START_RECORDING => (self.plain(|s, _| s.start_recording()), Shown::Record),
             STOP_RECORDING => (self.plain(|s, p| s.stop_recording(p)), Shown::Record),
             RESET => (self.reset(), Shown::Record),
+            INTERPOLATION => (self.plain(|s, _| s.channels.iter_mut().for_each(|c| c.interpolates = r.u8_at(ON) != 0)), Shown::Record),
             SAMPLE => self.sample(r),
             FRAME => self.frame(r, [float(r, FLOAT), float(r, FLOAT + 4), float(r, FLOAT + 8)]),
             FRAMES => self.frames(r),

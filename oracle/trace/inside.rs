@@ -1,5 +1,5 @@
-//! A look into the engine, for the comparison: this module is compiled into the engine's crate, whose own files stay as they are, and so sees
-//! what the crate keeps to itself.
+//! A look into the engine, for the comparison: this module is compiled into the engine's crate, whose own files stay as they are but for 7/12's
+//! setting, and so sees what the crate keeps to itself.
 
 use crate::common_types::Note;
 use crate::recorder::State;

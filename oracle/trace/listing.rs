@@ -26,12 +26,13 @@ pub const VOICE_INFO: u8 = 18;
 pub const FRAMES: u8 = 19;
 pub const WAVEFORM: u8 = 20;
 pub const RUN: u8 = 21;
+pub const INTERPOLATION: u8 = 22;
 
 /// The kinds by their numbers. Those in brackets are no calls.
-pub const NAMES: [&str; 22] = [
+pub const NAMES: [&str; 23] = [
     "set-up", "parameters", "start_playing", "stop_playing", "set_note_speed", "start_recording", "stop_recording", "reset", "process_sample",
     "process_frame", "(a field put)", "(recordings)", "get_frames_processed", "get_data_len", "is_recording", "get_last_recorded_offset",
-    "print_error_info", "iter_active_notes", "get_voice_info", "many of process_frame", "get_waveform_summary", "process_frames",
+    "print_error_info", "iter_active_notes", "get_voice_info", "many of process_frame", "get_waveform_summary", "process_frames", "set_interpolation",
 ];
 
 /// How many samples of memory the port has to lend.
@@ -50,6 +51,7 @@ pub const NOTE: usize = 1;
 pub const NOTE_CHANNEL: usize = 2;
 pub const ENTRIES: usize = 1;
 pub const AUTO: usize = 1;
+pub const ON: usize = 1;
 pub const FLOAT: usize = 4;
 pub const SEED: usize = 4;
 pub const COUNT: usize = 4;
@@ -72,6 +74,10 @@ pub fn start(note: (u8, u8), position: u32, velocity: u32) -> Record {
 
 pub fn of_note(kind: u8, note: (u8, u8)) -> Record {
     Record::new(kind).with_u8(NOTE, note.0).with_u8(NOTE_CHANNEL, note.1)
+}
+
+pub fn interpolation(on: bool) -> Record {
+    Record::new(INTERPOLATION).with_u8(ON, on as u8)
 }
 
 pub fn sample(channel: u32, input: u32, lent: u32) -> Record {
@@ -140,6 +146,7 @@ pub fn describe(r: &Record) -> String {
         ),
         RUN => format!("{} entries from the seed {}, {} samples lent", r.u32_at(RUN_LENGTH), r.u32_at(SEED), r.u32_at(LENT)),
         PUT => puts::describe(r),
+        INTERPOLATION => (if r.u8_at(ON) != 0 { "on" } else { "off" }).into(),
         FRAMES_PROCESSED..=LAST_OFFSET => format!("channel {}", r.u32_at(CHANNEL)),
         ERROR_TEXT..=VOICE_INFO => format!("channel {}, room for {}", r.u32_at(CHANNEL), r.u32_at(ROOM)),
         WAVEFORM => format!("{} columns, room for {}, {} samples lent", r.u32_at(COLUMNS), r.u32_at(ROOM), r.u32_at(LENT)),

@@ -25,12 +25,14 @@ pub const VOLUME: u8 = 10;
 pub const LENGTH: u8 = 11;
 pub const CLIP_DATA: u8 = 12;
 pub const START_AT: u8 = 13;
+/// 7/12's, of one channel.
+pub const SETTING: u8 = 14;
 
-const NAMES: [&str; 14] = [
+const NAMES: [&str; 15] = [
     "every clock on by", "the channel count to", "the capacity to", "the voice count to", "the data length past the capacity by",
     "the write place past the data length by", "the clock past 2^48 by", "a ramp of pass-through past the clock by", "since past the clock by",
     "finished_at past the clock by", "a ramp of the volume past the clock by", "the clip's length to", "the clip's data length to",
-    "the clip's start to",
+    "the clip's start to", "the setting of a channel to",
 ];
 
 /// The places of the fields.
@@ -63,7 +65,7 @@ pub fn of(channel: u8, voice: u8, r: Record) -> Record {
 
 pub fn describe(r: &Record) -> String {
     let what = r.u8_at(WHAT);
-    let by = if what >= LENGTH { format!("{:?}", r.f32_at(FLOAT)) } else { r.u64_at(BY).to_string() };
+    let by = if (LENGTH..=START_AT).contains(&what) { format!("{:?}", r.f32_at(FLOAT)) } else { r.u64_at(BY).to_string() };
     let name = NAMES.get(what as usize).unwrap_or(&"?");
     format!("{name} {by}, of channel {}, voice {}, a ramp being {} long", r.u8_at(OF_CHANNEL), r.u8_at(OF_VOICE), r.u64_at(LONG))
 }
@@ -109,6 +111,7 @@ fn put_channel(c: &mut Channel, capacity: usize, r: &Record) {
         WRITE_PLACE => inside::put_write_place(c, Some(length.wrapping_add(by))),
         CLOCK => inside::put_clock(c, LAST_TIME.wrapping_add(by)),
         PASSTHRU => inside::put_passthru(c, ramp(now, r)),
+        SETTING => c.interpolates = by != 0,
         _ => {
             if let Some(v) = inside::voices_mut(c).get_mut(r.u8_at(OF_VOICE) as usize) {
                 put_voice(v, now, r);

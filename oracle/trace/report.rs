@@ -5,6 +5,7 @@ use crate::listing::{bytes, describe};
 use crate::port::Port;
 use crate::record::Record;
 use crate::songs::{listing, STYLES};
+use crate::table;
 use crate::tally::Tally;
 use crate::text::{Text, CHANNEL, VOICE};
 
@@ -28,6 +29,18 @@ pub fn disagreement(seed: u64, number: u64, port: &Port) -> Result<(), String> {
     show(&small, port)
 }
 
+/// Whether the listing of the edges is answered alike. Where it isn't, the line is shown.
+pub fn edges(port: &Port) -> Result<bool, String> {
+    let records = table::listing();
+    let Some(d) = difference(&records, port)? else {
+        println!("the listing of the edges: {} records, none differs", records.len());
+        return Ok(true);
+    };
+    println!("listing of the edges ({} records) is answered otherwise", records.len());
+    print(&d);
+    Ok(false)
+}
+
 /// Prints a listing, and where the two sides differ on it. Whether they are equal.
 pub fn replayed(path: &str, port: &Port) -> Result<bool, String> {
     let input = std::fs::read(path).map_err(|e| format!("{path}: {e}"))?;
@@ -44,9 +57,13 @@ fn show(records: &[Record], port: &Port) -> Result<(), String> {
         println!("both sides answer alike");
         return Ok(());
     };
-    println!("line {} differs{}", d.line + 1, names(&d));
-    println!("  rust {}\n  port {}", d.rust, d.port);
+    print(&d);
     Ok(())
+}
+
+fn print(d: &Difference) {
+    println!("line {} differs{}", d.line + 1, names(d));
+    println!("  rust {}\n  port {}", d.rust, d.port);
 }
 
 /// Drops records, many at once and then fewer, while the two sides still differ.

@@ -43,7 +43,27 @@ pub fn listing(seed: u64, number: u64) -> (usize, Vec<Record>) {
     let mut s = Song { r, records: Vec::new(), hostile: 0, bad: 0, count: 1, memory: 0, room: 0, recorder: None, data: 0 };
     (STYLES[style].make)(&mut s);
     s.records.push(Record::new(RECORDINGS));
-    (style, s.records)
+    (style, sprinkled(s.records, seed, number))
+}
+
+/// The listing with 7/12's setting: two of six are left as they are, in one it is put on behind each set-up, and in the others on and off anywhere. It
+/// has random numbers of its own.
+fn sprinkled(records: Vec<Record>, seed: u64, number: u64) -> Vec<Record> {
+    let mut r = Random::new(seed.wrapping_mul(0x1_0000_0001).wrapping_add(number).wrapping_mul(0xbf58_476d_1ce4_e5b9));
+    let way = r.below(6);
+    let mut sprinkled = Vec::new();
+    for record in records {
+        let begins = record.u8_at(0) == SET_UP;
+        sprinkled.push(record);
+        match way {
+            0 | 1 => (),
+            2 if begins => sprinkled.push(interpolation(true)),
+            2 => (),
+            _ if r.below(9) == 0 || (begins && r.below(2) == 0) => sprinkled.push(interpolation(r.below(3) > 0)),
+            _ => (),
+        }
+    }
+    sprinkled
 }
 
 /// A listing in the making, with what its maker knows of the sampler.
@@ -623,7 +643,7 @@ impl Song {
         let long = self.r.pick(&[0, 1, 2, 1 << 24, (1 << 24) + 1, far]);
         let x = self.float(|s| s.r.pick(&[0.0, -0.0, -1e-45, 0.99999994, 1.0, 1.5, 4194304.0, 4194304.5, f32::NAN, f32::INFINITY]));
         let counts: &[u64] = if self.count == 2 { &[0, 1, 2, 3, far] } else { &[0, 1] };
-        let record = match self.r.below(12) {
+        let record = match self.r.below(13) {
             0 => puts::put(puts::CHANNELS, self.r.pick(counts)),
             1 => puts::put(puts::CAPACITY, self.r.pick(&[0, 1 << 22, 1 << 22, (1 << 22) + 1, far])),
             2 => puts::put(puts::DATA_LENGTH, by.min(5)),
@@ -633,6 +653,7 @@ impl Song {
             6 => puts::put(puts::SINCE, by),
             7 => puts::put(puts::FINISHED_AT, by),
             8 => puts::put_ramp(puts::VOLUME, by, long),
+            12 => puts::put(puts::SETTING, self.r.below(2)),
             what => puts::put_float(puts::LENGTH + (what - 9) as u8, f32::from_bits(x)),
         };
         let (channel, voice) = (self.r.below(self.count) as u8, self.r.below(4) as u8);

@@ -4,6 +4,7 @@ use crate::listing::*;
 use crate::params;
 use crate::puts::*;
 use crate::record::Record;
+use crate::vectors;
 
 const KEY: (u8, u8) = (60, 0);
 /// Two channels of 8 samples.
@@ -11,7 +12,8 @@ const LENT_MEMORY: u32 = 16;
 const MOST_VOICES: usize = 32;
 
 pub fn listing() -> Vec<Record> {
-    [refused_set_ups(), rows(), full(), tidied(), clock_end(), emptied(), broken(), broken_sizes(), judged(), waveforms(), runs(), runs_refused(), runs_at_the_end()].concat()
+    let refused = [refused_set_ups(), rows(), full(), tidied(), clock_end(), emptied(), broken(), broken_sizes(), judged()].concat();
+    [refused, waveforms(), runs(), runs_refused(), runs_at_the_end(), setting(), vectors::listing()].concat()
 }
 
 /// Row 9: after each refused set-up every call is refused.
@@ -184,6 +186,21 @@ fn runs_at_the_end() -> Vec<Record> {
     l
 }
 
+/// 7/12's setting put on and off under voices in ping-pong and in a loop, by every call that plays; of one channel alone; kept by a reset, and not by
+/// a set-up.
+fn setting() -> Vec<Record> {
+    let slow = |mode: u8| settings(2.5, 0).with_u8(params::MODE, mode).with_u32(params::SPEED, level(0.375));
+    let mut l = begun();
+    l.extend([slow(2), press(0.25), press(0.5)]);
+    for on in [true, true, false, true] {
+        l.extend([interpolation(on), whole_frame(2, LENT_MEMORY), sound(1), run(1, 6, LENT_MEMORY), slow(1), whole_frame(2, LENT_MEMORY), slow(2)]);
+    }
+    l.extend([of(1, 0, put(SETTING, 0)), whole_frame(2, LENT_MEMORY), run(2, 4, LENT_MEMORY), of(0, 0, put(SETTING, 0)), of(1, 0, put(SETTING, 1))]);
+    l.extend([whole_frame(2, LENT_MEMORY), plain(RESET), whole_frame(2, LENT_MEMORY), interpolation(true), plain(RESET)]);
+    l.extend(begun());
+    l
+}
+
 /// A voice that sounds and one that decays.
 fn sounding(channels: u32) -> Vec<Record> {
     let mut l = vec![set_up(channels, false, LENT_MEMORY), settings(4.0, 0).with_u64(params::DECAY, 1 << 24), plain(START_RECORDING)];
@@ -206,7 +223,7 @@ fn each_call(note: (u8, u8), channel: u32, lent: u32) -> Vec<Record> {
     let mut l = vec![start(note, level(0.0), level(1.0)), of_note(NOTE_SPEED, note).with_u32(FLOAT, level(0.5))];
     l.extend([plain(START_RECORDING), sample(channel, level(0.5), lent), whole_frame(1, lent), run(1, 2, lent), plain(STOP_RECORDING)]);
     l.extend((FRAMES_PROCESSED..=VOICE_INFO).map(|kind| query(kind, channel, 64)));
-    l.extend([waveform(3, 3, lent), of_note(STOP, note), plain(RESET)]);
+    l.extend([interpolation(true), waveform(3, 3, lent), of_note(STOP, note), plain(RESET)]);
     l
 }
 

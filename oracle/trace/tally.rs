@@ -20,6 +20,7 @@ pub struct Census {
     recording: usize,
     skipped: u64,
     passing: usize,
+    smooth: usize,
 }
 
 impl Census {
@@ -37,6 +38,7 @@ impl Census {
             recording: channels.iter().filter(|c| inside::write_place(c).is_some()).count(),
             skipped: engine.skipped.iter().sum(),
             passing: channels.iter().filter(|c| inside::passthru(c).0).count(),
+            smooth: channels.iter().filter(|c| c.interpolates).count(),
         }
     }
 }
@@ -72,7 +74,14 @@ impl Tally {
             }
             NOTE_SPEED => self.met("voices", "there at a note speed", before.voices),
             STOP_RECORDING => self.met("recordings", "cut or emptied by a stop", (after.recorded < before.recorded) as usize),
-            RESET => self.met("voices", "gone by a reset", before.voices),
+            RESET => {
+                self.met("voices", "gone by a reset", before.voices);
+                self.met("the setting", "kept on by a reset", (after.smooth > 0) as usize);
+            }
+            INTERPOLATION if before.voices > 0 => {
+                self.met("the setting", "put on while voices sound", (after.smooth > before.smooth) as usize);
+                self.met("the setting", "put off while voices sound", (after.smooth < before.smooth) as usize);
+            }
             SAMPLE | FRAME | FRAMES | RUN => self.samples(before, after, params, length_kind),
             _ => (),
         }
@@ -156,6 +165,7 @@ impl Tally {
         }
         let samples = after.clocks - before.clocks;
         self.met("samples with voices, by loop mode", name(&LOOP_MODES, params.loop_mode as usize), samples);
+        self.met("samples with voices, by the setting", if before.smooth > 0 { "on" } else { "off" }, samples);
         self.met("samples with voices, by length kind", name(&LENGTH_KINDS, length_kind as usize), samples);
         self.met("voices", "in a sample", before.voices);
         self.met("voices", "left in a sample", before.voices - after.voices);
@@ -186,8 +196,10 @@ impl Tally {
             println!("  {name:<24}{}", cells.map(|n| if n == 0 { format!("{:>10}", ".") } else { format!("{n:>10}") }).collect::<String>());
         }
         if self.ways.iter().any(|times| *times > 0) {
-            println!("samples of a channel with voices, in frames");
-            WAYS.iter().zip(self.ways).for_each(|(way, times)| println!("  {way:<40}{times:>14}"));
+            for (of, ways) in [("samples of a channel with voices, in frames", 0..CHANNEL_WAYS), ("quick turns of voices, in frames", CHANNEL_WAYS..WAYS.len())] {
+                println!("{of}");
+                ways.for_each(|k| println!("  {:<40}{:>14}", WAYS[k], self.ways[k]));
+            }
         }
         let mut last = "";
         for ((what, which), times) in &self.met {
@@ -212,7 +224,14 @@ fn run_length(frames: usize) -> &'static str {
 }
 
 /// As the program over the lent calls numbers them.
-const WAYS: [&str; 5] = ["all voices quickly", "all slowly", "some quickly, then the rest slowly", "slow after a quick one", "quick after a slow one"];
+const WAYS: [&str; CHANNEL_WAYS + 12] = [
+    "all voices quickly", "all slowly", "some quickly, then the rest slowly", "slow after a quick one", "quick after a slow one",
+    "loop, forwards", "loop, backwards", "ping-pong, forwards, there", "ping-pong, backwards, there", "ping-pong, forwards, back",
+    "ping-pong, backwards, back", "smooth loop, forwards", "smooth loop, backwards", "smooth ping-pong, forwards, there",
+    "smooth ping-pong, backwards, there", "smooth ping-pong, forwards, back", "smooth ping-pong, backwards, back",
+];
+/// The first are ways of a channel through a sample, the others of a voice through a quick turn.
+const CHANNEL_WAYS: usize = 5;
 /// From so many listings on each way has to be met more often than this.
 const MANY_LISTINGS: u64 = 5000;
 const OFTEN: u64 = 1000;

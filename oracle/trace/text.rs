@@ -14,9 +14,9 @@ pub struct Text {
 }
 
 /// The names of the fields in the lines of a channel and of a voice, for a reader.
-pub const CHANNEL: [&str; 13] = [
+pub const CHANNEL: [&str; 14] = [
     "clock", "data length", "recording", "write place", "skip count", "state error count", "pass-through on", "pass-through kind",
-    "pass-through from time", "pass-through till time", "pass-through from", "pass-through till", "voices",
+    "pass-through from time", "pass-through till time", "pass-through from", "pass-through till", "interpolates", "voices",
 ];
 pub const VOICE: [&str; 22] = [
     "finished_at", "last_sample_index", "since", "start", "clip speed", "length", "data_length", "shift", "mode", "volume kind",
@@ -117,6 +117,7 @@ impl Text {
         self.put(8, misused);
         self.put(1, on as u64);
         self.volume(volume);
+        self.put(1, c.interpolates as u64);
         self.last(16, inside::voices(c).len() as u64);
         for v in inside::voices(c).iter().take(MOST_VOICES) {
             self.voice(v);

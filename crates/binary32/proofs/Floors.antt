@@ -1,7 +1,7 @@
 -- What `floorOf` is worth: the whole number at or below x, exactly. And a cast to an unsigned type sees no fraction. Assumes nothing.
 use mathlib.Core.Path.{_≡_, refl, sym, ap, _∙_, subst}
 use Prim.Native.Nat.{ℕ, zero, suc, _+_, _-_, _*_, _/_, _%_, _^_, _≤_, _<_, min}
-use native.Mathlib.Nat.{le-trans, le-of-eq, le-of-lt, lt-of-lt-of-le, mul-one, mul-le-mul-left, mul-div-cancel, mul-add-div-right, div-eq-of-lt, div-lt-iff-lt-mul, zero-lt-suc, add-zero, le-of-suc-le-suc, le-antisymm, lt-div-mul-add, div-eq-of-lt-le, div-mul-le-self, add-mul, mul-right-comm, suc-mul, zero-mul}
+use native.Mathlib.Nat.{le-trans, le-of-eq, le-of-lt, lt-of-lt-of-le, mul-one, mul-le-mul-left, mul-div-cancel, mul-add-div-right, div-eq-of-lt, div-lt-iff-lt-mul, zero-lt-suc, add-zero, le-of-suc-le-suc, le-antisymm, lt-div-mul-add, div-eq-of-lt-le, div-mul-le-self, add-mul, mul-right-comm, suc-mul, zero-mul, zero-div, eq-of-mul-eq-mul-right}
 use native.Mathlib.Omega.{arith}
 use mathlib.Core.Bool.{Bool, true, false, _&&_, cond, true≢false}
 use borrow.Author.Tests.{leb-true, leb-false, ltb-true, ltb-false}
@@ -13,9 +13,9 @@ use lib.Ieee.Fits.{and-l, and-r, down-pos}
 use lib.Ieee.Exact.{HasValue}
 use lib.Ieee.Back.{round-whole}
 use lib.Ieee.Nearest.{div-same}
-use Rattle.binary32.specs.Leaves.{floorOf}
+use Rattle.binary32.specs.Leaves.{floorOf, signOf}
 use Rattle.binary32.proofs.Truth.{yes}
-use Rattle.binary32.proofs.Values.{lt-value, add-value}
+use Rattle.binary32.proofs.Values.{lt-value, add-value, value-sign, value-same}
 use Rattle.binary32.proofs.Units.{Units, on-grid, lt-units, power-units}
 use Rattle.binary32.proofs.Rounding.{round-held, round-neg}
 use Rattle.binary32.proofs.Snap.{floored, floor-is as whole-is}
@@ -223,3 +223,29 @@ small-floor (fin false m e) f h k =
     let p : Units binary32 (fin false m e) n = record { sign = false; is = v .is; null = λ t. absurd t } in
     let small : n < 2 ^ 23 * 2 ^ 149 = ltb→lt n (2 ^ 23 * 2 ^ 149) (subst T (lt-units p (power-units binary32 23)) k) in
     whole-is p small ∙ ap (λ (z : ℕ). round binary32 false z 1) (div-same n (2 ^ 149) (m * up e) (down e) (pow-pos 149) (down-pos e) (sym (v .is .1))) ∙ sym (floor-is false m e)
+
+-- ---- in units: the floor of n units, which are not below zero, is the ones of n, with the sign that x has
+pub floor-sign : (x : Float) → T (fits binary32 x) → signOf (floorOf x) ≡ signOf x
+floor-sign nan t = unfold floorOf in refl
+floor-sign (inf s) t = unfold floorOf in refl
+floor-sign (fin s m e) t = value-sign (floorOf (fin s m e)) s (cut s (m * up e) (down e)) 1 (floor-exact s m e t)
+
+cut-units : (s : Bool) (a d n : ℕ) → 0 < d → a * 2 ^ 149 ≡ n * d → (T s → n ≡ 0) → cut s a d ≡ n / 2 ^ 149
+cut-units false a d n D v z = div-same a d n (2 ^ 149) D (pow-pos 149) v
+cut-units true a d n D v z =
+    let none : a ≡ 0 = eq-of-mul-eq-mul-right (2 ^ 149) (pow-pos 149) a 0 (v ∙ ap (λ (k : ℕ). k * d) (z tt) ∙ zero-mul d ∙ sym (zero-mul (2 ^ 149))) in
+    cut-whole true a d 0 D (none ∙ sym (zero-mul d)) ∙ sym (ap (λ (k : ℕ). k / 2 ^ 149) (z tt) ∙ zero-div (2 ^ 149))
+
+pub floor-units : (x : Float) (n : ℕ) → T (fits binary32 x) → Units binary32 x n → Units binary32 (floorOf x) (n / 2 ^ 149 * 2 ^ 149)
+floor-units nan n t p = absurd (p .is)
+floor-units (inf s) n t p = absurd (p .is)
+floor-units (fin s m e) n t p =
+    let y = floorOf (fin s m e) in
+    let w = n / 2 ^ 149 in
+    let none : T s → n ≡ 0 = λ (h : T s). p .null (subst T (p .is .0) h) in
+    let v : HasValue y s w 1 = subst (λ (k : ℕ). HasValue y s k 1) (cut-units s (m * up e) (down e) n (down-pos e) (p .is .1) none) (floor-exact s m e t) in
+    record {
+      sign = s;
+      is = value-same y s w 1 (w * 2 ^ 149) (2 ^ 149) (pow-pos 0) (sym (mul-one (w * 2 ^ 149))) v;
+      null = λ h. ap (λ (k : ℕ). k / 2 ^ 149 * 2 ^ 149) (none h) ∙ ap (λ (k : ℕ). k * 2 ^ 149) (zero-div (2 ^ 149)) ∙ zero-mul (2 ^ 149);
+    }

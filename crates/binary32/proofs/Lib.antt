@@ -4,6 +4,7 @@ pub mod Values
 pub mod Units
 pub mod Rounding
 pub mod Sums
+pub mod Zeros
 pub mod Snap
 pub mod Between
 pub mod Remainders
@@ -14,6 +15,7 @@ pub mod Tops
 pub mod Casts
 pub mod Floors
 pub mod Sizes
+pub mod Parts
 pub mod Signs
 pub mod Extremes
 pub mod BelowZero

@@ -1,8 +1,9 @@
 -- A NaN told by comparing a value with itself, as the programs here do, and what a NaN does to a sum. Assumes nothing.
-use mathlib.Core.Path.{_≡_, refl, sym}
-use mathlib.Core.Bool.{Bool, true, false, true≢false}
+use mathlib.Core.Path.{_≡_, refl, sym, _∙_}
+use mathlib.Core.Bool.{Bool, true, false, not, true≢false}
 use lib.Dec.{T}
-use lib.Ieee.{Float, nan, inf, fin, Format, isNan, ne, lt, add}
+use lib.Ieee.{Float, nan, inf, fin, Format, isNan, eq, ne, lt, add}
+use lib.Ieee.Bits.{is-false}
 use lib.Ieee.Compare.{differs-from-itself}
 use Rattle.binary32.proofs.Truth.{yes}
 
@@ -21,6 +22,14 @@ nan-test x = go (ne x x) refl
     go : (b : Bool) → ne x x ≡ b → b ≡ isNan x
     go true h = simp (is-nan x h) (unfold isNan in refl)
     go false h = sym (no-nan x h)
+
+pub equals-itself : (x : Float) → T (not (isNan x)) → eq x x ≡ true
+unfolding ne
+equals-itself x h = go (eq x x) (nan-test x ∙ is-false (isNan x) h)
+  where
+    go : (b : Bool) → not b ≡ false → b ≡ true
+    go true e = refl
+    go false e = absurd (true≢false e)
 
 pub tells-nan : (x : Float) → isNan x ≡ true → x ≡ nan
 unfolding isNan

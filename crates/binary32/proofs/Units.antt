@@ -198,6 +198,10 @@ units-unique-above h t u p q = units-unique t u (units-above-sign p h ∙ sym (u
 pub zero-units : (f : Format) (s : Bool) → Units f (fin s 0 (pos 0)) 0
 zero-units f s = record { sign = s; is = (refl, zero-mul (2 ^ low f)); null = λ t. refl }
 
+pub zero-fits : (f : Format) (s : Bool) → T (fits f (fin s 0 (pos 0)))
+unfolding fits
+zero-fits f s = tt
+
 pub whole-units : (f : Format) (x : Float) (n : ℕ) → HasValue x false n 1 → Units f x (n * 2 ^ low f)
 whole-units f x n h = record { sign = false; is = value-same x false n 1 (n * 2 ^ low f) (2 ^ low f) (pow-pos 0) (sym (mul-one (n * 2 ^ low f))) h; null = λ t. absurd t }
 

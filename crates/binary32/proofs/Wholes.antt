@@ -222,7 +222,7 @@ in-whole lo hi {x} n p l h k =
     (and-i (eq x (asFloat n)) (leb lo n && leb n hi) (yes (p .equal)) (and-i (leb lo n) (leb n hi) (le→leb lo n l) (le→leb n hi h)))
 
 -- ---- the sum of two whole numbers' floats is the float of their sum
-float-sign : (n : ℕ) → signOf (asFloat n) ≡ false
+pub float-sign : (n : ℕ) → signOf (asFloat n) ≡ false
 unfolding ofInt
 float-sign n = round-sign binary32 false n 1
 

@@ -19,9 +19,10 @@ use Rattle.recorder.proofs.Good.{new-good}
 use Rattle.voice.specs.Soundness.{Fits, SoundParams, FittingVolume, SoundVolume}
 use Rattle.voice.proofs.Volumes.{static-sound, volume-later, volume-stepped, volume-toward}
 use Rattle.channel.specs.Heads.{withRecorded, withPassthru, lastTime, nextTime, headOf, headChangedOf, passesOf, rampOf, passthruOf, closedOf, goodHead}
+use Rattle.volume.specs.declared.Volume.{Volume}
 use Rattle.channel.specs.declared.Head.{Head}
 use Rattle.channel.specs.declared.HeadChange.{HeadChange}
-use Rattle.channel.specs.declared.HeadChange.the-variants.{StartRecording, StopRecording}
+use Rattle.channel.specs.declared.HeadChange.the-variants.{StartRecording, StopRecording, Interpolate}
 
 pub record SoundHead (capacity : ℕ) (h : Head) : Type 0 where
   pub time : h .now ≤ 2 ^ 48
@@ -51,24 +52,32 @@ module _ (capacity : ℕ) (h : Head) where
       let c : Bool = goodRecorder (h .recorder) (h .«data_len») capacity in
       is-true (a && b && c) (and-i (a && b) c (and-i a b (le→leb (h .now) lastTime (s .time)) (s .volume .good)) (yes (s .recorder)))
 
-pub new-sound : (capacity : ℕ) (level : Float) → Fits level → SoundHead capacity (headOf level)
+pub new-sound : (capacity : ℕ) (level : Float) (interpolates : Bool) → Fits level → SoundHead capacity (headOf level interpolates)
 unfolding headOf
-new-sound capacity level t = record { time = zero-le; volume = static-sound level 0 t; recorder = new-good capacity }
+new-sound capacity level interpolates t = record { time = zero-le; volume = static-sound level 0 t; recorder = new-good capacity }
 
 -- a change that touches no voice leaves the clock
 pub head-change-now : (d : HeadChange) (h : Head) → headChangedOf d h .now ≡ h .now
 unfolding headChangedOf
 head-change-now StartRecording h = refl
 head-change-now StopRecording h = refl
+head-change-now (Interpolate on) h = refl
 
 -- ---- changes
-pub passthru-now : (p : Params) (unfinished : Bool) (h : Head) → passthruOf p unfinished h .now ≡ h .now
+-- what pass-through's state and level don't touch, they hold
+pub passthru-holds : {A : Type 0} (f : Head → A) → ((on : Bool) (v : Volume) (h : Head) → f (withPassthru on v h) ≡ f h) → (p : Params) (unfinished : Bool) (h : Head) → f (passthruOf p unfinished h) ≡ f h
 unfolding passthruOf
-passthru-now p unfinished h = go (Bool·beq (passesOf p unfinished) (h .«passthru_on»))
+passthru-holds f same p unfinished h = go (Bool·beq (passesOf p unfinished) (h .«passthru_on»))
   where
-    go : (b : Bool) → cond b h (withPassthru (passesOf p unfinished) (rampOf (h .«passthru_volume») (h .now) p (passesOf p unfinished)) h) .now ≡ h .now
+    go : (b : Bool) → f (cond b h (withPassthru (passesOf p unfinished) (rampOf (h .«passthru_volume») (h .now) p (passesOf p unfinished)) h)) ≡ f h
     go true = refl
-    go false = refl
+    go false = same _ _ h
+
+pub passthru-now : (p : Params) (unfinished : Bool) (h : Head) → passthruOf p unfinished h .now ≡ h .now
+passthru-now p unfinished h = passthru-holds (λ (g : Head). g .now) (λ on v g. refl) p unfinished h
+
+pub passthru-setting : (p : Params) (unfinished : Bool) (h : Head) → passthruOf p unfinished h .interpolates ≡ h .interpolates
+passthru-setting p unfinished h = passthru-holds (λ (g : Head). g .interpolates) (λ on v g. refl) p unfinished h
 
 module _ (capacity : ℕ) (h : Head) (s : SoundHead capacity h) where
   pub recorded-sound : (r : Recorded) → goodRecorded r capacity ≡ true → SoundHead capacity (withRecorded r h)
@@ -110,6 +119,10 @@ module _ (p : Params) (unfinished : Bool) (h : Head) where
   pub closed-now : closedOf p unfinished h .now ≡ nextTime (h .now)
   unfolding closedOf
   closed-now = simp passthru-now
+
+  pub closed-setting : closedOf p unfinished h .interpolates ≡ h .interpolates
+  unfolding closedOf
+  closed-setting = simp passthru-setting
 
   pub closed-sound : (capacity : ℕ) → SoundParams p → SoundHead capacity h → SoundHead capacity (closedOf p unfinished h)
   unfolding closedOf

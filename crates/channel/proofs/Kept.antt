@@ -1,7 +1,7 @@
 -- A sound channel stays sound through every change, and what set-up and reset make is sound. Assumes nothing.
 use mathlib.Core.Path.{_≡_, refl, sym, subst}
 use Prim.Native.Nat.{ℕ, _+_, _^_, _≤_, zero-le}
-use native.Mathlib.Nat.{le-trans, le-of-eq}
+use native.Mathlib.Nat.{le-refl, le-trans, le-of-eq}
 use native.Mathlib.Omega.{arith}
 use mathlib.Core.Bool.{Bool, true, false}
 use mathlib.Core.List.{List, map}
@@ -32,7 +32,7 @@ use Rattle.channel.specs.declared.Channel.{Channel}
 use Rattle.channel.specs.declared.Change.{Change}
 use Rattle.channel.specs.declared.Change.the-variants as change
 use Rattle.channel.specs.declared.HeadChange.{HeadChange}
-use Rattle.channel.specs.declared.HeadChange.the-variants.{StartRecording, StopRecording}
+use Rattle.channel.specs.declared.HeadChange.the-variants.{StartRecording, StopRecording, Interpolate}
 use Rattle.channel.specs.declared.Found.{Found}
 use Rattle.channel.specs.declared.Found.the-variants.{At, Nothing}
 use Rattle.channel.proofs.Heads.{new-sound, passthru-now, passthru-sound}
@@ -41,12 +41,12 @@ use Rattle.channel.proofs.Parts.{parts, joined, head-changed, recording
 -- ---- what set-up and reset make
 pub reset-sound : (capacity : ℕ) (c : Channel) → length (c .voices) ≡ 32 → SoundChannel capacity (resetOf c)
 unfolding resetOf Each fits
-reset-sound capacity c h = joined (record { few = zero-le; places = h; voices = tt; head = new-sound capacity zero32 tt })
+reset-sound capacity c h = joined (record { few = zero-le; places = h; voices = tt; head = new-sound capacity zero32 (c .head .interpolates) tt })
 
 pub new-channel-sound : (capacity : ℕ) (p : InitParams) → SoundChannel capacity (channelOf p)
 unfolding channelOf Each fits
 new-channel-sound capacity p =
-    joined (record { few = zero-le; places = length-replicate 32 blankVoice; voices = tt; head = new-sound capacity _ (cond-fits binary32 (p .«auto_passthru») one32 zero32 tt tt) })
+    joined (record { few = zero-le; places = length-replicate 32 blankVoice; voices = tt; head = new-sound capacity _ false (cond-fits binary32 (p .«auto_passthru») one32 zero32 tt tt) })
 
 handled-sound : (capacity : ℕ) (c : Channel) → SoundChannel capacity c → (p : Params) → SoundParams p → SoundChannel capacity (handledOf p c)
 unfolding handledOf
@@ -120,6 +120,9 @@ module _ (capacity : ℕ) (c : Channel) (s : SoundChannel capacity c) where
   head-change-sound StopRecording =
       recording-changed capacity c s (stopOf (c .head .recorder) (c .head .«data_len»))
       (stop-good (c .head .recorder) (c .head .«data_len») capacity (parts s .head .recorder))
+  head-change-sound (Interpolate on) =
+      let g = parts s .head in
+      head-changed capacity c s (headChangedOf (Interpolate on) (c .head)) (record { time = g .time; volume = g .volume; recorder = g .recorder }) (le-refl (c .head .now))
 
   pub change-sound : capacity ≤ 2 ^ 22 → (x : Change) → SoundChange x → SoundChannel capacity (changedOf x c)
   unfolding changedOf SoundChange stopPlayingOf

@@ -2,7 +2,7 @@
 -- of 32 places; what stands in the others is kept as it was. `m` is the channel's part of the lent memory. Definitions
 -- only.
 use Prim.Native.Nat.{ℕ, _+_}
-use mathlib.Core.Bool.{Bool, not, _&&_, cond}
+use mathlib.Core.Bool.{Bool, false, not, _&&_, cond}
 use mathlib.Core.List.{List, map}
 use lib.Dec.{leb, ltb, eqb}
 use lib.ListN.{length, take, getD, set, replicate}
@@ -51,10 +51,10 @@ live c = take (c .count) (c .voices)
 -- ---- set-up and reset
 unfoldable pub channelOf : InitParams → Channel
 channelOf p =
-    record { voices = replicate 32 blankVoice; count = 0; head = headOf (cond (p .«auto_passthru») one32 zero32) }
+    record { voices = replicate 32 blankVoice; count = 0; head = headOf (cond (p .«auto_passthru») one32 zero32) false }
 
 unfoldable pub resetOf : Channel → Channel
-resetOf c = record { voices = c .voices; count = 0; head = headOf zero32 }
+resetOf c = record { voices = c .voices; count = 0; head = headOf zero32 (c .head .interpolates) }
 
 -- ---- keys
 abbrev pub unfinishedOf : Voice → Bool

@@ -14,7 +14,7 @@ use Rattle.recorder.specs.Recording.{newRecorderOf, startOf, stopOf, goodRecord
 use Rattle.voice.specs.declared.Moment.{Moment}
 use Rattle.channel.specs.declared.Head.{Head}
 use Rattle.channel.specs.declared.HeadChange.{HeadChange}
-use Rattle.channel.specs.declared.HeadChange.the-variants.{StartRecording, StopRecording}
+use Rattle.channel.specs.declared.HeadChange.the-variants.{StartRecording, StopRecording, Interpolate}
 
 -- ---- parts of a head changed
 abbrev pub withRecorded : Recorded → Head → Head
@@ -25,6 +25,7 @@ withRecorded r
       «passthru_volume» = h .«passthru_volume»;
       recorder = r .recorder;
       «passthru_on» = h .«passthru_on»;
+      interpolates = h .interpolates;
     }
 
 abbrev pub withPassthru : Bool → Volume → Head → Head
@@ -35,11 +36,12 @@ withPassthru on volume
       «passthru_volume» = volume;
       recorder = h .recorder;
       «passthru_on» = on;
+      interpolates = h .interpolates;
     }
 
 -- ---- what the voices go by in one sample
 abbrev pub momentOf : Head → Moment
-momentOf h = record { now = h .now; «data_len» = h .«data_len» }
+momentOf h = record { now = h .now; «data_len» = h .«data_len»; interpolates = h .interpolates }
 
 -- ---- the clock: it ends at 2 ^ 48, and a sample then is refused (row 6)
 abbrev pub lastTime : ℕ
@@ -48,15 +50,16 @@ lastTime = 2 ^ 48
 unfoldable pub nextTime : ℕ → ℕ
 nextTime now = cond (ltb now lastTime) (now + 1) now
 
--- ---- a new head, and what a reset leaves: pass-through at 0 whatever set-up had
-unfoldable pub headOf : Float → Head
-headOf level =
+-- ---- a new head, and what a reset leaves: pass-through at 0 whatever set-up had, and request 7/12's setting as it was
+unfoldable pub headOf : Float → Bool → Head
+headOf level interpolates =
     record {
       now = 0;
       «data_len» = 0;
       «passthru_volume» = Static level;
       recorder = newRecorderOf;
       «passthru_on» = false;
+      interpolates = interpolates;
     }
 
 -- ---- the changes that touch no voice
@@ -64,6 +67,15 @@ unfoldable pub headChangedOf : HeadChange → Head → Head
 headChangedOf StartRecording h = withRecorded (record { recorder = startOf (h .recorder); «data_len» = h .«data_len» })
     h
 headChangedOf StopRecording h = withRecorded (stopOf (h .recorder) (h .«data_len»)) h
+headChangedOf (Interpolate on)
+    h = record {
+      now = h .now;
+      «data_len» = h .«data_len»;
+      «passthru_volume» = h .«passthru_volume»;
+      recorder = h .recorder;
+      «passthru_on» = h .«passthru_on»;
+      interpolates = on;
+    }
 
 -- ---- handle_passthru: the input passes while it is asked for and no voice is unfinished;
 -- a change of that begins a ramp
@@ -93,6 +105,7 @@ clockedOf h =
       «passthru_volume» = h .«passthru_volume»;
       recorder = h .recorder;
       «passthru_on» = h .«passthru_on»;
+      interpolates = h .interpolates;
     }
 
 -- the end of a sample: the level's step, the change of state, and the clock

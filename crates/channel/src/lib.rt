@@ -11,7 +11,7 @@ ghost use lib.ListN.{length};
 ghost use Rattle.binary32.specs.Leaves.{bitsOf, zero32, one32};
 ghost use Rattle.recorder.specs.Recording.{recordedOf, dataAfter, isRecordingOf};
 ghost use Rattle.voice.specs.Voices.{shouldRemoveOf};
-ghost use Rattle.channel.specs.declared.HeadChange.the-variants.{StartRecording, StopRecording};
+ghost use Rattle.channel.specs.declared.HeadChange.the-variants.{StartRecording, StopRecording, Interpolate};
 ghost use Rattle.channel.specs.Heads.{
   nextTime,
   headOf,
@@ -76,6 +76,7 @@ pub struct Head {
     pub passthru_volume: Volume,
     pub recorder: Recorder,
     pub passthru_on: bool,
+    pub interpolates: bool,
 }
 
 // The voices are the first `count` of the 32.
@@ -121,11 +122,12 @@ pub enum Change {
 pub enum HeadChange {
     StartRecording,
     StopRecording,
+    Interpolate(bool),
 }
 
 impl Head {
-    pub fn new(level: f32) -> Self
-        ensures { λ r. ⌜ r ≡ headOf level ⌝ }
+    pub fn new(level: f32, interpolates: bool) -> Self
+        ensures { λ r. ⌜ r ≡ headOf level interpolates ⌝ }
     {
         Self {
             now: 0,
@@ -133,6 +135,7 @@ impl Head {
             passthru_volume: Volume::new(level),
             recorder: Recorder::new(),
             passthru_on: false,
+            interpolates,
         }
     }
 
@@ -147,6 +150,7 @@ impl Head {
             passthru_volume: volume.copied(),
             recorder,
             passthru_on: self.passthru_on,
+            interpolates: self.interpolates,
         }
     }
 
@@ -167,12 +171,28 @@ impl Head {
         self.with_recorded(recorder.stop(self.data_len))
     }
 
+    fn interpolating(self, on: bool) -> Self
+        ensures { λ r. ⌜ r ≡ headChangedOf (Interpolate on) self ⌝ }
+    {
+        let volume = self.passthru_volume;
+        let recorder = self.recorder;
+        Self {
+            now: self.now,
+            data_len: self.data_len,
+            passthru_volume: volume.copied(),
+            recorder: recorder.copied(),
+            passthru_on: self.passthru_on,
+            interpolates: on,
+        }
+    }
+
     pub fn changed(self, change: HeadChange) -> Self
         ensures { λ r. ⌜ r ≡ headChangedOf change self ⌝ }
     {
         match change {
             HeadChange::StartRecording => self.start_recording(),
             HeadChange::StopRecording => self.stop_recording(),
+            HeadChange::Interpolate(on) => self.interpolating(on),
         }
     }
 
@@ -205,6 +225,7 @@ impl Head {
             passthru_volume: volume,
             recorder,
             passthru_on: on,
+            interpolates: self.interpolates,
         }
     }
 
@@ -244,6 +265,7 @@ impl Head {
             passthru_volume: volume.copied(),
             recorder: recorder.copied(),
             passthru_on: on,
+            interpolates: self.interpolates,
         }
     }
 
@@ -267,6 +289,7 @@ impl Head {
             passthru_volume: volume.copied(),
             recorder: recorder.copied(),
             passthru_on: self.passthru_on,
+            interpolates: self.interpolates,
         }
     }
 
@@ -283,6 +306,7 @@ impl Head {
         Moment {
             now: self.now,
             data_len: self.data_len,
+            interpolates: self.interpolates,
         }
     }
 
@@ -365,7 +389,7 @@ impl Channel {
         Self {
             voices: [blank; 32],
             count: 0,
-            head: Head::new(first_level(params)),
+            head: Head::new(first_level(params), false),
         }
     }
 
@@ -373,7 +397,7 @@ impl Channel {
         ensures { λ r. ⌜ r ≡ resetOf self ⌝ }
     {
         self.count = 0;
-        self.head = Head::new(0.0);
+        self.head = Head::new(0.0, self.head.interpolates);
         self
     }
 

@@ -14,7 +14,7 @@ use lib.Ieee.Exact.{HasValue}
 use Rattle.binary32.specs.Leaves.{minOf, maxOf, absOf, signOf, zero32, one32}
 use Rattle.binary32.proofs.Truth.{yes-or-no, cond-split}
 use Rattle.binary32.proofs.Values.{finite-not-nan, value-sign}
-use Rattle.binary32.proofs.Units.{units-finite, units-above-value, on-grid, zero-units}
+use Rattle.binary32.proofs.Units.{units-finite, units-above-value, on-grid, zero-units, zero-fits}
 use Rattle.binary32.proofs.Sums.{add-back-units}
 use Rattle.binary32.proofs.Between.{lt-not-nan, total, le-lt-trans}
 use Rattle.binary32.proofs.Remainders.{rem-exact, rem-operands, rem-sign}
@@ -103,10 +103,6 @@ unfolding placedOf
 placed-inside m x l u t h = smaller-inside l t h (wrappedOf m x l) (wrapped-fair x l u t h m)
 
 -- ---- a place is one of binary32
-pub zero-fits : T (fits binary32 zero32)
-unfolding fits
-zero-fits = tt
-
 pub mirrored-fits : (y l : Float) → T (fits binary32 (mirroredOf y l))
 unfolding mirroredOf
 mirrored-fits y l = sub-fits binary32 (sub binary32 (mul binary32 two32 l) y) one32
@@ -120,7 +116,7 @@ wrapped-fits PingPong x l u =
     let y = rem binary32 (absOf x) (mul binary32 two32 l) in
     let z = mirroredOf y l in
     cond-fits binary32 (lt y l) y (maxOf z zero32) (rem-fits binary32 (absOf x) (mul binary32 two32 l) (size-fits binary32 x u))
-    (larger-of (λ (w : Float). T (fits binary32 w)) z zero32 zero-fits (λ n t. mirrored-fits y l))
+    (larger-of (λ (w : Float). T (fits binary32 w)) z zero32 (zero-fits binary32 false) (λ n t. mirrored-fits y l))
 
 pub placed-fits : (m : Mode) (x l : Float) → T (fits binary32 x) → T (fits binary32 (placedOf m x l))
 unfolding placedOf

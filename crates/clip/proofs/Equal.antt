@@ -1,13 +1,21 @@
--- An update to an equal value changes nothing (document 01, module 4). Assumes nothing.
+-- An update to an equal value changes nothing (document 01, module 4), and modes that are the same are equal. Assumes nothing.
 use mathlib.Core.Path.{_≡_, refl, sym}
 use Prim.Native.Nat.{ℕ}
 use mathlib.Core.Bool.{Bool, true, false, cond, true≢false}
+use lib.Dec.{T}
 use lib.Ieee.{Float, eq, le}
 use Rattle.binary32.specs.Leaves.{zero32}
 use Rattle.clip.specs.Positions.{offsetAt}
 use Rattle.clip.specs.Updates.{atSpeed, atMode, atLength, atDataLength, resumed, settledOf, sameMode, withSpeed, withMode, withLength, withDataLength}
 use Rattle.clip.specs.declared.Mode.{Mode}
+use Rattle.clip.specs.declared.Mode.the-variants.{Loop, PingPong}
 use Rattle.clip.specs.declared.Clip.{Clip}
+
+pub same-modes : (a b : Mode) → T (sameMode a b) → a ≡ b
+same-modes Loop Loop t = refl
+same-modes Loop PingPong t = absurd t
+same-modes PingPong Loop t = absurd t
+same-modes PingPong PingPong t = refl
 
 first : (b : Bool) (c d : Clip) → b ≡ true → cond b c d ≡ c
 first true c d h = refl

@@ -7,6 +7,7 @@ use lib.Ieee.{Float, binary32, add, sub, lt, le, eq, fits}
 use lib.Ieee.Fits.{cond-fits, sub-fits}
 use Rattle.binary32.specs.Leaves.{zero32}
 use Rattle.binary32.proofs.Truth.{cond-split}
+use Rattle.binary32.proofs.Units.{zero-fits}
 use Rattle.clip.specs.Positions.{mirroredOf, offsetAt}
 use Rattle.clip.specs.Updates.{madeOf, atSpeed, atMode, atLength, atDataLength, resumed, backOf, foundAt, reversingAt, shiftFor, settledOf, sameMode, withSpeed, withMode, withLength, withDataLength}
 use Rattle.clip.specs.Refusals.{most32, goodLength, goodClip}
@@ -16,7 +17,7 @@ use Rattle.clip.specs.declared.Clip.{Clip}
 use Rattle.clip.specs.declared.Found.{Found}
 use Rattle.clip.specs.declared.Found.the-variants.{At, Nothing}
 use Rattle.clip.proofs.Lengths.{good-parts, parts-good}
-use Rattle.clip.proofs.Bounds.{zero-fits, mirrored-fits}
+use Rattle.clip.proofs.Bounds.{mirrored-fits}
 
 -- ---- what moves a clip keeps it sound
 resumed-sound : (c : Clip) (shift : Float) (now : ℕ) → T (fits binary32 shift) → Sound c → Sound (resumed c shift now)
@@ -37,7 +38,7 @@ shift-fits c x now =
     let y = backOf c x in
     cond-split (λ (z : Found). T (fits binary32 (shiftFor c z now))) (lt y (c .length)) (At y) Nothing
     (λ t. cond-fits binary32 (reversingAt c now) (mirroredOf y (c .length)) y (mirrored-fits y (c .length)) (back-fits c x))
-    (λ t. zero-fits)
+    (λ t. zero-fits binary32 false)
 
 settled-sound : (c : Clip) (offset : Float) (now : ℕ) → Sound c → Sound (settledOf c offset now)
 unfolding settledOf
@@ -103,7 +104,7 @@ with-data-length-sound c now length t l h =
     let d = atDataLength c length in
     let s = at-data-length-sound c length t l h in
     cond-split Sound (eq length (c .«data_length»)) c (cond (le length (offsetAt c now)) (resumed d zero32 now) d) (λ e. h)
-    (λ e. cond-split Sound (le length (offsetAt c now)) (resumed d zero32 now) d (λ k. resumed-sound d zero32 now zero-fits s) (λ k. s))
+    (λ e. cond-split Sound (le length (offsetAt c now)) (resumed d zero32 now) d (λ k. resumed-sound d zero32 now (zero-fits binary32 false) s) (λ k. s))
 
 pub made-sound : (since : ℕ) (start speed length data-length : Float) (mode : Mode)
     → T (fits binary32 start) → T (fits binary32 speed) → T (fits binary32 length) → T (fits binary32 data-length)
@@ -111,7 +112,7 @@ pub made-sound : (since : ℕ) (start speed length data-length : Float) (mode : 
 unfolding madeOf
 made-sound since start speed length data-length mode a b c d low top l k =
     record {
-      fitting = record { start = a; speed = b; length = c; data-length = d; shift = zero-fits };
+      fitting = record { start = a; speed = b; length = c; data-length = d; shift = zero-fits binary32 false };
       good = parts-good (madeOf since start speed length data-length mode) (record { length = l; data-length = k; start-low = low; start-top = top });
     }
 

@@ -5,6 +5,7 @@ pub mod WayBack
 pub mod Kept
 pub mod Answers
 pub mod Indices
+pub mod FromPosition
 pub mod Equal
 pub mod Plain
 pub mod Quick

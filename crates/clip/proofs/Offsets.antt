@@ -14,7 +14,7 @@ use Rattle.binary32.proofs.Rounding.{rd, rd-le}
 use Rattle.binary32.proofs.Sums.{add-units}
 use Rattle.binary32.proofs.Between.{whole}
 use Rattle.binary32.proofs.Remainders.{rem-units}
-use Rattle.clip.specs.Positions.{travelAt, elapsedAt, leadOf, clipOffsetAt, clipToDataOf, offsetAt}
+use Rattle.clip.specs.Positions.{travelAt, elapsedAt, leadOf, placedOf, clipOffsetAt, clipToDataOf, offsetAt}
 use Rattle.clip.specs.Bounds.{Sound, Inside, Within}
 use Rattle.clip.specs.declared.Clip.{Clip}
 use Rattle.clip.proofs.Lengths.{good-parts, units-le, units-lt, length-units, last-units, start-units}
@@ -90,6 +90,10 @@ pub data-fits : (c : Clip) (place : Float) → T (fits binary32 (clipToDataOf c 
 unfolding clipToDataOf
 data-fits c place = rem-fits binary32 (add binary32 (c .start) place) (c .«data_length») (add-fits binary32 (c .start) place)
 
+-- what any x comes to by the rules
+pub rules-inside : (c : Clip) → Sound c → (x : Float) → T (fits binary32 x) → Inside (placedOf (c .mode) x (c .length)) (c .length)
+rules-inside c h x t = placed-inside (c .mode) x (c .length) t (h .fitting .length) (good-parts c (h .good) .length)
+
 -- ---- at a time
 travel-fits : (c : Clip) (now : ℕ) → T (fits binary32 (travelAt c now))
 unfolding travelAt
@@ -106,7 +110,7 @@ offset-fits c now = data-fits c (clipOffsetAt c now)
 module _ (c : Clip) (now : ℕ) (h : Sound c) where
   pub clip-offset-inside : Inside (clipOffsetAt c now) (c .length)
   unfolding clipOffsetAt
-  clip-offset-inside = placed-inside (c .mode) (travelAt c now) (c .length) (travel-fits c now) (h .fitting .length) (good-parts c (h .good) .length)
+  clip-offset-inside = rules-inside c h (travelAt c now) (travel-fits c now)
 
   pub offset-within : Within (offsetAt c now) (c .«data_length»)
   unfolding offsetAt

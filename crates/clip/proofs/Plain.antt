@@ -1,8 +1,8 @@
 -- True positions (request 8/12): a clip in loop mode, at speed 1, with shift 0 and with whole start, length and data length, sounds the sample (start + elapsed mod length) mod data length,
 -- up to an elapsed count of 2 ^ 24. There all that the position is worked out by is exact. Assumes nothing.
-use mathlib.Core.Path.{_≡_, refl, sym, ap, _∙_, subst}
+use mathlib.Core.Path.{_≡_, sym, ap, _∙_, subst}
 use Prim.Native.Nat.{ℕ, _+_, _-_, _%_, _^_, _≤_, zero-le}
-use native.Mathlib.Nat.{le-trans, mod-lt, mod-le, mul-one, add-zero, zero-add}
+use native.Mathlib.Nat.{le-trans, mod-lt, mod-le, mul-mod-left, mul-one, add-zero, zero-add}
 use native.Mathlib.Omega.{arith}
 use mathlib.Core.Bool.{Bool, true, _&&_, cond}
 use lib.Dec.{T, leb, leb→le, le→leb, lit≤}
@@ -13,14 +13,16 @@ use Rattle.binary32.specs.Leaves.{zero32, one32, asFloat, asWhole, minOf}
 use Rattle.binary32.specs.Wholes.{Is, wholeIn}
 use Rattle.binary32.proofs.Truth.{yes}
 use Rattle.binary32.proofs.Floors.{floor-cast}
-use Rattle.binary32.proofs.Wholes.{float-is, zero-is, one-is, add-is, sub-is, mul-is, rem-is, lt-is, le-is, min-is, equal-is, is-equal, cast-is, WholeIn, whole-in, in-whole}
-use Rattle.clip.specs.Positions.{elapsedAt, leadOf, travelAt, loopedOf, wrappedOf, placedOf, clipOffsetAt, clipToDataOf, offsetAt, indexAt}
+use Rattle.binary32.proofs.Parts.{whole-rest}
+use Rattle.binary32.proofs.Wholes.{is-units, float-is, zero-is, one-is, add-is, sub-is, mul-is, rem-is, lt-is, le-is, min-is, equal-is, is-equal, cast-is, WholeIn, whole-in, in-whole}
+use Rattle.clip.specs.Positions.{elapsedAt, leadOf, travelAt, loopedOf, wrappedOf, placedOf, clipOffsetAt, clipToDataOf, offsetAt, positionOf, positionAt, indexAt}
 use Rattle.clip.specs.Updates.{sameMode}
 use Rattle.clip.specs.Plain.{PlainClip, plainIndex, isPlain, plainAt}
 use Rattle.clip.specs.declared.Mode.{Mode}
-use Rattle.clip.specs.declared.Mode.the-variants.{Loop, PingPong}
+use Rattle.clip.specs.declared.Mode.the-variants.{Loop}
 use Rattle.clip.specs.declared.Clip.{Clip}
 use Rattle.clip.proofs.Offsets.{offset-fits}
+use Rattle.clip.proofs.Equal.{same-modes}
 
 -- a speed of 1 has no lead
 lead-none : (speed : Float) → Is speed 1 → leadOf speed ≡ zero32
@@ -71,17 +73,20 @@ module _ (c : Clip) (now start length total : ℕ) (P : PlainClip c start length
       small : start + e % length ≤ 2 ^ 24
       small = omega (arith, P .start-top, P .length-top, mod-lt e (P .length-low))
 
+  index-small : plainIndex start length total e ≤ 2 ^ 24
+  index-small = omega (arith, mod-lt (start + e % length) (P .total-low), P .total-top)
+
   pub index-is : indexAt c now ≡ plainIndex start length total e
   unfolding indexAt
   index-is =
       floor-cast 64 (offsetAt c now) (offset-fits c now)
-      ∙ cast-is (plainIndex start length total e) (omega (arith, mod-lt (start + e % length) (P .total-low), P .total-top)) offset-is
+      ∙ cast-is (plainIndex start length total e) index-small offset-is
+
+  pub fraction-is : positionAt c now .fraction ≡ zero32
+  unfolding positionOf
+  fraction-is = whole-rest (offset-fits c now) (is-units (plainIndex start length total e) index-small offset-is) (mul-mod-left (plainIndex start length total e) (2 ^ 149))
 
 -- ---- the test
-same-loop : (m : Mode) → T (sameMode m Loop) → m ≡ Loop
-same-loop Loop t = refl
-same-loop PingPong t = absurd t
-
 -- what it says of a clip
 pub record Tested (c : Clip) : Type 0 where
   pub plain : PlainClip c (asWhole 64 (c .start)) (asWhole 64 (c .length)) (asWhole 64 (c .«data_length»))
@@ -108,7 +113,7 @@ tested c h =
     let total : WholeIn 1 (2 ^ 22) (c .«data_length») = whole-in 1 (2 ^ 22) (c .«data_length») (and-l t i h₆) in
     record {
       plain = record {
-        loops = same-loop (c .mode) (and-l a (b && (d && (s && (l && (t && i))))) h₁);
+        loops = same-modes (c .mode) Loop (and-l a (b && (d && (s && (l && (t && i))))) h₁);
         shift = equal-is 0 zero-is zero-le (and-l b (d && (s && (l && (t && i)))) h₂);
         speed = equal-is 1 one-is (lit≤ tt) (and-l d (s && (l && (t && i))) h₃);
         start-is = start .is;
@@ -158,3 +163,9 @@ pub true-index : (c : Clip) (now : ℕ) → plainAt c now ≡ true
 true-index c now h =
     let k = at-plain c now h in
     index-is c now (asWhole 64 (c .start)) (asWhole 64 (c .length)) (asWhole 64 (c .«data_length»)) (tested c (k .0) .plain) (k .1)
+
+-- and between its sample and the next one it never is
+pub true-fraction : (c : Clip) (now : ℕ) → plainAt c now ≡ true → positionAt c now .fraction ≡ zero32
+true-fraction c now h =
+    let k = at-plain c now h in
+    fraction-is c now (asWhole 64 (c .start)) (asWhole 64 (c .length)) (asWhole 64 (c .«data_length»)) (tested c (k .0) .plain) (k .1)

@@ -2,13 +2,14 @@
 -- definition takes every clip and every time. Definitions only. Assumes nothing.
 use mathlib.Core.Path.{_≡_}
 use Prim.Native.Nat.{ℕ, _-_}
-use mathlib.Core.Bool.{false, cond}
+use mathlib.Core.Bool.{Bool, false, cond}
 use lib.IntN.{pos}
 use lib.Ieee.{Float, fin, binary32, add, sub, mul, rem, lt, le}
 use Rattle.binary32.specs.Leaves.{zero32, one32, asFloat, asWhole, floorOf, minOf, maxOf, absOf}
 use Rattle.clip.specs.declared.Mode.{Mode}
 use Rattle.clip.specs.declared.Mode.the-variants.{Loop, PingPong}
 use Rattle.clip.specs.declared.Clip.{Clip}
+use Rattle.clip.specs.declared.Position.{Position}
 use Rattle.clip.specs.declared.Standing.{Standing}
 use Rattle.clip.specs.declared.Sounding.{Sounding}
 
@@ -71,9 +72,34 @@ clipToDataOf c place = rem binary32 (add binary32 (c .start) place) (c .«data_l
 unfoldable pub offsetAt : Clip → ℕ → Float
 offsetAt c now = clipToDataOf c (clipOffsetAt c now)
 
--- the whole part of the offset: the sample that sounds
+-- the whole part of an offset, and what remains of it (request 7/12): of -0 that is +0
+abbrev pub indexOf : Float → ℕ
+indexOf offset = asWhole 64 (floorOf offset)
+
+unfoldable pub positionOf : Float → Position
+positionOf offset = record { index = indexOf offset; fraction = sub binary32 offset (floorOf offset) }
+
+-- what the two add up to
+unfoldable pub sumOf : Position → Float
+sumOf p = add binary32 (asFloat (p .index)) (p .fraction)
+
+abbrev pub positionAt : Clip → ℕ → Position
+positionAt c now = positionOf (offsetAt c now)
+
+-- the sample that sounds
 unfoldable pub indexAt : Clip → ℕ → ℕ
-indexAt c now = asWhole 64 (floorOf (offsetAt c now))
+indexAt c now = indexOf (offsetAt c now)
+
+-- ---- the next sample (request 7/12)
+
+-- "x with 1 added (taken off for negative speed)": -0 and NaN are not negative
+unfoldable pub aheadOf : Float → Float → Float
+aheadOf x speed = cond (lt speed zero32) (sub binary32 x one32) (add binary32 x one32)
+
+-- "put through the same loop or ping-pong rule, clamp, offset and floor"
+unfoldable pub nextAt : Clip → ℕ → ℕ
+nextAt c now =
+    indexOf (clipToDataOf c (placedOf (c .mode) (aheadOf (travelAt c now) (c .speed)) (c .length)))
 
 -- ---- a clip at a time, as the code carries it
 
@@ -85,6 +111,10 @@ standingOf c now = record { clip = c; now = now; elapsed = asFloat (elapsedAt c 
 abbrev pub Stands : Standing → Type 0
 Stands s = s .elapsed ≡ asFloat (elapsedAt (s .clip) (s .now))
 
--- with the index of the sample that sounds
-unfoldable pub soundingOf : Clip → ℕ → Sounding
-soundingOf c now = record { clip = c; index = indexAt c now }
+-- the next index where it is asked for, else the index
+abbrev pub besideOf : Clip → ℕ → Bool → ℕ
+besideOf c now smooth = cond smooth (nextAt c now) (indexAt c now)
+
+-- with its position
+unfoldable pub soundingOf : Clip → ℕ → Bool → Sounding
+soundingOf c now smooth = record { clip = c; position = positionAt c now; next = besideOf c now smooth }

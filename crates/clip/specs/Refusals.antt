@@ -7,7 +7,7 @@ use lib.Dec.{leb}
 use lib.IntN.{pos}
 use lib.Ieee.{Float, fin, le, lt, eq}
 use Rattle.binary32.specs.Leaves.{zero32, one32}
-use Rattle.clip.specs.Positions.{elapsedAt, clipOffsetAt, offsetAt}
+use Rattle.clip.specs.Positions.{elapsedAt, clipOffsetAt, positionAt}
 use Rattle.clip.specs.Updates.{madeOf, foundAt, reversingAt, sameMode, withSpeed, withMode, withLength, withDataLength, withAll}
 use Rattle.clip.specs.declared.Mode.{Mode}
 use Rattle.clip.specs.declared.Clip.{Clip}
@@ -15,6 +15,8 @@ use Rattle.clip.specs.declared.ClipAnswer.{ClipAnswer}
 use Rattle.clip.specs.declared.ClipAnswer.the-variants as clip
 use Rattle.clip.specs.declared.FoundAnswer.{FoundAnswer}
 use Rattle.clip.specs.declared.FoundAnswer.the-variants as found
+use Rattle.clip.specs.declared.PlaceAnswer.{PlaceAnswer}
+use Rattle.clip.specs.declared.PlaceAnswer.the-variants as place
 use Rattle.clip.specs.declared.PositionAnswer.{PositionAnswer}
 use Rattle.clip.specs.declared.PositionAnswer.the-variants as position
 use Rattle.clip.specs.declared.ElapsedAnswer.{ElapsedAnswer}
@@ -57,11 +59,11 @@ isPingpongReversingOf c now = cond (clipRefusedAt c now) reversing.Refused (reve
 unfoldable pub elapsedOf : Clip → ℕ → ElapsedAnswer
 elapsedOf c now = cond (clipRefusedAt c now) elapsed.Refused (elapsed.Done (elapsedAt c now))
 
-unfoldable pub clipOffsetOf : Clip → ℕ → PositionAnswer
-clipOffsetOf c now = cond (clipRefusedAt c now) position.Refused (position.Done (clipOffsetAt c now))
+unfoldable pub clipOffsetOf : Clip → ℕ → PlaceAnswer
+clipOffsetOf c now = cond (clipRefusedAt c now) place.Refused (place.Done (clipOffsetAt c now))
 
 unfoldable pub offsetOf : Clip → ℕ → PositionAnswer
-offsetOf c now = cond (clipRefusedAt c now) position.Refused (position.Done (offsetAt c now))
+offsetOf c now = cond (clipRefusedAt c now) position.Refused (position.Done (positionAt c now))
 
 unfoldable pub updateSpeedOf : Clip → ℕ → Float → ClipAnswer
 updateSpeedOf c now speed = cond (clipRefusedAt c now) clip.Refused (clip.Done (withSpeed c now speed))
@@ -118,8 +120,12 @@ abbrev pub foundNumber : FoundAnswer → ℕ
 foundNumber (found.Done f) = 0
 foundNumber found.Refused = 7
 
+abbrev pub placeNumber : PlaceAnswer → ℕ
+placeNumber (place.Done x) = 0
+placeNumber place.Refused = 7
+
 abbrev pub positionNumber : PositionAnswer → ℕ
-positionNumber (position.Done x) = 0
+positionNumber (position.Done p) = 0
 positionNumber position.Refused = 7
 
 abbrev pub elapsedNumber : ElapsedAnswer → ℕ

@@ -117,20 +117,35 @@ sameMode Loop PingPong = false
 sameMode PingPong Loop = false
 sameMode PingPong PingPong = true
 
-unfoldable pub withSpeed : Clip → ℕ → Float → Clip
-withSpeed c now speed = cond (eq speed (c .speed)) c (settledOf (atSpeed c speed) (offsetAt c now) now)
+-- each from an offset
+abbrev pub speedFrom : Float → Clip → ℕ → Float → Clip
+speedFrom offset c now speed = cond (eq speed (c .speed)) c (settledOf (atSpeed c speed) offset now)
 
-unfoldable pub withMode : Clip → ℕ → Mode → Clip
-withMode c now mode = cond (sameMode mode (c .mode)) c (settledOf (atMode c mode) (offsetAt c now) now)
+abbrev pub modeFrom : Float → Clip → ℕ → Mode → Clip
+modeFrom offset c now mode = cond (sameMode mode (c .mode)) c (settledOf (atMode c mode) offset now)
 
-unfoldable pub withLength : Clip → ℕ → Float → Clip
-withLength c now length = cond (eq length (c .length)) c (settledOf (atLength c length) (offsetAt c now) now)
+abbrev pub lengthFrom : Float → Clip → ℕ → Float → Clip
+lengthFrom offset c now length = cond (eq length (c .length)) c (settledOf (atLength c length) offset now)
 
 -- back to place 0 only if the old offset is not below the new data length
-unfoldable pub withDataLength : Clip → ℕ → Float → Clip
-withDataLength c now length =
+abbrev pub dataLengthFrom : Float → Clip → ℕ → Float → Clip
+dataLengthFrom offset c now length =
     cond (eq length (c .«data_length»)) c
-    (cond (le length (offsetAt c now)) (resumed (atDataLength c length) zero32 now) (atDataLength c length))
+    (cond (le length offset) (resumed (atDataLength c length) zero32 now) (atDataLength c length))
+
+-- which is the old one. Index and fraction add up to it (7/12): an update of a good clip from their sum is the same
+-- (Bounds.antt: FromPosition).
+unfoldable pub withSpeed : Clip → ℕ → Float → Clip
+withSpeed c now speed = speedFrom (offsetAt c now) c now speed
+
+unfoldable pub withMode : Clip → ℕ → Mode → Clip
+withMode c now mode = modeFrom (offsetAt c now) c now mode
+
+unfoldable pub withLength : Clip → ℕ → Float → Clip
+withLength c now length = lengthFrom (offsetAt c now) c now length
+
+unfoldable pub withDataLength : Clip → ℕ → Float → Clip
+withDataLength c now length = dataLengthFrom (offsetAt c now) c now length
 
 -- ---- one update (2/12): the four in this order, each by its own test and from the offset that those before it left
 abbrev pub withAll : Clip → ℕ → Float → Float → Float → Mode → Clip

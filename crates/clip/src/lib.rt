@@ -1,10 +1,11 @@
 // A clip: which part of a recording a voice plays, and where it is at a time. Each function equals a definition in
 // specs/. `made`, `good`, the functions that end in `_at` and those that begin with `with_` take every clip and every
-// time: they are for clips that are known to be good. `sounding` is `with_all` and `index_at` in one, and `quick_index`
-// is `index_at` of a clip that `with_all` would not change, or no index. Those under the Rust's names, and
-// `update_all`, first refuse bad arguments (number 7 of document 01), and then answer the same.
+// time: they are for clips that are known to be good. `sounding` is `with_all` and `offset_at` in one; of a clip that
+// `with_all` would not change `quick_index` is `index_at` or no index, and `quick_next` is `next_at` or no index. Those
+// under the Rust's names, and `update_all`, first refuse bad arguments (number 7 of document 01), and then answer the
+// same.
 ghost use mathlib.Core.Path.{_≡_};
-ghost use mathlib.Core.Bool.{not};
+ghost use mathlib.Core.Bool.{not, cond};
 ghost use lib.Dec.{T};
 ghost use lib.Ieee.{binary32, add, rem, isNan};
 ghost use Rattle.binary32.specs.Leaves.{OrLess, asFloat};
@@ -24,7 +25,12 @@ ghost use Rattle.clip.specs.Positions.{
   clipOffsetAt,
   clipToDataOf,
   offsetAt,
+  positionOf,
+  sumOf,
+  positionAt,
   indexAt,
+  aheadOf,
+  nextAt,
   standingOf,
   Stands,
   soundingOf,
@@ -45,7 +51,7 @@ ghost use Rattle.clip.specs.Updates.{
   sameValues,
   sameAll,
 };
-ghost use Rattle.clip.specs.Quick.{QuickWrapped, QuickWhole, QuickIndex};
+ghost use Rattle.clip.specs.Quick.{QuickWrapped, QuickWhole, QuickIndex, QuickFraction, QuickNext};
 ghost use Rattle.clip.specs.Refusals.{
   goodLength,
   goodClip,
@@ -87,10 +93,23 @@ pub enum Found {
     Nothing,
 }
 
-// A clip as it sounds at a time: with the place in the data of the sample that does.
+// An offset in the data: its whole part, which is the sample there, and what remains. The two add up to it.
+pub struct Position {
+    pub index: usize,
+    pub fraction: f32,
+}
+
+// A clip as it sounds at a time: with where it does, and the next index where that is asked for.
 pub struct Sounding {
     pub clip: Clip,
+    pub position: Position,
+    pub next: usize,
+}
+
+// An index, or NONE, with the offset that it is of: the fraction takes some work, and is wanted by few.
+pub struct Near {
     pub index: usize,
+    pub offset: f32,
 }
 
 // A clip at a time, with the samples since its last change as a float: it is worked out once for all that is read and
@@ -111,8 +130,13 @@ pub enum FoundAnswer {
     Refused,
 }
 
-pub enum PositionAnswer {
+pub enum PlaceAnswer {
     Done(f32),
+    Refused,
+}
+
+pub enum PositionAnswer {
+    Done(Position),
     Refused,
 }
 
@@ -126,7 +150,7 @@ pub enum ReversingAnswer {
     Refused,
 }
 
-// The answer of `quick_index` that is no index.
+// The answer of `quick_index` and `quick_next` that is no index.
 pub const NONE: usize = usize::MAX;
 
 // 2^48.
@@ -136,6 +160,13 @@ fn lead(speed: f32) -> f32
     ensures { λ r. ⌜ r ≡ leadOf speed ⌝ }
 {
     if speed < 0.0 { 1.0 } else { 0.0 }
+}
+
+// One sample on from x, the way the clip moves.
+fn ahead(x: f32, speed: f32) -> f32
+    ensures { λ r. ⌜ r ≡ aheadOf x speed ⌝ }
+{
+    if speed < 0.0 { x - 1.0 } else { x + 1.0 }
 }
 
 fn raised(y: f32, length: f32) -> f32
@@ -250,6 +281,17 @@ fn quick_wrapped(mode: Mode, old: Mode, x: f32, length: f32) -> f32
     }
 }
 
+// `quick_wrapped` for one mode. The next index has this of its own: a second call of `quick_wrapped` would keep it from
+// being compiled into the first.
+fn quick_stepped(mode: Mode, x: f32, length: f32) -> f32
+    ensures { λ r. ⌜ OrLess (wrappedOf mode x length) r ⌝ }
+{
+    match mode {
+        Mode::Loop => quick_looped(x, length),
+        Mode::PingPong => quick_bounced(x, length),
+    }
+}
+
 // s % length, for an s from 0 to below twice the length: there the difference is exact.
 fn quick_rem(s: f32, length: f32) -> f32
     ensures { λ r. ⌜ OrLess (rem binary32 s length) r ⌝ }
@@ -292,6 +334,36 @@ fn good_length(length: f32) -> bool
     ensures { λ r. ⌜ r ≡ goodLength length ⌝ }
 {
     (1.0 <= length) & (length <= 4194304.0)
+}
+
+impl Position {
+    fn of(offset: f32) -> Self
+        ensures { λ r. ⌜ r ≡ positionOf offset ⌝ }
+    {
+        Self {
+            index: binary32::f32_to_usize(offset),
+            fraction: offset - binary32::floor(offset),
+        }
+    }
+
+    pub fn sum(self) -> f32
+        ensures { λ r. ⌜ r ≡ sumOf self ⌝ }
+    {
+        binary32::usize_to_f32(self.index) + self.fraction
+    }
+}
+
+impl Near {
+    // What remains of an offset of at least 0: of -0 that is +0, and from 2^24 on a float has no fraction.
+    pub fn fraction(self) -> f32
+        ensures { λ r. ⌜ QuickFraction self r ⌝ }
+    {
+        if self.index < 0x100_0000 {
+            (self.offset - (self.index as f32)) + 0.0
+        } else {
+            0.0
+        }
+    }
 }
 
 impl Clip {
@@ -366,16 +438,23 @@ impl Clip {
         if t >= 0.0 { t } else { s % self.data_length }
     }
 
-    pub fn offset_at(self, now: usize) -> f32
-        ensures { λ r. ⌜ r ≡ offsetAt self now ⌝ }
+    pub fn offset_at(self, now: usize) -> Position
+        ensures { λ r. ⌜ r ≡ positionAt self now ⌝ }
     {
-        self.standing_at(now).offset()
+        self.standing_at(now).position()
     }
 
     pub fn index_at(self, now: usize) -> usize
         ensures { λ r. ⌜ r ≡ indexAt self now ⌝ }
     {
-        self.standing_at(now).index()
+        self.offset_at(now).index
+    }
+
+    // The next index: that of one sample on.
+    pub fn next_at(self, now: usize) -> usize
+        ensures { λ r. ⌜ r ≡ nextAt self now ⌝ }
+    {
+        self.standing_at(now).next()
     }
 
     fn back(self, x: f32) -> f32
@@ -480,14 +559,17 @@ impl Clip {
         speed: f32,
         data_length: f32,
         mode: Mode,
+        smooth: bool,
     ) -> Sounding
-        ensures { λ r. ⌜ r ≡ soundingOf (withAll self now length speed «data_length» mode) now ⌝ }
+        ensures { λ r. ⌜ r ≡ soundingOf (withAll self now length speed «data_length» mode) now smooth ⌝ }
     {
         let moved = self.moved_at(now, length, speed, data_length, mode);
         let clip = moved.clip;
+        let position = moved.position();
         Sounding {
             clip,
-            index: moved.index(),
+            position,
+            next: moved.beside(position.index, smooth),
         }
     }
 
@@ -508,12 +590,35 @@ impl Clip {
         speed: f32,
         data_length: f32,
         mode: Mode,
-    ) -> usize
+    ) -> Near
         ensures { λ r. ⌜ QuickIndex self now length speed «data_length» mode r ⌝ }
     {
         if self.same_values(length, speed, data_length) & (length > 0.0) {
             let old = self.mode;
             let y = quick_wrapped(mode, old, self.quick_travel(now), length);
+            if y >= 0.0 {
+                let offset = quick_rem(self.start + clamped(y, length), data_length);
+                if offset >= 0.0 {
+                    return Near {
+                        index: binary32::f32_to_usize(offset),
+                        offset,
+                    };
+                }
+            }
+        }
+        Near {
+            index: NONE,
+            offset: 0.0,
+        }
+    }
+
+    // The next index of such a clip, where it is quickly worked out; elsewhere NONE. Of a clip that `quick_index`
+    // answers for, both tests in front hold.
+    pub fn quick_next(self, now: usize, length: f32, data_length: f32, mode: Mode) -> usize
+        ensures { λ r. ⌜ QuickNext self now length «data_length» mode r ⌝ }
+    {
+        if (length > 0.0) & (self.speed == self.speed) {
+            let y = quick_stepped(mode, ahead(self.quick_travel(now), self.speed), length);
             if y >= 0.0 {
                 return quick_whole(self.start + clamped(y, length), data_length);
             }
@@ -569,13 +674,13 @@ impl Clip {
         }
     }
 
-    pub fn clip_offset(self, now: usize) -> PositionAnswer
+    pub fn clip_offset(self, now: usize) -> PlaceAnswer
         ensures { λ r. ⌜ r ≡ clipOffsetOf self now ⌝ }
     {
         if self.refused_at(now) {
-            PositionAnswer::Refused
+            PlaceAnswer::Refused
         } else {
-            PositionAnswer::Done(self.clip_offset_at(now))
+            PlaceAnswer::Done(self.clip_offset_at(now))
         }
     }
 
@@ -673,11 +778,29 @@ impl Standing {
         clip.clip_to_data(self.place())
     }
 
-    fn index(self) -> usize
+    fn position(self) -> Position
         requires { ⌜ Stands self ⌝ }
-        ensures { λ r. ⌜ r ≡ indexAt (self .clip) (self .now) ⌝ }
+        ensures { λ r. ⌜ r ≡ positionAt (self .clip) (self .now) ⌝ }
     {
-        binary32::f32_to_usize(self.offset())
+        Position::of(self.offset())
+    }
+
+    fn next(self) -> usize
+        requires { ⌜ Stands self ⌝ }
+        ensures { λ r. ⌜ r ≡ nextAt (self .clip) (self .now) ⌝ }
+    {
+        let clip = self.clip;
+        let mode = clip.mode;
+        let place = placed(mode, ahead(self.travel(), clip.speed), clip.length);
+        binary32::f32_to_usize(clip.clip_to_data(place))
+    }
+
+    // The next index where it is asked for, else the one given.
+    fn beside(self, index: usize, smooth: bool) -> usize
+        requires { ⌜ Stands self ⌝ }
+        ensures { λ r. ⌜ r ≡ cond smooth (nextAt (self .clip) (self .now)) index ⌝ }
+    {
+        if smooth { self.next() } else { index }
     }
 
     fn reversing(self) -> bool

@@ -6,6 +6,7 @@ use Rattle.lent_sampler.proofs.stop_playing.Met as stop-playing-thm
 use Rattle.lent_sampler.proofs.set_note_speed.Met as set-note-speed-thm
 use Rattle.lent_sampler.proofs.start_recording.Met as start-recording-thm
 use Rattle.lent_sampler.proofs.stop_recording.Met as stop-recording-thm
+use Rattle.lent_sampler.proofs.set_interpolation.Met as set-interpolation-thm
 use Rattle.lent_sampler.proofs.reset.Met as reset-thm
 use Rattle.lent_sampler.proofs.change.Met as change-thm
 use Rattle.lent_sampler.proofs.process_sample.Met as process-sample-thm
@@ -28,6 +29,7 @@ lent m = record {
   set-note-speed = λ M. set-note-speed-thm.met;
   start-recording = λ M. start-recording-thm.met;
   stop-recording = λ M. stop-recording-thm.met;
+  set-interpolation = λ M. set-interpolation-thm.met;
   reset = λ M. reset-thm.met;
   change = λ M. change-thm.met;
   process-sample = λ M. process-sample-thm.met;

@@ -34,6 +34,7 @@ use Rattle.promises.specs.Runs.{
   speed,
   startRecording,
   stopRecording,
+  setInterpolation,
   reset,
   sample,
   frame,
@@ -50,6 +51,8 @@ use Rattle.lent_sampler.proofs.start_recording as start-recording
 use Rattle.lent_sampler.proofs.start_recording.Symbol as start-recording-code
 use Rattle.lent_sampler.proofs.stop_recording as stop-recording
 use Rattle.lent_sampler.proofs.stop_recording.Symbol as stop-recording-code
+use Rattle.lent_sampler.proofs.set_interpolation as set-interpolation
+use Rattle.lent_sampler.proofs.set_interpolation.Symbol as set-interpolation-code
 use Rattle.lent_sampler.proofs.reset as reset
 use Rattle.lent_sampler.proofs.reset.Symbol as reset-code
 use Rattle.lent_sampler.proofs.change as change-call
@@ -109,6 +112,8 @@ pub record Lent (m : List ℕ) : Type 2 where
       (λ κs (s, _) r (left, _). Allows (on (lying (now s) m) startRecording) (answer (now left) r))
   pub stop-recording : Ensures stop-recording.ended stop-recording-code.routine
       (λ κs (s, _) r (left, _). Allows (on (lying (now s) m) stopRecording) (answer (now left) r))
+  pub set-interpolation : Ensures set-interpolation.ended set-interpolation-code.routine
+      (λ κs (s, (smooth, _)) r (left, _). Allows (on (lying (now s) m) (setInterpolation smooth)) (answer (now left) r))
   pub reset : Ensures reset.ended reset-code.routine
       (λ κs (s, _) r (left, _). Allows (on (lying (now s) m) reset) (answer (now left) r))
   pub process-sample : Ensures process-sample.ended process-sample-code.routine

@@ -18,6 +18,7 @@ ghost use Rattle.promises.specs.Runs.{
   speed as speedCall,
   startRecording,
   stopRecording,
+  setInterpolation,
   reset as resetCall,
   sample,
   frame as frameCall,
@@ -80,6 +81,12 @@ pub fn stop_recording(s: Sampler) -> Answer
     ensures { λ r. ⌜ ((m : List ℕ) → Allows (on (record { sampler = s; memory = m }) stopRecording) r) ⌝ }
 {
     s.stop_recording()
+}
+
+pub fn set_interpolation(s: Sampler, smooth: bool) -> Answer
+    ensures { λ r. ⌜ ((m : List ℕ) → Allows (on (record { sampler = s; memory = m }) (setInterpolation smooth)) r) ⌝ }
+{
+    s.set_interpolation(smooth)
 }
 
 pub fn reset(s: Sampler) -> Answer

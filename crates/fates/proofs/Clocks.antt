@@ -1,6 +1,6 @@
--- A channel's clock: a sample moves it on by one below its end, a reset sets it to 0, and nothing else changes it. So events in which it stands still hold no sample. Assumes nothing.
+-- A channel's clock: a sample moves it on by one below its end, a reset sets it to 0, and nothing else changes it. So events in which it stands still hold no sample. And its setting, which only a change that sets it moves. Assumes nothing.
 use mathlib.Core.Path.{_≡_, refl, sym, _∙_, subst}
-use mathlib.Core.Bool.{false, true≢false}
+use mathlib.Core.Bool.{Bool, false, true≢false}
 use mathlib.Core.List.{List, [], _∷_}
 use Prim.Native.Nat.{ℕ, _+_, _≤_, _<_}
 use native.Mathlib.Nat.{le-refl, le-trans, le-of-eq}
@@ -11,11 +11,14 @@ use Rattle.walks.specs.Walks.{any}
 use Rattle.common_types.specs.declared.Params.{Params}
 use Rattle.common_types.specs.declared.Note.{Note}
 use Rattle.voice.specs.declared.Voice.{Voice}
+use Rattle.volume.specs.declared.Volume.{Volume}
+use Rattle.channel.specs.declared.Head.{Head}
 use Rattle.channel.specs.declared.Channel.{Channel}
 use Rattle.channel.specs.declared.Change.the-variants as change
+use Rattle.channel.specs.declared.HeadChange.the-variants.{StartRecording, StopRecording, Interpolate}
 use Rattle.channel.specs.declared.Found.{Found}
 use Rattle.channel.specs.declared.Found.the-variants.{At, Nothing}
-use Rattle.channel.specs.Heads.{lastTime, nextTime}
+use Rattle.channel.specs.Heads.{lastTime, nextTime, withPassthru, headOf, headChangedOf}
 use Rattle.channel.specs.Channels.{
   anyUnfinishedOf,
   handledOf,
@@ -24,41 +27,63 @@ use Rattle.channel.specs.Channels.{
   finishedAtOf,
   stopPlayingOf,
   setNoteSpeedOf,
+  resetOf,
   takenOf,
 }
-use Rattle.channel.proofs.Heads.{head-change-now, passthru-now, next-later, next-one, closed-now}
+use Rattle.channel.proofs.Heads.{head-change-now, passthru-holds, next-later, next-one, closed-now, closed-setting}
 use Rattle.fates.specs.Engine.{begunOf, stepOf}
-use Rattle.fates.specs.Events.{Event, idle, changes, sounds, act, acts, isReset, isSample}
+use Rattle.fates.specs.Events.{Event, idle, changes, sounds, act, acts, settingAfter, isReset, isSample}
 use Rattle.walks.proofs.Tests.{neither, either}
 
-handled-clock : (p : Params) (c : Channel) → handledOf p c .head .now ≡ c .head .now
-unfolding handledOf
-handled-clock p c = passthru-now p (anyUnfinishedOf c) (c .head)
+-- what of a head pass-through doesn't touch, a start and a stop hold
+module _ {A : Type 0} (f : Head → A) (same : (on : Bool) (v : Volume) (h : Head) → f (withPassthru on v h) ≡ f h) where
+  handled-holds : (p : Params) (c : Channel) → f (handledOf p c .head) ≡ f (c .head)
+  unfolding handledOf
+  handled-holds p c = passthru-holds f same p (anyUnfinishedOf c) (c .head)
 
-pushed-clock : (v : Voice) (c : Channel) → pushedOf v c .head .now ≡ c .head .now
-unfolding pushedOf
-pushed-clock v c = either (λ (d : Channel). d .head .now) (ltb (c .count) 32) _ c (c .head .now) refl refl
+  pushed-holds : (v : Voice) (c : Channel) → f (pushedOf v c .head) ≡ f (c .head)
+  unfolding pushedOf
+  pushed-holds v c = either (λ (d : Channel). f (d .head)) (ltb (c .count) 32) _ c (f (c .head)) refl refl
 
-finished-clock : (p : Params) (c : Channel) (f : Found) → finishedAtOf p c f .head .now ≡ c .head .now
-unfolding finishedAtOf
-finished-clock p c Nothing = refl
-finished-clock p c (At i) = either (λ (d : Channel). d .head .now) (ltb i 32) _ c (c .head .now) (handled-clock p _) refl
+  finished-holds : (p : Params) (c : Channel) (found : Found) → f (finishedAtOf p c found .head) ≡ f (c .head)
+  unfolding finishedAtOf
+  finished-holds p c Nothing = refl
+  finished-holds p c (At i) = either (λ (d : Channel). f (d .head)) (ltb i 32) _ c (f (c .head)) (handled-holds p _) refl
 
-started-clock : (p : Params) (position : Float) (note : Note) (velocity : Float) (c : Channel) → begunOf p position note velocity c .head .now ≡ c .head .now
-unfolding begunOf
-started-clock p position note velocity c =
-    either (λ (d : Channel). d .head .now) (eqb (c .head .«data_len») 0) c _ (c .head .now) refl (handled-clock p _ ∙ pushed-clock _ c)
+  started-holds : (p : Params) (position : Float) (note : Note) (velocity : Float) (c : Channel) → f (begunOf p position note velocity c .head) ≡ f (c .head)
+  unfolding begunOf
+  started-holds p position note velocity c =
+      either (λ (d : Channel). f (d .head)) (eqb (c .head .«data_len») 0) c _ (f (c .head)) refl (handled-holds p _ ∙ pushed-holds _ c)
+
+abbrev clock : Head → ℕ
+clock h = h .now
+
+abbrev setting : Head → Bool
+setting h = h .interpolates
 
 sounded-clock : (p : Params) (x : Float) (m : List ℕ) (c : Channel) → stepOf p x c m .channel .head .now ≡ nextTime (c .head .now)
 unfolding stepOf takenOf
 sounded-clock p x m c = closed-now p _ (takenOf m c .head)
 
+-- ---- the setting
+pub setting-after : (e : Event) (c : Channel) → act e c .head .interpolates ≡ settingAfter e (c .head .interpolates)
+unfolding act settingAfter stopPlayingOf setNoteSpeedOf headChangedOf headOf resetOf stepOf takenOf
+setting-after idle c = refl
+setting-after (changes (change.Start p position note velocity)) c = started-holds setting (λ on v h. refl) p position note velocity c
+setting-after (changes (change.Stop p note)) c = finished-holds setting (λ on v h. refl) p c (findOf note c)
+setting-after (changes (change.Speed note speed)) c = refl
+setting-after (changes (change.Head StartRecording)) c = refl
+setting-after (changes (change.Head StopRecording)) c = refl
+setting-after (changes (change.Head (Interpolate on))) c = refl
+setting-after (changes change.Reset) c = refl
+setting-after (sounds p x m) c = closed-setting p _ (takenOf m c .head)
+
 -- ---- one event
 pub clock-still : (e : Event) (c : Channel) → isReset e ≡ false → isSample e ≡ false → act e c .head .now ≡ c .head .now
 unfolding act isReset isSample stopPlayingOf setNoteSpeedOf
 clock-still idle c r q = refl
-clock-still (changes (change.Start p position note velocity)) c r q = started-clock p position note velocity c
-clock-still (changes (change.Stop p note)) c r q = finished-clock p c (findOf note c)
+clock-still (changes (change.Start p position note velocity)) c r q = started-holds clock (λ on v h. refl) p position note velocity c
+clock-still (changes (change.Stop p note)) c r q = finished-holds clock (λ on v h. refl) p c (findOf note c)
 clock-still (changes (change.Speed note speed)) c r q = refl
 clock-still (changes (change.Head d)) c r q = head-change-now d (c .head)
 clock-still (changes change.Reset) c r q = absurd (true≢false r)

@@ -12,7 +12,7 @@ use Rattle.clip.specs.declared.Clip.{Clip}
 use Rattle.clip.specs.Positions.{indexAt}
 use Rattle.voice.specs.declared.Voice.{Voice}
 use Rattle.voice.specs.declared.Tick.{Tick}
-use Rattle.voice.specs.Voices.{tickOf, movedOf, recordedValueOf, productOf, soundedOf, finishOf, playedOutOf, endedOf, volumeStepped, atSpeedOf}
+use Rattle.voice.specs.Voices.{tickOf, movedOf, valueOf, productOf, soundedOf, finishOf, playedOutOf, endedOf, volumeStepped, atSpeedOf}
 use Rattle.voice.specs.Agreeing.{agreesOf}
 use Rattle.voice.proofs.Unmoved.{unmoved}
 use Rattle.channel.specs.declared.Channel.{Channel}
@@ -43,9 +43,9 @@ module _ (t : Tick) (m : List ℕ) (v : Voice) (a : agreesOf t v ≡ true) where
       (either (λ (w : Voice). w .clip2) (playedOutOf t u) (finishOf (t .now) (t .«decay_samples») u) u (v .clip2) (unmoved t v a) (unmoved t v a))
 
   -- its term
-  product-is : productOf t m v ≡ mul binary32 (recordedValueOf m (indexAt (v .clip2) (t .now))) (levelOf (v .volume) (t .now))
+  product-is : productOf t m v ≡ mul binary32 (valueOf t m (v .clip2)) (levelOf (v .volume) (t .now))
   unfolding productOf
-  product-is = ap (λ (q : Clip). mul binary32 (recordedValueOf m (indexAt q (t .now))) (levelOf (v .volume) (t .now))) (unmoved t v a)
+  product-is = ap (λ (q : Clip). mul binary32 (valueOf t m q) (levelOf (v .volume) (t .now))) (unmoved t v a)
 
   -- the index that it keeps, where it sounds
   turned-last : v .finished ≡ false → turnedOf t m v .«last_sample_index» ≡ indexAt (v .clip2) (t .now)
@@ -140,7 +140,7 @@ pub record Beats (p : Params) (x : Float) (m : List ℕ) (c : Channel) (n : ℕ)
   pub voice : Voice
   pub sounds : Sounds p x m c n voice
   pub clip : voice .clip2 ≡ q
-  pub term : productOf (tickAt p m c) (memoryOf x c m) voice ≡ mul binary32 (recordedValueOf (memoryOf x c m) (indexAt q (c .head .now))) (levelOf (voice .volume) (c .head .now))
+  pub term : productOf (tickAt p m c) (memoryOf x c m) voice ≡ mul binary32 (valueOf (tickAt p m c) (memoryOf x c m) q) (levelOf (voice .volume) (c .head .now))
   pub last : turnedOf (tickAt p m c) (memoryOf x c m) voice .«last_sample_index» ≡ indexAt q (c .head .now)
 
 module _ (p : Params) (x : Float) (m : List ℕ) where

@@ -13,6 +13,7 @@ use Rattle.voice.specs.Voices.{tickOf}
 use Rattle.channel.specs.declared.Channel.{Channel}
 use Rattle.channel.specs.declared.Change.{Change}
 use Rattle.channel.specs.declared.Change.the-variants as change
+use Rattle.channel.specs.declared.HeadChange.the-variants.{StartRecording, StopRecording, Interpolate}
 use Rattle.channel.specs.Heads.{headChangedOf, momentOf}
 use Rattle.channel.specs.Channels.{withHead, resetOf, stopPlayingOf, setNoteSpeedOf, takenOf}
 use Rattle.fates.specs.Engine.{begunOf, stepOf}
@@ -34,6 +35,18 @@ act (sounds p x m) c = stepOf p x c m .channel
 unfoldable pub acts : List Event → Channel → Channel
 acts [] c = c
 acts (e ∷ es) c = acts es (act e c)
+
+-- ---- request 7/12's setting after an event: a change that sets it does, and all else keeps it, reset too
+unfoldable pub settingAfter : Event → Bool → Bool
+settingAfter idle on = on
+settingAfter (changes (change.Start p position note velocity)) on = on
+settingAfter (changes (change.Stop p note)) on = on
+settingAfter (changes (change.Speed note speed)) on = on
+settingAfter (changes (change.Head StartRecording)) on = on
+settingAfter (changes (change.Head StopRecording)) on = on
+settingAfter (changes (change.Head (Interpolate new))) on = new
+settingAfter (changes change.Reset) on = on
+settingAfter (sounds p x m) on = on
 
 -- ---- what a sample finds
 

@@ -119,4 +119,4 @@ endedOf p (change.Start q position note velocity) h = handledIf (not (eqb (h .«
 endedOf p (change.Stop q note) h = handledIf (p .found) h q (p .unfinished)
 endedOf p (change.Speed note speed) h = h
 endedOf p (change.Head d) h = headChangedOf d h
-endedOf p change.Reset h = headOf zero32
+endedOf p change.Reset h = headOf zero32 (h .interpolates)

@@ -220,7 +220,7 @@ fn ending(p: Pass, change: Change, head: Head) -> Head
         Change::Stop { params, .. } => handled(p.found, head, params, p.unfinished),
         Change::Speed { .. } => head,
         Change::Head(change) => head.changed(change),
-        Change::Reset => Head::new(0.0),
+        Change::Reset => Head::new(0.0, head.interpolates),
     }
 }
 

@@ -46,6 +46,7 @@ unusedTick = record {
   mode = Loop;
   once = false;
   «note_off_behavior» = Decay;
+  interpolates = false;
 }
 
 unfoldable pub sharedOf : Params → Moment → ℕ → Start

@@ -78,6 +78,7 @@ fn unused() -> Tick
         mode: Mode::Loop,
         once: false,
         note_off_behavior: NoteOffBehaviour::Decay,
+        interpolates: false,
     }
 }
 

@@ -8,6 +8,7 @@ ghost use Rattle.sampler.specs.Samplers.{
   setNoteSpeedOf,
   startRecordingOf,
   stopRecordingOf,
+  setInterpolationOf,
   resetOf,
   changeOf,
   sampleMemory,
@@ -224,6 +225,12 @@ fn recording_stopped() -> Change
     Change::Head(HeadChange::StopRecording)
 }
 
+fn interpolation_set(on: bool) -> Change
+    ensures { λ r. ⌜ r ≡ Change.Head (HeadChange.Interpolate on) ⌝ }
+{
+    Change::Head(HeadChange::Interpolate(on))
+}
+
 fn all_reset() -> Change
     ensures { λ r. ⌜ r ≡ Change.Reset ⌝ }
 {
@@ -265,6 +272,13 @@ pub fn stop_recording(s: &mut Sampler) -> u8
     ensures { λ r. ⌜ record { sampler = now (s .exit); number = r } ≡ stopRecordingOf (now (s .entry)) ⌝ }
 {
     change(s, recording_stopped())
+}
+
+// 7/12's setting, of every channel.
+pub fn set_interpolation(s: &mut Sampler, on: bool) -> u8
+    ensures { λ r. ⌜ record { sampler = now (s .exit); number = r } ≡ setInterpolationOf (now (s .entry)) on ⌝ }
+{
+    change(s, interpolation_set(on))
 }
 
 pub fn reset(s: &mut Sampler) -> u8

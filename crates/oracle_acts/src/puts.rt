@@ -89,7 +89,7 @@ fn put_in(s: Sampler, first: bool, p: Order) -> Sampler {
     r
 }
 
-// 3 the voice count, 4 to 7 of its head, 8 to 13 of a voice.
+// 3 the voice count, 4 to 7 and 14 of its head, 8 to 13 of a voice.
 fn put_channel(c: Channel, capacity: usize, p: Order) -> Channel {
     let mut r = c;
     let head = c.head;
@@ -97,13 +97,14 @@ fn put_channel(c: Channel, capacity: usize, p: Order) -> Channel {
     match what {
         3 => r.count = p.n,
         4..=7 => r.head = put_head(head, capacity, p),
+        14 => r.head = put_head(head, capacity, p),
         _ => r = put_voices(c, p),
     }
     r
 }
 
 // 4 the data length past the capacity, 5 the write place past the data length, 6 the clock past 2^48, 7 a ramp of
-// pass-through.
+// pass-through, 14 request 7/12's setting.
 fn put_head(h: Head, capacity: usize, p: Order) -> Head {
     let mut r = h;
     let recorder = h.recorder;
@@ -112,6 +113,7 @@ fn put_head(h: Head, capacity: usize, p: Order) -> Head {
         4 => r.data_len = wrapping_add_usize(capacity, p.n),
         5 => r.recorder = writing(recorder, wrapping_add_usize(h.data_len, p.n)),
         6 => r.now = wrapping_add_usize(channel::LAST_TIME, p.n),
+        14 => r.interpolates = p.n != 0,
         _ => return passing(h, ramp(h.now, p)),
     }
     r
@@ -133,6 +135,7 @@ fn passing(h: Head, volume: Volume) -> Head {
         passthru_volume: volume,
         recorder,
         passthru_on: h.passthru_on,
+        interpolates: h.interpolates,
     }
 }
 

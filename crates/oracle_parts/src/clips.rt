@@ -11,6 +11,8 @@ use clip::ElapsedAnswer;
 use clip::Found;
 use clip::FoundAnswer;
 use clip::Mode;
+use clip::PlaceAnswer;
+use clip::Position;
 use clip::PositionAnswer;
 use clip::ReversingAnswer;
 use oracle_lines::field::f32_at;
@@ -26,7 +28,7 @@ use oracle_lines::line::put_u64;
 pub fn answer(fields: &[u8], out: &mut [u8; 65536], at: usize) -> usize
     requires { ⌜ 64 ≤ length (now fields) ⌝ }
     requires { ⌜ at + 512 ≤ 65536 ⌝ }
-    ensures { λ r. ⌜ r ≡ at + 201 ⌝ }
+    ensures { λ r. ⌜ r ≡ at + 272 ⌝ }
 {
     let c = clip_of(fields);
     let first = as_it_is(fields, out, at, c);
@@ -36,8 +38,8 @@ pub fn answer(fields: &[u8], out: &mut [u8; 65536], at: usize) -> usize
 
 fn as_it_is(fields: &[u8], out: &mut [u8; 65536], at: usize, c: Clip) -> usize
     requires { ⌜ 64 ≤ length (now fields) ⌝ }
-    requires { ⌜ at + 124 ≤ 65536 ⌝ }
-    ensures { λ r. ⌜ r ≡ at + 124 ⌝ }
+    requires { ⌜ at + 169 ≤ 65536 ⌝ }
+    ensures { λ r. ⌜ r ≡ at + 169 ⌝ }
 {
     let first = put_change(out, at, made(c));
     let second = read(out, first, c, u64_at(fields, 40) as usize);
@@ -47,8 +49,8 @@ fn as_it_is(fields: &[u8], out: &mut [u8; 65536], at: usize, c: Clip) -> usize
 // The clip after one of the updates, and its position later.
 fn after_update(fields: &[u8], out: &mut [u8; 65536], at: usize, c: Clip) -> usize
     requires { ⌜ 64 ≤ length (now fields) ⌝ }
-    requires { ⌜ at + 77 ≤ 65536 ⌝ }
-    ensures { λ r. ⌜ r ≡ at + 77 ⌝ }
+    requires { ⌜ at + 103 ≤ 65536 ⌝ }
+    ensures { λ r. ⌜ r ≡ at + 103 ⌝ }
 {
     let a = update(fields, c, u64_at(fields, 40) as usize);
     let d = updated(c, a);
@@ -58,13 +60,14 @@ fn after_update(fields: &[u8], out: &mut [u8; 65536], at: usize, c: Clip) -> usi
 
 // What is asked of a clip at a time.
 fn read(out: &mut [u8; 65536], at: usize, c: Clip, now: usize) -> usize
-    requires { ⌜ at + 45 ≤ 65536 ⌝ }
-    ensures { λ r. ⌜ r ≡ at + 45 ⌝ }
+    requires { ⌜ at + 90 ≤ 65536 ⌝ }
+    ensures { λ r. ⌜ r ≡ at + 90 ⌝ }
 {
     let first = put_elapsed(out, at, c.elapsed(now));
-    let second = put_position(out, first, c.clip_offset(now));
+    let second = put_offset(out, first, c.clip_offset(now));
     let third = put_position(out, second, c.offset(now));
-    put_reversing(out, third, c.is_pingpong_reversing(now))
+    let fourth = put_next(out, third, c, now);
+    put_reversing(out, fourth, c.is_pingpong_reversing(now))
 }
 
 fn made(c: Clip) -> ClipAnswer {
@@ -130,31 +133,65 @@ fn put_elapsed(out: &mut [u8; 65536], at: usize, a: ElapsedAnswer) -> usize
     ensures { λ r. ⌜ r ≡ at + 19 ⌝ }
 {
     match a {
-        ElapsedAnswer::Done(n) => {
+        ElapsedAnswer::Done(n) => put_count(out, at, 0, n),
+        ElapsedAnswer::Refused => put_count(out, at, 7, 0),
+    }
+}
+
+// The next index (request 7/12), where there is a position.
+fn put_next(out: &mut [u8; 65536], at: usize, c: Clip, now: usize) -> usize
+    requires { ⌜ at + 19 ≤ 65536 ⌝ }
+    ensures { λ r. ⌜ r ≡ at + 19 ⌝ }
+{
+    match c.offset(now) {
+        PositionAnswer::Done(_) => put_count(out, at, 0, c.next_at(now)),
+        PositionAnswer::Refused => put_count(out, at, 7, 0),
+    }
+}
+
+fn put_count(out: &mut [u8; 65536], at: usize, number: u64, n: usize) -> usize
+    requires { ⌜ at + 19 ≤ 65536 ⌝ }
+    ensures { λ r. ⌜ r ≡ at + 19 ⌝ }
+{
+    let first = begin(out, at, 1, number);
+    put_u64(out, first, n as u64)
+}
+
+fn put_offset(out: &mut [u8; 65536], at: usize, a: PlaceAnswer) -> usize
+    requires { ⌜ at + 11 ≤ 65536 ⌝ }
+    ensures { λ r. ⌜ r ≡ at + 11 ⌝ }
+{
+    match a {
+        PlaceAnswer::Done(x) => {
             let first = begin(out, at, 1, 0);
-            put_u64(out, first, n as u64)
+            put_f32(out, first, by_value(x))
         }
-        ElapsedAnswer::Refused => {
+        PlaceAnswer::Refused => {
             let first = begin(out, at, 1, 7);
-            put_u64(out, first, 0)
+            put_f32(out, first, 0.0)
         }
     }
 }
 
 fn put_position(out: &mut [u8; 65536], at: usize, a: PositionAnswer) -> usize
-    requires { ⌜ at + 11 ≤ 65536 ⌝ }
-    ensures { λ r. ⌜ r ≡ at + 11 ⌝ }
+    requires { ⌜ at + 37 ≤ 65536 ⌝ }
+    ensures { λ r. ⌜ r ≡ at + 37 ⌝ }
 {
     match a {
-        PositionAnswer::Done(x) => {
-            let first = begin(out, at, 1, 0);
-            put_f32(out, first, by_value(x))
-        }
-        PositionAnswer::Refused => {
-            let first = begin(out, at, 1, 7);
-            put_f32(out, first, 0.0)
-        }
+        PositionAnswer::Done(p) => put_parts(out, at, 0, p),
+        PositionAnswer::Refused => put_parts(out, at, 7, no_position()),
     }
+}
+
+// What index and fraction add up to, and the two of them.
+fn put_parts(out: &mut [u8; 65536], at: usize, number: u64, p: Position) -> usize
+    requires { ⌜ at + 37 ≤ 65536 ⌝ }
+    ensures { λ r. ⌜ r ≡ at + 37 ⌝ }
+{
+    let first = begin(out, at, 1, number);
+    let second = begin_f32(out, first, by_value(p.sum()));
+    let third = begin(out, second, 16, p.index as u64);
+    put_f32(out, third, p.fraction)
 }
 
 fn put_reversing(out: &mut [u8; 65536], at: usize, a: ReversingAnswer) -> usize
@@ -214,7 +251,14 @@ fn clip_of(fields: &[u8]) -> Clip
     }
 }
 
-// What is put where an update is refused.
+// What is put where a question or an update is refused.
+fn no_position() -> Position {
+    Position {
+        index: 0,
+        fraction: 0.0,
+    }
+}
+
 fn no_clip() -> Clip {
     Clip {
         since: 0,

@@ -123,8 +123,8 @@ fn put_recorder(out: &mut [u8; 65536], at: usize, r: Recorder) -> usize
 
 // A channel without its voices but for their count.
 fn put_head(out: &mut [u8; 65536], at: usize, h: Head, count: usize) -> usize
-    requires { ⌜ at + 146 ≤ 65536 ⌝ }
-    ensures { λ r. ⌜ r ≡ at + 146 ⌝ }
+    requires { ⌜ at + 148 ≤ 65536 ⌝ }
+    ensures { λ r. ⌜ r ≡ at + 148 ⌝ }
 {
     let recorder = h.recorder;
     let volume = h.passthru_volume;
@@ -134,8 +134,9 @@ fn put_head(out: &mut [u8; 65536], at: usize, h: Head, count: usize) -> usize
     let fourth = put_recorder(out, third, recorder);
     let fifth = put_bool(out, fourth, h.passthru_on);
     let sixth = put_volume(out, fifth, volume);
-    let seventh = put_u64(out, sixth, count as u64);
-    end(out, seventh)
+    let seventh = put_bool(out, sixth, h.interpolates);
+    let eighth = put_u64(out, seventh, count as u64);
+    end(out, eighth)
 }
 
 // The first n voices.
@@ -156,8 +157,8 @@ fn put_voices(out: &mut [u8; 65536], at: usize, c: Channel, n: usize) -> usize
 
 fn put_channel(out: &mut [u8; 65536], at: usize, c: Channel, n: usize) -> usize
     requires { ⌜ n ≤ 32 ⌝ }
-    requires { ⌜ at + 6546 ≤ 65536 ⌝ }
-    ensures { λ r. ⌜ r ≤ at + 6546 ⌝ }
+    requires { ⌜ at + 6548 ≤ 65536 ⌝ }
+    ensures { λ r. ⌜ r ≤ at + 6548 ⌝ }
 {
     let head = c.head;
     let first = put_head(out, at, head, c.count);
@@ -165,16 +166,16 @@ fn put_channel(out: &mut [u8; 65536], at: usize, c: Channel, n: usize) -> usize
 }
 
 fn put_used(out: &mut [u8; 65536], at: usize, c: Channel) -> usize
-    requires { ⌜ at + 6546 ≤ 65536 ⌝ }
-    ensures { λ r. ⌜ r ≤ at + 6546 ⌝ }
+    requires { ⌜ at + 6548 ≤ 65536 ⌝ }
+    ensures { λ r. ⌜ r ≤ at + 6548 ⌝ }
 {
     put_channel(out, at, c, places(c.count))
 }
 
 // What is in use of the record: the channels below the count, each with the voices below its count.
 pub fn put_sampler(out: &mut [u8; 65536], at: usize, s: Sampler) -> usize
-    requires { ⌜ at + 13092 ≤ 65536 ⌝ }
-    ensures { λ r. ⌜ r ≤ at + 13092 ⌝ }
+    requires { ⌜ at + 13096 ≤ 65536 ⌝ }
+    ensures { λ r. ⌜ r ≤ at + 13096 ⌝ }
 {
     if s.count == 0 {
         return at;

@@ -6,7 +6,7 @@
 // Kinds: 0 set-up; 1 parameters; 2 start, 3 stop, 4 note speed, 5 and 6 start and stop of recording, 7 reset; 8 sample
 // of one channel; 9 frame; 10 clocks put on, or a field put; 11 the recordings; 12 frames processed, 13 data length, 14
 // is recording, 15 last recorded offset, 16 error text, 17 active notes, 18 voice info; 19 many frames; 20 waveform
-// summary; 21 a run of frames. A set-up takes back the parameters to the defaults.
+// summary; 21 a run of frames; 22 request 7/12's setting. A set-up takes back the parameters to the defaults.
 ghost use mathlib.Core.Path.{_≡_};
 ghost use Prim.Native.Nat.{_+_, _*_, _≤_, _<_};
 ghost use lib.ListN.{length};
@@ -146,6 +146,7 @@ fn plain(run: Run, fields: &[u8], out: &mut [u8; 65536], at: usize) -> Run
         2..=7 => run.answered(kind, calls::call(s, p, fields), out, at),
         10 => run.answered(kind, puts::put(s, fields), out, at),
         12..=18 => run.on(s, query(s, p, fields, out, at)),
+        22 => run.answered(kind, s.set_interpolation(fields[1] != 0), out, at),
         _ => bad(run, out, at),
     }
 }

@@ -25,6 +25,8 @@ use Rattle.common_types.specs.Times.{asSamplesOf}
 use Rattle.common_types.specs.Settings.{lengthOf, loopLengthOf}
 use Rattle.recorder.specs.ErrorText.{errorText}
 use Rattle.clip.proofs.AtOnce.{at-once, skips-length, skips-speed, skips-data-length, skips-mode}
+use Rattle.clip.proofs.Indices.{adds-up}
+use Rattle.voice.proofs.Values.{value-off, value-whole}
 use Rattle.clip.proofs.Offsets.{clip-offset-inside, offset-within}
 use Rattle.channel.specs.declared.Change.{Change}
 use Rattle.channel.specs.Channels.{live, recordingOf}
@@ -83,6 +85,7 @@ use Rattle.promises.proofs.Whole.{memory-after}
 use Rattle.promises.proofs.Turns.{in-turn}
 use Rattle.promises.proofs.Makes.{no-panic, third, true-positions, spreads, count-makes, capacity-makes, whole}
 use Rattle.promises.proofs.RunEnds.{run-held, run-done, run-ends}
+use Rattle.promises.proofs.Settings.{one-setting}
 use Rattle.promises.proofs.Tidying.{tidying}
 
 -- ---- a refusal
@@ -218,6 +221,7 @@ demand1 = record {
   summary-rows = λ w columns list. refl;
   query-rows = query-rows;
   plain-rows = plain-rows;
+  interpolation-rows = λ w on. refl;
   set-up-rows = λ count p m r h. ap (λ (a : Answer). a .number) h;
   held = λ w c r h n. (left-after w c r h ∙ after-held w c n, untouched w c r h n);
   run-held = run-held;
@@ -260,6 +264,9 @@ demand2 = record {
   patterns = value-back;
   values = λ b h n. pattern-back b h ∙ ap (λ (t : Bool). cond t 0x7fc0_0000 b) n;
   positions = λ c now h. (clip-offset-inside c now h, offset-within c now h);
+  adds-up = adds-up;
+  off = value-off;
+  whole-alike = λ t m c z tame. value-whole t m c z (tame .here) (tame .next) (tame .between);
   roots = nearest;
   cuts-inside = λ n columns N K M i I. cut-inside n columns N K M i I;
   cuts-in-order = λ n columns N K M i j h J. cuts-rise n columns N K M i j h J;
@@ -289,6 +296,7 @@ demands = record {
   second = demand2;
   third = third;
   true-positions = true-positions;
+  one-setting = one-setting;
   tidying = tidying;
   in-turn = in-turn;
   spreads = spreads;

@@ -56,6 +56,7 @@ headWith now len volume state = record {
   «passthru_volume» = volume;
   recorder = record { state = state; «skipped_samples» = 0; «incorrect_state» = 0 };
   «passthru_on» = false;
+  interpolates = false;
 }
 
 -- 10 samples in, with 1 recorded

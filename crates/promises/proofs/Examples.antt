@@ -24,14 +24,14 @@ use Rattle.walks.specs.Walks.{any, every, without, behind, fold, seek}
 use Rattle.common_types.specs.Settings.{speedOf, timeLengthOf, lengthOf, loopLengthOf, lengthBeyond, beyondLimits}
 use Rattle.volume.specs.Levels.{progressOf, levelOf, towardOf, steppedOf, goodRamp, goodVolume}
 use Rattle.recorder.specs.Recording.{raised, inState, misusedOf, skippedOf, startOf, stopOf, recordedOf, dataAfter, goodRecorder}
-use Rattle.clip.specs.Positions.{leadOf, travelAt, loopedOf, roundTripOf, mirroredOf, bouncedOf, wrappedOf, placedOf, clipOffsetAt, clipToDataOf, offsetAt, indexAt}
+use Rattle.clip.specs.Positions.{positionOf, aheadOf, nextAt, leadOf, travelAt, loopedOf, roundTripOf, mirroredOf, bouncedOf, wrappedOf, placedOf, clipOffsetAt, clipToDataOf, offsetAt, indexAt}
 use Rattle.clip.specs.Updates.{madeOf, backOf, foundAt, reversingAt, shiftFor, settledOf, withSpeed, withMode, withLength, withDataLength}
 use Rattle.clip.specs.Refusals.{goodLength, goodClip}
 use Rattle.clip.specs.Plain.{PlainClip, isPlain}
 use Rattle.clip.proofs.Plain.{tested}
 use Rattle.walks.specs.Each.{Each}
 use Rattle.voice.specs.declared.Voice.{Voice}
-use Rattle.voice.specs.Voices.{spanOf, tickOf, lateOf, overOf, shouldRemoveOf, movedOf, productOf, soundedOf, finishOf, playedOutOf, endedOf, volumeStepped, turnOf, freshOf, blankVoice, atSpeedOf, goodVoice}
+use Rattle.voice.specs.Voices.{spanOf, tickOf, lateOf, overOf, shouldRemoveOf, movedOf, betweenOf, valueOf, productOf, soundedOf, finishOf, playedOutOf, endedOf, volumeStepped, turnOf, freshOf, blankVoice, atSpeedOf, goodVoice}
 use Rattle.voice.specs.Agreeing.{agreesOf}
 use Rattle.channel.specs.declared.Head.{Head}
 use Rattle.channel.specs.Soundness.{FittingChange}
@@ -62,7 +62,7 @@ use Rattle.promises.proofs.TruePositions.{true-positions}
 
 -- whatever a run computes by
 unfoldable pub computing : Unit {0}
-unfolding floorOf minOf maxOf crossingOf any every without behind fold seek speedOf timeLengthOf lengthOf loopLengthOf lengthBeyond beyondLimits progressOf levelOf towardOf steppedOf goodRamp goodVolume raised inState misusedOf skippedOf startOf stopOf recordedOf dataAfter goodRecorder leadOf travelAt loopedOf roundTripOf mirroredOf bouncedOf wrappedOf placedOf clipOffsetAt clipToDataOf offsetAt indexAt madeOf backOf foundAt reversingAt shiftFor settledOf withSpeed withMode withLength withDataLength goodLength goodClip spanOf tickOf lateOf overOf shouldRemoveOf movedOf productOf soundedOf finishOf playedOutOf endedOf volumeStepped turnOf freshOf blankVoice atSpeedOf goodVoice nextTime headOf rampOf passthruOf closedOf goodHead channelOf resetOf anyUnfinishedOf handledOf pushedOf startPlayingOf wantedOf findOf finishedAtOf stopPlayingOf spedOf setNoteSpeedOf headChangedOf keptOf tidiedOf addedOf heardOf playedOf playedIfOf takenOf begunOf passesOver heardBy turnedOf letsGo leavesOf leftOf movedUp turnsOf stepOf memoryOf processSampleOf changedOf fullOf goodVoicesOf goodChannel goodSizes goodSampler capacityOf goodWith setUpNumber startRows stopRows speedRows sampleNumber frameNumber channelNumber notesOf listNumber setUpOf eachOf answerOf partOf playedAt sampledOf outputOf movedAt memoryAt sampleOf sampleMemory entryOf entriesOf entriesMoved framedOf frameMoved act isReset isSample decayOf fateOf follow stops becomes addedBy outOf playsOut followAll stoppedIn finishedIn agreesOf disagrees alters alteredIn setUp questionNumber code after run doneTo event events isResetCall output before add sub mul div rem neg lt le eq ofInt toUnsigned isNan ofBits toBits nanBits ofFields latestOf roomOf runNumber doneOf framesOf ranOf runAnswer
+unfolding floorOf minOf maxOf crossingOf any every without behind fold seek speedOf timeLengthOf lengthOf loopLengthOf lengthBeyond beyondLimits progressOf levelOf towardOf steppedOf goodRamp goodVolume raised inState misusedOf skippedOf startOf stopOf recordedOf dataAfter goodRecorder leadOf travelAt loopedOf roundTripOf mirroredOf bouncedOf wrappedOf placedOf clipOffsetAt clipToDataOf offsetAt indexAt madeOf backOf foundAt reversingAt shiftFor settledOf withSpeed withMode withLength withDataLength goodLength goodClip spanOf tickOf lateOf overOf shouldRemoveOf movedOf positionOf aheadOf nextAt betweenOf valueOf productOf soundedOf finishOf playedOutOf endedOf volumeStepped turnOf freshOf blankVoice atSpeedOf goodVoice nextTime headOf rampOf passthruOf closedOf goodHead channelOf resetOf anyUnfinishedOf handledOf pushedOf startPlayingOf wantedOf findOf finishedAtOf stopPlayingOf spedOf setNoteSpeedOf headChangedOf keptOf tidiedOf addedOf heardOf playedOf playedIfOf takenOf begunOf passesOver heardBy turnedOf letsGo leavesOf leftOf movedUp turnsOf stepOf memoryOf processSampleOf changedOf fullOf goodVoicesOf goodChannel goodSizes goodSampler capacityOf goodWith setUpNumber startRows stopRows speedRows sampleNumber frameNumber channelNumber notesOf listNumber setUpOf eachOf answerOf partOf playedAt sampledOf outputOf movedAt memoryAt sampleOf sampleMemory entryOf entriesOf entriesMoved framedOf frameMoved act isReset isSample decayOf fateOf follow stops becomes addedBy outOf playsOut followAll stoppedIn finishedIn agreesOf disagrees alters alteredIn setUp questionNumber code after run doneTo event events isResetCall output before add sub mul div rem neg lt le eq ofInt toUnsigned isNan ofBits toBits nanBits ofFields latestOf roomOf runNumber doneOf framesOf ranOf runAnswer
 computing = tt
 
 -- ---- parameters, keys, calls
@@ -506,7 +506,7 @@ filled-met =
 
 -- ---- each number of the table, given
 abbrev timed : ℕ → Head → Head
-timed n h = record { now = n; «data_len» = h .«data_len»; «passthru_volume» = h .«passthru_volume»; recorder = h .recorder; «passthru_on» = h .«passthru_on» }
+timed n h = record { now = n; «data_len» = h .«data_len»; «passthru_volume» = h .«passthru_volume»; recorder = h .recorder; «passthru_on» = h .«passthru_on»; interpolates = h .interpolates }
 
 -- channel 0's clock at its end
 abbrev late : World

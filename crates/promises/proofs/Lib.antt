@@ -5,6 +5,7 @@ pub mod Memory
 pub mod Accepted
 pub mod Demand3
 pub mod TruePositions
+pub mod Settings
 pub mod Whole
 pub mod Turns
 pub mod Makes

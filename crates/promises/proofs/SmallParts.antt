@@ -24,10 +24,11 @@ use Rattle.clip.specs.declared.Clip.{Clip}
 use Rattle.clip.specs.declared.Mode.{Mode}
 use Rattle.clip.specs.declared.ClipAnswer.the-variants as clip
 use Rattle.clip.specs.declared.FoundAnswer.the-variants as found
+use Rattle.clip.specs.declared.PlaceAnswer.the-variants as place
 use Rattle.clip.specs.declared.PositionAnswer.the-variants as position
 use Rattle.clip.specs.declared.ElapsedAnswer.the-variants as elapsed
 use Rattle.clip.specs.declared.ReversingAnswer.the-variants as reversing
-use Rattle.clip.specs.Refusals.{most32, goodLength, goodClip, clipRefusedAt, clipNumber, foundNumber, positionNumber, elapsedNumber, reversingNumber, newClipOf, dataToClipOf, isPingpongReversingOf, elapsedOf, clipOffsetOf, offsetOf, updateSpeedOf, updateModeOf, updateLengthOf, updateDataLengthOf, updateAllOf}
+use Rattle.clip.specs.Refusals.{most32, goodLength, goodClip, clipRefusedAt, clipNumber, foundNumber, placeNumber, positionNumber, elapsedNumber, reversingNumber, newClipOf, dataToClipOf, isPingpongReversingOf, elapsedOf, clipOffsetOf, offsetOf, updateSpeedOf, updateModeOf, updateLengthOf, updateDataLengthOf, updateAllOf}
 use Rattle.clip.specs.Updates.{madeOf}
 use Rattle.sampler.specs.Refusals.{row}
 use Rattle.promises.specs.SmallParts.{notIn, badSizes, badClip, badAt, badTime, RowSeven}
@@ -164,7 +165,7 @@ row-seven = record {
       ∙ refusal foundNumber found.Refused _ refl refl (not (goodClip c && (le zero32 x && lt x (c .«data_length»)))) _ (place-bad c x);
   is-pingpong-reversing = λ c now. refusal reversingNumber reversing.Refused _ refl refl (clipRefusedAt c now) (badAt c now) (clip-bad-at c now);
   elapsed = λ c now. refusal elapsedNumber elapsed.Refused _ refl refl (clipRefusedAt c now) (badAt c now) (clip-bad-at c now);
-  clip-offset = λ c now. refusal positionNumber position.Refused _ refl refl (clipRefusedAt c now) (badAt c now) (clip-bad-at c now);
+  clip-offset = λ c now. refusal placeNumber place.Refused _ refl refl (clipRefusedAt c now) (badAt c now) (clip-bad-at c now);
   offset = λ c now. refusal positionNumber position.Refused _ refl refl (clipRefusedAt c now) (badAt c now) (clip-bad-at c now);
   update-speed = λ c now speed. refusal clipNumber clip.Refused _ refl refl (clipRefusedAt c now) (badAt c now) (clip-bad-at c now);
   update-mode = λ c now mode. refusal clipNumber clip.Refused _ refl refl (clipRefusedAt c now) (badAt c now) (clip-bad-at c now);

@@ -1,36 +1,37 @@
 -- True positions (request 8/12), over every run from set-up: a voice that starts with a plain clip sounds the value at the whole-number index of its count, and shows that index afterwards. Assumes nothing.
 use mathlib.Core.Path.{_≡_, refl, sym, ap, _∙_, subst}
-use mathlib.Core.Bool.{false}
+use mathlib.Core.Bool.{false, true}
 use mathlib.Core.List.{List, [], _∷_, _++_}
 use mathlib.Core.Option.{some}
 use Prim.Native.Nat.{ℕ, _+_, _-_, _%_, _^_, _≤_, _<_}
 use native.Mathlib.Nat.{zero-mod, add-zero}
 use native.Mathlib.Omega.{arith}
 use lib.ListN.{length, getElem?}
-use lib.Ieee.{Float, binary32, mul, div}
-use Rattle.binary32.specs.Leaves.{asFloat}
+use lib.Ieee.{Float, binary32, div, eq}
+use Rattle.binary32.specs.Leaves.{asFloat, zero32}
 use Rattle.common_types.specs.declared.InitParams.{InitParams}
 use Rattle.common_types.specs.declared.Params.{Params}
 use Rattle.common_types.specs.declared.Note.{Note}
-use Rattle.volume.specs.Levels.{levelOf}
-use Rattle.clip.specs.Positions.{elapsedAt, indexAt}
+use Rattle.clip.specs.Positions.{elapsedAt, positionAt, indexAt, nextAt}
 use Rattle.clip.specs.Plain.{PlainClip, plainIndex}
-use Rattle.clip.proofs.Plain.{index-is, true-index}
+use Rattle.clip.proofs.Plain.{index-is, fraction-is, true-index}
 use Rattle.voice.specs.declared.Voice.{Voice}
-use Rattle.voice.specs.Voices.{recordedValueOf, freshOf}
+use Rattle.voice.specs.declared.Tick.{Tick}
+use Rattle.voice.specs.Voices.{tickOf, recordedValueOf, valueOf, freshOf}
+use Rattle.voice.proofs.Values.{value-off, value-whole}
 use Rattle.channel.specs.declared.Channel.{Channel}
-use Rattle.channel.specs.Channels.{live, memoryOf}
+use Rattle.channel.specs.Channels.{live, takenOf, memoryOf}
 use Rattle.sampler.specs.Refusals.{setUpNumber}
 use Rattle.questions.specs.Questions.{voiceInfoOf}
 use Rattle.fates.specs.Engine.{bornOf}
-use Rattle.fates.specs.Events.{Event, sounds, act, acts, emptyAt}
+use Rattle.fates.specs.Events.{Event, sounds, act, acts, emptyAt, tickAt}
 use Rattle.fates.specs.Places.{voiceAt, at, follow, followAll}
 use Rattle.fates.specs.Steady.{alteredIn}
 use Rattle.fates.proofs.Steady.{Beats, BeatsAt, beats-at, shown}
 use Rattle.fates.proofs.Tracks.{at-same}
 use Rattle.walks.proofs.Lists.Looks.{look-last}
 use Rattle.promises.specs.Runs.{World, setUp, Call, start, after, run, chan, event, events}
-use Rattle.promises.specs.Demands.{Undisturbed, OnTheBeat, Shows, TruePositions}
+use Rattle.promises.specs.Demands.{Tame, Undisturbed, OnTheBeat, Shows, TruePositions}
 use Rattle.promises.proofs.Calls.{Standing, chan-run, kept-run, count-kept, standing-after, standing-run, standing-new}
 use Rattle.promises.proofs.Demand3.{events-reset, sounds-in, house, next, still, takes}
 
@@ -94,6 +95,25 @@ module _ (w : World) (st : Standing w) (j : ℕ) (present : j < w .sampler .coun
       index : indexAt (fresh .clip2) (chan v j .head .now) ≡ plainIndex a l d k
       index = index-is (fresh .clip2) (chan v j .head .now) a l d P (subst (λ (n : ℕ). n ≤ 2 ^ 24) (sym elapsed) (U .within)) ∙ ap (plainIndex a l d) elapsed
 
+      abbrev t : Tick
+      t = tickAt p m (chan v j)
+
+      abbrev held : List ℕ
+      held = memoryOf x (chan v j) m
+
+      off : chan v j .head .interpolates ≡ false → valueOf t held (fresh .clip2) ≡ recordedValueOf held (plainIndex a l d k)
+      unfolding tickOf takenOf
+      off e = value-off t held (fresh .clip2) e ∙ ap (recordedValueOf held) index
+
+      -- positions are whole there
+      alike : Tame (recordedValueOf held (plainIndex a l d k)) (recordedValueOf held (nextAt (fresh .clip2) (chan v j .head .now))) → eq (valueOf t held (fresh .clip2)) (recordedValueOf held (plainIndex a l d k)) ≡ true
+      unfolding tickOf takenOf eq
+      alike =
+          let within : elapsedAt (fresh .clip2) (chan v j .head .now) ≤ 2 ^ 24 = subst (λ (n : ℕ). n ≤ 2 ^ 24) (sym elapsed) (U .within) in
+          let none : positionAt (fresh .clip2) (chan v j .head .now) .fraction ≡ zero32 = fraction-is (fresh .clip2) (chan v j .head .now) a l d P within in
+          subst (λ (i : ℕ). Tame (recordedValueOf held i) (recordedValueOf held (nextAt (fresh .clip2) (chan v j .head .now))) → eq (valueOf t held (fresh .clip2)) (recordedValueOf held i) ≡ true) index
+          (λ tame. value-whole t held (fresh .clip2) (ap (λ (y : Float). eq y zero32) none) (tame .here) (tame .next) (tame .between))
+
       on-the-beat : OnTheBeat w j b cs s p x m fresh (plainIndex a l d k)
       on-the-beat =
           let c = chan v j in
@@ -104,7 +124,9 @@ module _ (w : World) (st : Standing w) (j : ℕ) (present : j < w .sampler .coun
             follows = beating .follows;
             sounds = sounds-in v stand j there s p x m (U .sample) (beating .place) u (beats .sounds);
             clip = beats .clip;
-            term = beats .term ∙ ap (λ (i : ℕ). mul binary32 (recordedValueOf (memoryOf x c m) i) (levelOf (u .volume) (c .head .now))) index;
+            term = beats .term;
+            off = off;
+            alike = alike;
           }
 
       seen : (n i : ℕ) → followAll es (chan (after w b) j) first ≡ at n → follow (event v s j) (chan v j) n ≡ at i → Shows (after v s) j i (plainIndex a l d k)

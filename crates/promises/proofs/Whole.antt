@@ -20,7 +20,7 @@ use Rattle.common_types.specs.declared.Params.{Params}
 use Rattle.common_types.specs.Settings.{speedOf, loopLengthOf, beyondLimits, defaultParams}
 use Rattle.common_types.proofs.LoopLengths.{loop-length-fits}
 use Rattle.recorder.specs.ErrorText.{errorText}
-use Rattle.clip.specs.Positions.{indexAt}
+use Rattle.clip.specs.Positions.{indexAt, nextAt}
 use Rattle.voice.specs.declared.Voice.{Voice}
 use Rattle.clip.specs.Bounds.{Sound}
 use Rattle.clip.proofs.Lengths.{float-length}
@@ -30,7 +30,7 @@ use Rattle.clip.proofs.Answers.{speed-found, mode-found, length-asked}
 use Rattle.voice.specs.Voices.{clipModeOf, spanOf, tickOf, movedOf, blankVoice}
 use Rattle.voice.specs.Soundness.{SoundParams, SoundVoice}
 use Rattle.voice.proofs.Moves.{loop-length-good, moved-sound}
-use Rattle.voice.proofs.Kept.{clip-sound}
+use Rattle.voice.proofs.Kept.{next-recorded, clip-sound}
 use Rattle.channel.specs.Heads.{momentOf}
 use Rattle.channel.specs.Channels.{live, takenOf, memoryOf}
 use Rattle.channel.specs.Soundness.{FittingChange, SoundChannel}
@@ -157,6 +157,12 @@ module _ (w : World) (st : Standing w) (h : SoundSampler (w .sampler)) (j n : �
   unfolding takenOf
   voice-sound = clip-sound (chan w j .head .now) v (subst (SoundVoice (chan w j .head .now)) itself (voice-at (w .sampler .capacity) (takenOf m (chan w j)) taken n blankVoice place))
 
+  next-inside : nextAt (movedOf (tickAt p m (chan w j)) v) (chan w j .head .now) < lengthAt m (chan w j)
+  unfolding takenOf
+  next-inside =
+      next-recorded p (momentOf (takenOf m (chan w j) .head)) sound-params some-data short v
+      (subst (SoundVoice (chan w j .head .now)) itself (voice-at (w .sampler .capacity) (takenOf m (chan w j)) taken n blankVoice place))
+
   lengthened-sound : Sound (lengthened (tickAt p m (chan w j)) v)
   unfolding tickOf spanOf takenOf
   lengthened-sound =
@@ -208,7 +214,7 @@ no-panic count q m z cs f =
       good = h .good;
       asked = λ j n v c p x l y. updates-asked w st h j n v c p x l y;
       placed = λ j n v c p x l y. all-placed w st h j n v c p x l y;
-      inside = λ j n v c p x l y. (index-inside w st h j n v c p x l y, data-inside w st h j n v c p x l y);
+      inside = λ j n v c p x l y. (index-inside w st h j n v c p x l y, next-inside w st h j n v c p x l y, data-inside w st h j n v c p x l y);
     }
 
 pub whole : (count : ℕ) (q : InitParams) (m : List ℕ) → setUpNumber count (length m) ≡ 0 → (cs : List Call) → Each FittingCall cs → Whole (run (setUp count q m) cs)

@@ -113,6 +113,9 @@ pub record Demand1 : Type 0 where
   -- Start and stop of recording, reset: none but 9."
   pub plain-rows : (w : World) (c : Call) → (c ≡ startRecording) ⊎ ((c ≡ stopRecording) ⊎ (c ≡ reset))
       → code w c ≡ row (not (goodSampler (w .sampler))) 9 0
+  -- 7/12's setting: "Refusals: none new."
+  pub interpolation-rows : (w : World) (on : Bool) → code w (setInterpolation on)
+      ≡ row (not (goodSampler (w .sampler))) 9 0
   pub set-up-rows : (count : ℕ) (p : InitParams) (m : List ℕ) (r : Answer) → Allows (new count p m) r
       → r .number ≡ row (not (goodSizes count (capacityOf count (length m)))) 9 0
   -- A set-up that is refused leaves a record that every call answers with 9.
@@ -196,10 +199,11 @@ pub record NoPanic (w : World) : Type 0 where
   -- is not inside.
   pub placed : (j n : ℕ) (v : Voice) (s : Call) (p : Params) (x : Float) (m : List ℕ) → Plays w j n v s p x m
       → AllPlaced (tickAt p m (chan w j)) v
-  -- The index that a voice sounds by lies inside the recording, and the recording inside the channel's memory: so "its
-  -- recorded value", in demand 3, is no default.
+  -- The index that a voice sounds by lies inside the recording, the next one too, and the recording inside the
+  -- channel's memory: so "its recorded value", in demand 3, is no default.
   pub inside : (j n : ℕ) (v : Voice) (s : Call) (p : Params) (x : Float) (m : List ℕ) → Plays w j n v s p x m
       → (indexAt (movedOf (tickAt p m (chan w j)) v) (chan w j .head .now) < lengthAt m (chan w j))
+      × (nextAt (movedOf (tickAt p m (chan w j)) v) (chan w j .head .now) < lengthAt m (chan w j))
       × (lengthAt m (chan w j) ≤ length (memoryOf x (chan w j) m))
 
 -- ==== Demand 2
@@ -215,6 +219,12 @@ pub record SkipsAlone (c : Clip) (now : ℕ) (l s d : Float) (m : Mode) : Type 0
       → withAll c now l s d m ≡ withMode (withSpeed (withLength c now l) now s) now m
   pub mode : sameMode m (c .mode) ≡ true
       → withAll c now l s d m ≡ withDataLength (withSpeed (withLength c now l) now s) now d
+
+-- "a, b and b - a finite" (7/12)
+pub record Tame (a b : Float) : Type 0 where
+  pub here : T (finite a)
+  pub next : T (finite b)
+  pub between : T (finite (sub binary32 b a))
 
 pub record Demand2 : Type 0 where
   -- "On document 01's domain the port equals the Rust release build: output bits (one NaN counts as any other),
@@ -242,6 +252,17 @@ pub record Demand2 : Type 0 where
   -- and speed.
   pub positions : (c : Clip) (now : ℕ) → Sound c
       → Inside (clipOffsetAt c now) (c .length) × Within (offsetAt c now) (c .«data_length»)
+  -- 7/12: "The clip's offset should answer the whole index and the remaining fraction together, the two adding up exactly
+  -- to what it answered before". The fraction is from +0 to below 1.
+  pub adds-up : (c : Clip) (now : ℕ) → Sound c → AddsUp (positionAt c now) (offsetAt c now)
+  -- "With it off demand 2 reads as now": the value that a voice sounds by is the one recorded at the index. With it on
+  -- it is `valueOf`, written from the request. "At fraction 0, with a, b and b - a finite, both settings give equal
+  -- values."
+  pub off : (t : Tick) (m : List ℕ) (c : Clip) → t .interpolates ≡ false
+      → valueOf t m c ≡ recordedValueOf m (indexAt c (t .now))
+  pub whole-alike : (t : Tick) (m : List ℕ) (c : Clip) → eq (positionAt c (t .now) .fraction) zero32 ≡ true
+      → Tame (recordedValueOf m (indexAt c (t .now))) (recordedValueOf m (nextAt c (t .now)))
+      → eq (valueOf t m c) (recordedValueOf m (indexAt c (t .now))) ≡ true
   -- One update by all four values (2/12) ends as the four calls do in turn, whatever the clip and the values are; a call
   -- that is refused ends them, and the answer is that refusal. A value that is equal skips its own part alone.
   pub at-once : (c : Clip) (now : ℕ) (l s d : Float) (m : Mode) → updateAllOf c now l s d m ≡ fourOf c now l s d m
@@ -435,7 +456,8 @@ pub record Undisturbed (w : World) (j : ℕ) (b : Call) (cs : List Call) (s : Ca
   pub within : k ≤ 2 ^ 24
 
 -- At the place that it is followed to, the voice that b made as `born` sounds in s: it has its clip still, and its term
--- is the recorded value at `index` times its level.
+-- is a value times its level. With 7/12's setting off that is the value recorded at `index`; with it on it is the
+-- interpolated one, which is equal to that where the request has it.
 pub record OnTheBeat (w : World) (j : ℕ) (b : Call) (cs : List Call) (s : Call) (p : Params) (x : Float) (m : List ℕ)
     (born : Voice) (index : ℕ) : Type 0 where
   pub place : ℕ
@@ -444,8 +466,17 @@ pub record OnTheBeat (w : World) (j : ℕ) (b : Call) (cs : List Call) (s : Call
   pub sounds : SoundsIn (run w (b ∷ cs)) s j p x m place voice
   pub clip : voice .clip2 ≡ born .clip2
   pub term : productOf (tickAt p m (chan (run w (b ∷ cs)) j)) (memoryOf x (chan (run w (b ∷ cs)) j) m) voice
-      ≡ mul binary32 (recordedValueOf (memoryOf x (chan (run w (b ∷ cs)) j) m) index)
+      ≡ mul binary32
+      (valueOf (tickAt p m (chan (run w (b ∷ cs)) j)) (memoryOf x (chan (run w (b ∷ cs)) j) m) (born .clip2))
       (levelOf (voice .volume) (chan (run w (b ∷ cs)) j .head .now))
+  pub off : chan (run w (b ∷ cs)) j .head .interpolates ≡ false
+      → valueOf (tickAt p m (chan (run w (b ∷ cs)) j)) (memoryOf x (chan (run w (b ∷ cs)) j) m) (born .clip2)
+      ≡ recordedValueOf (memoryOf x (chan (run w (b ∷ cs)) j) m) index
+  pub alike : Tame (recordedValueOf (memoryOf x (chan (run w (b ∷ cs)) j) m) index)
+      (recordedValueOf (memoryOf x (chan (run w (b ∷ cs)) j) m)
+      (nextAt (born .clip2) (chan (run w (b ∷ cs)) j .head .now)))
+      → eq (valueOf (tickAt p m (chan (run w (b ∷ cs)) j)) (memoryOf x (chan (run w (b ∷ cs)) j) m) (born .clip2))
+      (recordedValueOf (memoryOf x (chan (run w (b ∷ cs)) j) m) index) ≡ true
 
 -- After s that voice, where it is still there, has `index` for its last index, and voice info shows it as a part of
 -- the recording.
@@ -548,6 +579,11 @@ pub record Demands : Type 0 where
   -- of the same records and channels
   pub true-positions : (count : ℕ) (p : InitParams) (m : List ℕ) → setUpNumber count (length m) ≡ 0
       → (hs : List Made) (j : ℕ) → j < count → TruePositions (makes (setUp count p m) hs) j
+  -- 7/12: "It is a setting per sampler, off at set-up and kept by reset." Every channel has the one of the last accepted
+  -- call that sets it.
+  pub one-setting : (count : ℕ) (p : InitParams) (m : List ℕ) → setUpNumber count (length m) ≡ 0
+      → (cs : List Call) (j : ℕ) → j < count
+      → chan (run (setUp count p m) cs) j .head .interpolates ≡ settingIn (setUp count p m) false cs
   -- of every record and memory
   pub tidying : (w : World) → Tidying w
   -- "Demand 3 counts each frame of a run as a sample." What demand 3 says of calls it says of a run's frames: the run

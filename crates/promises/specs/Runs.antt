@@ -16,7 +16,7 @@ use Rattle.voice.specs.Soundness.{FittingParams}
 use Rattle.channel.specs.declared.Channel.{Channel}
 use Rattle.channel.specs.declared.Change.{Change}
 use Rattle.channel.specs.declared.Change.the-variants.{Start, Stop, Speed, Head, Reset}
-use Rattle.channel.specs.declared.HeadChange.the-variants.{StartRecording, StopRecording}
+use Rattle.channel.specs.declared.HeadChange.the-variants.{StartRecording, StopRecording, Interpolate}
 use Rattle.channel.specs.Soundness.{FittingChange}
 use Rattle.sampler.specs.declared.Sampler.{Sampler}
 use Rattle.recorder.specs.ErrorText.{errorText}
@@ -79,6 +79,10 @@ startRecording = change (Head StartRecording)
 
 abbrev pub stopRecording : Call
 stopRecording = change (Head StopRecording)
+
+-- request 7/12's setting
+abbrev pub setInterpolation : Bool → Call
+setInterpolation on = change (Head (Interpolate on))
 
 abbrev pub reset : Call
 reset = change Reset
@@ -147,6 +151,25 @@ event w c j = cond (eqb (code w c) 0) (doneTo w c j) idle
 unfoldable pub events : World → List Call → ℕ → List Event
 events w [] j = []
 events w (c ∷ cs) j = event w c j ∷ events (after w c) cs j
+
+-- ---- request 7/12: "It is a setting per sampler"
+
+-- the setting after the calls, where it was `on` before: each accepted call that sets it does
+abbrev pub settingBy : Bool → Call → Bool → Bool
+settingBy accepted (change (Head (Interpolate new))) on = cond accepted new on
+settingBy accepted (change (Head StartRecording)) on = on
+settingBy accepted (change (Head StopRecording)) on = on
+settingBy accepted (change (Start p position note velocity)) on = on
+settingBy accepted (change (Stop p note)) on = on
+settingBy accepted (change (Speed note s)) on = on
+settingBy accepted (change Reset) on = on
+settingBy accepted (sample j x p) on = on
+settingBy accepted (frame xs p) on = on
+settingBy accepted (asks q) on = on
+
+unfoldable pub settingIn : World → Bool → List Call → Bool
+settingIn w on [] = on
+settingIn w on (c ∷ cs) = settingIn (after w c) (settingBy (eqb (code w c) 0) c on) cs
 
 unfoldable pub isResetCall : Call → Bool
 isResetCall (change d) = isReset (changes d)

@@ -22,6 +22,7 @@ use Rattle.clip.specs.declared.Mode.{Mode}
 use Rattle.clip.specs.Refusals.{
   clipNumber,
   foundNumber,
+  placeNumber,
   positionNumber,
   elapsedNumber,
   reversingNumber,
@@ -82,7 +83,7 @@ pub record RowSeven : Type 0 where
   pub is-pingpong-reversing : (c : Clip) (now : ℕ)
       → reversingNumber (isPingpongReversingOf c now) ≡ row (badAt c now) 7 0
   pub elapsed : (c : Clip) (now : ℕ) → elapsedNumber (elapsedOf c now) ≡ row (badAt c now) 7 0
-  pub clip-offset : (c : Clip) (now : ℕ) → positionNumber (clipOffsetOf c now) ≡ row (badAt c now) 7 0
+  pub clip-offset : (c : Clip) (now : ℕ) → placeNumber (clipOffsetOf c now) ≡ row (badAt c now) 7 0
   pub offset : (c : Clip) (now : ℕ) → positionNumber (offsetOf c now) ≡ row (badAt c now) 7 0
   pub update-speed : (c : Clip) (now : ℕ) (speed : Float)
       → clipNumber (updateSpeedOf c now speed) ≡ row (badAt c now) 7 0

@@ -25,6 +25,7 @@ use Rattle.volume.specs.Levels.{towardOf, valueOf}
 use Rattle.clip.specs.declared.Clip.{Clip}
 use Rattle.clip.specs.declared.Mode.{Mode}
 use Rattle.clip.specs.declared.Mode.the-variants.{Loop, PingPong}
+use Rattle.clip.specs.Positions.{sumOf}
 use Rattle.clip.specs.declared.PositionAnswer.{PositionAnswer}
 use Rattle.clip.specs.declared.PositionAnswer.the-variants as position
 use Rattle.clip.specs.Updates.{madeOf}
@@ -38,8 +39,9 @@ pub data Case : Type 0 where
   toFloat : (n : ℕ) → Case
   value : (v : Volume) (now : ℕ) → Case
 
+-- index and fraction together (request 7/12)
 abbrev pub ofPosition : PositionAnswer → Option Float
-ofPosition (position.Done x) = some x
+ofPosition (position.Done p) = some (sumOf p)
 ofPosition position.Refused = none
 
 abbrev pub ofLevel : LevelAnswer → Option Float

@@ -16,7 +16,7 @@ use Rattle.common_types.specs.Settings.{beyondLimits}
 use Rattle.channel.specs.declared.Change.{Change}
 use Rattle.channel.specs.declared.Change.the-variants as change
 use Rattle.channel.specs.declared.HeadChange.{HeadChange}
-use Rattle.channel.specs.declared.HeadChange.the-variants.{StartRecording, StopRecording}
+use Rattle.channel.specs.declared.HeadChange.the-variants.{StartRecording, StopRecording, Interpolate}
 use Rattle.sampler.specs.Refusals.{row, capacityOf, goodSampler, goodWith, noChannel, badNote, badPosition, anyFull, atEnd, channelAt, startRows, stopRows, speedRows, headRows, changeNumber, sampleNumber, frameNumber, channelNumber}
 use Rattle.sampler.specs.Samplers.{setUpOf, eachOf, answerOf, channelSteppedOf, processSampleOf, Framed, framed, entryOf}
 use Rattle.sampler.specs.Soundness.{SoundSampler, Reached, Unbroken}
@@ -81,6 +81,7 @@ good-unbroken s size h =
     of-head : (d : HeadChange) → headRows d ≢ 9
     of-head StartRecording = none
     of-head StopRecording = none
+    of-head (Interpolate on) = none
 
     of-change : goodSampler s ≡ true → (x : Change) → changeNumber s x ≢ 9
     of-change g (change.Start p position note velocity) =

@@ -26,6 +26,7 @@ none = record {
     «passthru_volume» = Static nan;
     recorder = record { state = Triggered 0; «skipped_samples» = 0; «incorrect_state» = 0 };
     «passthru_on» = false;
+    interpolates = false;
   };
 }
 

@@ -14,7 +14,7 @@ use Rattle.common_types.specs.Settings.{beyondLimits}
 use Rattle.channel.specs.declared.Change.{Change}
 use Rattle.channel.specs.declared.Change.the-variants as change
 use Rattle.channel.specs.declared.HeadChange.{HeadChange}
-use Rattle.channel.specs.declared.HeadChange.the-variants.{StartRecording, StopRecording}
+use Rattle.channel.specs.declared.HeadChange.the-variants.{StartRecording, StopRecording, Interpolate}
 use Rattle.channel.specs.declared.Channel.{Channel}
 use Rattle.channel.specs.Heads.{lastTime}
 use Rattle.channel.specs.Channels.{channelOf, fullOf, goodChannel}
@@ -91,10 +91,11 @@ stopRows a note p = row (not (a .good)) 9 (row (badNote note) 2 (row (beyondLimi
 unfoldable pub speedRows : Asked → Note → ℕ
 speedRows a note = row (not (a .good)) 9 (row (badNote note) 2 0)
 
--- what a change of the heads has behind row 9: start and stop of recording nothing
+-- what a change of the heads has behind row 9: start and stop of recording, and request 7/12's setting, nothing
 abbrev pub headRows : HeadChange → ℕ
 headRows StartRecording = 0
 headRows StopRecording = 0
+headRows (Interpolate on) = 0
 
 -- a call that changes every channel, by its change
 abbrev pub changeRows : Asked → Change → ℕ

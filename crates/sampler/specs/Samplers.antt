@@ -2,7 +2,7 @@
 -- they held. Definitions only.
 use mathlib.Core.Path.{_≡_}
 use Prim.Native.Nat.{ℕ, zero, suc, _+_, _*_, _≤_, _<_}
-use mathlib.Core.Bool.{cond}
+use mathlib.Core.Bool.{Bool, cond}
 use mathlib.Core.List.{List, [], _∷_, _++_, map}
 use lib.Dec.{eqb}
 use lib.ListN.{length, take, drop, getD, set}
@@ -14,7 +14,7 @@ use Rattle.common_types.specs.declared.Params.{Params}
 use Rattle.common_types.specs.declared.Note.{Note}
 use Rattle.channel.specs.declared.Change.{Change}
 use Rattle.channel.specs.declared.Change.the-variants as change
-use Rattle.channel.specs.declared.HeadChange.the-variants.{StartRecording, StopRecording}
+use Rattle.channel.specs.declared.HeadChange.the-variants.{StartRecording, StopRecording, Interpolate}
 use Rattle.channel.specs.declared.Channel.{Channel}
 use Rattle.channel.specs.declared.Played.{Played}
 use Rattle.channel.specs.Channels.{channelOf, changedOf, memoryOf}
@@ -75,6 +75,10 @@ startRecordingOf s = changeOf s (change.Head StartRecording)
 
 abbrev pub stopRecordingOf : Sampler → Answer
 stopRecordingOf s = changeOf s (change.Head StopRecording)
+
+-- request 7/12: "It is a setting per sampler"
+abbrev pub setInterpolationOf : Sampler → Bool → Answer
+setInterpolationOf s on = changeOf s (change.Head (Interpolate on))
 
 abbrev pub resetOf : Sampler → Answer
 resetOf s = changeOf s change.Reset

@@ -46,6 +46,7 @@ ghost use Rattle.sampler.specs.Samplers.{
   setNoteSpeedOf,
   startRecordingOf,
   stopRecordingOf,
+  setInterpolationOf,
   resetOf,
   channelSteppedOf,
   outputOf,
@@ -424,6 +425,12 @@ impl Sampler {
         self.changed(Change::Speed { note, speed })
     }
 
+    pub fn set_interpolation(self, on: bool) -> Answer
+        ensures { λ r. ⌜ r ≡ setInterpolationOf self on ⌝ }
+    {
+        self.changed(Change::Head(HeadChange::Interpolate(on)))
+    }
+
     pub fn start_recording(self) -> Answer
         ensures { λ r. ⌜ r ≡ startRecordingOf self ⌝ }
     {
@@ -625,6 +632,7 @@ fn head_rows(change: HeadChange) -> u8
     match change {
         HeadChange::StartRecording => 0,
         HeadChange::StopRecording => 0,
+        HeadChange::Interpolate(_) => 0,
     }
 }
 

@@ -1,20 +1,22 @@
--- Turns on either side of each condition of a plain one, computed. Assumes nothing.
+-- Turns on either side of each condition of a plain one, and values between samples, computed. Assumes nothing.
 use mathlib.Core.Path.{_≡_, refl}
 use Prim.Native.Nat.{ℕ}
 use mathlib.Core.Bool.{Bool, true, false}
 use mathlib.Core.List.{List, [], _∷_, map}
-use lib.Ieee.{Float, nan, neg, ofInt, ofBits, add, sub, mul, div, rem, lt, le, eq, isNan, toUnsigned}
+use lib.IntN.{negsuc}
+use lib.Ieee.{Float, nan, fin, neg, ofInt, ofBits, add, sub, mul, div, rem, lt, le, eq, isNan, toUnsigned}
 use Rattle.binary32.specs.Leaves.{zero32, one32, asFloat, floorOf, minOf, crossingOf}
 use Rattle.common_types.specs.declared.NoteOffBehaviour.{NoteOffBehaviour}
 use Rattle.common_types.specs.declared.NoteOffBehaviour.the-variants as off
 use Rattle.volume.specs.declared.Volume.{Volume}
 use Rattle.volume.specs.declared.Volume.the-variants.{Static, Linear}
 use Rattle.volume.specs.Levels.{levelOf, steppedOf, keepsOf}
+use Rattle.clip.specs.declared.Clip.{Clip}
 use Rattle.clip.specs.declared.Mode.{Mode}
 use Rattle.clip.specs.declared.Mode.the-variants.{Loop, PingPong}
-use Rattle.clip.specs.Positions.{leadOf, travelAt, loopedOf, wrappedOf, placedOf, clipOffsetAt, clipToDataOf, offsetAt, indexAt}
+use Rattle.clip.specs.Positions.{positionOf, leadOf, travelAt, loopedOf, wrappedOf, placedOf, clipOffsetAt, clipToDataOf, offsetAt, indexAt, aheadOf, nextAt}
 use Rattle.clip.specs.Updates.{madeOf, withLength, withSpeed, withDataLength, withMode}
-use Rattle.voice.specs.Voices.{lateOf, overOf, shouldRemoveOf, movedOf, productOf, soundedOf, playedOutOf, endedOf, volumeStepped, turnOf}
+use Rattle.voice.specs.Voices.{lateOf, overOf, shouldRemoveOf, movedOf, betweenOf, valueOf, productOf, soundedOf, playedOutOf, endedOf, volumeStepped, turnOf}
 use Rattle.voice.specs.Agreeing.{agreesOf}
 use Rattle.voice.specs.Plain.{plainOf, soundedAt}
 use Rattle.voice.specs.declared.Voice.{Voice}
@@ -22,20 +24,25 @@ use Rattle.voice.specs.declared.Tick.{Tick}
 
 -- whatever a turn computes by
 unfoldable computing : Unit {0}
-unfolding plainOf soundedAt agreesOf keepsOf turnOf volumeStepped endedOf playedOutOf shouldRemoveOf overOf lateOf soundedOf productOf movedOf withLength withSpeed withDataLength withMode madeOf indexAt offsetAt clipToDataOf clipOffsetAt placedOf wrappedOf loopedOf travelAt leadOf levelOf steppedOf floorOf minOf crossingOf ofInt ofBits neg add sub mul div rem lt le eq isNan toUnsigned
+unfolding plainOf soundedAt agreesOf keepsOf turnOf volumeStepped endedOf playedOutOf shouldRemoveOf overOf lateOf soundedOf productOf valueOf betweenOf positionOf movedOf withLength withSpeed withDataLength withMode madeOf indexAt nextAt aheadOf offsetAt clipToDataOf clipOffsetAt placedOf wrappedOf loopedOf travelAt leadOf levelOf steppedOf floorOf minOf crossingOf ofInt ofBits neg add sub mul div rem lt le eq isNan toUnsigned
 computing = tt
 
--- at the clock 4, with a decay of 3, a loop length of 4 and 10 samples recorded, each of them 1
-abbrev tickWith : NoteOffBehaviour → Bool → Float → Float → Mode → Tick
-tickWith behaviour once length total mode = record {
-  now = 4;
+-- a tick at a time, on either setting, with a decay of 3
+abbrev tickAt : ℕ → Bool → NoteOffBehaviour → Bool → Float → Float → Mode → Tick
+tickAt now interpolates behaviour once length total mode = record {
+  now = now;
   «decay_samples» = 3;
-  span = record { length = length; «whole_length» = asFloat 4; «data_length» = total };
+  span = record { length = length; «whole_length» = floorOf length; «data_length» = total };
   speed = one32;
   mode = mode;
   once = once;
   «note_off_behavior» = behaviour;
+  interpolates = interpolates;
 }
+
+-- at the clock 4, with the setting off, a loop length of 4 and 10 samples recorded, each of them 1
+abbrev tickWith : NoteOffBehaviour → Bool → Float → Float → Mode → Tick
+tickWith behaviour once length total mode = tickAt 4 false behaviour once length total mode
 
 abbrev tick : NoteOffBehaviour → Bool → Tick
 tick behaviour once = tickWith behaviour once (asFloat 4) (asFloat 10) Loop
@@ -43,12 +50,12 @@ tick behaviour once = tickWith behaviour once (asFloat 4) (asFloat 10) Loop
 abbrev ones : List ℕ
 ones = map (λ (n : ℕ). 1065353216) (0 ∷ 1 ∷ 2 ∷ 3 ∷ [])
 
--- a voice in a loop of 4, with so much played; its value before was 1
-abbrev voiceWith : Volume → Float → Float → Bool → ℕ → Bool → Voice
-voiceWith volume played speed finished time crossing = record {
+-- a voice with so much played; its value before was 1
+abbrev voiceOn : Clip → Volume → Float → Float → Bool → ℕ → Bool → Voice
+voiceOn clip volume played speed finished time crossing = record {
   «finished_at» = time;
   «last_sample_index» = 0;
-  clip2 = madeOf 0 zero32 one32 (asFloat 4) (asFloat 10) Loop;
+  clip2 = clip;
   volume = volume;
   «loop_start_percent» = zero32;
   played = played;
@@ -58,6 +65,10 @@ voiceWith volume played speed finished time crossing = record {
   finished = finished;
   «is_at_zero_crossing» = crossing;
 }
+
+-- in a loop of 4
+abbrev voiceWith : Volume → Float → Float → Bool → ℕ → Bool → Voice
+voiceWith volume played speed finished time crossing = voiceOn (madeOf 0 zero32 one32 (asFloat 4) (asFloat 10) Loop) volume played speed finished time crossing
 
 abbrev sounding : Volume → Voice
 sounding volume = voiceWith volume one32 one32 false 0 false
@@ -101,3 +112,30 @@ pub to-a-crossing : (plainOf (tick off.ZeroCrossing false) ones (finished (Stati
     × (plainOf (tick off.Decay false) [] (finished (Static one32) 2 false) ≡ true)
 unfolding computing
 to-a-crossing = (refl, refl, refl, refl, refl)
+
+-- ---- values between samples, on either setting
+
+abbrev half : Float
+half = fin false 1 (negsuc 0)
+
+-- what a voice at half speed and full level sounds by at a time, in a loop of 3 from `start`, of a recording of 4
+abbrev heard : Bool → Float → List ℕ → ℕ → Float
+heard interpolates start m now =
+    soundedOf (tickAt now interpolates off.Decay false (asFloat 3) (asFloat 4) Loop) m (voiceOn (madeOf 0 start half (asFloat 3) (asFloat 4) Loop) (Static one32) one32 half false 0 false)
+    .«last_sample_value»
+
+-- 1, 2, 4, 8
+abbrev doubling : List ℕ
+doubling = 0x3f80_0000 ∷ 0x4000_0000 ∷ 0x4080_0000 ∷ 0x4100_0000 ∷ []
+
+-- midway between 1 and 2, at the 2, and from 0.5 on at the loop's end, midway between its third sample and its first
+pub between-samples : (heard true zero32 doubling 1 ≡ fin false 3 (negsuc 0)) × (heard true zero32 doubling 2 ≡ asFloat 2) × (heard true half doubling 4 ≡ fin false 5 (negsuc 0))
+    × (heard false zero32 doubling 1 ≡ one32) × (heard false zero32 doubling 2 ≡ asFloat 2) × (heard false half doubling 4 ≡ asFloat 4)
+unfolding computing
+between-samples = (refl, refl, refl, refl, refl, refl)
+
+-- at fraction 0: an infinite next sample makes it NaN, and -0 becomes +0, which is equal in value
+pub at-fraction-zero : (heard true zero32 (0x3f80_0000 ∷ 0x7f80_0000 ∷ []) 0 ≡ nan) × (heard false zero32 (0x3f80_0000 ∷ 0x7f80_0000 ∷ []) 0 ≡ one32)
+    × (heard true zero32 (0x8000_0000 ∷ []) 0 ≡ zero32) × (heard false zero32 (0x8000_0000 ∷ []) 0 ≡ neg zero32)
+unfolding computing
+at-fraction-zero = (refl, refl, refl, refl)

@@ -1,4 +1,5 @@
 -- A sound voice stays sound as the clock moves on and through all that is done to it, and a new voice is sound. Assumes nothing.
+use mathlib.Core.Path.{_≡_}
 use Prim.Native.Nat.{ℕ, _^_, _≤_, _<_, zero-le}
 use native.Mathlib.Nat.{le-refl, le-trans}
 use mathlib.Core.Bool.{Bool, _&&_}
@@ -17,14 +18,15 @@ use Rattle.common_types.proofs.Limits.{within}
 use Rattle.common_types.proofs.LoopLengths.{loop-length-fits}
 use Rattle.volume.specs.declared.Volume.the-variants.{Static}
 use Rattle.volume.specs.Levels.{levelOf, goodVolume}
-use Rattle.clip.specs.Positions.{indexAt}
+use Rattle.clip.specs.declared.Clip.{Clip}
+use Rattle.clip.specs.Positions.{indexAt, nextAt}
 use Rattle.clip.specs.Updates.{madeOf}
 use Rattle.clip.specs.Refusals.{goodClip}
 use Rattle.clip.specs.Bounds.{Sound}
 use Rattle.clip.proofs.Lengths.{float-length}
 use Rattle.clip.proofs.Kept.{made-sound}
-use Rattle.clip.proofs.Indices.{index-below}
-use Rattle.voice.specs.Voices.{clipModeOf, tickOf, shouldRemoveOf, movedOf, recordedValueOf, productOf, soundedOf, finishOf, playedOutOf, endedOf, volumeStepped, turnOf, freshOf, atSpeedOf, goodVoice}
+use Rattle.clip.proofs.Indices.{index-below, next-below}
+use Rattle.voice.specs.Voices.{clipModeOf, tickOf, shouldRemoveOf, movedOf, valueOf, productOf, soundedOf, finishOf, playedOutOf, endedOf, volumeStepped, turnOf, freshOf, atSpeedOf, goodVoice}
 use Rattle.voice.specs.Soundness.{Fits, SoundParams, SoundPosition, SoundVolume, SoundVoice}
 use Rattle.voice.specs.declared.Voice.{Voice}
 use Rattle.voice.specs.declared.Moment.{Moment}
@@ -138,11 +140,22 @@ module _ (p : Params) (at : Moment) (ok : SoundParams p) (some : 1 ≤ at .«dat
   abbrev n : ℕ
   n = at .«data_len»
 
-  -- the value that sounds is one recorded
-  pub index-recorded : (v : Voice) → SoundVoice now v → indexAt (movedOf (tickOf p at) v) now < n
-  index-recorded v h =
-      let c = clip-sound now v h in
-      index-below (movedOf (tickOf p at) v) now n (moved-sound p at ok some short v c) (moved-data-length p at ok some short v c) short
+  -- the value that sounds is one recorded, and so is the next one
+  module _ (v : Voice) (h : SoundVoice now v) where
+    abbrev moved : Clip
+    moved = movedOf (tickOf p at) v
+
+    sound : Sound moved
+    sound = moved-sound p at ok some short v (clip-sound now v h)
+
+    data-length : moved .«data_length» ≡ asFloat n
+    data-length = moved-data-length p at ok some short v (clip-sound now v h)
+
+    pub index-recorded : indexAt moved now < n
+    index-recorded = index-below moved now n sound data-length short
+
+    pub next-recorded : nextAt moved now < n
+    next-recorded = next-below moved now n sound data-length short
 
   module _ (time : now ≤ 2 ^ 48) where
     module _ (m : List ℕ) (v : Voice) (h : SoundVoice now v) where
@@ -156,7 +169,7 @@ module _ (p : Params) (at : Moment) (ok : SoundParams p) (some : 1 ≤ at .«dat
             ended = g .ended;
             volume = g .volume;
             clip = moved-sound p at ok some short v (g .clip);
-            floats = (g .floats .0, add-fits binary32 (v .played) (mul binary32 (v .speed) (t .speed)), mul-fits binary32 (recordedValueOf m (indexAt (movedOf t v) now)) (levelOf (v .volume) now), g .floats .3);
+            floats = (g .floats .0, add-fits binary32 (v .played) (mul binary32 (v .speed) (t .speed)), mul-fits binary32 (valueOf t m (movedOf t v)) (levelOf (v .volume) now), g .floats .3);
           })
 
       pub turn-sound : SoundVoice now (turnOf (tickOf p at) m v)

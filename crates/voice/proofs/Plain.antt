@@ -1,20 +1,22 @@
 -- A plain turn changes four fields of a voice, and the voice stays. Assumes nothing.
 use mathlib.Core.Path.{_≡_, refl, sym, ap, _∙_, subst}
 use Prim.Native.Nat.{ℕ, _<_}
-use mathlib.Core.Bool.{Bool, true, false, not, _&&_}
+use mathlib.Core.Bool.{Bool, true, false, not, _&&_, cond}
 use mathlib.Core.List.{List}
-use lib.Ieee.{binary32, mul}
+use lib.Ieee.{Float, binary32, mul}
 use lib.Ieee.Bits.{is-true}
 use lib.Ieee.Fits.{and-l, and-r}
 use borrow.Author.Tests.{not-true}
 use Rattle.binary32.proofs.Truth.{yes}
 use Rattle.volume.specs.Levels.{keepsOf}
 use Rattle.volume.proofs.Ends.{stepped-keeps}
-use Rattle.clip.specs.Positions.{indexAt}
+use Rattle.clip.specs.declared.Position.{Position}
+use Rattle.clip.specs.Positions.{indexOf, positionOf, positionAt, indexAt, nextAt}
 use Rattle.clip.specs.Quick.{noIndex, QuickIndex}
-use Rattle.voice.specs.Voices.{productOf, soundedOf, playedOutOf, endedOf, shouldRemoveOf, volumeStepped, turnOf}
+use Rattle.clip.specs.declared.Near.{Near}
+use Rattle.voice.specs.Voices.{recordedValueOf, betweenOf, valueAt, valueOf, productOf, soundedOf, playedOutOf, endedOf, shouldRemoveOf, volumeStepped, turnOf}
 use Rattle.voice.specs.Agreeing.{agreesOf}
-use Rattle.voice.specs.Plain.{plainOf, soundedAt, glidedOf, goesOnOf, Quickly}
+use Rattle.voice.specs.Plain.{plainOf, soundedAt, glidedOf, goesOnOf, QuickBeside, QuickValue, Quickly}
 use Rattle.voice.specs.declared.Voice.{Voice}
 use Rattle.voice.specs.declared.Tick.{Tick}
 use Rattle.voice.proofs.Unmoved.{unmoved, agrees}
@@ -25,21 +27,22 @@ module _ (t : Tick) (m : List ℕ) (v : Voice) where
   unfolding soundedOf productOf soundedAt
   sounded-glides h = simp (unmoved t v h)
 
-  -- whether play-once is over doesn't hang on the index
-  out-at : (index : ℕ) → playedOutOf t (soundedOf t m v) ≡ playedOutOf t (soundedAt t m v index)
+  -- whether play-once is over hangs neither on the index nor on the value
+  out-at : (index : ℕ) (sample : Float) → playedOutOf t (soundedOf t m v) ≡ playedOutOf t (soundedAt t v index sample)
   unfolding playedOutOf soundedOf soundedAt
-  out-at index = refl
+  out-at index sample = refl
 
-  stepped-glided : (index : ℕ) → keepsOf (v .volume) (t .now) ≡ true → volumeStepped (t .now) (soundedAt t m v index) ≡ soundedAt t m v index
+  stepped-glided : (index : ℕ) (sample : Float) → keepsOf (v .volume) (t .now) ≡ true → volumeStepped (t .now) (soundedAt t v index sample) ≡ soundedAt t v index sample
   unfolding volumeStepped soundedAt
-  stepped-glided index h = simp (stepped-keeps (v .volume) (t .now) h)
+  stepped-glided index sample h = simp (stepped-keeps (v .volume) (t .now) h)
 
   -- the first four parts of `plainOf` are enough for what the turn comes to
   turn-glides : agreesOf t v ≡ true → keepsOf (v .volume) (t .now) ≡ true → playedOutOf t (soundedOf t m v) ≡ false → shouldRemoveOf t v ≡ false → turnOf t m v ≡ glidedOf t m v
   unfolding turnOf endedOf
   turn-glides a k o r =
       let index : ℕ = indexAt (v .clip2) (t .now) in
-      simp (r, sounded-glides a, sym (out-at index) ∙ o) (stepped-glided index k)
+      let sample : Float = valueOf t m (v .clip2) in
+      simp (r, sounded-glides a, sym (out-at index sample) ∙ o) (stepped-glided index sample k)
 
   -- ---- the parts of a plain turn
   record Parts : Type 0 where
@@ -98,27 +101,43 @@ module _ (t : Tick) (m : List ℕ) (v : Voice) where
   holds h = subst Held (sym (glides h .turn)) glided-holds
 
   -- ---- the tests of a quick turn are enough
-  going : (index : ℕ) → agreesOf t v ≡ true → index ≡ indexAt (v .clip2) (t .now) → keepsOf (v .volume) (t .now) ≡ true → goesOnOf t v (soundedAt t m v index) ≡ true
-      → (plainOf t m v ≡ true) × (soundedAt t m v index ≡ turnOf t m v)
+  going : (w : Voice) → agreesOf t v ≡ true → w ≡ glidedOf t m v → keepsOf (v .volume) (t .now) ≡ true → goesOnOf t v w ≡ true → (plainOf t m v ≡ true) × (w ≡ turnOf t m v)
   unfolding goesOnOf plainOf
-  going index a e k g =
-      let w : Voice = soundedAt t m v index in
+  going w a e k g =
       let o : Bool = not (playedOutOf t w) in
       let r : Bool = not (shouldRemoveOf t v) in
       let s : Bool = not (shouldRemoveOf t w) in
       let g₁ = yes g in
       let g₂ = and-r o (r && s) g₁ in
-      let out : playedOutOf t (soundedOf t m v) ≡ false = out-at index ∙ not-true (playedOutOf t w) (is-true o (and-l o (r && s) g₁)) in
+      let out : playedOutOf t (soundedOf t m v) ≡ false = out-at _ _ ∙ sym (ap (playedOutOf t) e) ∙ not-true (playedOutOf t w) (is-true o (and-l o (r && s) g₁)) in
       let stays : shouldRemoveOf t v ≡ false = not-true (shouldRemoveOf t v) (is-true r (and-l r s g₂)) in
       let stays-after : shouldRemoveOf t w ≡ false = not-true (shouldRemoveOf t w) (is-true s (and-r r s g₂)) in
-      let turned : turnOf t m v ≡ w = turn-glides a k out stays ∙ ap (soundedAt t m v) (sym e) in
+      let turned : turnOf t m v ≡ w = turn-glides a k out stays ∙ sym e in
       (simp (a, k, out, stays, turned, stays-after), sym turned)
 
-  -- each as a call answers it, and of a voice that is the one sounded at that index
-  pub answered : (index : ℕ) (w : Voice) (keeps goes : Bool) → QuickIndex (v .clip2) (t .now) (t .span .length) (mul binary32 (v .speed) (t .speed)) (t .span .«data_length») (t .mode) index
-      → w ≡ soundedAt t m v index → keeps ≡ keepsOf (v .volume) (t .now) → goes ≡ goesOnOf t v w → keeps ≡ true → index < noIndex → Quickly t m v (record { voice = w; plain = goes })
-  answered index w keeps goes found is k g kept some plain =
-      let at = found some in
-      let on : goesOnOf t v w ≡ true = sym g ∙ plain in
-      let all = going index (agrees t v (at .0)) (at .1) (sym k ∙ kept) (subst (λ (z : Voice). goesOnOf t v z ≡ true) is on) in
-      (all .0, is ∙ all .1)
+  -- ---- each as a call answers it
+  module _ (near : Near) (next : ℕ) (sample : Float) (found : QuickIndex (v .clip2) (t .now) (t .span .length) (mul binary32 (v .speed) (t .speed)) (t .span .«data_length») (t .mode) near)
+      (beside : QuickBeside (v .clip2) (near .index) t next) (value : QuickValue t m near next sample) (some : near .index < noIndex) (more : next < noIndex) where
+    -- what was found quickly is the clip's position, and its next index where that is heard
+    valued : sample ≡ valueOf t m (v .clip2)
+    unfolding valueOf indexAt
+    valued =
+        let at = found some in
+        value some (at .1 ∙ ap indexOf (sym (at .2))) (at .3)
+        ∙ ap (λ (x : Float). valueAt t m (positionOf x) next) (at .2)
+        ∙ go (t .interpolates) (beside more (mul binary32 (v .speed) (t .speed)) (at .0))
+      where
+        p : Position
+        p = positionAt (v .clip2) (t .now)
+
+        go : (b : Bool) → next ≡ cond b (nextAt (v .clip2) (t .now)) (near .index)
+            → cond b (betweenOf (recordedValueOf m (p .index)) (recordedValueOf m next) (p .fraction)) (recordedValueOf m (p .index))
+            ≡ cond b (betweenOf (recordedValueOf m (p .index)) (recordedValueOf m (nextAt (v .clip2) (t .now))) (p .fraction)) (recordedValueOf m (p .index))
+        go true e = ap (λ (i : ℕ). betweenOf (recordedValueOf m (p .index)) (recordedValueOf m i) (p .fraction)) e
+        go false e = refl
+
+    pub answered : (w : Voice) (keeps goes : Bool) → w ≡ soundedAt t v (near .index) sample → keeps ≡ keepsOf (v .volume) (t .now) → goes ≡ goesOnOf t v w → keeps ≡ true → Quickly t m v (record { voice = w; plain = goes })
+    answered w keeps goes is k g kept plain =
+        let at = found some in
+        let same : w ≡ glidedOf t m v = is ∙ ap (λ (i : ℕ). soundedAt t v i sample) (at .1) ∙ ap (soundedAt t v (indexAt (v .clip2) (t .now))) valued in
+        going w (agrees t v (at .0)) same (sym k ∙ kept) (sym g ∙ plain)

@@ -1,14 +1,19 @@
 -- Plain turns: those that change nothing of a voice but what it has just sounded and how far it has played. Most turns
 -- are plain, and there is a quick way for them. Definitions only. Assumes nothing.
 use mathlib.Core.Path.{_≡_}
-use Prim.Native.Nat.{ℕ}
-use mathlib.Core.Bool.{Bool, true, not, _&&_}
+use Prim.Native.Nat.{ℕ, _<_}
+use mathlib.Core.Bool.{Bool, true, not, _&&_, cond}
 use mathlib.Core.List.{List}
-use lib.Ieee.{binary32, add, mul}
-use Rattle.binary32.specs.Leaves.{crossingOf}
+use lib.Dec.{T}
+use lib.Ieee.{Float, binary32, add, mul, le}
+use Rattle.binary32.specs.Leaves.{crossingOf, zero32}
 use Rattle.volume.specs.Levels.{levelOf, keepsOf}
-use Rattle.clip.specs.Positions.{indexAt}
-use Rattle.voice.specs.Voices.{recordedValueOf, soundedOf, playedOutOf, shouldRemoveOf, turnOf}
+use Rattle.clip.specs.declared.Clip.{Clip}
+use Rattle.clip.specs.declared.Near.{Near}
+use Rattle.clip.specs.Positions.{indexOf, positionOf, indexAt, nextAt}
+use Rattle.clip.specs.Updates.{sameAll}
+use Rattle.clip.specs.Quick.{noIndex}
+use Rattle.voice.specs.Voices.{valueAt, valueOf, soundedOf, playedOutOf, shouldRemoveOf, turnOf}
 use Rattle.voice.specs.Agreeing.{agreesOf}
 use Rattle.voice.specs.declared.Voice.{Voice}
 use Rattle.voice.specs.declared.Tick.{Tick}
@@ -23,10 +28,11 @@ plainOf t m v =
     && (not (playedOutOf t (soundedOf t m v))
     && (not (shouldRemoveOf t v) && not (shouldRemoveOf t (turnOf t m v)))))
 
--- the voice as it has sounded the sample at that index: four fields are new, and every other is what it was
-unfoldable pub soundedAt : Tick → List ℕ → Voice → ℕ → Voice
-soundedAt t m v index =
-    let value = mul binary32 (recordedValueOf m index) (levelOf (v .volume) (t .now)) in
+-- the voice as it has sounded at that index, by that value at its level: four fields are new, and every other is what
+-- it was
+unfoldable pub soundedAt : Tick → Voice → ℕ → Float → Voice
+soundedAt t v index sample =
+    let value = mul binary32 sample (levelOf (v .volume) (t .now)) in
     record {
       «finished_at» = v .«finished_at»;
       «last_sample_index» = index;
@@ -41,13 +47,26 @@ soundedAt t m v index =
       «is_at_zero_crossing» = crossingOf value (v .«last_sample_value»);
     }
 
--- and at its clip's own index: what a plain turn comes to
+-- and at its clip's own index, by the value there: what a plain turn comes to
 abbrev pub glidedOf : Tick → List ℕ → Voice → Voice
-glidedOf t m v = soundedAt t m v (indexAt (v .clip2) (t .now))
+glidedOf t m v = soundedAt t v (indexAt (v .clip2) (t .now)) (valueOf t m (v .clip2))
 
 -- whether a turn that leaves the voice as w neither ends it nor finds it to be removed, before or after
 unfoldable pub goesOnOf : Tick → Voice → Voice → Bool
 goesOnOf t v w = not (playedOutOf t w) && (not (shouldRemoveOf t v) && not (shouldRemoveOf t w))
+
+-- r is no index; or, if each of the four parts of the clip's update would be skipped, r is the next index where voices
+-- interpolate, and else the index given
+abbrev pub QuickBeside : Clip → ℕ → Tick → ℕ → Type 0
+QuickBeside c index t r =
+    r < noIndex → (speed : Float) → sameAll c (t .span .length) speed (t .span .«data_length») (t .mode) ≡ true
+    → r ≡ cond (t .interpolates) (nextAt c (t .now)) index
+
+-- near has no index, or not that of its offset, or an offset below 0; or r is the value at its offset
+abbrev pub QuickValue : Tick → List ℕ → Near → ℕ → Float → Type 0
+QuickValue t m near next r =
+    near .index < noIndex → near .index ≡ indexOf (near .offset) → T (le zero32 (near .offset))
+    → r ≡ valueAt t m (positionOf (near .offset)) next
 
 -- What a quick turn promises: where it answers that the turn is plain, it is, and its voice is the voice after it.
 -- Elsewhere its voice is not to be looked at.

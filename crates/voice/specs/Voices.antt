@@ -6,7 +6,7 @@ use mathlib.Core.Bool.{Bool, true, false, not, _&&_, _||_, cond}
 use mathlib.Core.List.{List}
 use lib.Dec.{leb}
 use lib.ListN.{getD}
-use lib.Ieee.{Float, binary32, add, mul, le}
+use lib.Ieee.{Float, binary32, add, sub, mul, le}
 use Rattle.binary32.specs.Leaves.{asFloat, floorOf, absOf, crossingOf, floatOf, zero32, one32}
 use Rattle.common_types.specs.declared.LoopMode.{LoopMode}
 use Rattle.common_types.specs.declared.LoopMode.the-variants as loop
@@ -21,7 +21,8 @@ use Rattle.volume.specs.Levels.{isStaticAndMuteOf, levelOf, towardOf, steppedOf
 use Rattle.clip.specs.declared.Clip.{Clip}
 use Rattle.clip.specs.declared.Mode.{Mode}
 use Rattle.clip.specs.declared.Mode.the-variants as mode
-use Rattle.clip.specs.Positions.{indexAt}
+use Rattle.clip.specs.declared.Position.{Position}
+use Rattle.clip.specs.Positions.{positionAt, indexAt, nextAt}
 use Rattle.clip.specs.Updates.{withAll}
 use Rattle.clip.specs.Refusals.{goodClip}
 use Rattle.voice.specs.declared.Voice.{Voice}
@@ -59,6 +60,7 @@ tickOf p at = record {
   mode = clipModeOf (p .«loop_mode»);
   once = playsOnceOf (p .«loop_mode»);
   «note_off_behavior» = p .«note_off_behavior»;
+  interpolates = at .interpolates;
 }
 
 -- ---- when a voice goes
@@ -86,9 +88,23 @@ movedOf t v =
 abbrev pub recordedValueOf : List ℕ → ℕ → Float
 recordedValueOf m i = floatOf (getD m i 0)
 
--- the recorded value at the clip's index times the level now: the voice's term of the output
+-- "a + (b - a) * fraction" (request 7/12)
+unfoldable pub betweenOf : Float → Float → Float → Float
+betweenOf a b fraction = add binary32 a (mul binary32 (sub binary32 b a) fraction)
+
+-- what is recorded at a position; with the setting on, between there and the sample at the index `next`
+abbrev pub valueAt : Tick → List ℕ → Position → ℕ → Float
+valueAt t m at next =
+    cond (t .interpolates) (betweenOf (recordedValueOf m (at .index)) (recordedValueOf m next) (at .fraction))
+    (recordedValueOf m (at .index))
+
+-- where the clip is now: "b being the sample at the next index"
+unfoldable pub valueOf : Tick → List ℕ → Clip → Float
+valueOf t m c = valueAt t m (positionAt c (t .now)) (nextAt c (t .now))
+
+-- the value where the clip is times the level now: the voice's term of the output
 unfoldable pub productOf : Tick → List ℕ → Voice → Float
-productOf t m v = mul binary32 (recordedValueOf m (indexAt (movedOf t v) (t .now))) (levelOf (v .volume) (t .now))
+productOf t m v = mul binary32 (valueOf t m (movedOf t v)) (levelOf (v .volume) (t .now))
 
 unfoldable pub soundedOf : Tick → List ℕ → Voice → Voice
 soundedOf t m v = record {

@@ -13,6 +13,8 @@ ghost use Rattle.voice.specs.Voices.{
   overOf,
   shouldRemoveOf,
   recordedValueOf,
+  betweenOf,
+  valueAt,
   movedOf,
   soundedOf,
   finishOf,
@@ -26,9 +28,11 @@ ghost use Rattle.voice.specs.Voices.{
   atSpeedOf,
   goodVoice,
 };
-ghost use Rattle.voice.specs.Plain.{goesOnOf, Quickly};
+ghost use Rattle.voice.specs.Plain.{goesOnOf, QuickBeside, QuickValue, Quickly};
 use clip::Clip;
 use clip::Mode;
+use clip::Near;
+use clip::Position;
 use clip::Sounding;
 use common_types::LoopMode;
 use common_types::Note;
@@ -51,10 +55,11 @@ pub struct Voice {
     pub is_at_zero_crossing: bool,
 }
 
-// What a channel's voices go by in one sample: its clock, and how many samples are recorded.
+// What a channel's voices go by in one sample: its clock, how many samples are recorded, and whether voices interpolate.
 pub struct Moment {
     pub now: usize,
     pub data_len: usize,
+    pub interpolates: bool,
 }
 
 // What of a sample's settings depends on the recording: the loop length, that rounded down, and the recording's length.
@@ -73,6 +78,7 @@ pub struct Tick {
     pub mode: Mode,
     pub once: bool,
     pub note_off_behavior: NoteOffBehaviour,
+    pub interpolates: bool,
 }
 
 // A turn taken the quick way, where it is plain; elsewhere `voice` is not to be looked at.
@@ -108,6 +114,7 @@ impl Tick {
             mode: clip_mode(loop_mode),
             once: plays_once(loop_mode),
             note_off_behavior,
+            interpolates: at.interpolates,
         }
     }
 }
@@ -142,6 +149,48 @@ fn recorded(data: &[u32], index: usize) -> f32
     } else {
         0.0
     }
+}
+
+// a at fraction 0, and from there toward b (request 7/12).
+fn between(a: f32, b: f32, fraction: f32) -> f32
+    ensures { λ r. ⌜ r ≡ betweenOf a b fraction ⌝ }
+{
+    a + (b - a) * fraction
+}
+
+// What is recorded at a position, or between there and the next index where voices interpolate.
+fn valued(position: Position, next: usize, t: Tick, data: &[u32]) -> f32
+    ensures { λ r. ⌜ r ≡ valueAt t (now («data» .entry)) position next ⌝ }
+{
+    let a = recorded(data, position.index);
+    if !t.interpolates {
+        return a;
+    }
+    between(a, recorded(data, next), position.fraction)
+}
+
+// The same of what is quickly found. What remains of the offset is worked out only where it is heard.
+fn near_valued(near: Near, next: usize, t: Tick, data: &[u32]) -> f32
+    ensures { λ r. ⌜ QuickValue t (now («data» .entry)) near next r ⌝ }
+{
+    let a = recorded(data, near.index);
+    if !t.interpolates {
+        return a;
+    }
+    between(a, recorded(data, next), near.fraction())
+}
+
+// The next index of a clip where voices interpolate and it is quickly worked out; elsewhere NONE. Where they don't, the
+// index given.
+fn quick_beside(clip2: Clip, index: usize, t: Tick) -> usize
+    ensures { λ r. ⌜ QuickBeside clip2 index t r ⌝ }
+{
+    if !t.interpolates {
+        return index;
+    }
+    let span = t.span;
+    let mode = t.mode;
+    clip2.quick_next(t.now, span.length, span.data_length, mode)
 }
 
 impl Voice {
@@ -243,7 +292,7 @@ impl Voice {
 
     // The clip, brought up to this sample's length, speed, data length and mode, and where it is then.
     fn moved(self, t: Tick) -> Sounding
-        ensures { λ r. ⌜ r ≡ soundingOf (movedOf t self) (t .now) ⌝ }
+        ensures { λ r. ⌜ r ≡ soundingOf (movedOf t self) (t .now) (t .interpolates) ⌝ }
     {
         let clip2 = self.clip2;
         let mode = t.mode;
@@ -254,6 +303,7 @@ impl Voice {
             self.speed * t.speed,
             span.data_length,
             mode,
+            t.interpolates,
         )
     }
 
@@ -262,13 +312,13 @@ impl Voice {
     {
         let moved = self.moved(t);
         let clip2 = moved.clip;
-        let index = moved.index;
+        let position = moved.position;
         let volume = self.volume;
         let note = self.note;
-        let value = recorded(data, index) * volume.level(t.now);
+        let value = valued(position, moved.next, t, data) * volume.level(t.now);
         Self {
             finished_at: self.finished_at,
-            last_sample_index: index,
+            last_sample_index: position.index,
             clip2,
             volume,
             loop_start_percent: self.loop_start_percent,
@@ -402,14 +452,19 @@ impl Voice {
         let mode = t.mode;
         let span = t.span;
         let speed = self.speed * t.speed;
-        let index = clip2.quick_index(t.now, span.length, speed, span.data_length, mode);
+        let near = clip2.quick_index(t.now, span.length, speed, span.data_length, mode);
+        let index = near.index;
         if clip::NONE <= index {
             return otherwise;
         }
-        let note = self.note;
         let level = volume.level(t.now);
-        let value = recorded(data, index) * level;
-        let next = Self {
+        let next = quick_beside(clip2, index, t);
+        if clip::NONE <= next {
+            return otherwise;
+        }
+        let note = self.note;
+        let value = near_valued(near, next, t, data) * level;
+        let sounded = Self {
             finished_at: self.finished_at,
             last_sample_index: index,
             clip2,
@@ -423,8 +478,8 @@ impl Voice {
             is_at_zero_crossing: binary32::crossing(value, self.last_sample_value),
         };
         Quick {
-            voice: next,
-            plain: self.goes_on(t, next),
+            voice: sounded,
+            plain: self.goes_on(t, sounded),
         }
     }
 

@@ -1,16 +1,12 @@
 -- `quick_whole` meets its contract: a cast sees no fraction (`floor-cast`), and no length of 0 leaves a remainder. Assumes nothing.
-use mathlib.Core.Path.{ap, sym, _∙_, subst}
+use mathlib.Core.Path.{ap, sym, _∙_}
 use native.Mathlib.Omega.{arith}
-use mathlib.Core.Bool.{not}
-use lib.Dec.{T}
-use lib.Ieee.{Float, binary32, rem, isNan, toUnsigned, ofBits}
+use lib.Ieee.{binary32, rem, toUnsigned, ofBits}
 use lib.Ieee.Fits.{rem-fits}
 use borrow.Author.Needs.{needs}
-use Rattle.binary32.specs.Leaves.{zero32}
 use Rattle.binary32.proofs.Truth.{yes}
-use Rattle.binary32.proofs.Between.{le-not-nan}
-use Rattle.binary32.proofs.Remainders.{rem-operands}
 use Rattle.binary32.proofs.Floors.{floor-cast}
+use Rattle.clip.proofs.Quick.{divided}
 use Rattle.clip.proofs.quick_whole.Statement.{statement}
 use Rattle.clip.proofs.quick_whole.Tie as tie
 
@@ -26,7 +22,7 @@ returns c h =
     let a = c .before .before .before .args in
     let k = yes (c .before .if1 .taken) in
     let e = c .before .before .quick-rem .ensures k in (
-      rem-operands binary32 (a .s) (a .length) (subst (λ (z : Float). T (not (isNan z))) e (le-not-nan zero32 _ k .1)) .2,
+      divided (a .s) (a .length) _ k e,
       c .f32-to-usize .ensures ∙ ap (toUnsigned 64) e ∙ sym (floor-cast 64 (rem binary32 (a .s) (a .length)) (rem-fits binary32 (a .s) (a .length) (search needs))),
     )
 

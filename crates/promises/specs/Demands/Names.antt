@@ -8,8 +8,9 @@ pub use Prim.Native.Nat.{ℕ, suc, _+_, _-_, _*_, _/_, _%_, _^_, _≤_, _<_, min
 pub use lib.Dec.{T, eqb, ltb}
 pub use lib.ListN.{length, take, drop}
 pub use lib.IntN.{ℤ}
-pub use lib.Ieee.{Float, nan, fin, binary32, up, down, add, mul, div, eq, isNan, fits}
+pub use lib.Ieee.{Float, nan, fin, binary32, up, down, add, sub, mul, div, eq, isNan, fits}
 pub use lib.Ieee.Exact.{HasValue}
+pub use lib.Ieee.Scale.{finite}
 pub use lib.Ieee.Positive.{positive}
 pub use Rattle.walks.specs.Walks.{any, without}
 pub use Rattle.walks.specs.Each.{Each}
@@ -29,7 +30,7 @@ pub use Rattle.clip.specs.declared.Clip.{Clip}
 pub use Rattle.clip.specs.declared.Mode.{Mode}
 pub use Rattle.clip.specs.declared.Found.the-variants.{At}
 pub use Rattle.clip.specs.declared.FoundAnswer.the-variants.{Done}
-pub use Rattle.clip.specs.Positions.{elapsedAt, clipOffsetAt, offsetAt, indexAt}
+pub use Rattle.clip.specs.Positions.{elapsedAt, clipOffsetAt, offsetAt, positionAt, indexAt, nextAt}
 pub use Rattle.clip.specs.Updates.{
   atSpeed,
   atMode,
@@ -44,11 +45,11 @@ pub use Rattle.clip.specs.Updates.{
   withAll,
 }
 pub use Rattle.clip.specs.Refusals.{dataToClipOf, updateAllOf, fourOf}
-pub use Rattle.clip.specs.Bounds.{Sound, Inside, Within}
+pub use Rattle.clip.specs.Bounds.{Sound, Inside, Within, AddsUp}
 pub use Rattle.clip.specs.Plain.{PlainClip, plainIndex, plainAt}
 pub use Rattle.voice.specs.declared.Voice.{Voice}
 pub use Rattle.voice.specs.declared.Tick.{Tick}
-pub use Rattle.voice.specs.Voices.{movedOf, recordedValueOf, productOf, freshOf, atSpeedOf}
+pub use Rattle.voice.specs.Voices.{movedOf, recordedValueOf, valueOf, productOf, freshOf, atSpeedOf}
 pub use Rattle.channel.specs.declared.Channel.{Channel}
 pub use Rattle.channel.specs.Channels.{live, fullOf, memoryOf, recordingOf}
 pub use Rattle.sampler.specs.declared.Answer.{Answer}
@@ -100,6 +101,7 @@ pub use Rattle.promises.specs.Runs.{
   speed,
   startRecording,
   stopRecording,
+  setInterpolation,
   reset,
   sample,
   frame,
@@ -111,6 +113,7 @@ pub use Rattle.promises.specs.Runs.{
   ownPart,
   event,
   events,
+  settingIn,
   isResetCall,
   output,
   final,

@@ -15,11 +15,20 @@ enum-told-2 c = search needs
 stop-recording-requires : tie.Need-stop-recording-requires
 stop-recording-requires c κs = search needs
 
+enum-known-change : tie.Need-enum-known-change
+enum-known-change c = search needs
+
+interpolating-requires : tie.Need-interpolating-requires
+interpolating-requires c κs = search needs
+
 returns : tie.Need-returns
 returns c = simp (c .start-recording .ensures, c .before .enum-told .given .1)
 
 returns-2 : tie.Need-returns-2
 returns-2 c = simp (c .stop-recording .ensures, c .before .enum-told2 .given .1)
+
+returns-3 : tie.Need-returns-3
+returns-3 c = simp (c .interpolating .ensures, c .before .before .change .given .1)
 
 pub changed-spec : {M : Type 1} → statement M
 changed-spec =
@@ -29,5 +38,8 @@ changed-spec =
     start-recording-requires
     enum-told-2
     stop-recording-requires
+    enum-known-change
+    interpolating-requires
     returns
-    returns-2)
+    returns-2
+    returns-3)

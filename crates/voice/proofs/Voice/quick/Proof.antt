@@ -23,8 +23,14 @@ returns-2 c plain = absurd (true≢false (sym plain))
 level-requires : tie.Need-level-requires
 level-requires c κs = search needs
 
-recorded-requires : tie.Need-recorded-requires
-recorded-requires c κs = search needs
+quick-beside-requires : tie.Need-quick-beside-requires
+quick-beside-requires c κs = search needs
+
+returns-3 : tie.Need-returns-3
+returns-3 c plain = absurd (true≢false (sym plain))
+
+near-valued-requires : tie.Need-near-valued-requires
+near-valued-requires c κs = search needs
 
 crossing-requires : tie.Need-crossing-requires
 crossing-requires c κs = search needs
@@ -32,15 +38,16 @@ crossing-requires c κs = search needs
 goes-on-requires : tie.Need-goes-on-requires
 goes-on-requires c κs = search needs
 
-returns-3 : tie.Need-returns-3
+returns-4 : tie.Need-returns-4
 unfolding soundedAt
-returns-3 c =
-    let a = c .before .before .before .before .before .before .before .before .before .before .before .before .before .before .before .args in
-    let found = c .before .before .before .before .before .before .before .quick-index in
-    let keeps = c .before .before .before .before .before .before .before .before .before .before .before .before .before .keeps in
-    answered (a .t) (a .«data» .now) (a .self) (found .result) _ (keeps .result) (c .goes-on .result) (found .ensures)
-    (simp (c .before .crossing .ensures, c .before .before .before .recorded .ensures, c .before .before .before .before .level .ensures))
-    (keeps .ensures) (c .goes-on .ensures) (not-false (keeps .result) (c .before .before .before .before .before .before .before .before .before .before .before .before .if1 .left)) (c .before .before .before .before .before .before .if2 .left)
+returns-4 c =
+    let a = c .before .before .before .before .before .before .before .before .before .before .before .before .before .before .before .before .before .args in
+    let found = c .before .before .before .before .before .before .before .before .before .quick-index in
+    let keeps = c .before .before .before .before .before .before .before .before .before .before .before .before .before .before .before .keeps in
+    let valued = c .before .before .before .near-valued in
+    answered (a .t) (a .«data» .now) (a .self) (found .result) (c .before .before .before .before .before .before .quick-beside .result) (valued .result) (found .ensures) (c .before .before .before .before .before .before .quick-beside .ensures) (valued .ensures)
+    (c .before .before .before .before .before .before .before .before .if2 .left) (c .before .before .before .before .before .if3 .left) _ (keeps .result) (c .goes-on .result) (simp (c .before .crossing .ensures, c .before .before .before .before .before .before .before .level .ensures)) (keeps .ensures) (c .goes-on .ensures)
+    (not-false (keeps .result) (c .before .before .before .before .before .before .before .before .before .before .before .before .before .before .if1 .left))
 
 pub quick-spec : {M : Type 1} → statement M
 quick-spec =
@@ -51,7 +58,9 @@ quick-spec =
     quick-index-requires
     returns-2
     level-requires
-    recorded-requires
+    quick-beside-requires
+    returns-3
+    near-valued-requires
     crossing-requires
     goes-on-requires
-    returns-3)
+    returns-4)
