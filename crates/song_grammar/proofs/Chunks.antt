@@ -207,7 +207,7 @@ module _ (f : List ℕ) where
     Opens (opening.Is division next) = Spelt f (λ (bytes : List ℕ). Header bytes division) 0 next × (next ≤ length f)
     Opens (opening.Broken why) = Stops Due 0 why
 
-    two-number : (at n : ℕ) → twoAt f at ≡ n → byteAt f at * 256 + byteAt f (at + 1) ≡ n
+    pub two-number : (at n : ℕ) → twoAt f at ≡ n → byteAt f at * 256 + byteAt f (at + 1) ≡ n
     unfolding twoAt numberOf numberAfter
     two-number at n e = omega arith
 

@@ -1,24 +1,24 @@
 -- The reader takes the files that the grammar spells and no others, and the fault that it tells stands first: `specs/Judged.antt`. Assumes nothing.
 use mathlib.Core.Path.{_≡_, refl, sym, ap, _∙_, subst}
-use mathlib.Core.Bool.{true, false}
+use mathlib.Core.Bool.{true}
 use mathlib.Core.List.{List, [], _∷_, _++_}
 use mathlib.Core.Logic.{_⊎_, inl, inr}
-use Prim.Native.Nat.{ℕ, zero, suc, _+_, _*_, _^_, _≤_, _<_}
+use Prim.Native.Nat.{ℕ, zero, suc, _+_, _*_, _≤_, _<_}
 use native.Mathlib.Omega.{arith}
 use native.Mathlib.Numerals.{add-one}
 use lib.Dec.{ltb}
 use lib.ListN.{length, take}
-use borrow.Author.Tests.{ltb-true, ltb-false, le-ltb}
+use borrow.Author.Tests.{ltb-true, ltb-false}
 use Rattle.walks.specs.Each.{Each}
+use Rattle.smf.specs.Faults.{faultAt, refusalOf}
 use Rattle.smf.specs.Fields.{fourAt}
 use Rattle.smf.specs.Files.{Events, headerOf, trackFrom, trackAt, noSecond, restOf, eventsFrom, trackOf, eventsIn, eventsOf}
 use Rattle.smf.specs.Files.Events.{then, over}
 use Rattle.smf.specs.Times.{firstTempo, frameOf}
-use Rattle.smf.specs.Cues.{Entry, Song, entriesOf, tempoAfter, lateOf, songFrom, songIn, songOf, goodRate, countedOf, numberOf}
+use Rattle.smf.specs.Cues.{Entry, Song, tempoAfter, lateOf, songFrom, songIn, songOf, goodRate, countedOf, numberOf}
 use Rattle.smf.specs.Promised.{Timed, timedOf, tempoBehind, sumOf, soundsBehind}
+use Rattle.smf.specs.declared.faults.Reason.the-variants.{LateFrame}
 use Rattle.smf.specs.declared.faults.Fault.{Fault}
-use Rattle.smf.specs.declared.events.Event.{Event}
-use Rattle.smf.specs.declared.events.Event.the-variants.{Note, Tempo, Other}
 use Rattle.smf.specs.declared.chunks.Opening.{Opening}
 use Rattle.smf.specs.declared.chunks.Opening.the-variants as opening
 use Rattle.smf.specs.declared.chunks.Found.{Found}
@@ -38,6 +38,7 @@ use Rattle.song_grammar.proofs.Wholes.{lastOf, Octets, FileTaken, file-
 use Rattle.song_grammar.proofs.Shown.{Spelt}
 use Rattle.song_grammar.proofs.Tracks.{Tracked, tracked, good-track, Breaks, broken-track}
 use Rattle.song_grammar.proofs.Same.{fault-is, same-fault}
+use Rattle.song_grammar.proofs.Numbers.{InRange, not-late, good-or-late, thirteen, fourteen}
 use Rattle.song_grammar.proofs.Chunks.{AlienPart, AlienPart.at-type, AlienPart.at-length, AlienPart.at-body, Stops, four-number, Chunked, chunked, chunk-there, Searched, search, Opens, opens}
 
 octets : (f : List ℕ) → Bytes f → Octets f
@@ -48,15 +49,6 @@ octets (b ∷ f) h zero = h .0
 octets (b ∷ f) h (suc i) = octets f (h .1) i
 
 -- ---- a song is good where its events are and none of them is late
-abbrev InRange : Entry → Type 0
-InRange e = e .frame ≤ 2 ^ 48
-
-not-late : (frame : ℕ) (e : Event) (l : List Entry) → Each InRange (entriesOf frame e ++ l) → (lateOf frame e ≡ false) × Each InRange l
-unfolding Each entriesOf lateOf
-not-late frame (Note key) l h = (le-ltb _ _ (h .0), h .1)
-not-late frame (Tempo new) l h = (refl, h)
-not-late frame Other l h = (refl, h)
-
 sings : (rate division : ℕ) (past : List Timed) (es : Events) → lastOf es ≡ Good → Each InRange (soundsBehind rate division past (timedOf es))
     → songFrom rate division (tempoBehind past) (sumOf past) es .verdict ≡ Good
 unfolding songFrom lastOf timedOf soundsBehind sumOf tempoBehind frameOf
@@ -236,7 +228,7 @@ module _ (rate : ℕ) (f : List ℕ) (b : Bytes f) where
     Stopped es = (why : Fault) → songFrom rate division firstTempo 0 es .verdict ≡ Broken why → First f (why .at)
 
     in-track : (place : ℕ) → Spelt f Aliens next place → (type : From f place MTrk (place + 4)) → (why : Fault) → Breaks f (full place type) 0 (place + 8) why → First f (why .at)
-    in-track place others type why (inl (c, room)) = stands why (record {
+    in-track place others type why (inl (c, room, plain)) = stands why (record {
       start = why .at;
       width = 1;
       spelt = record {
@@ -313,6 +305,19 @@ takes : (f : List ℕ) (rate room : ℕ) → (b : Bytes f) → goodRate rate ≡
 takes f rate room b good g fits =
     promised .song-rows f rate room .done-row good (good-from rate f b g) (subst (λ (l : List Entry). 2 * length l ≤ room) (sym (listed rate f b g)) fits)
 
+only-late : (rate : ℕ) (f : List ℕ) → Bytes f → (division : ℕ) (ts : List Timed) → File f division ts → (why : Fault) → songOf rate f .verdict ≡ Broken why
+    → refusalOf (why .reason) ≡ 14
+unfolding refusalOf
+only-late rate f b division ts s why e =
+    let t = taken rate f b division ts s in
+    go (t .next) (good-or-late rate division firstTempo 0 (eventsOf f (t .next)) (t .good)) (sym (ap (λ (s : Song). s .verdict) (is-song rate f b division (t .next) (t .opens))) ∙ e)
+  where
+    go : (next : ℕ) → (songFrom rate division firstTempo 0 (eventsOf f next) .verdict ≡ Good)
+        ⊎ ((at : ℕ) × (songFrom rate division firstTempo 0 (eventsOf f next) .verdict ≡ Broken (faultAt LateFrame at)))
+        → songFrom rate division firstTempo 0 (eventsOf f next) .verdict ≡ Broken why → refusalOf (why .reason) ≡ 14
+    go next (inl good) broken = let z : _≡_ {A = ℕ} 0 1 = cc in absurd (omega arith)
+    go next (inr (at, late)) broken = ap (λ (w : Fault). refusalOf (w .reason)) (sym (fault-is (sym late ∙ broken)))
+
 pub judged : Judged
 judged = record {
   good = λ rate f b. (good-to rate f b, good-from rate f b);
@@ -322,4 +327,7 @@ judged = record {
   first = first;
   alike = λ rate f g b why e same.
       same-fault rate f g (octets f b) why e (subst (λ (n : ℕ). take n g ≡ take n f) (add-one (why .at)) same);
+  thirteen = λ rate f b why e. thirteen f (octets f b) rate why e;
+  fourteen = λ rate f b why e n. fourteen f (octets f b) rate why e n;
+  only-late = only-late;
 }

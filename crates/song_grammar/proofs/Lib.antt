@@ -4,6 +4,7 @@ pub mod Wholes
 pub mod Shown
 pub mod Tracks
 pub mod Chunks
+pub mod Numbers
 pub mod Judged
 pub mod Alike
 pub mod Same

@@ -224,7 +224,7 @@ module _ (k : ℕ) (f g : List ℕ) (same : (i : ℕ) → i ≤ k → byteAt g i
           go (broken-track f full rate division tempo sum running at (eventsFrom n f full running at) (tracked f full n running at r room) why e)
         where
           go : Breaks f full running at why → at ≤ why .at
-          go (inl (c, inside)) = omega (arith, from-length f at (c .bytes) (why .at) (c .there))
+          go (inl (c, inside, plain)) = omega (arith, from-length f at (c .bytes) (why .at) (c .there))
           go (inr c) = omega (arith, from-length f at (c .spelt .bytes) full (c .spelt .there), rest-low full (c .inside) why (c .behind))
 
       alike : min (suc k) (min full (length g)) ≡ min (suc k) (min full (length f))
@@ -295,7 +295,7 @@ module _ (k : ℕ) (f g : List ℕ) (same : (i : ℕ) → i ≤ k → byteAt g i
                     (same-track rate division (place + 8 + fourAt f (place + 4)) (length f) (length g) 0 (place + 8) firstTempo 0 (inl refl) (omega arith) (omega arith) (omega arith) why is e),
               )
 
-      events-told : (next : ℕ) → next ≤ length f → Breaking f (eventsOf f next) → (next ≤ k) × Breaking g (eventsOf g next)
+      pub events-told : (next : ℕ) → next ≤ length f → Breaking f (eventsOf f next) → (next ≤ k) × Breaking g (eventsOf g next)
       unfolding eventsOf trackAt songFrom
       events-told next room = go (trackFrom (length f) f next) refl (search f octets (length f) next room (omega arith))
         where

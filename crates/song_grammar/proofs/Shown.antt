@@ -10,6 +10,7 @@ use lib.Dec.{ltb, leb, eqb}
 use lib.ListN.{length, length-append}
 use borrow.Author.Tests.{ltb-true, ltb-false, leb-true, leb-false, eqb-true, eqb-false}
 use Rattle.octets.specs.Octets.{byteAt, numberOf}
+use Rattle.smf.specs.Faults.{refusalOf}
 use Rattle.smf.specs.Fields.{threeAt, quantityFrom, quantityAt}
 use Rattle.smf.specs.Events.{dataAt, oneByte, messageOf, withData, channelAt, past, withQuantity, sysexAt, tempoOf, metaOf, metaAt, statusOf, eventAt}
 use Rattle.smf.specs.declared.faults.Fault.{Fault}
@@ -41,9 +42,13 @@ pub record Spelt (f : List ℕ) (P : List ℕ → Type 0) (at behind : ℕ) : Ty
 abbrev pub QuantityPart : ℕ → ℕ → List ℕ → Type 0
 QuantityPart more v bytes = (rest : List ℕ) × (n : ℕ) × Digits more v (bytes ++ rest) n × (3 ≤ n)
 
--- bytes up to a fault, which lies inside
+-- a fault that is answered by 12
+abbrev pub Plain : Fault → Type 0
+Plain why = refusalOf (why .reason) ≡ 12
+
+-- bytes up to such a fault, which lies inside
 abbrev pub Cut : List ℕ → ℕ → (List ℕ → Type 0) → ℕ → Fault → Type 0
-Cut f end P at why = Spelt f P at (why .at) × (why .at ≤ end)
+Cut f end P at why = Spelt f P at (why .at) × (why .at ≤ end) × Plain why
 
 module _ (f : List ℕ) (end : ℕ) where
   abbrev pub Counts : ℕ → ℕ → ℕ → fields.Quantity → Type 0
@@ -52,13 +57,14 @@ module _ (f : List ℕ) (end : ℕ) where
 
   counts-more : (more v at : ℕ) (q : fields.Quantity) → 128 ≤ byteAt f at → Counts more (v * 128 + (byteAt f at - 128)) (at + 1) q → Counts (suc more) v at q
   counts-more more v at (quantity.Is n behind) h s = record { bytes = byteAt f at ∷ s .bytes; is = next h (s .is); there = (refl, s .there) }
-  counts-more more v at (quantity.Broken why) h (s, room) = (
+  counts-more more v at (quantity.Broken why) h (s, room, plain) = (
     record {
       bytes = byteAt f at ∷ s .bytes;
       is = (s .is .0, s .is .1, next h (s .is .2), s .is .3);
       there = (refl, s .there);
     },
     room,
+    plain,
   )
 
   nothing-yet : (more v at : ℕ) → Spelt f (QuantityPart more v) at at
@@ -72,20 +78,20 @@ module _ (f : List ℕ) (end : ℕ) where
       record { bytes = b ∷ s .bytes; is = (s .is .0, s .is .1, next high (s .is .2), s .is .3); there = (h .0, s .there) }
 
   pub counts : (more v at : ℕ) → at ≤ end → Counts more v at (quantityFrom more f end v at)
-  unfolding quantityFrom
+  unfolding quantityFrom refusalOf
   counts zero v at room =
       both (Counts zero v at) (ltb at end) _ _
       (λ _. both (Counts zero v at) (ltb (byteAt f at) 128) _ _
       (λ small. record { bytes = byteAt f at ∷ []; is = last (ltb-true (byteAt f at) 128 small); there = (refl, refl) })
-      (λ _. (nothing-yet zero v at, room)))
-      (λ _. (nothing-yet zero v at, room))
+      (λ _. (nothing-yet zero v at, room, refl)))
+      (λ _. (nothing-yet zero v at, room, refl))
   counts (suc more) v at room =
       both (Counts (suc more) v at) (ltb at end) _ _
       (λ inside. both (Counts (suc more) v at) (ltb (byteAt f at) 128) _ _
       (λ small. record { bytes = byteAt f at ∷ []; is = last (ltb-true (byteAt f at) 128 small); there = (refl, refl) })
       (λ high. counts-more more v at (quantityFrom more f end (v * 128 + (byteAt f at - 128)) (at + 1)) (ltb-false (byteAt f at) 128 high)
       (counts more (v * 128 + (byteAt f at - 128)) (at + 1) (omega (arith, ltb-true at end inside)))))
-      (λ _. (nothing-yet (suc more) v at, room))
+      (λ _. (nothing-yet (suc more) v at, room, refl))
 
 -- ---- channel messages
 never : {A : Type 0} {b : Bool} → b ≡ true → b ≡ false → A
@@ -167,14 +173,14 @@ module _ (f : List ℕ) (end : ℕ) where
 
   abbrev Byte : ℕ → Data → Type 0
   Byte at (datum.Is b) = (byteAt f at ≡ b) × (b < 128) × (at < end)
-  Byte at (datum.Broken why) = why .at ≡ at
+  Byte at (datum.Broken why) = (why .at ≡ at) × Plain why
 
   byte : (at : ℕ) → Byte at (dataAt f end at)
-  unfolding dataAt
+  unfolding dataAt refusalOf
   byte at =
       both (Byte at) (ltb at end) _ _
-      (λ inside. both (Byte at) (ltb (byteAt f at) 128) _ _ (λ e. (refl, ltb-true (byteAt f at) 128 e, ltb-true at end inside)) (λ _. refl))
-      (λ _. refl)
+      (λ inside. both (Byte at) (ltb (byteAt f at) 128) _ _ (λ e. (refl, ltb-true (byteAt f at) 128 e, ltb-true at end inside)) (λ _. (refl, refl)))
+      (λ _. (refl, refl))
 
   module _ (status at : ℕ) (low : 128 ≤ status) (high : status < 240) (room : at ≤ end) where
     -- a message of this status that begins so
@@ -199,9 +205,10 @@ module _ (f : List ℕ) (end : ℕ) where
       record {
         bytes = x ∷ [];
         is = (0 ∷ [], messageOf status x 0, two-message status x 0 small (omega arith) low high two);
-        there = (is, sym b);
+        there = (is, sym (b .0));
       },
       omega arith,
+      b .1,
     )
 
     first : (d : Data) → Byte at d
@@ -210,7 +217,7 @@ module _ (f : List ℕ) (end : ℕ) where
         both (Hears status at) (oneByte status) _ _
         (λ one. (refl, record { bytes = x ∷ []; is = one-message status x (b .1) one; there = (b .0, refl) }))
         (λ two. second x (b .1) (b .0) (b .2) two (dataAt f end (at + 1)) (byte (at + 1)))
-    first (datum.Broken why) b = (record { bytes = []; is = begins-none; there = sym b }, omega arith)
+    first (datum.Broken why) b = (record { bytes = []; is = begins-none; there = sym (b .0) }, omega arith, b .1)
 
     pub hears : Hears status at (channelAt f end status at)
     unfolding channelAt
@@ -315,6 +322,7 @@ module _ (f : List ℕ) (end running : ℕ) where
 
     exclusive : (q : fields.Quantity) → Counts f end 3 0 (at + 1) q → ((n mid : ℕ) → q ≡ quantity.Is n mid → mid ≤ end)
         → Shows at (withQuantity q (λ size next. past end size next (Is Other 0 (next + size))))
+    unfolding refusalOf
     exclusive (quantity.Is n mid) c up =
         both (Shows at) (leb n (end - mid)) _ _
         (λ fits. (
@@ -325,8 +333,8 @@ module _ (f : List ℕ) (end running : ℕ) where
             there = (is, join f (at + 1) (c .bytes) mid (bytesAt f mid n) (mid + n) (c .there) (bytes-from f mid n));
           },
         ))
-        (λ short. (exclusive-part end (body-cut f 0 (at + 1) mid end n c (up n mid refl) (leb-false n (end - mid) short) (omega arith)), omega arith))
-    exclusive (quantity.Broken why) c up = (exclusive-part (why .at) (size-cut f 0 (at + 1) (why .at) (omega arith) (c .0)), c .1)
+        (λ short. (exclusive-part end (body-cut f 0 (at + 1) mid end n c (up n mid refl) (leb-false n (end - mid) short) (omega arith)), omega arith, refl))
+    exclusive (quantity.Broken why) c up = (exclusive-part (why .at) (size-cut f 0 (at + 1) (why .at) (omega arith) (c .0)), c .1, c .2)
 
     pub shows-exclusive : at < end → Shows at (sysexAt f end (at + 1))
     unfolding sysexAt
@@ -387,11 +395,11 @@ module _ (f : List ℕ) (end running : ℕ) where
       there = (is, (is', join f (at + 1 + 1) (c .bytes) mid body (mid + n) (c .there) (bytes-from f mid n)))
 
       shows-tempo : eqb type 0x51 ≡ true → Shows at (tempoOf f end n mid)
-      unfolding tempoOf
+      unfolding tempoOf refusalOf
       shows-tempo t =
           let same = eqb-true type 0x51 t in
           both (Shows at) (ltb n 3) _ _
-          (λ _. (part-as (mid - 1) (tempo-part same) (size-cut f 3 (at + 1 + 1) (mid - 1) (omega arith) (all-but-last f end (c .is) (at + 1 + 1) mid (c .there))), omega arith))
+          (λ _. (part-as (mid - 1) (tempo-part same) (size-cut f 3 (at + 1 + 1) (mid - 1) (omega arith) (all-but-last f end (c .is) (at + 1 + 1) mid (c .there))), omega arith, refl))
           (λ long.
           let three : 3 ≤ n = ltb-false n 3 long in
           both (Shows at) (leb n (end - mid)) _ _
@@ -404,9 +412,10 @@ module _ (f : List ℕ) (end running : ℕ) where
               there = there;
             },
           ))
-          (λ short. (part-as end (tempo-part same) (body-cut f 3 (at + 1 + 1) mid end n c up (leb-false n (end - mid) short) three), omega arith)))
+          (λ short. (part-as end (tempo-part same) (body-cut f 3 (at + 1 + 1) mid end n c up (leb-false n (end - mid) short) three), omega arith, refl)))
 
       shows-rest : eqb type 0x51 ≡ false → Shows at (past end n mid (cond (eqb type 0x2F) (End (mid + n)) (Is Other 0 (mid + n))))
+      unfolding refusalOf
       shows-rest t =
           both (Shows at) (leb n (end - mid)) _ _
           (λ fits. both (Shows at) (eqb type 0x2F) _ _
@@ -423,7 +432,7 @@ module _ (f : List ℕ) (end running : ℕ) where
               there = there;
             },
           )))
-          (λ short. (part-as end (rest-part t) (body-cut f 0 (at + 1 + 1) mid end n c up (leb-false n (end - mid) short) (omega arith)), omega arith))
+          (λ short. (part-as end (rest-part t) (body-cut f 0 (at + 1 + 1) mid end n c up (leb-false n (end - mid) short) (omega arith)), omega arith, refl))
 
       shows-body : Shows at (metaOf f end type n mid)
       unfolding metaOf
@@ -432,17 +441,17 @@ module _ (f : List ℕ) (end running : ℕ) where
     shows-sized : (q : fields.Quantity) → Counts f end 3 0 (at + 1 + 1) q → ((n mid : ℕ) → q ≡ quantity.Is n mid → mid ≤ end)
         → Shows at (withQuantity q (λ size next. metaOf f end type size next))
     shows-sized (quantity.Is n mid) c up = shows-body n mid c (up n mid refl)
-    shows-sized (quantity.Broken why) c up = (part-as (why .at) any-part (size-cut f 3 (at + 1 + 1) (why .at) (omega arith) (c .0)), c .1)
+    shows-sized (quantity.Broken why) c up = (part-as (why .at) any-part (size-cut f 3 (at + 1 + 1) (why .at) (omega arith) (c .0)), c .1, c .2)
 
   shows-meta : (at : ℕ) → byteAt f at ≡ 0xFF → at < end → Shows at (metaAt f end (at + 1))
-  unfolding metaAt
+  unfolding metaAt refusalOf
   shows-meta at is inside =
       both (Shows at) (ltb (at + 1) end) _ _
       (λ more. both (Shows at) (ltb (byteAt f (at + 1)) 128) _ _
       (λ small. shows-sized at (byteAt f (at + 1)) is refl (ltb-true (byteAt f (at + 1)) 128 small) (quantityAt f end (at + 1 + 1)) (counts f end 3 0 (at + 1 + 1) (omega (arith, ltb-true (at + 1) end more)))
       (λ n mid e. quantity-ends f end (at + 1 + 1) n mid e .1))
-      (λ _. (no-type, omega arith)))
-      (λ _. (no-type, omega arith))
+      (λ _. (no-type, omega arith, refl)))
+      (λ _. (no-type, omega arith, refl))
     where
       no-type : Spelt f (EventPart running) at (at + 1)
       no-type = record { bytes = 0xFF ∷ []; is = of-end (0x2F ∷ 0 ∷ []) (end-bytes [] (last {b = 0} (omega arith))); there = (is, refl) }
@@ -458,13 +467,14 @@ module _ (f : List ℕ) (end running : ℕ) where
     },
   )
   told-shown at (End behind) low high h = absurd h
-  told-shown at (Broken why) low high (h, room) = (
+  told-shown at (Broken why) low high (h, room, plain) = (
     record {
       bytes = byteAt f at ∷ h .bytes;
       is = of-event (h .is .0) (told (h .is .2));
       there = (refl, h .there);
     },
     room,
+    plain,
   )
 
   again-shown : (at : ℕ) (r : Read) → 128 ≤ running → running < 240 → Hears f end running at r → Shows at r
@@ -477,16 +487,16 @@ module _ (f : List ℕ) (end running : ℕ) where
     },
   )
   again-shown at (End behind) low high h = absurd h
-  again-shown at (Broken why) low high (h, room) = (record { bytes = h .bytes; is = of-event (h .is .0) (again (h .is .2)); there = h .there }, room)
+  again-shown at (Broken why) low high (h, room, plain) = (record { bytes = h .bytes; is = of-event (h .is .0) (again (h .is .2)); there = h .there }, room, plain)
 
   shows-status : (at : ℕ) → 128 ≤ byteAt f at → at < end → Shows at (statusOf f end (byteAt f at) (at + 1))
-  unfolding statusOf
+  unfolding statusOf refusalOf
   shows-status at low inside =
       both (Shows at) (ltb (byteAt f at) 240) _ _
       (λ e. let high = ltb-true (byteAt f at) 240 e in told-shown at (channelAt f end (byteAt f at) (at + 1)) low high (hears f end (byteAt f at) (at + 1) low high (omega arith)))
       (λ _. both (Shows at) (eqb (byteAt f at) 255) _ _ (λ e. shows-meta at (eqb-true (byteAt f at) 255 e) inside)
       (λ _. both (Shows at) (eqb (byteAt f at) 240 || eqb (byteAt f at) 247) _ _ (λ e. which (eqb (byteAt f at) 240) refl (eqb (byteAt f at) 247) refl e)
-      (λ _. (record { bytes = []; is = none-yet running; there = omega arith }, omega arith))))
+      (λ _. (record { bytes = []; is = none-yet running; there = omega arith }, omega arith, refl))))
     where
       which : (b : Bool) → eqb (byteAt f at) 240 ≡ b → (c : Bool) → eqb (byteAt f at) 247 ≡ c → (b || c) ≡ true → Shows at (sysexAt f end (at + 1))
       which true e c k h = shows-exclusive at 0xF0 (eqb-true (byteAt f at) 240 e) (λ size body q. sysex body q) inside
@@ -494,12 +504,12 @@ module _ (f : List ℕ) (end running : ℕ) where
       which false e false k h = never h refl
 
   pub shows : (at : ℕ) → Running running → at ≤ end → Shows at (eventAt f end running at)
-  unfolding eventAt
+  unfolding eventAt refusalOf
   shows at r room =
       both (Shows at) (ltb at end) _ _
       (λ inside. both (Shows at) (leb 128 (byteAt f at)) _ _ (λ e. shows-status at (leb-true 128 (byteAt f at) e) (ltb-true at end inside))
-      (λ _. both (Shows at) (eqb running 0) _ _ (λ _. (none-here, room)) (λ e. go r (eqb-false running 0 e))))
-      (λ _. (none-here, room))
+      (λ _. both (Shows at) (eqb running 0) _ _ (λ _. (none-here, room, refl)) (λ e. go r (eqb-false running 0 e))))
+      (λ _. (none-here, room, refl))
     where
       none-here : Spelt f (EventPart running) at at
       none-here = record { bytes = []; is = none-yet running; there = refl }

@@ -4,11 +4,17 @@
 use mathlib.Core.Path.{_≡_}
 use mathlib.Core.List.{List, [], _∷_, _++_}
 use mathlib.Core.Logic.{_≢_, _⊎_}
-use Prim.Native.Nat.{ℕ, _+_, _≤_, _<_}
+use Prim.Native.Nat.{ℕ, _+_, _^_, _≤_, _<_}
 use lib.ListN.{length, take}
-use Rattle.octets.specs.Octets.{numberOf}
-use Rattle.smf.specs.Promised.{Timed}
+use Rattle.octets.specs.Octets.{byteAt, numberOf}
+use Rattle.walks.specs.Each.{Each}
+use Rattle.smf.specs.Cues.{Entry}
+use Rattle.smf.specs.Promised.{Timed, soundsBehind}
 use Rattle.song_grammar.specs.Grammar.{Track, MThd, MTrk, Header, Aliens, File}
+
+-- the starts and stops of these events all lie early enough at a rate: at 2 ^ 48 at most
+abbrev pub Early : ℕ → ℕ → List Timed → Type 0
+Early rate division events = Each (λ (e : Entry). e .frame ≤ 2 ^ 48) (soundsBehind rate division [] events)
 
 -- behind what a chunk may stand that is skipped: a header, or a whole file
 pub data Opened : List ℕ → Type 0 where
@@ -37,6 +43,25 @@ pub data Due : List ℕ → ℕ → Type 0 where
       → Header head division → Aliens others → Track 0 (part ++ rest) ts
       → length part ≤ numberOf (a ∷ b ∷ c ∷ d ∷ [])
       → Due (head ++ (others ++ (MTrk ++ (a ∷ b ∷ c ∷ d ∷ part)))) 1
+
+-- a fault of a format, which ends with the byte 9, or of a division, which ends with the byte 13, with bit 15 set
+abbrev pub OtherKind : List ℕ → ℕ → Type 0
+OtherKind f k = ((k ≡ 9) × (10 ≤ length f)) ⊎ ((k ≡ 13) × (14 ≤ length f) × (0x80 ≤ byteAt f 12))
+
+-- whole events stand up to the byte k, as a track would have them that ends behind it, and not all of their starts and
+-- stops lie early enough at a rate
+pub record Late (rate : ℕ) (f : List ℕ) (k : ℕ) : Type 0 where
+  pub head : List ℕ
+  pub division : ℕ
+  pub opens : Header head division
+  pub others : List ℕ
+  pub skips : Aliens others
+  pub length : List ℕ
+  pub part : List ℕ
+  pub events : List Timed
+  pub track : Track 0 (part ++ (0 ∷ 0xFF ∷ 0x2F ∷ 0 ∷ [])) events
+  pub late : Early rate division events → ⊥
+  pub stands : take (k + 1) f ≡ head ++ (others ++ (MTrk ++ (length ++ part)))
 
 -- behind good bytes a field is due, and k is its last byte, or the first of it that is missing: none stands earlier
 pub record First (f : List ℕ) (k : ℕ) : Type 0 where

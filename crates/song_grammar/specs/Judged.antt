@@ -4,16 +4,17 @@ use mathlib.Core.Path.{_≡_}
 use mathlib.Core.Bool.{true}
 use mathlib.Core.List.{List, []}
 use mathlib.Core.Logic.{_↔_}
-use Prim.Native.Nat.{ℕ, _+_, _*_, _^_, _≤_, _<_}
+use Prim.Native.Nat.{ℕ, _+_, _*_, _≤_, _<_}
 use lib.ListN.{length, take}
 use Rattle.walks.specs.Each.{Each}
-use Rattle.smf.specs.Cues.{Entry, songOf, goodRate, countedOf, numberOf}
+use Rattle.smf.specs.Faults.{refusalOf}
+use Rattle.smf.specs.Cues.{songOf, goodRate, countedOf, numberOf}
 use Rattle.smf.specs.Promised.{Timed, soundsBehind}
 use Rattle.smf.specs.declared.faults.Fault.{Fault}
 use Rattle.smf.specs.declared.chunks.Verdict.the-variants.{Good, Broken}
 use Rattle.smf.specs.declared.Counted.the-variants.{Done}
 use Rattle.song_grammar.specs.Grammar.{File}
-use Rattle.song_grammar.specs.First.{First}
+use Rattle.song_grammar.specs.First.{Early, OtherKind, Late, First}
 
 abbrev pub Bytes : List ℕ → Type 0
 Bytes f = Each (λ (b : ℕ). b < 256) f
@@ -23,7 +24,7 @@ pub record Grammatical (rate : ℕ) (f : List ℕ) : Type 0 where
   pub division : ℕ
   pub events : List Timed
   pub spelt : File f division events
-  pub early : Each (λ (e : Entry). e .frame ≤ 2 ^ 48) (soundsBehind rate division [] events)
+  pub early : Early rate division events
 
 pub record Judged : Type 0 where
   -- these files are good, and no others
@@ -41,3 +42,11 @@ pub record Judged : Type 0 where
   -- and nothing behind that byte counts: every file with the same bytes up to it is told the same
   pub alike : (rate : ℕ) (f g : List ℕ) → Bytes f → (why : Fault) → songOf rate f .verdict ≡ Broken why
       → take (why .at + 1) g ≡ take (why .at + 1) f → songOf rate g .verdict ≡ Broken why
+  -- "13 for another format or a SMPTE division", and for nothing else
+  pub thirteen : (rate : ℕ) (f : List ℕ) → Bytes f → (why : Fault) → songOf rate f .verdict ≡ Broken why
+      → (refusalOf (why .reason) ≡ 13) ↔ OtherKind f (why .at)
+  -- 14 for a start or stop that is late, and so for a file that the grammar spells, where it isn't good
+  pub fourteen : (rate : ℕ) (f : List ℕ) → Bytes f → (why : Fault) → songOf rate f .verdict ≡ Broken why
+      → refusalOf (why .reason) ≡ 14 → Late rate f (why .at)
+  pub only-late : (rate : ℕ) (f : List ℕ) → Bytes f → (division : ℕ) (ts : List Timed) → File f division ts
+      → (why : Fault) → songOf rate f .verdict ≡ Broken why → refusalOf (why .reason) ≡ 14
