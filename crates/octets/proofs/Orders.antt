@@ -49,7 +49,7 @@ bytes-back [] h = refl
 bytes-back (b ∷ bs) h =
     let first : (b + 256 * littleOf bs) % 256 ≡ b = add-mul-mod-self-left b 256 (littleOf bs) ∙ mod-eq-of-lt (h .0) in
     let rest : (b + 256 * littleOf bs) / 256 ≡ littleOf bs =
-        add-mul-div-left b (littleOf bs) {y = 256} (omega arith) ∙ ap (λ (n : ℕ). n + littleOf bs) (div-eq-of-lt (h .0)) ∙ zero-add (littleOf bs) in
+    add-mul-div-left b (littleOf bs) {y = 256} (omega arith) ∙ ap (λ (n : ℕ). n + littleOf bs) (div-eq-of-lt (h .0)) ∙ zero-add (littleOf bs) in
     rw (first, rest, bytes-back bs (h .1))
 
 pub little-below : (bs : List ℕ) → Bytes bs → littleOf bs < 256 ^ length bs
