@@ -52,11 +52,6 @@ bytes-back (b ∷ bs) h =
     add-mul-div-left b (littleOf bs) {y = 256} (omega arith) ∙ ap (λ (n : ℕ). n + littleOf bs) (div-eq-of-lt (h .0)) ∙ zero-add (littleOf bs) in
     rw (first, rest, bytes-back bs (h .1))
 
-pub little-below : (bs : List ℕ) → Bytes bs → littleOf bs < 256 ^ length bs
-unfolding littleOf Each
-little-below [] h = omega arith
-little-below (b ∷ bs) h = rw pow-suc (omega (arith, little-below bs (h .1)))
-
 -- ---- bytes of a file
 
 pub bytes-within : (k : ℕ) (f : List ℕ) (at : ℕ) → at + k ≤ length f → bytesAt k f at ≡ take k (drop at f)
@@ -65,3 +60,14 @@ bytes-within zero f at h = refl
 bytes-within (suc k) f at h =
     let next : at + 1 + k ≤ length f = omega arith in
     rw (drop-cons f at 0 (omega arith), ← add-one at, bytes-within k f (at + 1) next)
+
+byte-below : (f : List ℕ) (at : ℕ) → Bytes f → byteAt f at < 256
+unfolding Each
+byte-below [] at h = omega arith
+byte-below (b ∷ f) zero h = h .0
+byte-below (b ∷ f) (suc at) h = byte-below f at (h .1)
+
+pub number-below : (k : ℕ) (f : List ℕ) (at : ℕ) → Bytes f → littleOf (bytesAt k f at) < 256 ^ k
+unfolding bytesAt littleOf
+number-below zero f at h = omega arith
+number-below (suc k) f at h = rw pow-suc (omega (arith, byte-below f at h, number-below k f (at + 1) h))

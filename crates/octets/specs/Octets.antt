@@ -14,8 +14,11 @@ bytesAt zero f at = []
 bytesAt (suc k) f at = byteAt f at ∷ bytesAt k f (at + 1)
 
 -- a list of bytes
+abbrev pub Byte : ℕ → Type 0
+Byte b = b < 256
+
 abbrev pub Bytes : List ℕ → Type 0
-Bytes bs = Each (λ (b : ℕ). b < 256) bs
+Bytes bs = Each Byte bs
 
 -- ---- the most significant byte first
 

@@ -1,3 +1,4 @@
 pub mod Fields
 pub mod Files
 pub mod Reader
+pub mod Grammar
