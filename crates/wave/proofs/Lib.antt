@@ -4,3 +4,4 @@ pub mod Judgements
 pub mod Standing
 pub mod Tiles
 pub mod Held
+pub mod Reading

@@ -1,6 +1,6 @@
 -- The fields of a file: what stands at a place, read and split off. Assumes nothing.
 use mathlib.Core.Path.{_≡_, refl, sym, ap, _∙_}
-use mathlib.Core.List.{List, [], _∷_, _++_}
+use mathlib.Core.List.{List, [], _∷_, _++_, append-assoc}
 use Prim.Native.Nat.{ℕ, zero, suc, _+_, _-_, _*_, _^_, _≤_, _<_}
 use native.Mathlib.Nat.{add-zero, add-assoc}
 use native.Mathlib.Numerals.{add-one}
@@ -79,3 +79,46 @@ module _ (f : List ℕ) (at : ℕ) (bytes : Bytes f) where
   pub four-below : fourAt f at < 2 ^ 32
   unfolding fourAt
   four-below = number-below 4 f at bytes
+
+-- ---- words
+
+abbrev pub Word : ℕ → Type 0
+Word w = w < 2 ^ 32
+
+pub length-words : (ws : List ℕ) → length (wordBytes ws) ≡ 4 * length ws
+unfolding wordBytes
+length-words [] = refl
+length-words (w ∷ ws) = simp (length-append, length-little) (omega (arith, length-words ws))
+
+pub length-listed : (g : ℕ → ℕ) (k n : ℕ) → length (listed g k n) ≡ n
+unfolding listed
+length-listed g k zero = refl
+length-listed g k (suc n) = ap suc (length-listed g (k + 1) n)
+
+-- words that stand in a file are read one by one
+pub words-stand : (ws : List ℕ) (f : List ℕ) (first k at : ℕ) (rest : List ℕ) → at ≡ first + 4 * k → Each Word ws → drop at f ≡ wordBytes ws ++ rest
+    → listed (λ (i : ℕ). fourAt f (first + 4 * i)) k (length ws) ≡ ws
+unfolding listed wordBytes Each
+words-stand [] f first k at rest e h s = refl
+words-stand (w ∷ ws) f first k at rest e h s =
+    let here : drop at f ≡ littleBytes 4 w ++ (wordBytes ws ++ rest) = s ∙ append-assoc (littleBytes 4 w) (wordBytes ws) rest in
+    let read : fourAt f (first + 4 * k) ≡ w = ap (fourAt f) (sym e) ∙ four-stands w f at _ (h .0) here in
+    rw (read, words-stand ws f first (k + 1) (at + 4) rest (omega arith) (h .1) (behind-four w f at _ here))
+
+-- words that are read one by one stand in the file
+module _ (f : List ℕ) (bytes : Bytes f) (first : ℕ) where
+  pub words-split : (n k at : ℕ) → at ≡ first + 4 * k → at + 4 * n ≤ length f
+      → drop at f ≡ wordBytes (listed (λ (i : ℕ). fourAt f (first + 4 * i)) k n) ++ drop (at + 4 * n) f
+  unfolding listed wordBytes
+  words-split zero k at e h = ap (λ (i : ℕ). drop i f) (sym (add-zero at))
+  words-split (suc n) k at e h =
+      let more = wordBytes (listed (λ (i : ℕ). fourAt f (first + 4 * i)) (k + 1) n) in
+      let same : at + 4 + 4 * n ≡ at + 4 * suc n = omega arith in
+      let next : drop (at + 4) f ≡ more ++ drop (at + 4 * suc n) f =
+      words-split n (k + 1) (at + 4) (omega arith) (omega arith) ∙ ap (λ (i : ℕ). more ++ drop i f) same in
+      rw (← e) (four-splits f at bytes (omega arith) ∙ ap (λ (l : List ℕ). littleBytes 4 (fourAt f at) ++ l) next ∙ sym (append-assoc (littleBytes 4 (fourAt f at)) more _))
+
+  pub words-fit : (n k : ℕ) → Each Word (listed (λ (i : ℕ). fourAt f (first + 4 * i)) k n)
+  unfolding listed Each
+  words-fit zero k = tt
+  words-fit (suc n) k = (four-below f (first + 4 * k) bytes, words-fit n (k + 1))

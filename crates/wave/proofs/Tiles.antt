@@ -50,6 +50,10 @@ module _ (f : List ℕ) (at : ℕ) (c : Chunk) (s : Stands f at c) where
       let all : length f - at ≡ 4 + (4 + (length (c .body) + (length (c .pad) + length (s .rest)))) = sym (length-drop at f) ∙ ap length fields ∙ simp (length-append, length-little) in
       omega (arith, stands-padded)
 
+  pub stands-long : at + 8 + fourAt f (at + 4) ≤ length f
+  unfolding paddedAt
+  stands-long = omega (arith, stands-whole)
+
 -- ---- what it reads is a chunk
 abbrev pub chunkOf : List ℕ → ℕ → Chunk
 chunkOf f at = record {
