@@ -5,3 +5,5 @@ pub mod Standing
 pub mod Tiles
 pub mod Held
 pub mod Reading
+pub mod Layouts
+pub mod Copies

@@ -2,3 +2,4 @@ pub mod Fields
 pub mod Files
 pub mod Reader
 pub mod Grammar
+pub mod Memory

@@ -3,6 +3,7 @@
 // specs/, for every value of its arguments.
 mod chunks;
 mod fields;
+mod words;
 
 ghost use mathlib.Core.Path.{_≡_};
 ghost use Prim.Native.Nat.{_^_, _<_};

@@ -1,6 +1,5 @@
 -- `four_at` meets its contract. Assumes nothing.
-use Rattle.wave.specs.Fields.{fourAt}
-use Rattle.wave.proofs.Bytes.{four-bytes}
+use Rattle.wave.proofs.Bytes.{four-is}
 use borrow.Author.Needs.{needs}
 use Rattle.wave.proofs.fields.four_at.Statement.{statement}
 use Rattle.wave.proofs.fields.four_at.Tie as tie
@@ -30,8 +29,7 @@ little-four-requires : tie.Need-little-four-requires
 little-four-requires c κs = search needs
 
 returns : tie.Need-returns
-unfolding fourAt
-returns c = simp (four-bytes, c .before .before .before .before .byte-at .ensures, c .before .before .before .byte-at2 .ensures, c .before .before .byte-at3 .ensures, c .before .byte-at4 .ensures, c .little-four .ensures)
+returns c = simp (c .before .before .before .before .byte-at .ensures, c .before .before .before .byte-at2 .ensures, c .before .before .byte-at3 .ensures, c .before .byte-at4 .ensures, c .little-four .ensures) (four-is _ _)
 
 pub four-at-spec : {M : Type 1} → statement M
 four-at-spec =
