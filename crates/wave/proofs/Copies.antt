@@ -14,7 +14,7 @@ use Rattle.octets.specs.Octets.{littleBytes}
 use Rattle.octets.proofs.Orders.{length-little}
 use Rattle.wave.specs.Fields.{wordBytes, listed}
 use Rattle.wave.specs.Memory.{fitsMemory, placeAt, framesOf, recorded, numberAt, storedOf}
-use Rattle.wave.specs.declared.words.Layout.{Layout}
+use Rattle.wave.specs.declared.Layout.{Layout}
 use Rattle.wave.specs.declared.words.Place.{Place}
 use Rattle.wave.proofs.Standing.{length-listed}
 use Rattle.wave.proofs.Layouts.{off, Fits, place-begins, inside, number-of-place, place-of-number, number-below}

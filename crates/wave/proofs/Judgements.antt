@@ -2,6 +2,7 @@
 use mathlib.Core.Path.{_≡_, refl, sym, ap, _∙_, subst}
 use mathlib.Core.Bool.{Bool, true, false, cond, not, _&&_, _||_}
 use mathlib.Core.List.{List}
+use mathlib.Core.Logic.{_⊎_, inl, inr, ⊎-elim}
 use Prim.Native.Nat.{ℕ, zero, suc, _+_, _*_, _/_, _%_, _≤_, _<_, zero-le}
 use native.Mathlib.Omega.{arith}
 use lib.Dec.{ltb, leb, eqb}
@@ -89,40 +90,48 @@ module _ (f : List ℕ) (p : Places) where
   unfolding judgedAt
   judged-is h k = simp (ne-eqb _ _ h, k)
 
--- ---- the chunks that are met stand in the file
-abbrev pub Within : ℕ → Met → Type 0
-Within n (met.Is p) = (p .format ≤ n) × (p .words ≤ n) × (p .fact ≤ n)
-Within n met.Refused = Unit {0}
+-- ---- the chunks that are met stand in the file, and `data` with its body
+abbrev Ends : List ℕ → ℕ → Type 0
+Ends f at = at + 8 + fourAt f (at + 4) ≤ length f
 
-meet-within : (n id at : ℕ) (p : Places) → at ≤ n → Within n (met.Is p) → Within n (metOf id at p)
+abbrev pub Within : List ℕ → Met → Type 0
+Within f (met.Is p) = (p .format ≤ length f) × ((p .words ≡ 0) ⊎ Ends f (p .words)) × (p .fact ≤ length f)
+Within f met.Refused = Unit {0}
+
+meet-within : (f : List ℕ) (id at : ℕ) (p : Places) → Ends f at → Within f (met.Is p) → Within f (metOf id at p)
 unfolding metOf
-meet-within n id at p h k =
-    both (Within n) (eqb id formatId) _ _
-    (λ _. both (Within n) (missing (p .format)) _ _ (λ _. (h, k .1, k .2)) (λ _. tt))
-    (λ _. both (Within n) (eqb id dataId) _ _
-    (λ _. both (Within n) (missing (p .format)) _ _ (λ _. tt) (λ _. both (Within n) (missing (p .words)) _ _ (λ _. (k .0, h, k .2)) (λ _. tt)))
-    (λ _. both (Within n) (eqb id factId) _ _
-    (λ _. both (Within n) (missing (p .fact)) _ _ (λ _. (k .0, k .1, h)) (λ _. tt))
+meet-within f id at p h k =
+    both (Within f) (eqb id formatId) _ _
+    (λ _. both (Within f) (missing (p .format)) _ _ (λ _. (omega arith, k .1, k .2)) (λ _. tt))
+    (λ _. both (Within f) (eqb id dataId) _ _
+    (λ _. both (Within f) (missing (p .format)) _ _ (λ _. tt) (λ _. both (Within f) (missing (p .words)) _ _ (λ _. (k .0, inr h, k .2)) (λ _. tt)))
+    (λ _. both (Within f) (eqb id factId) _ _
+    (λ _. both (Within f) (missing (p .fact)) _ _ (λ _. (k .0, k .1, omega arith)) (λ _. tt))
     (λ _. k)))
 
-on-within : (n : ℕ) (m : Met) (behind : Places → Met) → Within n m → ((q : Places) → Within n (met.Is q) → Within n (behind q)) → Within n (onward m behind)
-on-within n (met.Is q) behind h k = k q h
-on-within n met.Refused behind h k = tt
+on-within : (f : List ℕ) (m : Met) (behind : Places → Met) → Within f m → ((q : Places) → Within f (met.Is q) → Within f (behind q)) → Within f (onward m behind)
+on-within f (met.Is q) behind h k = k q h
+on-within f met.Refused behind h k = tt
 
-walk-within : (n : ℕ) (f : List ℕ) (at : ℕ) (p : Places) → Within (length f) (met.Is p) → Within (length f) (walkFrom n f at p)
-unfolding walkFrom chunkAt
+walk-within : (n : ℕ) (f : List ℕ) (at : ℕ) (p : Places) → Within f (met.Is p) → Within f (walkFrom n f at p)
+unfolding walkFrom chunkAt paddedAt
 walk-within zero f at p k = k
 walk-within (suc n) f at p k =
-    both (Within (length f)) (leb (length f) at) _ _ (λ _. k)
-    (λ inside. both (Within (length f)) (ltb (length f) (at + 8)) _ _ (λ _. tt)
-    (λ _. both (Within (length f)) (ltb (length f) (at + 8 + paddedAt f at)) _ _ (λ _. tt)
-    (λ _. on-within (length f) (metOf (fourAt f at) at p) (walkFrom n f (at + 8 + paddedAt f at))
-    (meet-within (length f) (fourAt f at) at p (omega (arith, leb-false (length f) at inside)) k)
+    both (Within f) (leb (length f) at) _ _ (λ _. k)
+    (λ _. both (Within f) (ltb (length f) (at + 8)) _ _ (λ _. tt)
+    (λ _. both (Within f) (ltb (length f) (at + 8 + paddedAt f at)) _ _ (λ _. tt)
+    (λ whole. on-within f (metOf (fourAt f at) at p) (walkFrom n f (at + 8 + paddedAt f at))
+    (meet-within f (fourAt f at) at p (omega (arith, ltb-false (length f) (at + 8 + paddedAt f at) whole)) k)
     (λ q h. walk-within n f (at + 8 + paddedAt f at) q h))))
 
-pub places-within : (f : List ℕ) (p : Places) → walkOf f ≡ met.Is p → Within (length f) (met.Is p)
+pub places-within : (f : List ℕ) (p : Places) → walkOf f ≡ met.Is p → Within f (met.Is p)
 unfolding walkOf
-places-within f p e = subst (Within (length f)) e (walk-within (length f) f 12 nowhere (zero-le, zero-le, zero-le))
+places-within f p e = subst (Within f) e (walk-within (length f) f 12 nowhere (zero-le, inl refl, zero-le))
+
+pub places-below : (f : List ℕ) (p : Places) (n : ℕ) → walkOf f ≡ met.Is p → length f < n → (p .format < n) × (p .words < n) × (p .fact < n)
+places-below f p n e h =
+    let w = places-within f p e in
+    (omega arith, ⊎-elim (λ z. omega arith) (λ ends. omega arith) (w .1), omega arith)
 
 -- ---- the file
 pub judged-riff : (f : List ℕ) (m : Met) → goodRiff f ≡ true → walkOf f ≡ m → judgedOf f ≡ judgedIn f m

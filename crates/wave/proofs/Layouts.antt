@@ -4,14 +4,14 @@ use mathlib.Core.Bool.{Bool, true, false, _&&_}
 use mathlib.Core.Logic.{⊎-elim}
 use mathlib.Core.List.{List}
 use Prim.Native.Nat.{ℕ, suc, _+_, _*_, _/_, _%_, _^_, _≤_, _<_}
-use native.Mathlib.Nat.{mod-lt, div-add-mod', mul-add-mod-self-right, mul-add-div-right, mod-eq-of-lt, div-eq-of-lt, le-div-iff-mul-le, mul-comm, add-zero, mul-le-mul-left, le-trans, div-lt-iff-lt-mul, add-mul, zero-mul, zero-add, zero-mod, zero-div, mul-le-mul-right, le-mul-of-pos-right}
+use native.Mathlib.Nat.{mod-lt, div-add-mod', mul-add-mod-self-right, mul-add-div-right, mod-eq-of-lt, div-eq-of-lt, le-div-iff-mul-le, mul-comm, add-zero, mul-le-mul-left, le-trans, div-lt-iff-lt-mul, add-mul, zero-mul, zero-add, zero-mod, zero-div, mul-le-mul-right, mul-le-mul, le-mul-of-pos-right}
 use native.Mathlib.Omega.{arith}
 use lib.Dec.{ltb, leb}
-use borrow.Author.Tests.{ltb-true, leb-true, leb-false, lt-ltb, le-leb, lt-leb}
+use borrow.Author.Tests.{ltb-true, leb-true, leb-false, lt-ltb, le-ltb, le-leb, lt-leb}
 use Rattle.walks.proofs.Tests.{joined}
 use Rattle.walks.proofs.Lists.Every.{both as and-both}
-use Rattle.wave.specs.Memory.{fitsMemory, placeAt, recorded, numberAt}
-use Rattle.wave.specs.declared.words.Layout.{Layout}
+use Rattle.wave.specs.Memory.{fitsMemory, placeAt, recorded, numberAt, bytesOf, fitsFile}
+use Rattle.wave.specs.declared.Layout.{Layout}
 use Rattle.wave.specs.declared.words.Place.{Place}
 
 -- ---- tests
@@ -177,3 +177,38 @@ module _ (l : Layout) (x : ℕ) (known : recorded l x ≡ true) where
       let far : (x % l .capacity + 1) * l .channels ≤ l .samples * l .channels =
       mul-le-mul-right {m = x % l .capacity + 1} {n = l .samples} (l .channels) (omega (arith, sample-below)) in
       omega (arith, channel-below, add-mul (x % l .capacity) 1 (l .channels), mul-comm (l .samples) (l .channels))
+
+-- ---- a file's sizes
+pub record FileFits (l : Layout) (room : ℕ) : Type 0 where
+  pub channels-fit : 4 * l .channels < 2 ^ 16
+  pub size-fits : bytesOf l < 2 ^ 32 + 8
+  pub room-fits : bytesOf l ≤ room
+
+pub file-true : (l : Layout) (room : ℕ) → fitsFile l room ≡ true → FileFits l room
+unfolding fitsFile
+file-true l room e =
+    let a = and-both (ltb (4 * l .channels) (2 ^ 16)) _ e in
+    let b = and-both (ltb (bytesOf l) (2 ^ 32 + 8)) _ (a .1) in
+    record { channels-fit = ltb-true _ _ (a .0); size-fits = ltb-true _ _ (b .0); room-fits = leb-true _ _ (b .1) }
+
+pub samples-few : (l : Layout) → 0 < l .channels → l .samples ≤ l .channels * l .samples
+samples-few l h = rw mul-comm (le-mul-of-pos-right (l .samples) h)
+
+module _ (l : Layout) (room : ℕ) where
+  pub file-wide : 16383 < l .channels → fitsFile l room ≡ false
+  unfolding fitsFile
+  file-wide h = simp (le-ltb (4 * l .channels) (2 ^ 16) (omega arith))
+
+  pub file-long : 2 ^ 32 + 8 ≤ bytesOf l → fitsFile l room ≡ false
+  unfolding fitsFile
+  file-long h = simp (le-ltb (bytesOf l) (2 ^ 32 + 8) h) (off (ltb (4 * l .channels) (2 ^ 16)))
+
+  pub file-many : 0 < l .channels → 0x3fffffff < l .samples → fitsFile l room ≡ false
+  file-many some h = file-long (omega (arith, samples-few l some))
+
+  pub file-fits : l .channels ≤ 16383 → bytesOf l < 2 ^ 32 + 8 → fitsFile l room ≡ leb (bytesOf l) room
+  unfolding fitsFile
+  file-fits h k = simp (lt-ltb (4 * l .channels) (2 ^ 16) (omega arith), lt-ltb (bytesOf l) (2 ^ 32 + 8) k)
+
+pub count-small : (l : Layout) → l .channels ≤ 16383 → l .samples ≤ 0x3fffffff → l .channels * l .samples ≤ 2 ^ 44
+count-small l h k = le-trans (mul-le-mul h k) (omega arith)

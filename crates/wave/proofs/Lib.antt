@@ -7,3 +7,5 @@ pub mod Held
 pub mod Reading
 pub mod Layouts
 pub mod Copies
+pub mod Rows
+pub mod Calls

@@ -2,6 +2,7 @@
 use mathlib.Core.Path.{_≡_, refl, sym, ap, _∙_, subst}
 use mathlib.Core.Bool.{Bool, true, false, cond, _&&_, _||_}
 use mathlib.Core.List.{List, [], _∷_, _++_, append-assoc}
+use mathlib.Core.Logic.{⊎-elim}
 use Prim.Native.Nat.{ℕ, zero, suc, _+_, _-_, _*_, _/_, _%_, _^_, _≤_, _<_}
 use native.Mathlib.Nat.{add-assoc, mul-assoc, mul-comm, div-add-mod', mul-mod-right, mul-div-right, le-mul-of-pos-right}
 use native.Mathlib.Omega.{arith}
@@ -24,7 +25,7 @@ use Rattle.wave.specs.declared.chunks.Met.the-variants as met
 use Rattle.wave.specs.declared.Wave.{Wave}
 use Rattle.wave.specs.declared.Judged.{Judged}
 use Rattle.wave.specs.declared.Judged.the-variants.{Is, Refused}
-use Rattle.wave.proofs.Judgements.{both, RiffIs, riff-true, FormatIs, format-true, counted-is, judged-is, judged-riff}
+use Rattle.wave.proofs.Judgements.{both, RiffIs, riff-true, FormatIs, format-true, counted-is, judged-is, judged-riff, places-within}
 use Rattle.wave.proofs.Standing.{Word, two-stands, four-stands, behind-two, behind-four, two-splits, four-splits, two-below, four-below, length-words, length-listed, words-stand, words-split, words-fit}
 use Rattle.wave.proofs.Tiles.{Stands, stands-size, stands-body, stands-long}
 use Rattle.wave.proofs.Held.{At, Mains, Facts, Held, Tiled, walk-tiled, Reached, tiles-reached}
@@ -80,6 +81,17 @@ judged-rests f w = both (Answers f w) (goodRiff f) _ _ (λ r. rests-in f w (walk
 
 four-times : (c n : ℕ) → n * (4 * c) ≡ 4 * (c * n)
 four-times c n = mul-comm n (4 * c) ∙ mul-assoc 4 c n
+
+-- the words of an answer stand in the file
+pub judged-inside : (f : List ℕ) (w : Wave) → judgedOf f ≡ Is w → w .first + 4 * (w .channels * w .samples) ≤ length f
+judged-inside f w e =
+    let r = judged-rests f w e in
+    let p = r .places in
+    let whole = div-add-mod' (fourAt f (p .words + 4)) (4 * channelsAt f (p .format)) in
+    let even = r .even in
+    let size = four-times (channelsAt f (p .format)) (fourAt f (p .words + 4) / (4 * channelsAt f (p .format))) in
+    subst (λ (v : Wave). v .first + 4 * (v .channels * v .samples) ≤ length f) (sym (r .answer))
+    (⊎-elim (λ z. absurd (r .some z)) (λ ends. omega arith) (places-within f p (r .met) .1))
 
 -- ---- fields one behind the other
 three : (a b c rest : List ℕ) {x y z : List ℕ} → x ≡ a ++ y → y ≡ b ++ z → z ≡ c ++ rest → x ≡ a ++ b ++ c ++ rest

@@ -11,13 +11,27 @@ formatOf channels rate byteRate =
     littleBytes 2 3 ++ littleBytes 2 channels ++ littleBytes 4 rate ++ littleBytes 4 byteRate
     ++ littleBytes 2 (4 * channels) ++ littleBytes 2 32 ++ littleBytes 2 0
 
--- the 58 bytes before the first sample. Bytes a second are taken mod 2 ^ 32; `fact` counts the samples a channel
+-- the rows of a header, for so many bytes of data
+unfoldable pub riffRow : ℕ → List ℕ
+riffRow bytes = littleBytes 4 riffId ++ littleBytes 4 (50 + bytes) ++ littleBytes 4 waveId
+
+-- bytes a second are taken mod 2 ^ 32
+unfoldable pub formatRow : ℕ → ℕ → List ℕ
+formatRow rate channels =
+    littleBytes 4 formatId ++ littleBytes 4 18 ++ formatOf channels rate (4 * channels * rate % 2 ^ 32)
+
+-- `fact` counts the samples a channel
+unfoldable pub factRow : ℕ → List ℕ
+factRow samples = littleBytes 4 factId ++ littleBytes 4 4 ++ littleBytes 4 samples
+
+unfoldable pub dataRow : ℕ → List ℕ
+dataRow bytes = littleBytes 4 dataId ++ littleBytes 4 bytes
+
+-- the 58 bytes before the first sample
 unfoldable pub headerOf : ℕ → ℕ → ℕ → List ℕ
 headerOf rate channels samples =
-    littleBytes 4 riffId ++ littleBytes 4 (50 + 4 * (channels * samples)) ++ littleBytes 4 waveId
-    ++ littleBytes 4 formatId ++ littleBytes 4 18 ++ formatOf channels rate (4 * channels * rate % 2 ^ 32)
-    ++ littleBytes 4 factId ++ littleBytes 4 4 ++ littleBytes 4 samples
-    ++ littleBytes 4 dataId ++ littleBytes 4 (4 * (channels * samples))
+    riffRow (4 * (channels * samples)) ++ formatRow rate channels ++ factRow samples
+    ++ dataRow (4 * (channels * samples))
 
 -- the words of all channels, frame by frame, are those behind it
 abbrev pub fileOf : ℕ → ℕ → ℕ → List ℕ → List ℕ

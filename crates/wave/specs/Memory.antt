@@ -8,7 +8,7 @@ use lib.ListN.{length, drop, getD}
 use Rattle.wave.specs.Fields.{listed}
 use Rattle.wave.specs.Files.{fileOf}
 use Rattle.wave.specs.Reader.{wordAt, judgedOf}
-use Rattle.wave.specs.declared.words.Layout.{Layout}
+use Rattle.wave.specs.declared.Layout.{Layout}
 use Rattle.wave.specs.declared.words.Place.{Place}
 use Rattle.wave.specs.declared.Wave.{Wave}
 use Rattle.wave.specs.declared.Judged.{Judged}

@@ -2,13 +2,9 @@
 ghost use mathlib.Core.Path.{_≡_};
 ghost use Rattle.wave.specs.Reader.{metOf, walkOf};
 use crate::fields::four_at;
-
-// `fmt `, `fact` and `data`.
-const FORMAT: u32 = 0x2074_6d66;
-
-const FACT: u32 = 0x7463_6166;
-
-const DATA: u32 = 0x6174_6164;
+use crate::ids::DATA;
+use crate::ids::FACT;
+use crate::ids::FORMAT;
 
 // 0 is the place of a chunk that wasn't met.
 pub struct Places {

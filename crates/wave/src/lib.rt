@@ -3,20 +3,25 @@
 // specs/, for every value of its arguments.
 mod chunks;
 mod fields;
+mod headers;
+mod ids;
 mod words;
 
 ghost use mathlib.Core.Path.{_≡_};
 ghost use Prim.Native.Nat.{_^_, _<_};
+ghost use lib.ListN.{length};
 ghost use Rattle.wave.specs.Reader.{goodRiff, goodFormat, goodFact, countedOf, judgedAt, judgedOf, numberOf};
+ghost use Rattle.wave.specs.Memory.{fitsFile, writes, writtenOf, outputOf, loads, loadedOf};
 use chunks::Met;
 use chunks::Places;
 use fields::four_at;
 use fields::two_at;
-
-// `RIFF` and `WAVE`.
-const RIFF: u32 = 0x4646_4952;
-
-const WAVE: u32 = 0x4556_4157;
+use headers::put_header;
+use ids::RIFF;
+use ids::WAVE;
+use words::fits_memory;
+use words::put_words;
+use words::take_words;
 
 // A good file: `samples` words for each of `channels` channels, frame by frame, stand from `first` on.
 pub struct Wave {
@@ -29,6 +34,13 @@ pub struct Wave {
 pub enum Judged {
     Is(Wave),
     Refused,
+}
+
+// `samples` words of each of `channels` parts of `capacity` words.
+pub struct Layout {
+    pub channels: usize,
+    pub capacity: usize,
+    pub samples: usize,
 }
 
 impl Judged {
@@ -143,5 +155,63 @@ pub fn judge(file: &[u8]) -> Judged
         }
     } else {
         Judged::Refused
+    }
+}
+
+// Whether each size has room in its field, and the file in so many bytes.
+fn fits_file(l: Layout, room: usize) -> bool
+    requires { ⌜ 0 < l .channels ⌝ }
+    ensures { λ r. ⌜ r ≡ fitsFile l room ⌝ }
+{
+    if 16383 < l.channels {
+        return false;
+    }
+    if 0x3fff_ffff < l.samples {
+        return false;
+    }
+    let bytes = 58 + 4 * (l.channels * l.samples);
+    if 0x1_0000_0008 <= bytes {
+        return false;
+    }
+    bytes <= room
+}
+
+// Writes the recordings of a memory, and answers how many bytes; 0 where they have no room, and nothing is written.
+pub fn write(rate: u32, l: Layout, memory: &[u32], out: &mut [u8]) -> usize
+    ensures { λ r. ⌜ r ≡ writtenOf l (length (now (memory .entry))) (length (now (out .entry))) ⌝ }
+    ensures { λ r. ⌜ now (out .exit) ≡ outputOf rate l (now (memory .entry)) (now (out .entry)) ⌝ }
+{
+    if fits_memory(l, memory.len()) {
+        if fits_file(l, out.len()) {
+            put_header(out, rate, l.channels as u32, l.samples as u32);
+            put_words(l, memory, out);
+            return 58 + 4 * (l.channels * l.samples);
+        }
+        return 0;
+    }
+    0
+}
+
+// Stores the words of a good file, each channel's in its part of `capacity` words, and answers whether they had room;
+// else nothing is stored.
+pub fn load(file: &[u8], capacity: usize, memory: &mut [u32]) -> bool
+    ensures { λ r. ⌜ r ≡ loads (now (file .entry)) capacity (length (now (memory .entry))) ⌝ }
+    ensures { λ r. ⌜ now (memory .exit) ≡ loadedOf (now (file .entry)) capacity (now (memory .entry)) ⌝ }
+{
+    match judge(file) {
+        Judged::Refused => false,
+        Judged::Is(w) => {
+            let l = Layout {
+                channels: w.channels,
+                capacity,
+                samples: w.samples,
+            };
+            if fits_memory(l, memory.len()) {
+                take_words(file, w.first, l, memory);
+                true
+            } else {
+                false
+            }
+        }
     }
 }

@@ -7,15 +7,9 @@ ghost use lib.ListN.{length};
 ghost use lib.Seq.{sets};
 ghost use Rattle.wave.specs.Fields.{fourAt, wordBytes};
 ghost use Rattle.wave.specs.Memory.{fitsMemory, placeAt, framesOf, storedOf};
+use crate::Layout;
 use crate::fields::put_four;
 use octets::little_four;
-
-// `samples` words of each of `channels` parts of `capacity` words.
-pub struct Layout {
-    pub channels: usize,
-    pub capacity: usize,
-    pub samples: usize,
-}
 
 // A word of a file: its channel, its sample, and where it stands in a memory.
 pub struct Place {

@@ -1,7 +1,7 @@
 -- `judge` meets its contract: chunks that are met stand in the file. Assumes nothing.
 use mathlib.Core.Path.{sym, _∙_}
 use native.Mathlib.Omega.{arith}
-use Rattle.wave.proofs.Judgements.{places-within, judged-riff, judged-no-riff}
+use Rattle.wave.proofs.Judgements.{places-below, judged-riff, judged-no-riff}
 use borrow.Author.Needs.{needs}
 use Rattle.wave.proofs.judge.Statement.{statement}
 use Rattle.wave.proofs.judge.Tie as tie
@@ -16,7 +16,7 @@ enum-known-p : tie.Need-enum-known-p
 enum-known-p c = search needs
 
 judged-at-requires : tie.Need-judged-at-requires
-judged-at-requires c κs = let within = places-within _ _ (sym (c .before .before .before .walk .ensures) ∙ c .before .p .given .1) in (omega arith, omega arith, omega arith)
+judged-at-requires c κs = places-below _ _ _ (sym (c .before .before .before .walk .ensures) ∙ c .before .p .given .1) (omega arith)
 
 enum-told : tie.Need-enum-told
 enum-told c = search needs
