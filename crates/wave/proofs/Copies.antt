@@ -26,10 +26,10 @@ listed-next g k n h =
     let more : n - k ≡ suc (n - (k + 1)) = omega arith in
     rw more
 
-listed-same : (g h : ℕ → ℕ) (k n : ℕ) → ((x : ℕ) → g x ≡ h x) → listed g k n ≡ listed h k n
+pub listed-same : (g h : ℕ → ℕ) (k n : ℕ) → ((x : ℕ) → x < k + n → g x ≡ h x) → listed g k n ≡ listed h k n
 unfolding listed
 listed-same g h k zero e = refl
-listed-same g h k (suc n) e = rw (e k, listed-same g h (k + 1) n e)
+listed-same g h k (suc n) e = rw (e k (omega arith), listed-same g h (k + 1) n (λ x less. e x (omega arith)))
 
 -- ---- from a memory to a file
 abbrev pub wordOf : Layout → List ℕ → ℕ → ℕ
@@ -107,7 +107,7 @@ module _ (l : Layout) (g : ℕ → ℕ) (m : List ℕ) where
 
   pub stored-all : (k : ℕ) → l .channels * l .samples ≤ k → storedTo k ≡ storedOf l g m
   unfolding storedTo storedOf
-  stored-all k h = listed-same (elementAt l g m k) _ 0 (length m) (λ x. go x (recorded l x) refl)
+  stored-all k h = listed-same (elementAt l g m k) _ 0 (length m) (λ x less. go x (recorded l x) refl)
     where
       go : (x : ℕ) (t : Bool) → recorded l x ≡ t → cond (t && ltb (numberAt l x) k) (g (numberAt l x)) (getD m x 0) ≡ cond t (g (numberAt l x)) (getD m x 0)
       go x true e = simp (lt-ltb (numberAt l x) k (omega (arith, number-below l x e)))

@@ -57,7 +57,7 @@ module _ (l : Layout) (size : ℕ) where
       (λ a. le-div-iff-mul-le {k = l .channels} h .1 (rw mul-comm a)) (λ b. rw mul-comm (le-div-iff-mul-le {k = l .channels} h .0 b)))
 
 -- ---- a quotient and a remainder are known by what they make
-parted : (c i j : ℕ) → j < c → ((i * c + j) % c ≡ j) × ((i * c + j) / c ≡ i)
+pub parted : (c i j : ℕ) → j < c → ((i * c + j) % c ≡ j) × ((i * c + j) / c ≡ i)
 parted c i j h =
     (mul-add-mod-self-right i c j ∙ mod-eq-of-lt h, mul-add-div-right {m = c} (omega arith) i j ∙ ap (λ (n : ℕ). i + n) (div-eq-of-lt h) ∙ add-zero i)
 
@@ -145,6 +145,12 @@ place-small l size k p fits h e small =
       ),
     )
 
+-- sample i of channel j
+pub frame-below : (channels samples i j : ℕ) → i < samples → j < channels → i * channels + j < channels * samples
+frame-below channels samples i j h k =
+    let far : (i + 1) * channels ≤ samples * channels = mul-le-mul-right {m = i + 1} {n = samples} channels (omega arith) in
+    omega (arith, add-mul i 1 channels, mul-comm samples channels)
+
 -- ---- a word's place, and the number of the word at a place
 pub number-of-place : (l : Layout) (size k : ℕ) → Fits l size → k < l .channels * l .samples
     → (recorded l (placeAt l k .word) ≡ true) × (numberAt l (placeAt l k .word) ≡ k)
@@ -173,10 +179,7 @@ module _ (l : Layout) (x : ℕ) (known : recorded l x ≡ true) where
 
   pub number-below : numberAt l x < l .channels * l .samples
   unfolding numberAt
-  number-below =
-      let far : (x % l .capacity + 1) * l .channels ≤ l .samples * l .channels =
-      mul-le-mul-right {m = x % l .capacity + 1} {n = l .samples} (l .channels) (omega (arith, sample-below)) in
-      omega (arith, channel-below, add-mul (x % l .capacity) 1 (l .channels), mul-comm (l .samples) (l .channels))
+  number-below = frame-below (l .channels) (l .samples) (x % l .capacity) (x / l .capacity) sample-below channel-below
 
 -- ---- a file's sizes
 pub record FileFits (l : Layout) (room : ℕ) : Type 0 where

@@ -9,3 +9,4 @@ pub mod Layouts
 pub mod Copies
 pub mod Rows
 pub mod Calls
+pub mod Promised

@@ -101,7 +101,7 @@ seven : (a b c d e g h rest : List ℕ) {x y z u v w t : List ℕ} → x ≡ a +
     → x ≡ a ++ b ++ c ++ d ++ e ++ g ++ h ++ rest
 seven a b c d e g h rest p q r s t u v = simp append-assoc (cc)
 
-length-format : (channels rate byteRate : ℕ) → length (formatOf channels rate byteRate) ≡ 18
+pub length-format : (channels rate byteRate : ℕ) → length (formatOf channels rate byteRate) ≡ 18
 unfolding formatOf littleBytes
 length-format channels rate byteRate = refl
 
@@ -341,6 +341,20 @@ module _ (f : List ℕ) (rate channels : ℕ) (words : List ℕ) (g : IsWave f r
         judged-riff f (met.Is p) riff e ∙ judged-by f p rate channels (g .samples) some (is .0) (g .some-channel) (is .1) (is .2) size fact,
         rw (← (g .whole-frames)) (words-stand words f (p .words + 8) 0 (p .words + 8) _ (omega arith) (g .words-fit) (rw (g .sound-body) at (stands-body f (p .words) (g .sound) D))),
       )
+
+  pub record Known : Type 0 where
+    pub wave : Wave
+    pub judged : judgedOf f ≡ Is wave
+    pub same-channels : wave .channels ≡ channels
+    pub same-samples : wave .samples ≡ g .samples
+    pub same-words : listed (wordAt f wave) 0 (wave .channels * wave .samples) ≡ words
+
+  pub good-known : Known
+  unfolding walkOf
+  good-known =
+      let r = good-reached in
+      let answer = good-judged (r .end) (r .walks) (r .held) in
+      record { wave = _; judged = answer .0; same-channels = refl; same-samples = refl; same-words = answer .1 }
 
   pub good-answer : readOf f ≡ is rate channels words
   unfolding readOf walkOf

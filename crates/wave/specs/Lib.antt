@@ -3,3 +3,4 @@ pub mod Files
 pub mod Reader
 pub mod Grammar
 pub mod Memory
+pub mod Promised
