@@ -10,3 +10,4 @@ pub mod Copies
 pub mod Rows
 pub mod Calls
 pub mod Promised
+pub mod Examples
