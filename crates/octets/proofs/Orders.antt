@@ -1,5 +1,5 @@
 -- The two orders of a number's bytes, and that a number and its bytes, the least significant first, say the same. Assumes nothing.
-use mathlib.Core.Path.{_≡_, refl, sym, ap, _∙_}
+use mathlib.Core.Path.{_≡_, refl, ap, _∙_}
 use mathlib.Core.List.{List, [], _∷_, _++_, reverse, reverse-cons}
 use Prim.Native.Nat.{ℕ, zero, suc, _+_, _*_, _/_, _%_, _^_, _≤_, _<_}
 use native.Mathlib.Nat.{zero-add, mod-lt, mod-eq-of-lt, add-mul-mod-self-left, add-mul-div-left, div-eq-of-lt, div-add-mod', div-lt-iff-lt-mul, pow-suc}

@@ -1,22 +1,22 @@
 -- What `write` and `load` answer and leave, case by case. Assumes nothing.
-use mathlib.Core.Path.{_≡_, refl, sym, ap, _∙_}
-use mathlib.Core.Bool.{Bool, true, false, cond, _&&_}
-use mathlib.Core.List.{List, _++_}
+use mathlib.Core.Path.{_≡_, ap, _∙_}
+use mathlib.Core.Bool.{true, false}
+use mathlib.Core.List.{List}
 use Prim.Native.Nat.{ℕ, _+_, _*_}
 use native.Mathlib.Nat.{zero-add}
 use native.Mathlib.Omega.{arith}
-use lib.ListN.{length, drop, length-append}
+use lib.ListN.{length, length-append}
 use lib.Seq.{sets}
 use Rattle.walks.proofs.Lists.Runs.{run-front}
 use Rattle.wave.specs.Fields.{wordBytes}
-use Rattle.wave.specs.Files.{formatOf, riffRow, formatRow, factRow, dataRow, headerOf, fileOf}
+use Rattle.wave.specs.Files.{headerOf, fileOf}
 use Rattle.wave.specs.Reader.{wordAt, judgedOf}
 use Rattle.wave.specs.Memory.{fitsMemory, framesOf, storedOf, bytesOf, fitsFile, writes, writtenOf, outputOf, layoutOf, loads, loadedOf}
 use Rattle.wave.specs.declared.Layout.{Layout}
 use Rattle.wave.specs.declared.Wave.{Wave}
 use Rattle.wave.specs.declared.Judged.the-variants.{Is, Refused}
 use Rattle.wave.proofs.Standing.{length-words, length-listed}
-use Rattle.wave.proofs.Layouts.{off, FileFits, file-true}
+use Rattle.wave.proofs.Layouts.{file-true}
 use Rattle.wave.proofs.Rows.{after, length-header}
 
 -- ---- writing

@@ -1,7 +1,7 @@
 -- The loops that copy words, step by step: what is left of the work gives what the whole does. Assumes nothing.
 use mathlib.Core.Path.{_≡_, refl, sym, ap, _∙_}
 use mathlib.Core.Bool.{Bool, true, false, cond, _&&_}
-use mathlib.Core.List.{List, [], _∷_, _++_}
+use mathlib.Core.List.{List, _∷_}
 use Prim.Native.Nat.{ℕ, zero, suc, _+_, _-_, _*_, _≤_, _<_}
 use native.Mathlib.Nat.{add-zero, zero-add}
 use native.Mathlib.Omega.{arith}
@@ -13,11 +13,11 @@ use Rattle.walks.proofs.Lists.Runs.{run-append}
 use Rattle.octets.specs.Octets.{littleBytes}
 use Rattle.octets.proofs.Orders.{length-little}
 use Rattle.wave.specs.Fields.{wordBytes, listed}
-use Rattle.wave.specs.Memory.{fitsMemory, placeAt, framesOf, recorded, numberAt, storedOf}
+use Rattle.wave.specs.Memory.{placeAt, framesOf, recorded, numberAt, storedOf}
 use Rattle.wave.specs.declared.Layout.{Layout}
 use Rattle.wave.specs.declared.words.Place.{Place}
 use Rattle.wave.proofs.Standing.{length-listed}
-use Rattle.wave.proofs.Layouts.{off, Fits, place-begins, inside, number-of-place, place-of-number, number-below}
+use Rattle.wave.proofs.Layouts.{off, Fits, place-begins, number-of-place, place-of-number, number-below}
 
 -- one number less is left
 pub listed-next : (g : ℕ → ℕ) (k n : ℕ) → k < n → listed g k (n - k) ≡ g k ∷ listed g (k + 1) (n - (k + 1))

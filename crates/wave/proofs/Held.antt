@@ -1,18 +1,17 @@
 -- What a walk that isn't refused has met, in both directions: a walk over chunks that are in order meets them, and what a walk meets tiles the file. Assumes nothing.
-use mathlib.Core.Path.{_≡_, refl, sym, ap, _∙_, subst}
-use mathlib.Core.Bool.{Bool, true, false, cond}
+use mathlib.Core.Path.{_≡_, sym, ap, _∙_, subst}
 use mathlib.Core.List.{List, [], _∷_, _++_, append-nil}
-use mathlib.Core.Logic.{_⊎_, inl, inr}
+use mathlib.Core.Logic.{inl, inr}
 use Prim.Native.Nat.{ℕ, zero, suc, pred, _+_, _-_, _≤_, _<_}
 use native.Mathlib.Omega.{arith}
 use lib.Dec.{ltb, leb, eqb}
 use lib.ListN.{length, drop, length-drop, drop-of-length-le}
 use lib.Seq.{append-snoc}
-use borrow.Author.Tests.{eqb-true, eqb-false, leb-true, leb-false, ltb-false, eq-eqb, ne-eqb}
+use borrow.Author.Tests.{eqb-true, eqb-false, leb-true, ltb-false, eq-eqb, ne-eqb}
 use Rattle.octets.specs.Octets.{Bytes}
 use Rattle.wave.specs.Fields.{fourAt, formatId, factId, dataId}
 use Rattle.wave.specs.Reader.{paddedAt, missing, metOf, onward, chunkAt, walkFrom}
-use Rattle.wave.specs.Grammar.{Chunk, Whole, chunkBytes, Chunks}
+use Rattle.wave.specs.Grammar.{Chunk, chunkBytes, Chunks}
 use Rattle.wave.specs.Grammar.Chunks.{none, main, fact, other}
 use Rattle.wave.specs.declared.chunks.Places.{Places}
 use Rattle.wave.specs.declared.chunks.Met.{Met}

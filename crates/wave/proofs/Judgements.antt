@@ -1,13 +1,13 @@
 -- What the tests of a file say where they hold, and where the chunks that are met stand. Assumes nothing.
-use mathlib.Core.Path.{_≡_, refl, sym, ap, _∙_, subst}
-use mathlib.Core.Bool.{Bool, true, false, cond, not, _&&_, _||_}
+use mathlib.Core.Path.{_≡_, refl, subst}
+use mathlib.Core.Bool.{Bool, true, false, cond}
 use mathlib.Core.List.{List}
 use mathlib.Core.Logic.{_⊎_, inl, inr, ⊎-elim}
 use Prim.Native.Nat.{ℕ, zero, suc, _+_, _*_, _/_, _%_, _≤_, _<_, zero-le}
 use native.Mathlib.Omega.{arith}
 use lib.Dec.{ltb, leb, eqb}
 use lib.ListN.{length}
-use borrow.Author.Tests.{eqb-true, leb-true, leb-false, ltb-false, eq-eqb, ne-eqb}
+use borrow.Author.Tests.{eqb-true, leb-true, ltb-false, eq-eqb, ne-eqb}
 use Rattle.walks.proofs.Lists.Every.{both as and-both}
 use Rattle.wave.specs.Fields.{twoAt, fourAt, riffId, waveId, formatId, factId, dataId}
 use Rattle.wave.specs.Reader.{paddedAt, nowhere, missing, metOf, onward, chunkAt, walkFrom, walkOf, goodRiff, channelsAt, goodFormat, goodFact, countedOf, judgedAt, judgedIn, judgedOf}

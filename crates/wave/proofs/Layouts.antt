@@ -1,9 +1,7 @@
 -- Where the words of a file stand in a memory, word by word. Assumes nothing.
-use mathlib.Core.Path.{_≡_, refl, sym, ap, _∙_}
+use mathlib.Core.Path.{_≡_, refl, ap, _∙_}
 use mathlib.Core.Bool.{Bool, true, false, _&&_}
-use mathlib.Core.Logic.{⊎-elim}
-use mathlib.Core.List.{List}
-use Prim.Native.Nat.{ℕ, suc, _+_, _*_, _/_, _%_, _^_, _≤_, _<_}
+use Prim.Native.Nat.{ℕ, _+_, _*_, _/_, _%_, _^_, _≤_, _<_}
 use native.Mathlib.Nat.{mod-lt, div-add-mod', mul-add-mod-self-right, mul-add-div-right, mod-eq-of-lt, div-eq-of-lt, le-div-iff-mul-le, mul-comm, add-zero, mul-le-mul-left, le-trans, div-lt-iff-lt-mul, add-mul, zero-mul, zero-add, zero-mod, zero-div, mul-le-mul-right, mul-le-mul, le-mul-of-pos-right}
 use native.Mathlib.Omega.{arith}
 use lib.Dec.{ltb, leb}

@@ -1,25 +1,23 @@
 -- Files are what the request says: `specs/Promised.antt`. Assumes nothing.
-use mathlib.Core.Path.{_≡_, refl, sym, ap, _∙_, subst}
-use mathlib.Core.Bool.{Bool, true, false, cond, _&&_}
+use mathlib.Core.Path.{_≡_, refl, sym, ap, _∙_}
+use mathlib.Core.Bool.{Bool, true, false, cond}
 use mathlib.Core.List.{List, [], _∷_, _++_, append-assoc, append-nil}
 use mathlib.Core.Logic.{_⊎_, inl, inr}
-use Prim.Native.Nat.{ℕ, zero, suc, _+_, _-_, _*_, _/_, _%_, _^_, _≤_, _<_}
-use native.Mathlib.Nat.{mul-comm, mul-mod-right, mul-assoc, zero-add, add-mul, mul-le-mul-right, le-refl}
+use Prim.Native.Nat.{ℕ, zero, suc, _+_, _-_, _*_, _%_, _^_, _≤_, _<_}
+use native.Mathlib.Nat.{zero-add, add-mul, mul-le-mul-right, le-refl}
 use native.Mathlib.Omega.{arith}
-use lib.Dec.{ltb, leb}
+use lib.Dec.{ltb}
 use lib.ListN.{length, take, drop, getD, length-append, length-take, length-drop, List·getD-append}
 use lib.Seq.{ext-getD, getD-take, getD-drop, getD-append-add, drop-at, take-at, length-take-le}
 use borrow.Author.Tests.{lt-ltb, ltb-true, ltb-false}
 use Rattle.walks.specs.Each.{Each}
-use Rattle.walks.proofs.Lists.Each.{each-at}
-use Rattle.octets.specs.Octets.{Bytes, littleBytes}
+use Rattle.octets.specs.Octets.{littleBytes}
 use Rattle.octets.proofs.Orders.{length-little}
 use Rattle.wave.specs.Fields.{fourAt, riffId, waveId, formatId, factId, dataId, wordBytes, listed}
 use Rattle.wave.specs.Files.{formatOf, riffRow, formatRow, factRow, dataRow, headerOf, fileOf}
-use Rattle.wave.specs.Reader.{judgedOf, numberOf, readIn, readOf, wordAt}
-use Rattle.wave.specs.Reader.Read.{is, refused}
-use Rattle.wave.specs.Grammar.{Chunk, Whole, chunkBytes, Chunks, IsWave}
-use Rattle.wave.specs.Grammar.Chunks.{none, main, fact, other}
+use Rattle.wave.specs.Reader.{judgedOf, numberOf, wordAt}
+use Rattle.wave.specs.Grammar.{Chunk, Whole, chunkBytes, IsWave}
+use Rattle.wave.specs.Grammar.Chunks.{none, main, fact}
 use Rattle.wave.specs.Memory.{fitsMemory, placeAt, framesOf, recorded, numberAt, storedOf, bytesOf, fitsFile, writes, writtenOf, outputOf, layoutOf, loadsIn, loads, loadedIn, loadedOf}
 use Rattle.wave.specs.Promised.{Sized, channelOf, partAt, Promised}
 use Rattle.wave.specs.declared.Layout.{Layout}

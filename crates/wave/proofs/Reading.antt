@@ -1,12 +1,12 @@
 -- The reader answers a rate, a number of channels and words exactly where the file is a good one that holds them: `Grammar: IsWave`. Assumes nothing.
 use mathlib.Core.Path.{_≡_, refl, sym, ap, _∙_, subst}
-use mathlib.Core.Bool.{Bool, true, false, cond, _&&_, _||_}
+use mathlib.Core.Bool.{Bool, true, _&&_, _||_}
 use mathlib.Core.List.{List, [], _∷_, _++_, append-assoc}
 use mathlib.Core.Logic.{⊎-elim}
-use Prim.Native.Nat.{ℕ, zero, suc, _+_, _-_, _*_, _/_, _%_, _^_, _≤_, _<_}
-use native.Mathlib.Nat.{add-assoc, mul-assoc, mul-comm, div-add-mod', mul-mod-right, mul-div-right, le-mul-of-pos-right}
+use Prim.Native.Nat.{ℕ, _+_, _-_, _*_, _/_, _%_, _^_, _≤_, _<_}
+use native.Mathlib.Nat.{mul-assoc, mul-comm, div-add-mod', mul-mod-right, mul-div-right, le-mul-of-pos-right}
 use native.Mathlib.Omega.{arith}
-use lib.Dec.{leb, eqb}
+use lib.Dec.{eqb}
 use lib.ListN.{length, take, drop, length-append, length-drop}
 use lib.Seq.{take-at}
 use borrow.Author.Tests.{eqb-true, eqb-false, eq-eqb, ne-eqb, le-leb}
@@ -14,11 +14,11 @@ use Rattle.walks.specs.Each.{Each}
 use Rattle.walks.proofs.Lists.Every.{both as and-both}
 use Rattle.octets.specs.Octets.{Bytes, littleBytes}
 use Rattle.octets.proofs.Orders.{length-little}
-use Rattle.wave.specs.Fields.{twoAt, fourAt, riffId, waveId, formatId, factId, dataId, wordBytes, listed}
+use Rattle.wave.specs.Fields.{twoAt, fourAt, riffId, waveId, factId, wordBytes, listed}
 use Rattle.wave.specs.Files.{formatOf}
-use Rattle.wave.specs.Reader.{missing, nowhere, walkOf, goodRiff, channelsAt, goodFormat, goodFact, countedOf, judgedAt, judgedIn, judgedOf, Read, wordAt, readIn, readOf}
-use Rattle.wave.specs.Reader.Read.{is, refused}
-use Rattle.wave.specs.Grammar.{Chunk, Whole, chunkBytes, Chunks, IsWave}
+use Rattle.wave.specs.Reader.{missing, nowhere, walkOf, goodRiff, channelsAt, goodFormat, goodFact, countedOf, judgedAt, judgedIn, judgedOf, wordAt, readIn, readOf}
+use Rattle.wave.specs.Reader.Read.{is}
+use Rattle.wave.specs.Grammar.{Chunk, Chunks, IsWave}
 use Rattle.wave.specs.declared.chunks.Places.{Places}
 use Rattle.wave.specs.declared.chunks.Met.{Met}
 use Rattle.wave.specs.declared.chunks.Met.the-variants as met
@@ -26,9 +26,9 @@ use Rattle.wave.specs.declared.Wave.{Wave}
 use Rattle.wave.specs.declared.Judged.{Judged}
 use Rattle.wave.specs.declared.Judged.the-variants.{Is, Refused}
 use Rattle.wave.proofs.Judgements.{both, RiffIs, riff-true, FormatIs, format-true, counted-is, judged-is, judged-riff, places-within}
-use Rattle.wave.proofs.Standing.{Word, two-stands, four-stands, behind-two, behind-four, two-splits, four-splits, two-below, four-below, length-words, length-listed, words-stand, words-split, words-fit}
+use Rattle.wave.proofs.Standing.{two-stands, four-stands, behind-two, behind-four, two-splits, four-splits, two-below, four-below, length-words, length-listed, words-stand, words-split, words-fit}
 use Rattle.wave.proofs.Tiles.{Stands, stands-size, stands-body, stands-long}
-use Rattle.wave.proofs.Held.{At, Mains, Facts, Held, Tiled, walk-tiled, Reached, tiles-reached}
+use Rattle.wave.proofs.Held.{At, Mains, Facts, Held, walk-tiled, Reached, tiles-reached}
 
 -- ---- what an answer rests on
 pub record Rests (f : List ℕ) (w : Wave) : Type 0 where

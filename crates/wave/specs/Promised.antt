@@ -16,7 +16,6 @@ use Rattle.wave.specs.Grammar.{IsWave}
 use Rattle.wave.specs.Memory.{fitsMemory, framesOf, fitsFile, writtenOf, outputOf, layoutOf, loads, loadedOf}
 use Rattle.wave.specs.declared.Layout.{Layout}
 use Rattle.wave.specs.declared.Wave.{Wave}
-use Rattle.wave.specs.declared.Judged.{Judged}
 use Rattle.wave.specs.declared.Judged.the-variants.{Is}
 
 -- sizes that have room in their fields

@@ -1,6 +1,6 @@
 -- What the reader answers, front to back: it goes from chunk to chunk, keeps where `fmt `, `data` and `fact` stand, and
 -- judges them at the end. `Grammar.antt` says the same of a file as a whole. Definitions only.
-use mathlib.Core.Bool.{Bool, not, cond, _&&_, _||_}
+use mathlib.Core.Bool.{Bool, cond, _&&_, _||_}
 use mathlib.Core.List.{List}
 use Prim.Native.Nat.{ℕ, zero, suc, _+_, _*_, _/_, _%_}
 use lib.Dec.{ltb, leb, eqb}

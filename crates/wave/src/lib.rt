@@ -11,7 +11,7 @@ ghost use mathlib.Core.Path.{_≡_};
 ghost use Prim.Native.Nat.{_^_, _<_};
 ghost use lib.ListN.{length};
 ghost use Rattle.wave.specs.Reader.{goodRiff, goodFormat, goodFact, countedOf, judgedAt, judgedOf, numberOf};
-ghost use Rattle.wave.specs.Memory.{fitsFile, writes, writtenOf, outputOf, loads, loadedOf};
+ghost use Rattle.wave.specs.Memory.{fitsFile, writtenOf, outputOf, loads, loadedOf};
 use chunks::Met;
 use chunks::Places;
 use fields::four_at;

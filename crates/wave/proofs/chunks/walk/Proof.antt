@@ -1,7 +1,7 @@
 -- `walk` meets its contract. The invariant: the walk from here on, with a step for each byte that is left, meets what the whole walk does. Assumes nothing.
 use mathlib.Core.Path.{_≡_, refl, sym, ap, _∙_}
 use mathlib.Core.List.{List}
-use Prim.Native.Nat.{ℕ, pred, _+_, _-_, _%_, _≤_, _<_}
+use Prim.Native.Nat.{ℕ, pred, _+_, _-_, _%_, _≤_}
 use native.Mathlib.Omega.{arith}
 use lib.ListN.{length}
 use Rattle.wave.specs.Fields.{fourAt}
