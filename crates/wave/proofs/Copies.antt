@@ -13,11 +13,11 @@ use Rattle.walks.proofs.Lists.Runs.{run-append}
 use Rattle.octets.specs.Octets.{littleBytes}
 use Rattle.octets.proofs.Orders.{length-little}
 use Rattle.wave.specs.Fields.{wordBytes, listed}
-use Rattle.wave.specs.Memory.{placeAt, framesOf, recorded, numberAt, storedOf}
+use Rattle.wave.specs.Memory.{cellAt, framesOf, recorded, numberAt, storedOf}
 use Rattle.wave.specs.declared.Layout.{Layout}
-use Rattle.wave.specs.declared.words.Place.{Place}
+use Rattle.wave.specs.declared.words.Cell.{Cell}
 use Rattle.wave.proofs.Standing.{length-listed}
-use Rattle.wave.proofs.Layouts.{off, Fits, place-begins, number-of-place, place-of-number, number-below}
+use Rattle.wave.proofs.Layouts.{off, Fits, cell-begins, number-of-cell, cell-of-number, number-below}
 
 -- one number less is left
 pub listed-next : (g : ℕ → ℕ) (k n : ℕ) → k < n → listed g k (n - k) ≡ g k ∷ listed g (k + 1) (n - (k + 1))
@@ -33,11 +33,11 @@ listed-same g h k (suc n) e = rw (e k (omega arith), listed-same g h (k + 1) n (
 
 -- ---- from a memory to a file
 abbrev pub wordOf : Layout → List ℕ → ℕ → ℕ
-wordOf l m k = getD m (placeAt l k .word) 0
+wordOf l m k = getD m (cellAt l k .word) 0
 
-pub record Writing (l : Layout) (m out₀ : List ℕ) (out : List ℕ) (place : Place) (k : ℕ) : Type 0 where
+pub record Writing (l : Layout) (m out₀ : List ℕ) (out : List ℕ) (cell : Cell) (k : ℕ) : Type 0 where
   pub counted : k ≤ l .channels * l .samples
-  pub here : place ≡ placeAt l k
+  pub here : cell ≡ cellAt l k
   pub kept : length out ≡ length out₀
   pub left : sets out (58 + 4 * k) (wordBytes (listed (wordOf l m) k (l .channels * l .samples - k))) ≡ sets out₀ 58 (wordBytes (framesOf l m))
 
@@ -45,27 +45,27 @@ pub writing-begins : (l : Layout) (m out : List ℕ) → Writing l m out out (re
 unfolding framesOf
 writing-begins l m out =
     let all : l .channels * l .samples - 0 ≡ l .channels * l .samples = omega arith in
-    record { counted = omega arith; here = place-begins l; kept = refl; left = rw all }
+    record { counted = omega arith; here = cell-begins l; kept = refl; left = rw all }
 
-pub writing-goes : (l : Layout) (m out₀ out : List ℕ) (place : Place) (k : ℕ) (new : List ℕ) (next : Place) → Writing l m out₀ out place k
-    → k < l .channels * l .samples → new ≡ sets out (58 + 4 * k) (littleBytes 4 (getD m (place .word) 0)) → next ≡ placeAt l (k + 1) → Writing l m out₀ new next (k + 1)
+pub writing-goes : (l : Layout) (m out₀ out : List ℕ) (cell : Cell) (k : ℕ) (new : List ℕ) (next : Cell) → Writing l m out₀ out cell k
+    → k < l .channels * l .samples → new ≡ sets out (58 + 4 * k) (littleBytes 4 (getD m (cell .word) 0)) → next ≡ cellAt l (k + 1) → Writing l m out₀ new next (k + 1)
 unfolding wordBytes
-writing-goes l m out₀ out place k new next w h e n =
-    let word : getD m (place .word) 0 ≡ wordOf l m k = ap (λ (p : Place). getD m (p .word) 0) (w .here) in
+writing-goes l m out₀ out cell k new next w h e n =
+    let word : getD m (cell .word) 0 ≡ wordOf l m k = ap (λ (p : Cell). getD m (p .word) 0) (w .here) in
     let rest = wordBytes (listed (wordOf l m) (k + 1) (l .channels * l .samples - (k + 1))) in
     let at : 58 + 4 * (k + 1) ≡ 58 + 4 * k + length (littleBytes 4 (wordOf l m k)) = omega (arith, length-little 4 (wordOf l m k)) in
     record {
       counted = omega arith;
       here = n;
-      kept = ap length e ∙ length-sets out (58 + 4 * k) (littleBytes 4 (getD m (place .word) 0)) ∙ w .kept;
+      kept = ap length e ∙ length-sets out (58 + 4 * k) (littleBytes 4 (getD m (cell .word) 0)) ∙ w .kept;
       left = rw (e, word, at) (run-append out (littleBytes 4 (wordOf l m k)) rest (58 + 4 * k)
           ∙ ap (λ (ws : List ℕ). sets out (58 + 4 * k) (wordBytes ws)) (sym (listed-next (wordOf l m) k (l .channels * l .samples) h)) ∙ w .left);
     }
 
-pub writing-ends : (l : Layout) (m out₀ out : List ℕ) (place : Place) (k : ℕ) → Writing l m out₀ out place k → l .channels * l .samples ≤ k
+pub writing-ends : (l : Layout) (m out₀ out : List ℕ) (cell : Cell) (k : ℕ) → Writing l m out₀ out cell k → l .channels * l .samples ≤ k
     → out ≡ sets out₀ 58 (wordBytes (framesOf l m))
 unfolding wordBytes listed
-writing-ends l m out₀ out place k w h =
+writing-ends l m out₀ out cell k w h =
     let none : l .channels * l .samples - k ≡ 0 = omega arith in
     rw none at (w .left)
 
@@ -115,49 +115,49 @@ module _ (l : Layout) (g : ℕ → ℕ) (m : List ℕ) where
 
   -- one word more
   module _ (k : ℕ) (fits : Fits l (length m)) (h : k < l .channels * l .samples) where
-    here-at : elementAt l g m (k + 1) (placeAt l k .word) ≡ g k
+    here-at : elementAt l g m (k + 1) (cellAt l k .word) ≡ g k
     here-at =
-        let known = number-of-place l (length m) k fits h in
+        let known = number-of-cell l (length m) k fits h in
         rw (known .0, known .1, lt-ltb k (k + 1) (omega arith))
 
-    else-at : (x : ℕ) (t : Bool) → recorded l x ≡ t → (x ≡ placeAt l k .word → ⊥)
+    else-at : (x : ℕ) (t : Bool) → recorded l x ≡ t → (x ≡ cellAt l k .word → ⊥)
         → cond (t && ltb (numberAt l x) (k + 1)) (g (numberAt l x)) (getD m x 0) ≡ cond (t && ltb (numberAt l x) k) (g (numberAt l x)) (getD m x 0)
     else-at x true e other =
-        let differs : (numberAt l x ≡ k → ⊥) = λ same. other (sym (place-of-number l x e) ∙ ap (λ (n : ℕ). placeAt l n .word) same) in
+        let differs : (numberAt l x ≡ k → ⊥) = λ same. other (sym (cell-of-number l x e) ∙ ap (λ (n : ℕ). cellAt l n .word) same) in
         rw (next-test (numberAt l x) k differs)
     else-at x false e other = refl
 
-    pub stored-next : set (storedTo k) (placeAt l k .word) (g k) ≡ storedTo (k + 1)
+    pub stored-next : set (storedTo k) (cellAt l k .word) (g k) ≡ storedTo (k + 1)
     stored-next =
-        ext-getD 0 (set (storedTo k) (placeAt l k .word) (g k)) (storedTo (k + 1))
-        (length-set (storedTo k) (placeAt l k .word) (g k) ∙ length-stored k ∙ sym (length-stored (k + 1)))
-        (λ x less. go x (omega (arith, length-set (storedTo k) (placeAt l k .word) (g k), length-stored k)) (eqb x (placeAt l k .word)) refl)
+        ext-getD 0 (set (storedTo k) (cellAt l k .word) (g k)) (storedTo (k + 1))
+        (length-set (storedTo k) (cellAt l k .word) (g k) ∙ length-stored k ∙ sym (length-stored (k + 1)))
+        (λ x less. go x (omega (arith, length-set (storedTo k) (cellAt l k .word) (g k), length-stored k)) (eqb x (cellAt l k .word)) refl)
       where
-        go : (x : ℕ) → x < length m → (t : Bool) → eqb x (placeAt l k .word) ≡ t → getD (set (storedTo k) (placeAt l k .word) (g k)) x 0 ≡ getD (storedTo (k + 1)) x 0
+        go : (x : ℕ) → x < length m → (t : Bool) → eqb x (cellAt l k .word) ≡ t → getD (set (storedTo k) (cellAt l k .word) (g k)) x 0 ≡ getD (storedTo (k + 1)) x 0
         go x less true e =
-            let same : x ≡ placeAt l k .word = eqb-true _ _ e in
-            rw same (getD-set-same (storedTo k) (placeAt l k .word) (g k) 0 (omega (arith, length-stored k))
-            ∙ sym (stored-at (k + 1) (placeAt l k .word) (omega arith) ∙ here-at))
+            let same : x ≡ cellAt l k .word = eqb-true _ _ e in
+            rw same (getD-set-same (storedTo k) (cellAt l k .word) (g k) 0 (omega (arith, length-stored k))
+            ∙ sym (stored-at (k + 1) (cellAt l k .word) (omega arith) ∙ here-at))
         go x less false e =
-            getD-set-other (storedTo k) (placeAt l k .word) x (g k) 0 (eqb-false _ _ e)
+            getD-set-other (storedTo k) (cellAt l k .word) x (g k) 0 (eqb-false _ _ e)
             ∙ stored-at k x less ∙ sym (else-at x (recorded l x) refl (eqb-false _ _ e)) ∙ sym (stored-at (k + 1) x less)
 
-pub record Storing (l : Layout) (g : ℕ → ℕ) (m₀ : List ℕ) (m : List ℕ) (place : Place) (k : ℕ) : Type 0 where
+pub record Storing (l : Layout) (g : ℕ → ℕ) (m₀ : List ℕ) (m : List ℕ) (cell : Cell) (k : ℕ) : Type 0 where
   pub counted : k ≤ l .channels * l .samples
-  pub here : place ≡ placeAt l k
+  pub here : cell ≡ cellAt l k
   pub stored : m ≡ storedTo l g m₀ k
 
 module _ (l : Layout) (g : ℕ → ℕ) (m₀ : List ℕ) where
   pub storing-begins : Storing l g m₀ m₀ (record { channel = 0; sample = 0; word = 0 }) 0
-  storing-begins = record { counted = omega arith; here = place-begins l; stored = stored-none l g m₀ }
+  storing-begins = record { counted = omega arith; here = cell-begins l; stored = stored-none l g m₀ }
 
-  pub storing-keeps : (m : List ℕ) (place : Place) (k : ℕ) → Storing l g m₀ m place k → length m ≡ length m₀
-  storing-keeps m place k s = ap length (s .stored) ∙ length-stored l g m₀ k
+  pub storing-keeps : (m : List ℕ) (cell : Cell) (k : ℕ) → Storing l g m₀ m cell k → length m ≡ length m₀
+  storing-keeps m cell k s = ap length (s .stored) ∙ length-stored l g m₀ k
 
-  pub storing-goes : (m : List ℕ) (place : Place) (k : ℕ) (next : Place) (word : ℕ) → Storing l g m₀ m place k → Fits l (length m₀) → k < l .channels * l .samples
-      → word ≡ g k → next ≡ placeAt l (k + 1) → Storing l g m₀ (set m (place .word) word) next (k + 1)
-  storing-goes m place k next word s fits h e n =
+  pub storing-goes : (m : List ℕ) (cell : Cell) (k : ℕ) (next : Cell) (word : ℕ) → Storing l g m₀ m cell k → Fits l (length m₀) → k < l .channels * l .samples
+      → word ≡ g k → next ≡ cellAt l (k + 1) → Storing l g m₀ (set m (cell .word) word) next (k + 1)
+  storing-goes m cell k next word s fits h e n =
       record { counted = omega arith; here = n; stored = rw (e, s .here, s .stored) (stored-next l g m₀ k fits h) }
 
-  pub storing-ends : (m : List ℕ) (place : Place) (k : ℕ) → Storing l g m₀ m place k → l .channels * l .samples ≤ k → m ≡ storedOf l g m₀
-  storing-ends m place k s h = s .stored ∙ stored-all l g m₀ k h
+  pub storing-ends : (m : List ℕ) (cell : Cell) (k : ℕ) → Storing l g m₀ m cell k → l .channels * l .samples ≤ k → m ≡ storedOf l g m₀
+  storing-ends m cell k s h = s .stored ∙ stored-all l g m₀ k h

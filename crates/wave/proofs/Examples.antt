@@ -9,14 +9,14 @@ use Rattle.octets.specs.Octets.{bytesAt, littleOf, littleBytes}
 use Rattle.octets.proofs.Hex.{digitsOf, pairs, fromHex}
 use Rattle.wave.specs.Fields.{twoAt, fourAt, riffId, waveId, formatId, factId, dataId, wordBytes, listed}
 use Rattle.wave.specs.Files.{formatOf, riffRow, formatRow, factRow, dataRow, headerOf, fileOf}
-use Rattle.wave.specs.Reader.{paddedAt, metOf, chunkAt, walkFrom, walkOf, goodRiff, goodFormat, goodFact, countedOf, judgedAt, judgedOf, numberOf, Read, readOf}
-use Rattle.wave.specs.Reader.Read.{is, refused}
-use Rattle.wave.specs.Memory.{fitsMemory, placeAt, framesOf, recorded, numberAt, storedOf, fitsFile, writes, writtenOf, outputOf, loads, loadedOf}
+use Rattle.wave.specs.Reader.{paddedAt, metOf, chunkAt, walkFrom, walkOf, goodRiff, goodFormat, goodFact, countedOf, judgedAt, judgedOf, numberOf, Reading, readOf}
+use Rattle.wave.specs.Reader.Reading.{is, refused}
+use Rattle.wave.specs.Memory.{fitsMemory, cellAt, framesOf, recorded, numberAt, storedOf, fitsFile, writes, writtenOf, outputOf, loads, loadedOf}
 use Rattle.wave.specs.declared.Layout.{Layout}
 
 -- whatever an answer computes by
 computing : Unit {0}
-unfolding fromHex pairs digitsOf bytesAt littleOf littleBytes twoAt fourAt wordBytes listed formatOf riffRow formatRow factRow dataRow headerOf paddedAt metOf chunkAt walkFrom walkOf goodRiff goodFormat goodFact countedOf judgedAt judgedOf numberOf readOf fitsMemory placeAt framesOf recorded numberAt storedOf fitsFile writes writtenOf outputOf loads loadedOf
+unfolding fromHex pairs digitsOf bytesAt littleOf littleBytes twoAt fourAt wordBytes listed formatOf riffRow formatRow factRow dataRow headerOf paddedAt metOf chunkAt walkFrom walkOf goodRiff goodFormat goodFact countedOf judgedAt judgedOf numberOf readOf fitsMemory cellAt framesOf recorded numberAt storedOf fitsFile writes writtenOf outputOf loads loadedOf
 computing = tt
 
 -- the ids are their letters
@@ -35,16 +35,16 @@ wave chunks = riff (fromHex chunks)
 
 record Row : Type 0 where
   file : List ℕ
-  answer : Read
+  answer : Reading
 
-row : List ℕ → Read → Row
+row : List ℕ → Reading → Row
 row f a = record { file = f; answer = a }
 
 abbrev holds : List Row → Type 0
 holds rows = map (λ (r : Row). readOf (r .file)) rows ≡ map (λ (r : Row). r .answer) rows
 
 -- one channel at 44,100, two samples: 1 and a NaN with a payload
-abbrev two : Read
+abbrev two : Reading
 two = is 44100 1 (0x3F800000 ∷ 0x7FC00001 ∷ [])
 
 -- ---- chunks: `fact` missing, before, between and behind; others with a pad byte of any value; one `fmt `, one `data`, at most one `fact`, `fmt ` before `data`
@@ -75,7 +75,7 @@ chunks-hold = refl
 abbrev good : String
 good = "666D7420 12000000 0300 0200 44AC0000 20620500 0800 2000 0000 66616374 04000000 01000000 64617461 08000000 0000803F 0100C07F"
 
-abbrev stereo : Read
+abbrev stereo : Reading
 stereo = is 44100 2 (0x3F800000 ∷ 0x7FC00001 ∷ [])
 
 sizes : List Row

@@ -10,7 +10,7 @@ use lib.Seq.{append-snoc}
 use borrow.Author.Tests.{eqb-true, eqb-false, leb-true, ltb-false, eq-eqb, ne-eqb}
 use Rattle.octets.specs.Octets.{Bytes}
 use Rattle.wave.specs.Fields.{fourAt, formatId, factId, dataId}
-use Rattle.wave.specs.Reader.{paddedAt, missing, metOf, onward, chunkAt, walkFrom}
+use Rattle.wave.specs.Reader.{paddedAt, missing, metOf, andThen, chunkAt, walkFrom}
 use Rattle.wave.specs.Grammar.{Chunk, chunkBytes, Chunks}
 use Rattle.wave.specs.Grammar.Chunks.{none, main, fact, other}
 use Rattle.wave.specs.declared.chunks.Places.{Places}
@@ -120,7 +120,7 @@ module _ (f : List ℕ) (at : ℕ) (p q : Places) (mains facts : List Chunk) (by
   back : (ms fs : List Chunk) → Chunks (chunkBytes (chunkOf f at) ++ drop (at + 8 + paddedAt f at) f) ms fs → Chunks (drop at f) ms fs
   back ms fs t = rw (chunk-behind f at bytes whole) t
 
-  step-tiled : (m : Met) → Case (fourAt f at) at p m → onward m behind ≡ Is q → Tiled f at q mains facts
+  step-tiled : (m : Met) → Case (fourAt f at) at p m → andThen m behind ≡ Is q → Tiled f at q mains facts
   step-tiled _ (is-format e z) r =
       let t = again (formatAt at p) (mains ++ (chunkOf f at ∷ [])) facts (record {
         mains-held = more-format f at (chunkOf f at) (p .format) (p .words) mains (held .mains-held) z (record { some = some; named = e; stands = stands });

@@ -10,7 +10,7 @@ use lib.ListN.{length}
 use borrow.Author.Tests.{eqb-true, leb-true, ltb-false, eq-eqb, ne-eqb}
 use Rattle.walks.proofs.Lists.Every.{both as and-both}
 use Rattle.wave.specs.Fields.{twoAt, fourAt, riffId, waveId, formatId, factId, dataId}
-use Rattle.wave.specs.Reader.{paddedAt, nowhere, missing, metOf, onward, chunkAt, walkFrom, walkOf, goodRiff, channelsAt, goodFormat, goodFact, countedOf, judgedAt, judgedIn, judgedOf}
+use Rattle.wave.specs.Reader.{paddedAt, nowhere, missing, metOf, andThen, chunkAt, walkFrom, walkOf, goodRiff, channelsAt, goodFormat, goodFact, countedOf, judgedAt, judgedIn, judgedOf}
 use Rattle.wave.specs.declared.chunks.Places.{Places}
 use Rattle.wave.specs.declared.chunks.Met.{Met}
 use Rattle.wave.specs.declared.chunks.Met.the-variants as met
@@ -109,7 +109,7 @@ meet-within f id at p h k =
     (λ _. both (Within f) (missing (p .fact)) _ _ (λ _. (k .0, k .1, omega arith)) (λ _. tt))
     (λ _. k)))
 
-on-within : (f : List ℕ) (m : Met) (behind : Places → Met) → Within f m → ((q : Places) → Within f (met.Is q) → Within f (behind q)) → Within f (onward m behind)
+on-within : (f : List ℕ) (m : Met) (behind : Places → Met) → Within f m → ((q : Places) → Within f (met.Is q) → Within f (behind q)) → Within f (andThen m behind)
 on-within f (met.Is q) behind h k = k q h
 on-within f met.Refused behind h k = tt
 

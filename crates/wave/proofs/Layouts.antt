@@ -8,9 +8,9 @@ use lib.Dec.{ltb, leb}
 use borrow.Author.Tests.{ltb-true, leb-true, leb-false, lt-ltb, le-ltb, le-leb, lt-leb}
 use Rattle.walks.proofs.Tests.{joined}
 use Rattle.walks.proofs.Lists.Every.{both as and-both}
-use Rattle.wave.specs.Memory.{fitsMemory, placeAt, recorded, numberAt, bytesOf, fitsFile}
+use Rattle.wave.specs.Memory.{fitsMemory, cellAt, recorded, numberAt, bytesOf, fitsFile}
 use Rattle.wave.specs.declared.Layout.{Layout}
-use Rattle.wave.specs.declared.words.Place.{Place}
+use Rattle.wave.specs.declared.words.Cell.{Cell}
 
 -- ---- tests
 pub off : (t : Bool) → (t && false) ≡ false
@@ -60,21 +60,21 @@ parted c i j h =
     (mul-add-mod-self-right i c j ∙ mod-eq-of-lt h, mul-add-div-right {m = c} (omega arith) i j ∙ ap (λ (n : ℕ). i + n) (div-eq-of-lt h) ∙ add-zero i)
 
 -- ---- the next word
-module _ (l : Layout) (p : Place) (k : ℕ) (is : p ≡ placeAt l k) (some : 0 < l .channels) where
+module _ (l : Layout) (p : Cell) (k : ℕ) (is : p ≡ cellAt l k) (some : 0 < l .channels) where
   channel-is : p .channel ≡ k % l .channels
-  unfolding placeAt
-  channel-is = ap (λ (x : Place). x .channel) is
+  unfolding cellAt
+  channel-is = ap (λ (x : Cell). x .channel) is
 
   sample-is : p .sample ≡ k / l .channels
-  unfolding placeAt
-  sample-is = ap (λ (x : Place). x .sample) is
+  unfolding cellAt
+  sample-is = ap (λ (x : Cell). x .sample) is
 
   word-is : p .word ≡ k % l .channels * l .capacity + k / l .channels
-  unfolding placeAt
-  word-is = ap (λ (x : Place). x .word) is
+  unfolding cellAt
+  word-is = ap (λ (x : Cell). x .word) is
 
-  pub next-turns : p .channel + 1 ≡ l .channels → record { channel = 0; sample = p .sample + 1; word = p .sample + 1 } ≡ placeAt l (k + 1)
-  unfolding placeAt
+  pub next-turns : p .channel + 1 ≡ l .channels → record { channel = 0; sample = p .sample + 1; word = p .sample + 1 } ≡ cellAt l (k + 1)
+  unfolding cellAt
   next-turns e =
       let made : k + 1 ≡ (k / l .channels + 1) * l .channels + 0 =
       omega (arith, div-add-mod' k (l .channels), add-mul (k / l .channels) 1 (l .channels), channel-is) in
@@ -82,8 +82,8 @@ module _ (l : Layout) (p : Place) (k : ℕ) (is : p ≡ placeAt l k) (some : 0 <
       rw (sample-is, made, known .0, known .1, zero-mul, zero-add)
 
   pub next-stays : (p .channel + 1 ≡ l .channels → ⊥)
-      → record { channel = p .channel + 1; sample = p .sample; word = p .word + l .capacity } ≡ placeAt l (k + 1)
-  unfolding placeAt
+      → record { channel = p .channel + 1; sample = p .sample; word = p .word + l .capacity } ≡ cellAt l (k + 1)
+  unfolding cellAt
   next-stays e =
       let less : k % l .channels + 1 < l .channels = omega (arith, mod-lt k some, channel-is) in
       let made : k + 1 ≡ k / l .channels * l .channels + (k % l .channels + 1) = omega (arith, div-add-mod' k (l .channels)) in
@@ -92,20 +92,20 @@ module _ (l : Layout) (p : Place) (k : ℕ) (is : p ≡ placeAt l k) (some : 0 <
       omega (arith, add-mul (k % l .channels) 1 (l .capacity)) in
       rw (channel-is, sample-is, word-is, moved, made, known .0, known .1)
 
-pub place-begins : (l : Layout) → record { channel = 0; sample = 0; word = 0 } ≡ placeAt l 0
-unfolding placeAt
-place-begins l = rw (zero-mod, zero-div, zero-mul)
+pub cell-begins : (l : Layout) → record { channel = 0; sample = 0; word = 0 } ≡ cellAt l 0
+unfolding cellAt
+cell-begins l = rw (zero-mod, zero-div, zero-mul)
 
 -- ---- a word of a recording stands in the memory
 pub record Inside (l : Layout) (size k : ℕ) : Type 0 where
-  pub channel-inside : placeAt l k .channel < l .channels
+  pub channel-inside : cellAt l k .channel < l .channels
   pub channels-inside : l .channels ≤ size
   pub capacity-inside : l .capacity ≤ size
-  pub sample-inside : placeAt l k .sample < l .samples
-  pub word-inside : placeAt l k .word < size
+  pub sample-inside : cellAt l k .sample < l .samples
+  pub word-inside : cellAt l k .word < size
 
 pub inside : (l : Layout) (size k : ℕ) → Fits l size → k < l .channels * l .samples → Inside l size k
-unfolding placeAt
+unfolding cellAt
 inside l size k fits h =
     let some : 0 < l .channels = fits .some in
     let part = fits .part in
@@ -127,14 +127,14 @@ inside l size k fits h =
 pub count-inside : (l : Layout) (size : ℕ) → Fits l size → l .channels * l .samples ≤ size
 count-inside l size fits = le-trans (mul-le-mul-left (l .channels) (fits .part)) (fits .parts)
 
--- so that the next place is a number that the machine has
-pub place-small : (l : Layout) (size k : ℕ) (p : Place) → Fits l size → k < l .channels * l .samples → p ≡ placeAt l k → size < 2 ^ 63
+-- so that the next cell is a number that the machine has
+pub cell-small : (l : Layout) (size k : ℕ) (p : Cell) → Fits l size → k < l .channels * l .samples → p ≡ cellAt l k → size < 2 ^ 63
     → ((0 < l .channels) × (l .capacity < 2 ^ 63)) × ((p .channel < 2 ^ 63) × (p .sample < 2 ^ 63) × (p .word < 2 ^ 63))
-place-small l size k p fits h e small =
+cell-small l size k p fits h e small =
     let there = inside l size k fits h in
-    let channel = ap (λ (x : Place). x .channel) e in
-    let sample = ap (λ (x : Place). x .sample) e in
-    let word = ap (λ (x : Place). x .word) e in (
+    let channel = ap (λ (x : Cell). x .channel) e in
+    let sample = ap (λ (x : Cell). x .sample) e in
+    let word = ap (λ (x : Cell). x .word) e in (
       (fits .some, omega (arith, there .capacity-inside)),
       (
         omega (arith, there .channel-inside, there .channels-inside),
@@ -149,11 +149,11 @@ frame-below channels samples i j h k =
     let far : (i + 1) * channels ≤ samples * channels = mul-le-mul-right {m = i + 1} {n = samples} channels (omega arith) in
     omega (arith, add-mul i 1 channels, mul-comm samples channels)
 
--- ---- a word's place, and the number of the word at a place
-pub number-of-place : (l : Layout) (size k : ℕ) → Fits l size → k < l .channels * l .samples
-    → (recorded l (placeAt l k .word) ≡ true) × (numberAt l (placeAt l k .word) ≡ k)
-unfolding recorded numberAt placeAt
-number-of-place l size k fits h =
+-- ---- a word's cell, and the number of the word at a cell
+pub number-of-cell : (l : Layout) (size k : ℕ) → Fits l size → k < l .channels * l .samples
+    → (recorded l (cellAt l k .word) ≡ true) × (numberAt l (cellAt l k .word) ≡ k)
+unfolding recorded numberAt cellAt
+number-of-cell l size k fits h =
     let there = inside l size k fits h in
     let sample = there .sample-inside in
     let part = fits .part in
@@ -169,9 +169,9 @@ module _ (l : Layout) (x : ℕ) (known : recorded l x ≡ true) where
   unfolding recorded
   sample-below = ltb-true _ _ (and-both (ltb (x / l .capacity) (l .channels)) _ known .1)
 
-  pub place-of-number : placeAt l (numberAt l x) .word ≡ x
-  unfolding numberAt placeAt
-  place-of-number =
+  pub cell-of-number : cellAt l (numberAt l x) .word ≡ x
+  unfolding numberAt cellAt
+  cell-of-number =
       let is = parted (l .channels) (x % l .capacity) (x / l .capacity) channel-below in
       rw (is .0, is .1) (div-add-mod' x (l .capacity))
 

@@ -4,7 +4,7 @@ pub mod Judgements
 pub mod Standing
 pub mod Tiles
 pub mod Held
-pub mod Reading
+pub mod Answers
 pub mod Layouts
 pub mod Copies
 pub mod Rows

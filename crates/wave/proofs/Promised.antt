@@ -18,16 +18,16 @@ use Rattle.wave.specs.Files.{formatOf, riffRow, formatRow, factRow, data
 use Rattle.wave.specs.Reader.{judgedOf, numberOf, wordAt}
 use Rattle.wave.specs.Grammar.{Chunk, Whole, chunkBytes, IsWave}
 use Rattle.wave.specs.Grammar.Chunks.{none, main, fact}
-use Rattle.wave.specs.Memory.{fitsMemory, placeAt, framesOf, recorded, numberAt, storedOf, bytesOf, fitsFile, writes, writtenOf, outputOf, layoutOf, loadsIn, loads, loadedIn, loadedOf}
+use Rattle.wave.specs.Memory.{fitsMemory, cellAt, framesOf, recorded, numberAt, storedOf, bytesOf, fitsFile, writes, writtenOf, outputOf, layoutOf, loadsIn, loads, loadedIn, loadedOf}
 use Rattle.wave.specs.Promised.{Sized, channelOf, partAt, Promised}
 use Rattle.wave.specs.declared.Layout.{Layout}
 use Rattle.wave.specs.declared.Wave.{Wave}
 use Rattle.wave.specs.declared.Judged.{Judged}
 use Rattle.wave.specs.declared.Judged.the-variants.{Is, Refused}
 use Rattle.wave.proofs.Standing.{length-words, Word, length-listed, words-stand}
-use Rattle.wave.proofs.Layouts.{parted, frame-below, Fits, fits-true, file-true, inside, number-below, place-of-number}
+use Rattle.wave.proofs.Layouts.{parted, frame-below, Fits, fits-true, file-true, inside, number-below, cell-of-number}
 use Rattle.wave.proofs.Copies.{getD-listed, listed-same}
-use Rattle.wave.proofs.Reading.{length-format, good-known, good-answer, answered}
+use Rattle.wave.proofs.Answers.{length-format, good-known, good-answer, answered}
 use Rattle.wave.proofs.Calls.{length-file, length-frames, load-short, load-done}
 use Rattle.wave.proofs.Rows.{length-header}
 
@@ -107,10 +107,10 @@ module _ (rate channels samples : ℕ) (words : List ℕ) (s : Sized rate channe
       ap (λ (i : ℕ). fourAt (fileOf rate channels samples words) (58 + 4 * i)) (sym (zero-add k)) ∙ sym at ∙ ap (λ (l : List ℕ). getD l k 0) read
 
 frame-at : (l : Layout) (m : List ℕ) (i j : ℕ) → i < l .samples → j < l .channels → getD (framesOf l m) (i * l .channels + j) 0 ≡ getD m (j * l .capacity + i) 0
-unfolding framesOf placeAt
+unfolding framesOf cellAt
 frame-at l m i j h k =
     let known = parted (l .channels) i j k in
-    getD-listed (λ (n : ℕ). getD m (placeAt l n .word) 0) 0 (l .channels * l .samples) (i * l .channels + j) (frame-below (l .channels) (l .samples) i j h k)
+    getD-listed (λ (n : ℕ). getD m (cellAt l n .word) 0) 0 (l .channels * l .samples) (i * l .channels + j) (frame-below (l .channels) (l .samples) i j h k)
     ∙ rw (zero-add (i * l .channels + j), known .0, known .1)
 
 -- ---- a part of a memory afterwards
@@ -179,7 +179,7 @@ module _ (l : Layout) (g : ℕ → ℕ) (m : List ℕ) (fits : Fits l (length m)
   outside : (x : ℕ) (t : Bool) → recorded l x ≡ t → l .channels * l .capacity ≤ x → cond t (g (numberAt l x)) (getD m x 0) ≡ getD m x 0
   outside x true e h =
       let room : Fits l (l .channels * l .capacity) = record { some = fits .some; part = fits .part; parts = le-refl _ } in
-      absurd (omega (arith, inside l (l .channels * l .capacity) (numberAt l x) room (number-below l x e) .word-inside, place-of-number l x e))
+      absurd (omega (arith, inside l (l .channels * l .capacity) (numberAt l x) room (number-below l x e) .word-inside, cell-of-number l x e))
   outside x false e h = refl
 
   stored-rest : drop (l .channels * l .capacity) (storedOf l g m) ≡ drop (l .channels * l .capacity) m
@@ -277,7 +277,7 @@ module _ (rate : ℕ) (l : Layout) (m m₁ : List ℕ) (small : rate < 2 ^ 32) (
         block-fits = sizes .channels-fit;
         size-fits = omega arith;
         whole-frames = length-frames l m;
-        words-fit = listed-each Word _ 0 (l .channels * l .samples) (λ k. word-fits m (placeAt l k .word) words);
+        words-fit = listed-each Word _ 0 (l .channels * l .samples) (λ k. word-fits m (cellAt l k .word) words);
       }
 
   there-and-back : (j : ℕ) → j < l .channels

@@ -6,7 +6,7 @@ use native.Mathlib.Omega.{arith}
 use lib.ListN.{length}
 use borrow.Author.Tests.{lt-ltb, le-ltb, le-leb, lt-leb}
 use Rattle.wave.specs.Fields.{fourAt}
-use Rattle.wave.specs.Reader.{paddedAt, metOf, onward, chunkAt, walkFrom}
+use Rattle.wave.specs.Reader.{paddedAt, metOf, andThen, chunkAt, walkFrom}
 use Rattle.wave.specs.declared.chunks.Places.{Places}
 use Rattle.wave.specs.declared.chunks.Met.{Met}
 use Rattle.wave.specs.declared.chunks.Met.the-variants.{Is, Refused}
@@ -40,7 +40,7 @@ module _ (n : ℕ) (f : List ℕ) (at : ℕ) (p : Places) (some : at < length f)
       walk-on ∙ simp (lt-leb _ _ some, le-ltb _ _ long, lt-ltb _ _ cut)
 
   pub walk-next : 8 ≤ length f - at → paddedAt f at ≤ length f - at - 8 → (m : Met) → metOf (fourAt f at) at p ≡ m
-      → walkFrom n f at p ≡ onward m (walkFrom (pred n) f (at + 8 + paddedAt f at))
+      → walkFrom n f at p ≡ andThen m (walkFrom (pred n) f (at + 8 + paddedAt f at))
   unfolding chunkAt
   walk-next h k m e =
       let long : at + 8 ≤ length f = omega arith in

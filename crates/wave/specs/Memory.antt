@@ -9,7 +9,7 @@ use Rattle.wave.specs.Fields.{listed}
 use Rattle.wave.specs.Files.{fileOf}
 use Rattle.wave.specs.Reader.{wordAt, judgedOf}
 use Rattle.wave.specs.declared.Layout.{Layout}
-use Rattle.wave.specs.declared.words.Place.{Place}
+use Rattle.wave.specs.declared.words.Cell.{Cell}
 use Rattle.wave.specs.declared.Wave.{Wave}
 use Rattle.wave.specs.declared.Judged.{Judged}
 use Rattle.wave.specs.declared.Judged.the-variants.{Is, Refused}
@@ -21,8 +21,8 @@ fitsMemory l size =
 
 -- ---- the k-th word of a file: channel k mod channels, sample k / channels
 
-unfoldable pub placeAt : Layout → ℕ → Place
-placeAt l k = record {
+unfoldable pub cellAt : Layout → ℕ → Cell
+cellAt l k = record {
   channel = k % l .channels;
   sample = k / l .channels;
   word = k % l .channels * l .capacity + k / l .channels;
@@ -30,7 +30,7 @@ placeAt l k = record {
 
 -- the words of a memory, frame by frame
 unfoldable pub framesOf : Layout → List ℕ → List ℕ
-framesOf l m = listed (λ (k : ℕ). getD m (placeAt l k .word) 0) 0 (l .channels * l .samples)
+framesOf l m = listed (λ (k : ℕ). getD m (cellAt l k .word) 0) 0 (l .channels * l .samples)
 
 -- ---- the word at place x of a memory: channel x / capacity, sample x mod capacity
 

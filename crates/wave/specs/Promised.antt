@@ -11,7 +11,7 @@ use Rattle.octets.specs.Octets.{Bytes}
 use Rattle.wave.specs.Fields.{fourAt, listed}
 use Rattle.wave.specs.Files.{fileOf}
 use Rattle.wave.specs.Reader.{judgedOf, numberOf, readOf, wordAt}
-use Rattle.wave.specs.Reader.Read.{is}
+use Rattle.wave.specs.Reader.Reading.{is}
 use Rattle.wave.specs.Grammar.{IsWave}
 use Rattle.wave.specs.Memory.{fitsMemory, framesOf, fitsFile, writtenOf, outputOf, layoutOf, loads, loadedOf}
 use Rattle.wave.specs.declared.Layout.{Layout}

@@ -38,9 +38,9 @@ metOf id at p =
     (cond (missing (p .fact)) (met.Is (record { format = p .format; words = p .words; fact = at })) met.Refused)
     (met.Is p)))
 
-abbrev pub onward : Met → (Places → Met) → Met
-onward (met.Is p) behind = behind p
-onward met.Refused behind = met.Refused
+abbrev pub andThen : Met → (Places → Met) → Met
+andThen (met.Is p) behind = behind p
+andThen met.Refused behind = met.Refused
 
 -- the chunk at a place, whole, and what is met behind it
 unfoldable pub chunkAt : List ℕ → ℕ → Places → (ℕ → Places → Met) → Met
@@ -48,7 +48,7 @@ chunkAt f at p behind =
     cond (leb (length f) at) (met.Is p)
     (cond (ltb (length f) (at + 8)) met.Refused
     (cond (ltb (length f) (at + 8 + paddedAt f at)) met.Refused
-    (onward (metOf (fourAt f at) at p) (behind (at + 8 + paddedAt f at)))))
+    (andThen (metOf (fourAt f at) at p) (behind (at + 8 + paddedAt f at)))))
 
 -- in n steps at most
 unfoldable pub walkFrom : ℕ → List ℕ → ℕ → Places → Met
@@ -110,17 +110,17 @@ numberOf (Is w) = 0
 numberOf Refused = 17
 
 -- ---- the rate, the number of channels and the words of all channels, frame by frame
-pub data Read : Type 0 where
-  is : ℕ → ℕ → List ℕ → Read
-  refused : Read
+pub data Reading : Type 0 where
+  is : ℕ → ℕ → List ℕ → Reading
+  refused : Reading
 
 -- the word of a number
 abbrev pub wordAt : List ℕ → Wave → ℕ → ℕ
 wordAt f w k = fourAt f (w .first + 4 * k)
 
-abbrev pub readIn : List ℕ → Judged → Read
-readIn f (Is w) = Read.is (w .rate) (w .channels) (listed (wordAt f w) 0 (w .channels * w .samples))
-readIn f Refused = Read.refused
+abbrev pub readIn : List ℕ → Judged → Reading
+readIn f (Is w) = Reading.is (w .rate) (w .channels) (listed (wordAt f w) 0 (w .channels * w .samples))
+readIn f Refused = Reading.refused
 
-unfoldable pub readOf : List ℕ → Read
+unfoldable pub readOf : List ℕ → Reading
 readOf f = readIn f (judgedOf f)

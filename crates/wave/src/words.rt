@@ -6,13 +6,13 @@ ghost use Prim.Native.Nat.{ℕ, _+_, _*_, _^_, _≤_, _<_};
 ghost use lib.ListN.{length};
 ghost use lib.Seq.{sets};
 ghost use Rattle.wave.specs.Fields.{fourAt, wordBytes};
-ghost use Rattle.wave.specs.Memory.{fitsMemory, placeAt, framesOf, storedOf};
+ghost use Rattle.wave.specs.Memory.{fitsMemory, cellAt, framesOf, storedOf};
 use crate::Layout;
 use crate::fields::put_four;
 use octets::little_four;
 
 // A word of a file: its channel, its sample, and where it stands in a memory.
-pub struct Place {
+pub struct Cell {
     pub channel: usize,
     pub sample: usize,
     pub word: usize,
@@ -30,20 +30,20 @@ pub fn fits_memory(l: Layout, size: usize) -> bool
     l.capacity <= size / l.channels
 }
 
-// The place of the next word of a file.
-fn next(l: Layout, p: Place) -> Place
+// The cell of the next word of a file.
+fn next(l: Layout, p: Cell) -> Cell
     requires { ⌜ (0 < l .channels) × (l .capacity < 2 ^ 63) ⌝ }
     requires { ⌜ (p .channel < 2 ^ 63) × (p .sample < 2 ^ 63) × (p .word < 2 ^ 63) ⌝ }
-    ensures { λ r. ⌜ ((k : ℕ) → p ≡ placeAt l k → r ≡ placeAt l (k + 1)) ⌝ }
+    ensures { λ r. ⌜ ((k : ℕ) → p ≡ cellAt l k → r ≡ cellAt l (k + 1)) ⌝ }
 {
     if p.channel + 1 == l.channels {
-        Place {
+        Cell {
             channel: 0,
             sample: p.sample + 1,
             word: p.sample + 1,
         }
     } else {
-        Place {
+        Cell {
             channel: p.channel + 1,
             sample: p.sample,
             word: p.word + l.capacity,
@@ -58,16 +58,16 @@ pub fn put_words(l: Layout, memory: &[u32], out: &mut [u8])
     ensures { λ _. ⌜ now (out .exit) ≡ sets (now (out .entry)) 58 (wordBytes (framesOf l (now (memory .entry)))) ⌝ }
 {
     let count = l.channels * l.samples;
-    let mut place = Place {
+    let mut cell = Cell {
         channel: 0,
         sample: 0,
         word: 0,
     };
     let mut k: usize = 0;
     while k < count {
-        let from = place.word;
+        let from = cell.word;
         put_four(out, 58 + 4 * k, memory[from]);
-        place = next(l, place);
+        cell = next(l, cell);
         k += 1;
     }
 }
@@ -80,7 +80,7 @@ pub fn take_words(file: &[u8], first: usize, l: Layout, memory: &mut [u32])
         ≡ storedOf l (λ (k : ℕ). fourAt (now (file .entry)) (first + 4 * k)) (now (memory .entry)) ⌝ }
 {
     let count = l.channels * l.samples;
-    let mut place = Place {
+    let mut cell = Cell {
         channel: 0,
         sample: 0,
         word: 0,
@@ -88,9 +88,9 @@ pub fn take_words(file: &[u8], first: usize, l: Layout, memory: &mut [u32])
     let mut k: usize = 0;
     while k < count {
         let at = first + 4 * k;
-        let to = place.word;
+        let to = cell.word;
         memory[to] = little_four(file[at], file[at + 1], file[at + 2], file[at + 3]);
-        place = next(l, place);
+        cell = next(l, cell);
         k += 1;
     }
 }

@@ -1,6 +1,6 @@
 -- `load` meets its contract. Assumes nothing.
 use mathlib.Core.Path.{sym, _∙_}
-use Rattle.wave.proofs.Reading.{judged-inside}
+use Rattle.wave.proofs.Answers.{judged-inside}
 use Rattle.wave.proofs.Calls.{load-refused, load-short, load-done}
 use borrow.Author.Needs.{needs}
 use Rattle.wave.proofs.load.Statement.{statement}

@@ -2,17 +2,17 @@
 use mathlib.Core.Path.{ap}
 use Prim.Native.Nat.{_-_, _*_}
 use native.Mathlib.Omega.{arith}
-use Rattle.wave.specs.declared.words.Place.{Place}
-use Rattle.wave.proofs.Layouts.{fits-true, inside, count-inside, place-small}
+use Rattle.wave.specs.declared.words.Cell.{Cell}
+use Rattle.wave.proofs.Layouts.{fits-true, inside, count-inside, cell-small}
 use Rattle.wave.proofs.Copies.{Writing, writing-begins, writing-goes, writing-ends}
 use Rattle.wave.proofs.words.put_words.Statement.{statement}
 use Rattle.wave.proofs.words.put_words.Tie as tie
 
 abbrev Inv-loop : tie.InvT-loop
-Inv-loop l memory out₀ count place₀ k₀ out place k = Writing l memory out₀ out place k
+Inv-loop l memory out₀ count cell₀ k₀ out cell k = Writing l memory out₀ out cell k
 
 abbrev μ-loop : tie.MeasureT-loop
-μ-loop l memory out₀ count place₀ k₀ out place k = l .channels * l .samples - k
+μ-loop l memory out₀ count cell₀ k₀ out cell k = l .channels * l .samples - k
 
 mul-count : tie.Need-mul-count Inv-loop μ-loop
 mul-count c = let few = count-inside _ _ (fits-true _ _ (c .before .before .before .pre .0)) in omega arith
@@ -27,16 +27,16 @@ add-put-four : tie.Need-add-put-four Inv-loop μ-loop
 add-put-four c = let k = c .before .before .loop .inv .counted in omega arith
 
 mul-put-four-2 : tie.Need-mul-put-four-2 Inv-loop μ-loop
-mul-put-four-2 c = let there = inside _ _ _ (fits-true _ _ (c .before .before .before .before .before .before .pre .0)) (c .before .loop-test .taken) .word-inside in let here = ap (λ (p : Place). p .word) (c .before .before .loop .inv .here) in omega arith
+mul-put-four-2 c = let there = inside _ _ _ (fits-true _ _ (c .before .before .before .before .before .before .pre .0)) (c .before .loop-test .taken) .word-inside in let here = ap (λ (p : Cell). p .word) (c .before .before .loop .inv .here) in omega arith
 
 shared-slice-read-put-four : tie.Need-shared-slice-read-put-four Inv-loop μ-loop
-shared-slice-read-put-four c = let there = inside _ _ _ (fits-true _ _ (c .before .before .before .before .before .before .before .pre .0)) (c .before .before .loop-test .taken) .word-inside in let here = ap (λ (p : Place). p .word) (c .before .before .before .loop .inv .here) in omega arith
+shared-slice-read-put-four c = let there = inside _ _ _ (fits-true _ _ (c .before .before .before .before .before .before .before .pre .0)) (c .before .before .loop-test .taken) .word-inside in let here = ap (λ (p : Cell). p .word) (c .before .before .before .loop .inv .here) in omega arith
 
 put-four-requires : tie.Need-put-four-requires Inv-loop μ-loop
 put-four-requires c κs = let k = c .before .before .loop-test .taken in let kept = c .before .before .before .loop .inv .kept in omega arith
 
 next-requires : tie.Need-next-requires Inv-loop μ-loop
-next-requires c κs = place-small _ _ _ _ (fits-true _ _ (c .before .before .before .before .before .before .before .before .before .before .pre .0)) (c .before .before .before .before .before .loop-test .taken) (c .before .before .before .before .before .before .loop .inv .here) (omega arith)
+next-requires c κs = cell-small _ _ _ _ (fits-true _ _ (c .before .before .before .before .before .before .before .before .before .before .pre .0)) (c .before .before .before .before .before .loop-test .taken) (c .before .before .before .before .before .before .loop .inv .here) (omega arith)
 
 add-k : tie.Need-add-k Inv-loop μ-loop
 add-k c = omega arith

@@ -3,19 +3,19 @@ use mathlib.Core.Path.{ap, _∙_}
 use Prim.Native.Nat.{ℕ, _+_, _-_, _*_}
 use native.Mathlib.Omega.{arith}
 use Rattle.wave.specs.Fields.{fourAt}
-use Rattle.wave.specs.declared.words.Place.{Place}
+use Rattle.wave.specs.declared.words.Cell.{Cell}
 use Rattle.wave.proofs.Bytes.{four-is}
-use Rattle.wave.proofs.Layouts.{fits-true, inside, count-inside, place-small}
+use Rattle.wave.proofs.Layouts.{fits-true, inside, count-inside, cell-small}
 use Rattle.wave.proofs.Copies.{Storing, storing-begins, storing-keeps, storing-goes, storing-ends}
 use borrow.Author.Needs.{needs}
 use Rattle.wave.proofs.words.take_words.Statement.{statement}
 use Rattle.wave.proofs.words.take_words.Tie as tie
 
 abbrev Inv-loop : tie.InvT-loop
-Inv-loop file first l memory₀ count place₀ k₀ memory place k = Storing l (λ (k : ℕ). fourAt file (first + 4 * k)) memory₀ memory place k
+Inv-loop file first l memory₀ count cell₀ k₀ memory cell k = Storing l (λ (k : ℕ). fourAt file (first + 4 * k)) memory₀ memory cell k
 
 abbrev μ-loop : tie.MeasureT-loop
-μ-loop file first l memory₀ count place₀ k₀ memory place k = l .channels * l .samples - k
+μ-loop file first l memory₀ count cell₀ k₀ memory cell k = l .channels * l .samples - k
 
 mul-count : tie.Need-mul-count Inv-loop μ-loop
 mul-count c = let few = count-inside _ _ (fits-true _ _ (c .before .before .before .pre .0)) in omega arith
@@ -54,13 +54,13 @@ little-four-requires : tie.Need-little-four-requires Inv-loop μ-loop
 little-four-requires c κs = search needs
 
 mul-memory : tie.Need-mul-memory Inv-loop μ-loop
-mul-memory c = let there = inside _ _ _ (fits-true _ _ (c .before .before .before .before .before .before .before .before .before .before .pre .0)) (c .before .before .before .before .before .loop-test .taken) .word-inside in let here = ap (λ (p : Place). p .word) (c .before .before .before .before .before .before .loop .inv .here) in let kept = storing-keeps _ _ _ _ _ _ (c .before .before .before .before .before .before .loop .inv) in omega arith
+mul-memory c = let there = inside _ _ _ (fits-true _ _ (c .before .before .before .before .before .before .before .before .before .before .pre .0)) (c .before .before .before .before .before .loop-test .taken) .word-inside in let here = ap (λ (p : Cell). p .word) (c .before .before .before .before .before .before .loop .inv .here) in let kept = storing-keeps _ _ _ _ _ _ (c .before .before .before .before .before .before .loop .inv) in omega arith
 
 slice-write-memory : tie.Need-slice-write-memory Inv-loop μ-loop
-slice-write-memory c = let there = inside _ _ _ (fits-true _ _ (c .before .before .before .before .before .before .before .before .before .before .pre .0)) (c .before .before .before .before .before .loop-test .taken) .word-inside in let here = ap (λ (p : Place). p .word) (c .before .before .before .before .before .before .loop .inv .here) in let kept = storing-keeps _ _ _ _ _ _ (c .before .before .before .before .before .before .loop .inv) in omega arith
+slice-write-memory c = let there = inside _ _ _ (fits-true _ _ (c .before .before .before .before .before .before .before .before .before .before .pre .0)) (c .before .before .before .before .before .loop-test .taken) .word-inside in let here = ap (λ (p : Cell). p .word) (c .before .before .before .before .before .before .loop .inv .here) in let kept = storing-keeps _ _ _ _ _ _ (c .before .before .before .before .before .before .loop .inv) in omega arith
 
 next-requires : tie.Need-next-requires Inv-loop μ-loop
-next-requires c κs = place-small _ _ _ _ (fits-true _ _ (c .before .before .before .before .before .before .before .before .before .before .pre .0)) (c .before .before .before .before .before .loop-test .taken) (c .before .before .before .before .before .before .loop .inv .here) (omega arith)
+next-requires c κs = cell-small _ _ _ _ (fits-true _ _ (c .before .before .before .before .before .before .before .before .before .before .pre .0)) (c .before .before .before .before .before .loop-test .taken) (c .before .before .before .before .before .before .loop .inv .here) (omega arith)
 
 add-k : tie.Need-add-k Inv-loop μ-loop
 add-k c = omega arith

@@ -17,7 +17,7 @@ use Rattle.octets.proofs.Orders.{length-little}
 use Rattle.wave.specs.Fields.{twoAt, fourAt, riffId, waveId, factId, wordBytes, listed}
 use Rattle.wave.specs.Files.{formatOf}
 use Rattle.wave.specs.Reader.{missing, nowhere, walkOf, goodRiff, channelsAt, goodFormat, goodFact, countedOf, judgedAt, judgedIn, judgedOf, wordAt, readIn, readOf}
-use Rattle.wave.specs.Reader.Read.{is}
+use Rattle.wave.specs.Reader.Reading.{is}
 use Rattle.wave.specs.Grammar.{Chunk, Chunks, IsWave}
 use Rattle.wave.specs.declared.chunks.Places.{Places}
 use Rattle.wave.specs.declared.chunks.Met.{Met}
