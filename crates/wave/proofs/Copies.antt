@@ -13,7 +13,7 @@ use Rattle.walks.proofs.Lists.Runs.{run-append}
 use Rattle.octets.specs.Octets.{littleBytes}
 use Rattle.octets.proofs.Orders.{length-little}
 use Rattle.wave.specs.Fields.{wordBytes, listed}
-use Rattle.wave.specs.Memory.{cellAt, framesOf, recorded, numberAt, storedOf}
+use Rattle.wave.specs.Memory.{firstCell, cellAt, framesOf, recorded, numberAt, storedOf}
 use Rattle.wave.specs.declared.Layout.{Layout}
 use Rattle.wave.specs.declared.words.Cell.{Cell}
 use Rattle.wave.proofs.Standing.{length-listed}
@@ -41,11 +41,11 @@ pub record Writing (l : Layout) (m out₀ : List ℕ) (out : List ℕ) (cell : C
   pub kept : length out ≡ length out₀
   pub left : sets out (58 + 4 * k) (wordBytes (listed (wordOf l m) k (l .channels * l .samples - k))) ≡ sets out₀ 58 (wordBytes (framesOf l m))
 
-pub writing-begins : (l : Layout) (m out : List ℕ) → Writing l m out out (record { channel = 0; sample = 0; word = 0 }) 0
+pub writing-begins : (l : Layout) (m out : List ℕ) (cell : Cell) → cell ≡ firstCell → Writing l m out out cell 0
 unfolding framesOf
-writing-begins l m out =
+writing-begins l m out cell e =
     let all : l .channels * l .samples - 0 ≡ l .channels * l .samples = omega arith in
-    record { counted = omega arith; here = cell-begins l; kept = refl; left = rw all }
+    record { counted = omega arith; here = e ∙ cell-begins l; kept = refl; left = rw all }
 
 pub writing-goes : (l : Layout) (m out₀ out : List ℕ) (cell : Cell) (k : ℕ) (new : List ℕ) (next : Cell) → Writing l m out₀ out cell k
     → k < l .channels * l .samples → new ≡ sets out (58 + 4 * k) (littleBytes 4 (getD m (cell .word) 0)) → next ≡ cellAt l (k + 1) → Writing l m out₀ new next (k + 1)
@@ -148,8 +148,8 @@ pub record Storing (l : Layout) (g : ℕ → ℕ) (m₀ : List ℕ) (m : List �
   pub stored : m ≡ storedTo l g m₀ k
 
 module _ (l : Layout) (g : ℕ → ℕ) (m₀ : List ℕ) where
-  pub storing-begins : Storing l g m₀ m₀ (record { channel = 0; sample = 0; word = 0 }) 0
-  storing-begins = record { counted = omega arith; here = cell-begins l; stored = stored-none l g m₀ }
+  pub storing-begins : (cell : Cell) → cell ≡ firstCell → Storing l g m₀ m₀ cell 0
+  storing-begins cell e = record { counted = omega arith; here = e ∙ cell-begins l; stored = stored-none l g m₀ }
 
   pub storing-keeps : (m : List ℕ) (cell : Cell) (k : ℕ) → Storing l g m₀ m cell k → length m ≡ length m₀
   storing-keeps m cell k s = ap length (s .stored) ∙ length-stored l g m₀ k

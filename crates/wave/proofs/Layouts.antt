@@ -8,7 +8,7 @@ use lib.Dec.{ltb, leb}
 use borrow.Author.Tests.{ltb-true, leb-true, leb-false, lt-ltb, le-ltb, le-leb, lt-leb}
 use Rattle.walks.proofs.Tests.{joined}
 use Rattle.walks.proofs.Lists.Every.{both as and-both}
-use Rattle.wave.specs.Memory.{fitsMemory, cellAt, recorded, numberAt, bytesOf, fitsFile}
+use Rattle.wave.specs.Memory.{fitsMemory, firstCell, cellAt, recorded, numberAt, bytesOf, fitsFile}
 use Rattle.wave.specs.declared.Layout.{Layout}
 use Rattle.wave.specs.declared.words.Cell.{Cell}
 
@@ -92,7 +92,7 @@ module _ (l : Layout) (p : Cell) (k : ℕ) (is : p ≡ cellAt l k) (some : 0 < l
       omega (arith, add-mul (k % l .channels) 1 (l .capacity)) in
       rw (channel-is, sample-is, word-is, moved, made, known .0, known .1)
 
-pub cell-begins : (l : Layout) → record { channel = 0; sample = 0; word = 0 } ≡ cellAt l 0
+pub cell-begins : (l : Layout) → firstCell ≡ cellAt l 0
 unfolding cellAt
 cell-begins l = rw (zero-mod, zero-div, zero-mul)
 

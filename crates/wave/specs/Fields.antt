@@ -1,4 +1,4 @@
--- The numbers in a WAVE file, each "little-endian": of two or four bytes, the least significant first. Definitions only.
+-- The numbers in a WAVE file, each little-endian: of two or four bytes, the least significant first. Definitions only.
 use mathlib.Core.List.{List, [], _∷_, _++_}
 use Prim.Native.Nat.{ℕ, zero, suc, _+_}
 use Rattle.octets.specs.Octets.{bytesAt, littleOf, littleBytes}

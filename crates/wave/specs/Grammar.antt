@@ -1,5 +1,5 @@
--- A good WAVE file, said of the file as a whole in the words of request 10/12 and its decisions; it names nothing of the
--- reader. `Promised.antt` holds the reader to it, in both directions. Definitions only.
+-- A good WAVE file, said of the file as a whole in the words of request 10/12 and of its decisions; it names nothing of
+-- the reader. `Promised.antt` holds the reader to it, in both directions. Definitions only.
 use mathlib.Core.Path.{_≡_}
 use mathlib.Core.List.{List, [], _∷_, _++_}
 use mathlib.Core.Logic.{_⊎_}

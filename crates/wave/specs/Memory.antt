@@ -1,5 +1,5 @@
--- A recording's words in a memory and in a file. In a memory channel j has a part of its own, from j * capacity on; in a
--- file the words of all channels stand frame by frame. Definitions only.
+-- A recording's words in a memory and in a file. In a memory channel j has a part of its own, from j * capacity on; in
+-- a file the words of all channels stand frame by frame. Definitions only.
 use mathlib.Core.Bool.{Bool, false, cond, _&&_}
 use mathlib.Core.List.{List, _++_}
 use Prim.Native.Nat.{ℕ, _+_, _*_, _/_, _%_, _^_}
@@ -27,6 +27,9 @@ cellAt l k = record {
   sample = k / l .channels;
   word = k % l .channels * l .capacity + k / l .channels;
 }
+
+abbrev pub firstCell : Cell
+firstCell = record { channel = 0; sample = 0; word = 0 }
 
 -- the words of a memory, frame by frame
 unfoldable pub framesOf : Layout → List ℕ → List ℕ

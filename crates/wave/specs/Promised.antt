@@ -36,8 +36,8 @@ abbrev pub partAt : ℕ → ℕ → List ℕ → List ℕ
 partAt capacity j m = take capacity (drop (j * capacity) m)
 
 pub record Promised : Type 0 where
-  -- "Read any such file", and "17 for a file cut short, of another form, or with sizes or a `fact` count that disagree":
-  -- what is answered is a good file, and a good file is answered
+  -- "Read any such file"; "17 for a file cut short, of another form, or with sizes or a `fact` count that disagree".
+  -- What is answered is a good file, and a good file is answered
   pub answered : (f : List ℕ) (rate channels : ℕ) (words : List ℕ) → Bytes f → readOf f ≡ is rate channels words
       → IsWave f rate channels words
   pub good : (f : List ℕ) (rate channels : ℕ) (words : List ℕ) → IsWave f rate channels words

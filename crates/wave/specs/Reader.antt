@@ -62,7 +62,9 @@ walkOf f = walkFrom (length f) f 12 nowhere
 -- ---- what they hold
 
 unfoldable pub goodRiff : List ℕ → Bool
-goodRiff f = leb 12 (length f) && (eqb (fourAt f 0) riffId && (eqb (8 + fourAt f 4) (length f) && eqb (fourAt f 8) waveId))
+goodRiff f =
+    leb 12 (length f) && (eqb (fourAt f 0) riffId
+    && (eqb (8 + fourAt f 4) (length f) && eqb (fourAt f 8) waveId))
 
 abbrev pub channelsAt : List ℕ → ℕ → ℕ
 channelsAt f at = twoAt f (at + 10)

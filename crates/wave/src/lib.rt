@@ -1,5 +1,5 @@
-// Recordings as RIFF WAVE files of 32-bit floats, on bytes alone: a file is judged, its words are copied to a memory, and
-// a memory's are written to a file. It takes every list of bytes, and each public function equals a definition in
+// Recordings as RIFF WAVE files of 32-bit floats, on bytes alone: a file is judged, its words are copied to a memory,
+// and a memory's are written to a file. It takes every list of bytes, and each public function equals a definition in
 // specs/, for every value of its arguments.
 mod chunks;
 mod fields;

@@ -6,12 +6,12 @@ ghost use Prim.Native.Nat.{ℕ, _+_, _*_, _^_, _≤_, _<_};
 ghost use lib.ListN.{length};
 ghost use lib.Seq.{sets};
 ghost use Rattle.wave.specs.Fields.{fourAt, wordBytes};
-ghost use Rattle.wave.specs.Memory.{fitsMemory, cellAt, framesOf, storedOf};
+ghost use Rattle.wave.specs.Memory.{fitsMemory, firstCell, cellAt, framesOf, storedOf};
 use crate::Layout;
 use crate::fields::put_four;
 use octets::little_four;
 
-// A word of a file: its channel, its sample, and where it stands in a memory.
+// A word of a file: its channel, its sample, and its place in a memory.
 pub struct Cell {
     pub channel: usize,
     pub sample: usize,
@@ -30,7 +30,18 @@ pub fn fits_memory(l: Layout, size: usize) -> bool
     l.capacity <= size / l.channels
 }
 
-// The cell of the next word of a file.
+// The cell of the first word of a file.
+fn start() -> Cell
+    ensures { λ r. ⌜ r ≡ firstCell ⌝ }
+{
+    Cell {
+        channel: 0,
+        sample: 0,
+        word: 0,
+    }
+}
+
+// The cell of the next one.
 fn next(l: Layout, p: Cell) -> Cell
     requires { ⌜ (0 < l .channels) × (l .capacity < 2 ^ 63) ⌝ }
     requires { ⌜ (p .channel < 2 ^ 63) × (p .sample < 2 ^ 63) × (p .word < 2 ^ 63) ⌝ }
@@ -58,11 +69,7 @@ pub fn put_words(l: Layout, memory: &[u32], out: &mut [u8])
     ensures { λ _. ⌜ now (out .exit) ≡ sets (now (out .entry)) 58 (wordBytes (framesOf l (now (memory .entry)))) ⌝ }
 {
     let count = l.channels * l.samples;
-    let mut cell = Cell {
-        channel: 0,
-        sample: 0,
-        word: 0,
-    };
+    let mut cell = start();
     let mut k: usize = 0;
     while k < count {
         let from = cell.word;
@@ -80,11 +87,7 @@ pub fn take_words(file: &[u8], first: usize, l: Layout, memory: &mut [u32])
         ≡ storedOf l (λ (k : ℕ). fourAt (now (file .entry)) (first + 4 * k)) (now (memory .entry)) ⌝ }
 {
     let count = l.channels * l.samples;
-    let mut cell = Cell {
-        channel: 0,
-        sample: 0,
-        word: 0,
-    };
+    let mut cell = start();
     let mut k: usize = 0;
     while k < count {
         let at = first + 4 * k;

@@ -20,8 +20,11 @@ abbrev μ-loop : tie.MeasureT-loop
 mul-count : tie.Need-mul-count Inv-loop μ-loop
 mul-count c = let few = count-inside _ _ (fits-true _ _ (c .before .before .before .pre .0)) in omega arith
 
+start-requires : tie.Need-start-requires Inv-loop μ-loop
+start-requires c κs = search needs
+
 loop-holds : tie.Need-loop-holds Inv-loop μ-loop
-loop-holds c = storing-begins _ _ _
+loop-holds c = storing-begins _ _ _ _ (c .start .ensures)
 
 mul-at : tie.Need-mul-at Inv-loop μ-loop
 mul-at c = let k = c .before .loop .inv .counted in omega arith
@@ -54,13 +57,13 @@ little-four-requires : tie.Need-little-four-requires Inv-loop μ-loop
 little-four-requires c κs = search needs
 
 mul-memory : tie.Need-mul-memory Inv-loop μ-loop
-mul-memory c = let there = inside _ _ _ (fits-true _ _ (c .before .before .before .before .before .before .before .before .before .before .pre .0)) (c .before .before .before .before .before .loop-test .taken) .word-inside in let here = ap (λ (p : Cell). p .word) (c .before .before .before .before .before .before .loop .inv .here) in let kept = storing-keeps _ _ _ _ _ _ (c .before .before .before .before .before .before .loop .inv) in omega arith
+mul-memory c = let there = inside _ _ _ (fits-true _ _ (c .before .before .before .before .before .before .before .before .before .before .before .pre .0)) (c .before .before .before .before .before .loop-test .taken) .word-inside in let here = ap (λ (p : Cell). p .word) (c .before .before .before .before .before .before .loop .inv .here) in let kept = storing-keeps _ _ _ _ _ _ (c .before .before .before .before .before .before .loop .inv) in omega arith
 
 slice-write-memory : tie.Need-slice-write-memory Inv-loop μ-loop
-slice-write-memory c = let there = inside _ _ _ (fits-true _ _ (c .before .before .before .before .before .before .before .before .before .before .pre .0)) (c .before .before .before .before .before .loop-test .taken) .word-inside in let here = ap (λ (p : Cell). p .word) (c .before .before .before .before .before .before .loop .inv .here) in let kept = storing-keeps _ _ _ _ _ _ (c .before .before .before .before .before .before .loop .inv) in omega arith
+slice-write-memory c = let there = inside _ _ _ (fits-true _ _ (c .before .before .before .before .before .before .before .before .before .before .before .pre .0)) (c .before .before .before .before .before .loop-test .taken) .word-inside in let here = ap (λ (p : Cell). p .word) (c .before .before .before .before .before .before .loop .inv .here) in let kept = storing-keeps _ _ _ _ _ _ (c .before .before .before .before .before .before .loop .inv) in omega arith
 
 next-requires : tie.Need-next-requires Inv-loop μ-loop
-next-requires c κs = cell-small _ _ _ _ (fits-true _ _ (c .before .before .before .before .before .before .before .before .before .before .pre .0)) (c .before .before .before .before .before .loop-test .taken) (c .before .before .before .before .before .before .loop .inv .here) (omega arith)
+next-requires c κs = cell-small _ _ _ _ (fits-true _ _ (c .before .before .before .before .before .before .before .before .before .before .before .pre .0)) (c .before .before .before .before .before .loop-test .taken) (c .before .before .before .before .before .before .loop .inv .here) (omega arith)
 
 add-k : tie.Need-add-k Inv-loop μ-loop
 add-k c = omega arith
@@ -69,7 +72,7 @@ loop-less : tie.Need-loop-less Inv-loop μ-loop
 loop-less c = omega arith
 
 loop-again : tie.Need-loop-again Inv-loop μ-loop
-loop-again c = storing-goes _ _ _ _ _ _ _ _ (c .before .before .before .before .before .before .before .loop .inv) (fits-true _ _ (c .before .before .before .before .before .before .before .before .before .before .before .pre .0)) (c .before .before .before .before .before .before .loop-test .taken) (c .before .little-four .ensures ∙ four-is (c .before .before .before .before .before .before .before .before .before .before .before .args .file .now) (c .before .before .before .before .before .before .before .before .before .before .before .args .first + 4 * c .before .before .before .before .before .before .before .loop .k)) (c .next .ensures _ (c .before .before .before .before .before .before .before .loop .inv .here))
+loop-again c = storing-goes _ _ _ _ _ _ _ _ (c .before .before .before .before .before .before .before .loop .inv) (fits-true _ _ (c .before .before .before .before .before .before .before .before .before .before .before .before .pre .0)) (c .before .before .before .before .before .before .loop-test .taken) (c .before .little-four .ensures ∙ four-is (c .before .before .before .before .before .before .before .before .before .before .before .before .args .file .now) (c .before .before .before .before .before .before .before .before .before .before .before .before .args .first + 4 * c .before .before .before .before .before .before .before .loop .k)) (c .next .ensures _ (c .before .before .before .before .before .before .before .loop .inv .here))
 
 same-length : tie.Need-same-length Inv-loop μ-loop
 same-length c = storing-keeps _ _ _ _ _ _ (c .before .loop .inv)
@@ -84,6 +87,7 @@ take-words-spec =
     Inv-loop
     μ-loop
     mul-count
+    start-requires
     loop-holds
     mul-at
     add-at
