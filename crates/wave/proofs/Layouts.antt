@@ -204,6 +204,10 @@ module _ (l : Layout) (room : ℕ) where
   unfolding fitsFile
   file-long h = simp (le-ltb (bytesOf l) (2 ^ 32 + 8) h) (off (ltb (4 * l .channels) (2 ^ 16)))
 
+  pub file-short : room < bytesOf l → fitsFile l room ≡ false
+  unfolding fitsFile
+  file-short h = simp (lt-leb (bytesOf l) room h, off (ltb (bytesOf l) (2 ^ 32 + 8)), off (ltb (4 * l .channels) (2 ^ 16)))
+
   pub file-many : 0 < l .channels → 0x3fffffff < l .samples → fitsFile l room ≡ false
   file-many some h = file-long (omega (arith, samples-few l some))
 

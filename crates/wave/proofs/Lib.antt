@@ -1,4 +1,4 @@
-pub mod Bytes
+pub mod FieldBytes
 pub mod Walks
 pub mod Judgements
 pub mod Standing

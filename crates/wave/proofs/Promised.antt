@@ -9,7 +9,7 @@ use native.Mathlib.Omega.{arith}
 use lib.Dec.{ltb}
 use lib.ListN.{length, take, drop, getD, length-append, length-take, length-drop, List·getD-append}
 use lib.Seq.{ext-getD, getD-take, getD-drop, getD-append-add, drop-at, take-at, length-take-le}
-use borrow.Author.Tests.{lt-ltb, ltb-true, ltb-false}
+use borrow.Author.Tests.{lt-ltb, ltb-true, ltb-false, le-leb}
 use Rattle.walks.specs.Each.{Each}
 use Rattle.octets.specs.Octets.{littleBytes}
 use Rattle.octets.proofs.Orders.{length-little}
@@ -19,13 +19,13 @@ use Rattle.wave.specs.Reader.{judgedOf, numberOf, wordAt}
 use Rattle.wave.specs.Grammar.{Chunk, Whole, chunkBytes, IsWave}
 use Rattle.wave.specs.Grammar.Chunks.{none, main, fact}
 use Rattle.wave.specs.Memory.{fitsMemory, cellAt, framesOf, recorded, numberAt, storedOf, bytesOf, fitsFile, writes, writtenOf, outputOf, layoutOf, loadsIn, loads, loadedIn, loadedOf}
-use Rattle.wave.specs.Promised.{Sized, channelOf, partAt, Promised}
+use Rattle.wave.specs.Promised.{Sized, channelOf, partAt, Rows, Promised}
 use Rattle.wave.specs.declared.Layout.{Layout}
 use Rattle.wave.specs.declared.Wave.{Wave}
 use Rattle.wave.specs.declared.Judged.{Judged}
 use Rattle.wave.specs.declared.Judged.the-variants.{Is, Refused}
 use Rattle.wave.proofs.Standing.{length-words, Word, length-listed, words-stand}
-use Rattle.wave.proofs.Layouts.{parted, frame-below, Fits, fits-true, file-true, inside, number-below, cell-of-number}
+use Rattle.wave.proofs.Layouts.{parted, frame-below, Fits, fits-true, file-true, file-short, file-fits, inside, number-below, cell-of-number}
 use Rattle.wave.proofs.Copies.{getD-listed, listed-same}
 use Rattle.wave.proofs.Answers.{length-format, good-known, good-answer, answered}
 use Rattle.wave.proofs.Calls.{length-file, length-frames, load-short, load-done}
@@ -227,6 +227,13 @@ write-held rate l m out = go (writes l (length m) (length out))
     go true h = absurd (omega arith)
     go false h = refl
 
+write-rows : (l : Layout) (size room : ℕ) → Rows l size room
+unfolding writtenOf writes
+write-rows l size room = record {
+  short-row = λ h k. rw (h, file-short l room k);
+  done-row = λ h c s k. rw (h, file-fits l room (omega arith) s, le-leb _ _ k);
+}
+
 numbers : (f : List ℕ) → (numberOf (judgedOf f) ≡ 0) ⊎ (numberOf (judgedOf f) ≡ 17)
 unfolding numberOf
 numbers f = go (judgedOf f)
@@ -309,6 +316,7 @@ promised = record {
   loaded-part = λ f w capacity m e. loaded-part f w capacity m e;
   loaded-rest = λ f w capacity m e. loaded-rest f w capacity m e;
   there-and-back = there-and-back;
+  write-rows = write-rows;
   load-held = load-held;
   write-held = write-held;
 }

@@ -13,7 +13,7 @@ use Rattle.wave.specs.Files.{fileOf}
 use Rattle.wave.specs.Reader.{judgedOf, numberOf, readOf, wordAt}
 use Rattle.wave.specs.Reader.Reading.{is}
 use Rattle.wave.specs.Grammar.{IsWave}
-use Rattle.wave.specs.Memory.{fitsMemory, framesOf, fitsFile, writtenOf, outputOf, layoutOf, loads, loadedOf}
+use Rattle.wave.specs.Memory.{fitsMemory, framesOf, bytesOf, fitsFile, writtenOf, outputOf, layoutOf, loads, loadedOf}
 use Rattle.wave.specs.declared.Layout.{Layout}
 use Rattle.wave.specs.declared.Wave.{Wave}
 use Rattle.wave.specs.declared.Judged.the-variants.{Is}
@@ -34,6 +34,12 @@ channelOf channels samples j words = listed (λ (i : ℕ). getD words (i * chann
 -- the part of channel j in a memory
 abbrev pub partAt : ℕ → ℕ → List ℕ → List ℕ
 partAt capacity j m = take capacity (drop (j * capacity) m)
+
+-- "8 for a short output buffer", where each size has room in its field
+pub record Rows (l : Layout) (size room : ℕ) : Type 0 where
+  pub short-row : fitsMemory l size ≡ true → room < bytesOf l → writtenOf l size room ≡ 0
+  pub done-row : fitsMemory l size ≡ true → 4 * l .channels < 2 ^ 16 → bytesOf l < 2 ^ 32 + 8 → bytesOf l ≤ room
+      → writtenOf l size room ≡ bytesOf l
 
 pub record Promised : Type 0 where
   -- "Read any such file"; "17 for a file cut short, of another form, or with sizes or a `fact` count that disagree".
@@ -69,11 +75,12 @@ pub record Promised : Type 0 where
       → drop (w .channels * capacity) (loadedOf f capacity m) ≡ drop (w .channels * capacity) m
   -- what a memory's recordings were is what another's are, written and loaded
   pub there-and-back : (rate : ℕ) (l : Layout) (m m₁ : List ℕ) → rate < 2 ^ 32 → Each (λ (w : ℕ). w < 2 ^ 32) m
-      → fitsMemory l (length m) ≡ true → fitsFile l (58 + 4 * (l .channels * l .samples)) ≡ true
+      → fitsMemory l (length m) ≡ true → fitsFile l (bytesOf l) ≡ true
       → fitsMemory l (length m₁) ≡ true → (j : ℕ) → j < l .channels
       → take (l .samples) (partAt (l .capacity) j
       (loadedOf (fileOf rate (l .channels) (l .samples) (framesOf l m)) (l .capacity) m₁))
       ≡ take (l .samples) (partAt (l .capacity) j m)
+  pub write-rows : (l : Layout) (size room : ℕ) → Rows l size room
   -- what isn't done changes nothing
   pub load-held : (f : List ℕ) (capacity : ℕ) (m : List ℕ) → loads f capacity (length m) ≡ false
       → loadedOf f capacity m ≡ m

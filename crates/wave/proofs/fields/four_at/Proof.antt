@@ -1,5 +1,5 @@
 -- `four_at` meets its contract. Assumes nothing.
-use Rattle.wave.proofs.Bytes.{four-is}
+use Rattle.wave.proofs.FieldBytes.{four-is}
 use borrow.Author.Needs.{needs}
 use Rattle.wave.proofs.fields.four_at.Statement.{statement}
 use Rattle.wave.proofs.fields.four_at.Tie as tie

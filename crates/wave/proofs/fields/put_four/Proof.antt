@@ -1,7 +1,7 @@
 -- `put_four` meets its contract. Assumes nothing.
 use native.Mathlib.Omega.{arith}
 use lib.ListN.{length-set}
-use Rattle.wave.proofs.Bytes.{four-stored}
+use Rattle.wave.proofs.FieldBytes.{four-stored}
 use borrow.Author.Needs.{needs}
 use Rattle.wave.proofs.fields.put_four.Statement.{statement}
 use Rattle.wave.proofs.fields.put_four.Tie as tie

@@ -1,7 +1,7 @@
 -- `put_two` meets its contract. Assumes nothing.
 use native.Mathlib.Omega.{arith}
 use lib.ListN.{length-set}
-use Rattle.wave.proofs.Bytes.{two-stored}
+use Rattle.wave.proofs.FieldBytes.{two-stored}
 use borrow.Author.Needs.{needs}
 use Rattle.wave.proofs.fields.put_two.Statement.{statement}
 use Rattle.wave.proofs.fields.put_two.Tie as tie

@@ -4,7 +4,7 @@ use Prim.Native.Nat.{ℕ, _+_, _-_, _*_}
 use native.Mathlib.Omega.{arith}
 use Rattle.wave.specs.Fields.{fourAt}
 use Rattle.wave.specs.declared.words.Cell.{Cell}
-use Rattle.wave.proofs.Bytes.{four-is}
+use Rattle.wave.proofs.FieldBytes.{four-is}
 use Rattle.wave.proofs.Layouts.{fits-true, inside, count-inside, cell-small}
 use Rattle.wave.proofs.Copies.{Storing, storing-begins, storing-keeps, storing-goes, storing-ends}
 use borrow.Author.Needs.{needs}
