@@ -42,22 +42,22 @@ fn start() -> Cell
 }
 
 // The cell of the next one.
-fn next(l: Layout, p: Cell) -> Cell
+fn next(l: Layout, cell: Cell) -> Cell
     requires { ⌜ (0 < l .channels) × (l .capacity < 2 ^ 63) ⌝ }
-    requires { ⌜ (p .channel < 2 ^ 63) × (p .sample < 2 ^ 63) × (p .word < 2 ^ 63) ⌝ }
-    ensures { λ r. ⌜ ((k : ℕ) → p ≡ cellAt l k → r ≡ cellAt l (k + 1)) ⌝ }
+    requires { ⌜ (cell .channel < 2 ^ 63) × (cell .sample < 2 ^ 63) × (cell .word < 2 ^ 63) ⌝ }
+    ensures { λ r. ⌜ ((k : ℕ) → cell ≡ cellAt l k → r ≡ cellAt l (k + 1)) ⌝ }
 {
-    if p.channel + 1 == l.channels {
+    if cell.channel + 1 == l.channels {
         Cell {
             channel: 0,
-            sample: p.sample + 1,
-            word: p.sample + 1,
+            sample: cell.sample + 1,
+            word: cell.sample + 1,
         }
     } else {
         Cell {
-            channel: p.channel + 1,
-            sample: p.sample,
-            word: p.word + l.capacity,
+            channel: cell.channel + 1,
+            sample: cell.sample,
+            word: cell.word + l.capacity,
         }
     }
 }
