@@ -1,6 +1,7 @@
 //! Compares the port's WAVE files with a reader and a writer written here from request 10/12, through the program of wave.rt.txt (README.md beside this file).
 //!
 //!     wave SEED COUNT COMMAND [WORD..]    COMMAND with its words runs the port; it is asked about COUNT files, and writes COUNT
+//!     wave tools COMMAND [WORD..]         a file that it writes is opened by the tools that are installed, and one that sox makes of it is read
 
 #[path = "shared/random.rs"]
 mod random;
@@ -249,6 +250,21 @@ struct Port {
 }
 
 impl Port {
+    fn new(command: &str, words: &[String]) -> Result<Self, String> {
+        let child = Command::new(command).args(words).stdin(Stdio::piped()).stdout(Stdio::piped()).spawn();
+        let mut child = child.map_err(|e| format!("{command}: {e}"))?;
+        Ok(Port { input: BufWriter::new(child.stdin.take().unwrap()), output: BufReader::new(child.stdout.take().unwrap()) })
+    }
+
+    fn reads(&mut self, q: &Question, wanted: &[u8]) -> Result<bool, String> {
+        self.same([0, q.file.len(), q.capacity, q.size, 0, 0, 0], &q.file, wanted)
+    }
+
+    fn writes(&mut self, t: &Take, wanted: &[u8]) -> Result<bool, String> {
+        let memory: Vec<u8> = t.memory.iter().flat_map(|w| w.to_le_bytes()).collect();
+        self.same([1, t.rate as usize, t.channels, t.capacity, t.samples, t.memory.len(), t.room], &memory, wanted)
+    }
+
     fn same(&mut self, head: [usize; 7], rest: &[u8], wanted: &[u8]) -> Result<bool, String> {
         let words: Vec<u8> = head.iter().flat_map(|&n| (n as u32).to_le_bytes()).collect();
         let asked = self.input.write_all(&words).and_then(|()| self.input.write_all(rest)).and_then(|()| self.input.flush());
@@ -259,10 +275,7 @@ impl Port {
     }
 }
 
-fn compare(seed: u64, count: u64, command: &str, words: &[String]) -> Result<String, String> {
-    let child = Command::new(command).args(words).stdin(Stdio::piped()).stdout(Stdio::piped()).spawn();
-    let mut child = child.map_err(|e| format!("{command}: {e}"))?;
-    let mut port = Port { input: BufWriter::new(child.stdin.take().unwrap()), output: BufReader::new(child.stdout.take().unwrap()) };
+fn compare(seed: u64, count: u64, mut port: Port) -> Result<String, String> {
     let mut r = Random::new(seed);
     let (mut accepted, mut loaded, mut written) = (0, 0, 0);
     for i in 0..count {
@@ -270,31 +283,73 @@ fn compare(seed: u64, count: u64, command: &str, words: &[String]) -> Result<Str
         let wanted = q.answer();
         accepted += u64::from(wanted[0] == 0);
         loaded += u64::from(wanted[20]);
-        if !port.same([0, q.file.len(), q.capacity, q.size, 0, 0, 0], &q.file, &wanted)? {
+        if !port.reads(&q, &wanted)? {
             std::fs::write("target/oracle/wave-input", &q.file).map_err(|e| e.to_string())?;
             return Err(format!("file {i}, capacity {}, memory {}: the answers differ; it is target/oracle/wave-input", q.capacity, q.size));
         }
         let t = take(&mut r);
         let wanted = t.answer();
         written += u64::from(wanted[..4] != [0; 4]);
-        let memory: Vec<u8> = t.memory.iter().flat_map(|w| w.to_le_bytes()).collect();
-        if !port.same([1, t.rate as usize, t.channels, t.capacity, t.samples, t.memory.len(), t.room], &memory, &wanted)? {
+        if !port.writes(&t, &wanted)? {
             return Err(format!("{} samples of {} channels, capacity {}, room {}: what is written differs", t.samples, t.channels, t.capacity, t.room));
         }
     }
-    drop(port);
-    child.wait().map_err(|e| format!("{command}: {e}"))?;
     Ok(format!("{count} files asked about, {accepted} accepted, {loaded} loaded; {count} asked for, {written} written; every field equal"))
 }
 
+// ---- tools
+
+/// What a tool says; none where it isn't installed.
+fn said(tool: &str, words: &[&str]) -> Option<String> {
+    let output = Command::new(tool).args(words).output().ok()?;
+    Some(String::from_utf8_lossy(&[output.stdout, output.stderr].concat()).split_whitespace().collect::<Vec<_>>().join(" "))
+}
+
+fn tools(mut port: Port) -> Result<String, String> {
+    let memory = [0.5f32, -0.25, 1.0 / 3.0, 0.75, -0.125, 0.0].map(f32::to_bits).to_vec();
+    let t = Take { rate: 48_000, channels: 2, capacity: 3, samples: 3, memory, room: 58 + 24 };
+    if !port.writes(&t, &t.answer())? {
+        return Err("what is written differs".into());
+    }
+    let (file, back) = ("target/oracle/wave.wav", "target/oracle/wave-back.wav");
+    std::fs::write(file, t.file()).map_err(|e| e.to_string())?;
+    let asked: [(&str, &[&str], &[&str]); 3] = [
+        ("sox", &["--i", file], &["Channels : 2", "Sample Rate : 48000", "= 3 samples", "32-bit Floating Point PCM"]),
+        ("sndfile-info", &[file], &["Sample Rate : 48000", "Frames : 3", "Channels : 2", "fact : 4 frames : 3", "0x3 => WAVE_FORMAT_IEEE_FLOAT"]),
+        ("ffprobe", &[file], &["pcm_f32le", "48000 Hz"]),
+    ];
+    let mut tally = vec![];
+    for (tool, words, wanted) in asked {
+        match said(tool, words) {
+            None => tally.push(format!("{tool} left out")),
+            Some(text) if wanted.iter().all(|w| text.contains(w)) => tally.push(format!("{tool} opens it")),
+            Some(text) => return Err(format!("{tool} says: {text}")),
+        }
+    }
+    if said("sox", &[file, "-b", "32", "-e", "floating-point", back]).is_some() {
+        let q = Question { file: std::fs::read(back).map_err(|e| e.to_string())?, capacity: 3, size: 6 };
+        let wanted = q.answer();
+        if wanted[0] != 0 || wanted[20] != 1 || !port.reads(&q, &wanted)? {
+            return Err("the file of sox is read otherwise".into());
+        }
+        tally.push("the file of sox is loaded".into());
+    }
+    Ok(tally.join(", "))
+}
+
+fn asked(words: &[String]) -> Result<String, String> {
+    match words {
+        [part, command, rest @ ..] if part == "tools" => tools(Port::new(command, rest)?),
+        [seed, count, command, rest @ ..] => match (seed.parse(), count.parse()) {
+            (Ok(seed), Ok(count)) => compare(seed, count, Port::new(command, rest)?),
+            _ => Err("SEED and COUNT are numbers".into()),
+        },
+        _ => Err("wave SEED COUNT COMMAND [WORD..], or wave tools COMMAND [WORD..]".into()),
+    }
+}
+
 fn main() -> ExitCode {
-    let words: Vec<String> = std::env::args().skip(1).collect();
-    let numbers: Vec<u64> = words.iter().take(2).filter_map(|w| w.parse().ok()).collect();
-    let ([seed, count], [_, _, command, rest @ ..]) = (&numbers[..], &words[..]) else {
-        eprintln!("wave SEED COUNT COMMAND [WORD..]");
-        return ExitCode::from(2);
-    };
-    match compare(*seed, *count, command, rest) {
+    match asked(&std::env::args().skip(1).collect::<Vec<_>>()) {
         Ok(tally) => {
             println!("wave: {tally}");
             ExitCode::SUCCESS
