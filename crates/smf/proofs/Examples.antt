@@ -2,7 +2,7 @@
 use mathlib.Core.Path.{_≡_, refl}
 use mathlib.Core.Bool.{true, false}
 use mathlib.Core.List.{List, [], _∷_, _++_, map}
-use Prim.Native.Nat.{ℕ, _+_, _*_, _/_, _%_, _^_}
+use Prim.Native.Nat.{ℕ, _^_}
 use Prim.Native.String.{String}
 use lib.ListN.{length}
 use lib.Ieee.{div, ofInt, ofBits}
@@ -20,7 +20,7 @@ use Rattle.smf.specs.declared.Counted.{Counted}
 use Rattle.smf.specs.declared.Counted.the-variants.{Done, BadRate, Faulty, Short}
 
 -- whatever an answer computes by
-computing : Unit {0}
+unfoldable pub computing : Unit {0}
 unfolding fromHex pairs digitsOf number numberAfter refusalOf twoAt threeAt fourAt quantityFrom dataAt oneByte messageOf channelAt sysexAt tempoOf metaOf metaAt statusOf eventAt stepAt fieldsOf headerOf chunkAt trackFrom trackAt restOf behindOf eventsOn eventsFrom trackOf eventsOf frameOf entriesOf tempoAfter lateOf songFrom songOf closedOf numbersOf countedOf listOf numberOf cueOf div ofInt ofBits
 computing = tt
 
@@ -79,6 +79,22 @@ headers =
 headers-hold : holds headers
 unfolding computing headers row
 headers-hold = refl
+
+-- two faults in one header, in both orders of their numbers: the one that stands first is told
+pairs-of-faults : List Row
+pairs-of-faults =
+    row (fromHex "4D546864 00000006 0000 0002 8000" ++ none) (fault OtherTrackCount 11)
+    ∷ row (fromHex "4D546864 00000006 0001 0002 0060" ++ none) (fault OtherFormat 9)
+    ∷ row (fromHex "4D546864 00000005 0001 0001 00" ++ none) (fault ShortHeader 7)
+    ∷ row (fromHex "4D546864 000000FF 0000 0001 8000" ++ none) (fault SmpteDivision 13)
+    ∷ row (fromHex "4D546864 000000FF 0000 0001 0000" ++ none) (fault NoDivision 13)
+    ∷ row (fromHex "4D546864 000000FF 0000 0002 0060" ++ none) (fault OtherTrackCount 11)
+    ∷ row (fromHex "4D546864 000000FF 0001 0001 0060" ++ none) (fault OtherFormat 9)
+    ∷ []
+
+pairs-of-faults-hold : holds pairs-of-faults
+unfolding computing pairs-of-faults row
+pairs-of-faults-hold = refl
 
 -- ---- chunks: others are skipped, before the track and behind it; no track, a second one or a second header; one past the end; bytes left over
 chunks : List Row
@@ -148,6 +164,8 @@ statuses =
     ∷ row (song "00 903C7F 00 FF2F00") (Done 1)
     ∷ row (song "00 903C") (fault Missing 25)
     ∷ row (song "00 C07F 00 D07F 00 A07F7F 00 B07F7F 00 E07F7F 00 FF2F00") (Done 0)
+    ∷ row (song "00 CF7F 00 DF7F 00 AF7F7F 00 BF7F7F 00 EF7F7F 00 FF2F00") (Done 0)
+    ∷ row (song "00 CF7F 00 7F 00 DF7F 00 7F 00 FF2F00") (Done 0)
     ∷ []
 
 statuses-hold : holds statuses
@@ -186,9 +204,19 @@ rooms : countedOf (two ++ (0 ∷ [])) 48000 3 ∷ countedOf two 48000 3 ∷ coun
 unfolding computing
 rooms = refl
 
-numbers : map numberOf (BadRate ∷ fault NoHeader 3 ∷ fault OtherFormat 9 ∷ fault SmpteDivision 13 ∷ fault LateFrame 30 ∷ Short 2 ∷ Done 2 ∷ []) ≡ 22 ∷ 12 ∷ 13 ∷ 13 ∷ 14 ∷ 8 ∷ 0 ∷ []
+numbers : map numberOf (BadRate ∷ Short 2 ∷ Done 2 ∷ []) ≡ 22 ∷ 8 ∷ 0 ∷ []
 unfolding computing
 numbers = refl
+
+-- of each reason
+twelves : map refusalOf (Missing ∷ NoHeader ∷ ShortHeader ∷ OtherTrackCount ∷ NoDivision ∷ SecondHeader ∷ SecondTrack ∷ NoTrack ∷ NoEndOfTrack ∷ BehindEndOfTrack ∷ LongQuantity ∷ NoRunningStatus ∷ SystemStatus ∷ NoDataByte ∷ NoMetaType ∷ ShortTempo ∷ [])
+    ≡ 12 ∷ 12 ∷ 12 ∷ 12 ∷ 12 ∷ 12 ∷ 12 ∷ 12 ∷ 12 ∷ 12 ∷ 12 ∷ 12 ∷ 12 ∷ 12 ∷ 12 ∷ 12 ∷ []
+unfolding computing
+twelves = refl
+
+others : map numberOf (fault OtherFormat 9 ∷ fault SmpteDivision 13 ∷ fault LateFrame 30 ∷ []) ≡ 13 ∷ 13 ∷ 14 ∷ []
+unfolding computing
+others = refl
 
 -- ---- the list: two numbers each, the rest kept; refused, all of it
 kept : listOf two 48000 (9 ∷ 9 ∷ 9 ∷ 9 ∷ 9 ∷ []) ≡ 0 ∷ 0x403C00 ∷ 24000 ∷ 0x3C00 ∷ 9 ∷ []
@@ -260,6 +288,15 @@ read-back = refl
 read-half : cueOf 7 0x403C0F ≡ record { frame = 7; velocity = ofBits lib.Ieee.binary32 0x3F01_0204; note = 0x3C0F; starts = true }
 unfolding computing
 read-half = refl
+
+-- 9 / 127 and 104 / 127 in one division: 9 and 104 times the nearest of 1 / 127 end in other digits
+read-ninth : cueOf 7 0x093C0F ≡ record { frame = 7; velocity = ofBits lib.Ieee.binary32 0x3D91_2245; note = 0x3C0F; starts = true }
+unfolding computing
+read-ninth = refl
+
+read-loud : cueOf 7 0x683C0F ≡ record { frame = 7; velocity = ofBits lib.Ieee.binary32 0x3F51_A347; note = 0x3C0F; starts = true }
+unfolding computing
+read-loud = refl
 
 read-stop : cueOf 7 0x3C0F ≡ record { frame = 7; velocity = ofBits lib.Ieee.binary32 0; note = 0x3C0F; starts = false }
 unfolding computing

@@ -1,33 +1,32 @@
 -- A song's list is what the request says: `specs/Promised.antt`. Assumes nothing.
 use mathlib.Core.Path.{_≡_, refl, sym, ap, _∙_}
-use mathlib.Core.Bool.{Bool, true, false, cond}
+use mathlib.Core.Bool.{Bool, true, false, cond, not}
 use mathlib.Core.List.{List, [], _∷_, _++_}
-use mathlib.Core.Logic.{_⊎_, inl, inr, ⊎-elim}
-use Prim.Native.Nat.{ℕ, _+_, _*_, _/_, _^_, _-_, _≤_, _<_, zero-le}
+use mathlib.Core.Logic.{_≢_, ⊎-elim}
+use Prim.Native.Nat.{ℕ, _+_, _*_, _/_, _%_, _^_, _≤_, _<_, zero-le}
 use native.Mathlib.Nat.{le-trans, le-refl, mul-le-mul-left, le-add-right, div-zero, div-mul-le-self, le-div-iff-mul-le, eq-zero-or-pos}
 use native.Mathlib.Omega.{arith}
-use lib.Dec.{leb, ltb}
+use lib.Dec.{leb, eqb}
 use lib.ListN.{length, drop}
+use lib.Ieee.{binary32, div}
+use Rattle.binary32.specs.Leaves.{asFloat}
 use borrow.Author.Tests.{le-leb, lt-leb, ltb-false}
 use Rattle.walks.specs.Each.{Each}
-use Rattle.smf.specs.Faults.{refusalOf, faultAt}
+use Rattle.smf.specs.Faults.{refusalOf}
 use Rattle.smf.specs.Files.{Events, headerOf, eventsOf}
 use Rattle.smf.specs.Files.Events.{then, over}
 use Rattle.smf.specs.Times.{firstTempo, frameOf, lastFrame, unitOf}
-use Rattle.smf.specs.Cues.{Entry, Song, entriesOf, tempoAfter, lateOf, overOf, after, songFrom, songIn, songOf, closedOf, countOf, numbersOf, goodRate, judgedOf, countedOf, listAfter, listOf, numberOf}
-use Rattle.smf.specs.Promised.{Timed, timedOf, tempoBehind, sumOf, soundsBehind, NeverFall, Rows, Promised}
+use Rattle.smf.specs.Cues.{Entry, Song, entriesOf, tempoAfter, lateOf, songFrom, songIn, songOf, closedOf, numbersOf, goodRate, judgedOf, countedOf, listAfter, listOf, numberOf, cueOf}
+use Rattle.smf.specs.Promised.{Timed, timedOf, tempoBehind, sumOf, soundsBehind, NeverFall, Rows, FaultNumbers, Promised}
 use Rattle.smf.proofs.Inside.{both}
 use Rattle.smf.specs.declared.faults.Reason.{Reason}
 use Rattle.smf.specs.declared.faults.Reason.the-variants.{Missing, NoHeader, ShortHeader, OtherFormat, OtherTrackCount, SmpteDivision, NoDivision, SecondHeader, SecondTrack, NoTrack, NoEndOfTrack, BehindEndOfTrack, LongQuantity, NoRunningStatus, SystemStatus, NoDataByte, NoMetaType, ShortTempo, LateFrame}
-use Rattle.smf.specs.declared.faults.Fault.{Fault}
 use Rattle.smf.specs.declared.events.Event.{Event}
 use Rattle.smf.specs.declared.events.Event.the-variants.{Note, Tempo, Other}
 use Rattle.smf.specs.declared.chunks.Opening.{Opening}
 use Rattle.smf.specs.declared.chunks.Opening.the-variants as opening
 use Rattle.smf.specs.declared.chunks.Verdict.{Verdict}
 use Rattle.smf.specs.declared.chunks.Verdict.the-variants.{Good, Broken}
-use Rattle.smf.specs.declared.tracks.Count.{Count}
-use Rattle.smf.specs.declared.tracks.Count.the-variants as count
 use Rattle.smf.specs.declared.Counted.{Counted}
 use Rattle.smf.specs.declared.Counted.the-variants.{Done, BadRate, Faulty, Short}
 
@@ -116,27 +115,31 @@ unfolding Each
 in-range rate f = of-song (Each InRange) rate f tt (λ division es. range-from rate division firstTempo 0 es)
 
 -- ---- numbers
-fault-numbers : (why : Reason) → (refusalOf why ≡ 12) ⊎ ((refusalOf why ≡ 13) ⊎ (refusalOf why ≡ 14))
+others-12 : (why : Reason) → why ≢ OtherFormat → why ≢ SmpteDivision → why ≢ LateFrame → refusalOf why ≡ 12
 unfolding refusalOf
-fault-numbers Missing = inl refl
-fault-numbers NoHeader = inl refl
-fault-numbers ShortHeader = inl refl
-fault-numbers OtherFormat = inr (inl refl)
-fault-numbers OtherTrackCount = inl refl
-fault-numbers SmpteDivision = inr (inl refl)
-fault-numbers NoDivision = inl refl
-fault-numbers SecondHeader = inl refl
-fault-numbers SecondTrack = inl refl
-fault-numbers NoTrack = inl refl
-fault-numbers NoEndOfTrack = inl refl
-fault-numbers BehindEndOfTrack = inl refl
-fault-numbers LongQuantity = inl refl
-fault-numbers NoRunningStatus = inl refl
-fault-numbers SystemStatus = inl refl
-fault-numbers NoDataByte = inl refl
-fault-numbers NoMetaType = inl refl
-fault-numbers ShortTempo = inl refl
-fault-numbers LateFrame = inr (inr refl)
+others-12 Missing f s l = refl
+others-12 NoHeader f s l = refl
+others-12 ShortHeader f s l = refl
+others-12 OtherFormat f s l = absurd (f refl)
+others-12 OtherTrackCount f s l = refl
+others-12 SmpteDivision f s l = absurd (s refl)
+others-12 NoDivision f s l = refl
+others-12 SecondHeader f s l = refl
+others-12 SecondTrack f s l = refl
+others-12 NoTrack f s l = refl
+others-12 NoEndOfTrack f s l = refl
+others-12 BehindEndOfTrack f s l = refl
+others-12 LongQuantity f s l = refl
+others-12 NoRunningStatus f s l = refl
+others-12 SystemStatus f s l = refl
+others-12 NoDataByte f s l = refl
+others-12 NoMetaType f s l = refl
+others-12 ShortTempo f s l = refl
+others-12 LateFrame f s l = absurd (l refl)
+
+fault-numbers : FaultNumbers
+unfolding refusalOf
+fault-numbers = record { format = refl; smpte = refl; late = refl; others = others-12 }
 
 song-rows : (f : List ℕ) (rate room : ℕ) → Rows f rate room
 unfolding countedOf closedOf numberOf
@@ -160,7 +163,26 @@ unfolding listOf
 held f rate list h = held-at (songOf rate f .entries) list (countedOf f rate (length list)) h
 
 no-zero : (why : Reason) → refusalOf why ≡ 0 → ⊥
-no-zero why e = ⊎-elim (λ k. omega arith) (λ k. ⊎-elim (λ j. omega arith) (λ j. omega arith) k) (fault-numbers why)
+unfolding refusalOf
+no-zero Missing e = omega arith
+no-zero NoHeader e = omega arith
+no-zero ShortHeader e = omega arith
+no-zero OtherFormat e = omega arith
+no-zero OtherTrackCount e = omega arith
+no-zero SmpteDivision e = omega arith
+no-zero NoDivision e = omega arith
+no-zero SecondHeader e = omega arith
+no-zero SecondTrack e = omega arith
+no-zero NoTrack e = omega arith
+no-zero NoEndOfTrack e = omega arith
+no-zero BehindEndOfTrack e = omega arith
+no-zero LongQuantity e = omega arith
+no-zero NoRunningStatus e = omega arith
+no-zero SystemStatus e = omega arith
+no-zero NoDataByte e = omega arith
+no-zero NoMetaType e = omega arith
+no-zero ShortTempo e = omega arith
+no-zero LateFrame e = omega arith
 
 written : (f : List ℕ) (rate : ℕ) (list : List ℕ) → numberOf (countedOf f rate (length list)) ≡ 0
     → listOf f rate list ≡ numbersOf (songOf rate f .entries) ++ drop (2 * length (songOf rate f .entries)) list
@@ -180,6 +202,40 @@ written f rate list = go (goodRate rate) (songOf rate f .verdict)
     go true (Broken why) e = absurd (no-zero (why .reason) e)
     go false v e = absurd (omega arith)
 
+counted : (f : List ℕ) (rate room n : ℕ) → countedOf f rate room ≡ Done n → (songOf rate f .verdict ≡ Good) × (length (songOf rate f .entries) ≡ n)
+unfolding countedOf closedOf numberOf
+counted f rate room n = go (goodRate rate) (songOf rate f .verdict)
+  where
+    size : ℕ
+    size = length (songOf rate f .entries)
+
+    never : {A : Type 0} {c : Counted} → c ≡ Done n → numberOf c ≢ 0 → A
+    never e h = absurd (h (ap numberOf e))
+
+    fits : (b : Bool) → cond b (Done size) (Short size) ≡ Done n → size ≡ n
+    fits true e = cc
+    fits false e = never e (λ z. omega arith)
+
+    go : (b : Bool) (v : Verdict) → cond b (judgedOf room (closedOf v size)) BadRate ≡ Done n → (v ≡ Good) × (size ≡ n)
+    go true Good e = (refl, fits (leb (2 * size) room) e)
+    go true (Broken why) e = never e (no-zero (why .reason))
+    go false v e = never e (λ z. omega arith)
+
+-- ---- an entry read back
+read-back : (frame key channel velocity : ℕ) → key < 128 → channel < 16 → velocity < 128
+    → cueOf frame (key * 256 + channel + velocity * 65536) ≡ record {
+      frame = frame;
+      velocity = div binary32 (asFloat velocity) (asFloat 127);
+      note = key * 256 + channel;
+      starts = not (eqb velocity 0);
+    }
+unfolding cueOf
+read-back frame key channel velocity h k l =
+    let packed = key * 256 + channel + velocity * 65536 in
+    let word : packed / 65536 % 256 ≡ velocity = omega arith in
+    let note : packed % 65536 ≡ key * 256 + channel = omega arith in
+    rw (word, note)
+
 pub promised : Promised
 promised = record {
   exact = exact;
@@ -187,6 +243,8 @@ promised = record {
   in-range = in-range;
   song-rows = song-rows;
   fault-numbers = fault-numbers;
+  counted = counted;
+  read-back = read-back;
   held = held;
   written = written;
   settled = λ f rate list r s l m a b x y. (a ∙ sym b, x ∙ sym y);

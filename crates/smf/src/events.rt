@@ -53,7 +53,7 @@ pub enum Step {
     Broken(Fault),
 }
 
-enum Data {
+pub enum Data {
     Is(u8),
     Broken(Fault),
 }

@@ -1,1 +1,3 @@
 pub mod Songs
+pub mod Heard
+pub mod Examples

@@ -15,14 +15,12 @@ use Rattle.common_types.specs.declared.InitParams.{InitParams}
 use Rattle.common_types.specs.declared.Note.{Note}
 use Rattle.common_types.specs.declared.Params.{Params}
 use Rattle.channel.specs.declared.Change.{Change}
-use Rattle.channel.specs.declared.Change.the-variants.{Start, Stop}
 use Rattle.channel.specs.Channels.{live}
 use Rattle.voice.specs.Voices.{freshOf}
 use Rattle.walks.specs.Each.{Each}
 use Rattle.walks.specs.Walks.{any, fold}
 use Rattle.sampler.specs.Refusals.{setUpNumber}
 use Rattle.sampler.specs.Samplers.{startPlayingOf, stopPlayingOf}
-use Rattle.sampler.specs.declared.Answer.{Answer}
 use Rattle.sampler.specs.declared.Sampler.{Sampler}
 use Rattle.smf.specs.Cues.{Entry, songOf, numbersOf, cueOf}
 use Rattle.smf.specs.Promised.{NeverFall}
@@ -30,12 +28,12 @@ use Rattle.smf.specs.declared.Cue.{Cue}
 use Rattle.smf.proofs.Promised.{promised}
 use Rattle.songs.specs.Plays.{callOf, cuesOf, dueOf, playOf}
 use Rattle.songs.proofs.Hands.{by-hand}
-use Rattle.fates.specs.Events.{Event, idle, changes, sounds, isReset, isSample, emptyAt}
+use Rattle.fates.specs.Events.{idle, changes, sounds, isReset, isSample, emptyAt}
 use Rattle.fates.specs.Places.{stoppedIn}
-use Rattle.promises.specs.Runs.{World, setUp, Call, change, start, stop, frame, code, withSampler, after, run, chan, doneTo, event, events, isResetCall}
+use Rattle.promises.specs.Runs.{World, setUp, Call, stop, frame, code, withSampler, after, run, chan, doneTo, event, events, isResetCall, Made, one, made as made-by, makes}
 use Rattle.promises.specs.Demands.{isEmpty, FirstIn, Demand3}
-use Rattle.promises.proofs.Demand3.{demand3}
-use Rattle.song_promises.specs.Songs.{startOf, handOf, hands, leftIn, dueIn, Rising, played, hosted, woven, SongByHand, SongOnTime, SongInTurn, Songs}
+use Rattle.promises.proofs.Makes.{third}
+use Rattle.song_promises.specs.Songs.{startOf, handOf, hands, leftIn, dueIn, Rising, played, hosted, woven, Songs}
 
 -- ---- by hand
 
@@ -113,7 +111,7 @@ cues-behind (suc k) [] = ap (λ (n : ℕ). cuesOf (drop n [])) (two-more k)
 cues-behind (suc k) (x ∷ []) = ap (λ (n : ℕ). cuesOf (drop n (x ∷ []))) (two-more k)
 cues-behind (suc k) (x ∷ y ∷ l) = ap (λ (n : ℕ). cuesOf (drop n (x ∷ y ∷ l))) (two-more k) ∙ cues-behind k l
 
-left-behind : (list : List ℕ) (next k : ℕ) → leftIn list (next + k) ≡ drop k (leftIn list next)
+pub left-behind : (list : List ℕ) (next k : ℕ) → leftIn list (next + k) ≡ drop k (leftIn list next)
 left-behind list next k =
     cues-behind (next + k) list
     ∙ sym (drop-drop k next (cuesOf list))
@@ -161,21 +159,38 @@ started : (p : Params) (c : Cue) → c .starts ≡ true → handOf p c ≡ start
 unfolding handOf
 started p c h = ap (λ (b : Bool). cond b (startOf p c) (stop (fromU64Of (c .note)) p)) h
 
-module _ (count : ℕ) (q : InitParams) (m : List ℕ) (good : setUpNumber count (length m) ≡ 0) (cs : List Call) (j : ℕ) (k : j < count) (list : List ℕ) (next : ℕ) where
-  no-time : (at : ℕ) (p : Params)
-      → chan (played (run (setUp count q m) cs) list next at p) j .head .now ≡ chan (run (setUp count q m) cs) j .head .now
-  no-time at p =
-      let w = run (setUp count q m) cs in
+-- a host's calls one by one
+pub makes-more : (w : World) (hs ks : List Made) → makes w (hs ++ ks) ≡ makes (makes w hs) ks
+unfolding makes
+makes-more w [] ks = refl
+makes-more w (h ∷ hs) ks = makes-more (made-by w h) hs ks
+
+pub makes-each : (w : World) (cs : List Call) → makes w (map one cs) ≡ run w cs
+unfolding makes made-by run
+makes-each w [] = refl
+makes-each w (c ∷ cs) = makes-each (after w c) cs
+
+module _ (count : ℕ) (q : InitParams) (m : List ℕ) (good : setUpNumber count (length m) ≡ 0) (hs : List Made) (j : ℕ) (k : j < count) (list : List ℕ) (next : ℕ) where
+  -- what demand 3 says holds after some of a song's calls too
+  holds-on : (p : Params) (w : World) → w ≡ makes (setUp count q m) hs → (cs : List Cue) (u : World) → u ≡ run w (hands p cs) → Demand3 u j
+  holds-on p w from cs u then =
+      subst (λ (v : World). Demand3 v j)
+      (makes-more (setUp count q m) hs (map one (hands p cs))
+      ∙ ap (λ (v : World). makes v (map one (hands p cs))) (sym from)
+      ∙ makes-each w (hands p cs)
+      ∙ sym then)
+      (third count q m good (hs ++ map one (hands p cs)) j k)
+
+  no-time : (at : ℕ) (p : Params) (w : World) → w ≡ makes (setUp count q m) hs → chan (played w list next at p) j .head .now ≡ chan w j .head .now
+  unfolding run
+  no-time at p w from =
       let due = dueIn list next at in
       ap (λ (v : World). chan v j .head .now) (plays w list next at p)
-      ∙ demand3 count q m good cs j k .stands (hands p due) (no-reset p due) (no-sample p w due j)
+      ∙ holds-on p w from [] w refl .stands (hands p due) (no-reset p due) (no-sample p w due j)
 
-  module _ (p : Params) (w : World) (from : w ≡ run (setUp count q m) cs) (earlier : List Cue) (c : Cue) (later : List Cue) (split : dueIn list next (c .frame) ≡ earlier ++ (c ∷ later)) (starts : c .starts ≡ true) (u : World) (then : u ≡ run w (hands p earlier)) where
+  module _ (p : Params) (w : World) (from : w ≡ makes (setUp count q m) hs) (earlier : List Cue) (c : Cue) (later : List Cue) (split : dueIn list next (c .frame) ≡ earlier ++ (c ∷ later)) (starts : c .starts ≡ true) (u : World) (then : u ≡ run w (hands p earlier)) where
     holds : Demand3 u j
-    holds =
-        subst (λ (v : World). Demand3 v j)
-        (run-more (setUp count q m) cs (hands p earlier) ∙ ap (λ (v : World). run v (hands p earlier)) (sym from) ∙ sym then)
-        (demand3 count q m good (cs ++ hands p earlier) j k)
+    holds = holds-on p w from earlier u then
 
     reached : run u (startOf p c ∷ hands p later) ≡ played w list next (c .frame) p
     reached =
@@ -210,7 +225,7 @@ songs = record {
   hand = record { by-hand = plays; one-run = weaves };
   turn = record { begins = λ rate f. rises 0 (songOf rate f .entries) (promised .in-order rate f); turns = turns };
   time = record {
-    no-time = no-time;
-    on-time = λ count q m good cs j k list next p w from earlier c later split starts u then. in-time count q m good cs j k list next p w from earlier c later split starts u then;
+    no-time = λ count q m good hs j k list next at p w from. no-time count q m good hs j k list next at p w from;
+    on-time = λ count q m good hs j k list next p w from earlier c later split starts u then. in-time count q m good hs j k list next p w from earlier c later split starts u then;
   };
 }

@@ -1,1 +1,2 @@
 pub mod Songs
+pub mod Heard

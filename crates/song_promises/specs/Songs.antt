@@ -20,7 +20,23 @@ use Rattle.smf.specs.declared.Cue.{Cue}
 use Rattle.songs.specs.Plays.{cuesOf, dueOf, playOf}
 use Rattle.fates.specs.Events.{sounds, emptyAt}
 use Rattle.fates.specs.Places.{stoppedIn}
-use Rattle.promises.specs.Runs.{World, setUp, Call, start, stop, frame, code, withSampler, after, run, chan, event, events}
+use Rattle.promises.specs.Runs.{
+  World,
+  setUp,
+  Call,
+  start,
+  stop,
+  frame,
+  code,
+  withSampler,
+  after,
+  run,
+  chan,
+  event,
+  events,
+  Made,
+  makes,
+}
 use Rattle.promises.specs.Demands.{isEmpty, FirstIn}
 
 -- the call that a host would make by hand for a start, and for a start or a stop
@@ -72,18 +88,19 @@ pub record SongByHand : Type 0 where
   pub one-run : (w : World) (list : List ℕ) (next at : ℕ) (p : Params) (frames : List (List Float))
       → hosted w list next at p frames ≡ run w (woven list next at p frames)
 
--- A key of a song is on time, on each channel: of every record and memory that set-up and any calls leave, and of a
--- start c among the entries that are due at its own frame count.
+-- A key of a song is on time, on each channel: of every record and memory that set-up and any calls of a host leave,
+-- runs of frames among them, and of a start c among the entries that are due at its own frame count.
 pub record SongOnTime : Type 0 where
   -- Playing takes no time: the next sample has the count that it had before.
   pub no-time : (count : ℕ) (q : InitParams) (m : List ℕ) → setUpNumber count (length m) ≡ 0
-      → (cs : List Call) (j : ℕ) → j < count → (list : List ℕ) (next at : ℕ) (p : Params)
-      → chan (played (run (setUp count q m) cs) list next at p) j .head .now ≡ chan (run (setUp count q m) cs) j .head .now
+      → (hs : List Made) (j : ℕ) → j < count → (list : List ℕ) (next at : ℕ) (p : Params)
+      → (w : World) → w ≡ makes (setUp count q m) hs
+      → chan (played w list next at p) j .head .now ≡ chan w j .head .now
   -- "a start of the song with frame count n, accepted on a recording that isn't empty, sounds in sample n", the first
   -- behind `play` at n: unless a stop that is due at n too finds that very voice, or the recording is empty by then.
   pub on-time : (count : ℕ) (q : InitParams) (m : List ℕ) → setUpNumber count (length m) ≡ 0
-      → (cs : List Call) (j : ℕ) → j < count → (list : List ℕ) (next : ℕ) (p : Params)
-      → (w : World) → w ≡ run (setUp count q m) cs
+      → (hs : List Made) (j : ℕ) → j < count → (list : List ℕ) (next : ℕ) (p : Params)
+      → (w : World) → w ≡ makes (setUp count q m) hs
       → (earlier : List Cue) (c : Cue) (later : List Cue) → dueIn list next (c .frame) ≡ earlier ++ (c ∷ later)
       → c .starts ≡ true
       → (u : World) → u ≡ run w (hands p earlier)

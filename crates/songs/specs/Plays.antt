@@ -2,7 +2,7 @@
 -- Definitions only.
 use mathlib.Core.Path.{_≡_}
 use mathlib.Core.Bool.{cond}
-use mathlib.Core.List.{List, [], _∷_}
+use mathlib.Core.List.{List, [], _∷_, _++_}
 use Prim.Native.Nat.{ℕ, _+_, _*_}
 use lib.Dec.{leb, eqb}
 use lib.ListN.{length, drop}
@@ -52,9 +52,18 @@ unfoldable pub dueOf : ℕ → List Cue → List Cue
 dueOf at [] = []
 dueOf at (c ∷ cs) = cond (leb (c .frame) at) (c ∷ dueOf at cs) []
 
+-- those of them that answer a number other than 0, each made on the engine as the one before it leaves it
+unfoldable pub refusedOf : Sampler → List Cue → Params → List Cue
+refusedOf s [] p = []
+refusedOf s (c ∷ cs) p =
+    let a = callOf s c p in
+    cond (eqb (a .number) 0) [] (c ∷ []) ++ refusedOf (a .sampler) cs p
+
 pub record ByHand (s : Sampler) (list : List ℕ) (next at : ℕ) (p : Params) : Type 0 where
   -- the engine is as after each call in turn
   pub calls : playOf s list next at p .sampler
       ≡ fold (λ (e : Sampler) (c : Cue). callOf e c p .sampler) s (dueOf at (cuesOf (drop (2 * next) list)))
   -- and the next entry is the one behind them
   pub places : playOf s list next at p .next ≡ next + length (dueOf at (cuesOf (drop (2 * next) list)))
+  -- and as many are told as refused as answer so
+  pub refusals : playOf s list next at p .refused ≡ length (refusedOf s (dueOf at (cuesOf (drop (2 * next) list))) p)

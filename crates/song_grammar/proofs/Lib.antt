@@ -1,0 +1,10 @@
+pub mod Segments
+pub mod Taken
+pub mod Wholes
+pub mod Shown
+pub mod Tracks
+pub mod Chunks
+pub mod Numbers
+pub mod Judged
+pub mod Alike
+pub mod Same
