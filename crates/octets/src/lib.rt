@@ -1,10 +1,10 @@
-// The bytes of a file, and the numbers that they make, two, three or four of them, the most significant first. A number
-// that a file has the other way round is the same of its bytes in that order. Each function equals a definition in
-// specs/Octets.antt, for every value of its arguments.
+// The bytes of a file, and the numbers that they make, two, three or four of them, the most significant first; two or
+// four also the least significant first (`little_`), which is the same of the bytes in that order. Each function equals
+// a definition in specs/Octets.antt, for every value of its arguments.
 ghost use mathlib.Core.Path.{_≡_};
 ghost use mathlib.Core.List.{[], _∷_};
 ghost use Prim.Native.Nat.{_^_, _<_};
-ghost use Rattle.octets.specs.Octets.{byteAt, numberOf};
+ghost use Rattle.octets.specs.Octets.{byteAt, numberOf, littleOf};
 
 // A byte past the end is 0.
 pub fn byte_at(bytes: &[u8], at: usize) -> u8
@@ -39,4 +39,17 @@ pub fn of_four(a: u8, b: u8, c: u8, d: u8) -> u32
     ensures { λ n. ⌜ n ≡ numberOf (a ∷ b ∷ c ∷ d ∷ []) ⌝ }
 {
     of_three(a, b, c) * 256 + wide(d)
+}
+
+pub fn little_two(a: u8, b: u8) -> u32
+    ensures { λ n. ⌜ n ≡ littleOf (a ∷ b ∷ []) ⌝ }
+    ensures { λ n. ⌜ n < 2 ^ 16 ⌝ }
+{
+    of_two(b, a)
+}
+
+pub fn little_four(a: u8, b: u8, c: u8, d: u8) -> u32
+    ensures { λ n. ⌜ n ≡ littleOf (a ∷ b ∷ c ∷ d ∷ []) ⌝ }
+{
+    of_four(d, c, b, a)
 }

@@ -1,0 +1,62 @@
+-- What `write` and `load` answer and leave, case by case. Assumes nothing.
+use mathlib.Core.Path.{_≡_, ap, _∙_}
+use mathlib.Core.Bool.{true, false}
+use mathlib.Core.List.{List}
+use Prim.Native.Nat.{ℕ, _+_, _*_}
+use native.Mathlib.Nat.{zero-add}
+use native.Mathlib.Omega.{arith}
+use lib.ListN.{length, length-append}
+use lib.Seq.{sets}
+use Rattle.walks.proofs.Lists.Runs.{run-front}
+use Rattle.wave.specs.Fields.{wordBytes}
+use Rattle.wave.specs.Files.{headerOf, fileOf}
+use Rattle.wave.specs.Reader.{wordAt, judgedOf}
+use Rattle.wave.specs.Memory.{fitsMemory, framesOf, storedOf, bytesOf, fitsFile, writes, writtenOf, outputOf, layoutOf, loads, loadedOf}
+use Rattle.wave.specs.declared.Layout.{Layout}
+use Rattle.wave.specs.declared.Wave.{Wave}
+use Rattle.wave.specs.declared.Judged.the-variants.{Is, Refused}
+use Rattle.wave.proofs.Standing.{length-words, length-listed}
+use Rattle.wave.proofs.Layouts.{file-true}
+use Rattle.wave.proofs.Rows.{after, length-header}
+
+-- ---- writing
+pub length-frames : (l : Layout) (m : List ℕ) → length (framesOf l m) ≡ l .channels * l .samples
+unfolding framesOf
+length-frames l m = length-listed _ 0 (l .channels * l .samples)
+
+pub length-file : (rate channels samples : ℕ) (words : List ℕ) → length (fileOf rate channels samples words) ≡ 58 + 4 * length words
+length-file rate channels samples words = length-append (headerOf rate channels samples) (wordBytes words) ∙ rw (length-header rate channels samples, length-words words)
+
+module _ (rate : ℕ) (l : Layout) (m out : List ℕ) where
+  pub write-unfit : fitsMemory l (length m) ≡ false → (0 ≡ writtenOf l (length m) (length out)) × (out ≡ outputOf rate l m out)
+  unfolding writtenOf outputOf writes
+  write-unfit e = (rw e, rw e)
+
+  pub write-short : fitsMemory l (length m) ≡ true → fitsFile l (length out) ≡ false → (0 ≡ writtenOf l (length m) (length out)) × (out ≡ outputOf rate l m out)
+  unfolding writtenOf outputOf writes
+  write-short e g = (rw (e, g), rw (e, g))
+
+  pub write-done : fitsMemory l (length m) ≡ true → fitsFile l (length out) ≡ true → {x y : List ℕ} → x ≡ sets out 0 (headerOf rate (l .channels) (l .samples))
+      → y ≡ sets x 58 (wordBytes (framesOf l m)) → (bytesOf l ≡ writtenOf l (length m) (length out)) × (y ≡ outputOf rate l m out)
+  unfolding writtenOf outputOf writes
+  write-done e g h k =
+      let whole = fileOf rate (l .channels) (l .samples) (framesOf l m) in
+      let long : length whole ≡ bytesOf l = length-file rate (l .channels) (l .samples) (framesOf l m) ∙ ap (λ (n : ℕ). 58 + 4 * n) (length-frames l m) in
+      let room = file-true l (length out) g .room-fits in
+      let stored = after out 0 58 (headerOf rate (l .channels) (l .samples)) (wordBytes (framesOf l m)) (zero-add _ ∙ length-header rate (l .channels) (l .samples)) h k in
+      (rw (e, g), rw (e, g, ← long) (stored ∙ run-front out whole (omega arith)))
+
+-- ---- reading
+module _ (f : List ℕ) (capacity : ℕ) (m : List ℕ) where
+  pub load-refused : judgedOf f ≡ Refused → (false ≡ loads f capacity (length m)) × (m ≡ loadedOf f capacity m)
+  unfolding loads loadedOf
+  load-refused e = (rw e, rw e)
+
+  pub load-short : (w : Wave) → judgedOf f ≡ Is w → fitsMemory (layoutOf w capacity) (length m) ≡ false → (false ≡ loads f capacity (length m)) × (m ≡ loadedOf f capacity m)
+  unfolding loads loadedOf
+  load-short w e g = (rw (e, g), rw (e, g))
+
+  pub load-done : (w : Wave) → judgedOf f ≡ Is w → fitsMemory (layoutOf w capacity) (length m) ≡ true
+      → (true ≡ loads f capacity (length m)) × (storedOf (layoutOf w capacity) (wordAt f w) m ≡ loadedOf f capacity m)
+  unfolding loads loadedOf
+  load-done w e g = (rw (e, g), rw (e, g))

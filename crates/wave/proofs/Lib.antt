@@ -1,0 +1,13 @@
+pub mod FieldBytes
+pub mod Walks
+pub mod Judgements
+pub mod Standing
+pub mod Tiles
+pub mod Held
+pub mod Answers
+pub mod Layouts
+pub mod Copies
+pub mod Rows
+pub mod Calls
+pub mod Promised
+pub mod Examples
