@@ -244,6 +244,7 @@ all-change = record {
   mode = PingPong;
   once = false;
   «note_off_behavior» = off.Decay;
+  interpolates = false;
 }
 
 pub updates-in-order : movedOf all-change (voiceWith 0 (Static one32) (clipFrom 0 two two (asFloat 4) (asFloat 3) zero32 Loop)) ≡ clipFrom 1 two (neg one32) (asFloat 3) two one32 PingPong

@@ -66,5 +66,6 @@ new-setting count p m j = go (eqb (setUpNumber count (length m)) 0) j
     go false (suc (suc j)) = refl
 
 pub one-setting : (count : ℕ) (p : InitParams) (m : List ℕ) → setUpNumber count (length m) ≡ 0 → (cs : List Call) (j : ℕ) → j < count → chan (run (setUp count p m) cs) j .head .interpolates ≡ settingIn (setUp count p m) false cs
+unfolding run
 one-setting count p m ok cs j k =
     setting-run (setUp count p m) (standing-new count p m) j (omega (arith, count-kept count p m ok [])) cs ∙ ap (λ (b : Bool). settingIn (setUp count p m) b cs) (new-setting count p m j)

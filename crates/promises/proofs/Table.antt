@@ -2,9 +2,9 @@
 use mathlib.Core.Path.{_≡_, refl}
 use mathlib.Core.List.{List, [], _∷_, map}
 use mathlib.Core.Option.{some}
-use lib.Ieee.{ofInt, neg, add, sub, mul, div, rem, lt, le, isNan}
+use lib.Ieee.{toUnsigned, ofInt, neg, add, sub, mul, div, rem, lt, le, isNan}
 use Rattle.walks.specs.Each.{Each}
-use Rattle.binary32.specs.Leaves.{minOf, maxOf}
+use Rattle.binary32.specs.Leaves.{floorOf, minOf, maxOf}
 use Rattle.common_types.specs.Times.{quarterNotesPerBarOf, samplesPerQuarterNoteOf, samplesPerBarOf, asSamplesOf}
 use Rattle.common_types.specs.Settings.{timeLengthOf, lengthOf, loopLengthOf}
 use Rattle.volume.specs.Levels.{progressOf, levelOf, towardOf, goodRamp, goodVolume, valueOf}
@@ -21,5 +21,5 @@ computed [] h = tt
 computed (r ∷ rows) h = (cc, computed rows cc)
 
 pub table-holds : TableHolds
-unfolding given positionOf sumOf offsetOf clipRefusedAt goodClip goodLength madeOf offsetAt clipToDataOf clipOffsetAt placedOf wrappedOf loopedOf bouncedOf roundTripOf mirroredOf travelAt leadOf loopLengthOf lengthOf timeLengthOf asSamplesOf samplesPerBarOf samplesPerQuarterNoteOf quarterNotesPerBarOf valueOf levelRefusedAt goodVolume goodRamp towardOf levelOf progressOf minOf maxOf ofInt neg add sub mul div rem lt le isNan
+unfolding given positionOf sumOf floorOf toUnsigned offsetOf clipRefusedAt goodClip goodLength madeOf offsetAt clipToDataOf clipOffsetAt placedOf wrappedOf loopedOf bouncedOf roundTripOf mirroredOf travelAt leadOf loopLengthOf lengthOf timeLengthOf asSamplesOf samplesPerBarOf samplesPerQuarterNoteOf quarterNotesPerBarOf valueOf levelRefusedAt goodVolume goodRamp towardOf levelOf progressOf minOf maxOf ofInt neg add sub mul div rem lt le isNan
 table-holds p n = computed (table p n) refl
