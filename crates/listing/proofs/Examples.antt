@@ -286,6 +286,11 @@ last-kinds : (recordFaultOf mono (settings 1 2 5 2) ≡ fault.LengthKind 5 4) ×
 unfolding reasons
 last-kinds = (refl, refl)
 
+-- a bad mode is called by its own name
+modes-told : map (recordFaultOf mono) (settings 2 2 4 2 ∷ settings 1 3 4 2 ∷ settings 1 2 4 3 ∷ []) ≡ fault.Passthru 2 ∷ fault.LoopMode 3 ∷ fault.NoteOff 3 ∷ []
+unfolding reasons
+modes-told = refl
+
 three-of-two : headerFaultOf (fromHex "0103 00") ≡ header.Channels 3
 unfolding reasons
 three-of-two = refl

@@ -77,6 +77,7 @@ use Rattle.promises.specs.Demands.{waveform, Demand1, Demand2, Demands}
 use Rattle.promises.proofs.Memory.{part-unwritten, part-written}
 use Rattle.promises.proofs.Outcomes.{settled, one-outcome, number-code, left-after, output-answered, chain-makes, makes-chain}
 use Rattle.promises.proofs.Infos.{infos-given, infos-counted, infos-listed}
+use Rattle.promises.proofs.Extremes.{smaller-of-both, larger-of-both}
 use Rattle.promises.proofs.Table.{table-holds}
 use Rattle.promises.proofs.Broken.{row-nine}
 use Rattle.promises.proofs.Rows.{row-tests}
@@ -261,6 +262,8 @@ demand2 = record {
   floors-up = floor-exact true;
   smaller = λ x. (nan-first x .0, nan-second x .0);
   larger = λ x. (nan-first x .1, nan-second x .1);
+  smaller-of-both = smaller-of-both;
+  larger-of-both = larger-of-both;
   patterns = value-back;
   values = λ b h n. pattern-back b h ∙ ap (λ (t : Bool). cond t 0x7fc0_0000 b) n;
   positions = λ c now h. (clip-offset-inside c now h, offset-within c now h);

@@ -18,7 +18,7 @@ use Rattle.common_types.specs.declared.NoteOffBehaviour.{NoteOffBehaviour}
 use Rattle.common_types.specs.declared.NoteOffBehaviour.the-variants as off
 use Rattle.common_types.specs.declared.time_value.TimeOrRatio.the-variants.{Ratio}
 use Rattle.common_types.specs.Settings.{defaultTransport}
-use Rattle.binary32.specs.Leaves.{floorOf, minOf, maxOf, crossingOf, zero32, one32}
+use Rattle.binary32.specs.Leaves.{floorOf, minOf, maxOf, crossingOf, rootBelow, isqrt, rootOf, zero32, one32}
 use Rattle.binary32.specs.Wholes.{wholeIn}
 use Rattle.walks.specs.Walks.{any, every, without, behind, fold, seek}
 use Rattle.common_types.specs.Settings.{speedOf, timeLengthOf, lengthOf, loopLengthOf, lengthBeyond, beyondLimits}
@@ -36,14 +36,14 @@ use Rattle.voice.specs.Agreeing.{agreesOf}
 use Rattle.channel.specs.declared.Head.{Head}
 use Rattle.channel.specs.Soundness.{FittingChange}
 use Rattle.channel.specs.Heads.{headChangedOf, nextTime, headOf, rampOf, passthruOf, closedOf, goodHead}
-use Rattle.channel.specs.Channels.{live, withHead, withVoices, channelOf, resetOf, anyUnfinishedOf, handledOf, pushedOf, startPlayingOf, wantedOf, findOf, finishedAtOf, stopPlayingOf, spedOf, setNoteSpeedOf, keptOf, tidiedOf, addedOf, heardOf, playedOf, playedIfOf, takenOf, memoryOf, processSampleOf, changedOf, fullOf, goodVoicesOf, goodChannel}
+use Rattle.channel.specs.Channels.{live, withHead, withVoices, channelOf, resetOf, anyUnfinishedOf, handledOf, pushedOf, startPlayingOf, wantedOf, findOf, finishedAtOf, stopPlayingOf, spedOf, setNoteSpeedOf, keptOf, tidiedOf, addedOf, heardOf, playedOf, playedIfOf, takenOf, memoryOf, processSampleOf, changedOf, fullOf, goodVoicesOf, goodChannel, recordingOf}
 use Rattle.sampler.specs.Refusals.{goodSizes, goodSampler, capacityOf, goodWith, setUpNumber, startRows, stopRows, speedRows, sampleNumber, frameNumber, latestOf, roomOf, runNumber, doneOf, channelNumber}
 use Rattle.sampler.specs.declared.Sampler.{Sampler}
 use Rattle.sampler.specs.declared.Ran.{Ran}
 use Rattle.questions.specs.declared.VoiceInfo.{VoiceInfo}
 use Rattle.questions.specs.declared.Counted.the-variants as counted
 use Rattle.questions.specs.Questions.{notesOf, listNumber, voiceInfoOf, infoNumber}
-use Rattle.questions.specs.Waveforms.{waveformNumber}
+use Rattle.questions.specs.Waveforms.{cutOf, columnOf, columnAt, columnsFrom, waveformNumber}
 use Rattle.sampler.specs.Samplers.{withChannels, setUpOf, eachOf, answerOf, partOf, playedAt, channelSteppedOf as sampledOf, outputOf, movedAt, memoryAt, processSampleOf as sampleOf, sampleMemory, entryOf, entriesOf, entriesMoved, framedOf, frameMoved, framesOf, ranOf, runAnswer}
 use Rattle.fates.specs.Engine.{begunOf, passesOver, heardBy, turnedOf, letsGo, leavesOf, leftOf, movedUp, turnsOf, stepOf}
 use Rattle.fates.specs.Events.{tickAt, act, isReset, isSample, decayOf}
@@ -51,9 +51,9 @@ use Rattle.fates.specs.Sounding.{termsOf}
 use Rattle.fates.specs.Steady.{disagrees, alters, alteredIn}
 use Rattle.fates.specs.Places.{voiceAt, at, gone, fateOf, follow, stops, becomes, addedBy, outOf, playsOut, followAll, stoppedIn, finishedIn}
 use Rattle.promises.specs.Runs.{World, Call, start, stop, speed, startRecording, stopRecording, sample, frame, getDataLen, iterActiveNotes, fillVoiceInfo, getWaveformSummary, asks, FittingCall, chan, ownPart, setUp, questionNumber, code, after, run, doneTo, event, events, isResetCall, output, before, one, makes}
-use lib.Ieee.{Float, nan, fin, binary32, fits, add, sub, mul, div, rem, neg, lt, le, eq, ofInt, toUnsigned, isNan, ofBits, toBits, nanBits, ofFields}
+use lib.Ieee.{Float, nan, fin, binary32, size, round, fits, add, sub, mul, div, rem, neg, lt, le, eq, ofInt, toUnsigned, isNan, ofBits, toBits, nanBits, ofFields}
 use Rattle.promises.specs.Outcomes.{on, leftBy}
-use Rattle.promises.specs.Demands.{Plays, Asked, AllPlaced, Leaves, SoundsIn, FirstIn, termsWith, Demand3, Undisturbed, OnTheBeat, Shows, TruePositions}
+use Rattle.promises.specs.Demands.{waveform, Plays, Asked, AllPlaced, Leaves, SoundsIn, FirstIn, termsWith, Demand3, Undisturbed, OnTheBeat, Shows, TruePositions}
 use Rattle.promises.proofs.Outcomes.{settled}
 use Rattle.promises.proofs.Whole.{no-panic, whole}
 use Rattle.promises.proofs.Demands.{demands}
@@ -472,6 +472,16 @@ unfolding computing
 unwritten-met =
     let r = settled (on taking one-entry) in
     (demands .first .unwritten taking one-entry (r .outcome) (r .allowed) 1 refl, demands .first .unwritten taking one-entry (r .outcome) (r .allowed) 2 refl)
+
+-- ---- the recording: what is taken so far of a part of two cells, and all of it; and its waveform, which is channel 0's
+pub recording-met : (recordingOf (chan (after taking one-entry) 0) (ownPart (after taking one-entry) 0) ≡ 0x3f00_0000 ∷ [])
+    × (recordingOf (chan older 0) (ownPart older 0) ≡ 0x3f00_0000 ∷ 0x3f80_0000 ∷ [])
+unfolding computing
+recording-met = (refl, refl)
+
+pub waveform-met : (waveform (after taking one-entry) 1 ≡ half ∷ []) × (waveform older 2 ≡ half ∷ one32 ∷ [])
+unfolding computing columnsFrom columnAt columnOf cutOf size round rootBelow isqrt rootOf
+waveform-met = (refl, refl)
 
 -- ---- voice info in a lent list of two: channel 1's voice began at 1/4, its loop of half the recording ends at 3/4, and it has come to sample 1 of 2; the rest of the list is kept
 abbrev quarter : Float

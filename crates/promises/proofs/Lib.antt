@@ -12,6 +12,7 @@ pub mod Makes
 pub mod RunEnds
 pub mod Outcomes
 pub mod Infos
+pub mod Extremes
 pub mod Table
 pub mod Broken
 pub mod Rows

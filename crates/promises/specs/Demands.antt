@@ -245,6 +245,11 @@ pub record Demand2 : Type 0 where
   -- minimum and maximum yield the other where one is NaN;
   pub smaller : (x : Float) → (minOf nan x ≡ x) × (minOf x nan ≡ x)
   pub larger : (x : Float) → (maxOf nan x ≡ x) × (maxOf x nan ≡ x)
+  -- where neither is, they yield one of the two, not above (below) either;
+  pub smaller-of-both : (x y : Float) → T (not (isNan x)) → T (not (isNan y))
+      → ((minOf x y ≡ x) ⊎ (minOf x y ≡ y)) × T (le (minOf x y) x) × T (le (minOf x y) y)
+  pub larger-of-both : (x y : Float) → T (not (isNan x)) → T (not (isNan y))
+      → ((maxOf x y ≡ x) ⊎ (maxOf x y ≡ y)) × T (le x (maxOf x y)) × T (le y (maxOf x y))
   -- a float is its bit pattern, and a bit pattern that is no NaN's is its float.
   pub patterns : (x : Float) → T (fits binary32 x) → floatOf (bitsOf x) ≡ x
   pub values : (b : ℕ) → b < 2 ^ 32 → isNan (floatOf b) ≡ false → bitsOf (floatOf b) ≡ b

@@ -6,7 +6,7 @@ use lib.IntN.{pos}
 use lib.Ieee.{Float, nan, inf, fin, size, round, add, mul, div, lt, isNan, ofInt, toUnsigned, ofBits, ofFields}
 use Rattle.binary32.specs.Leaves.{asFloat, floatOf, floorOf, maxOf, rootBelow, isqrt, rootOf, zero32, one32}
 use Rattle.walks.specs.Walks.{fold}
-use Rattle.questions.specs.Waveforms.{cutOf, withSquare, squaresOf, columnOf, largestOf}
+use Rattle.questions.specs.Waveforms.{cutOf, withSquare, squaresOf, columnOf, columnAt, largestOf}
 
 -- ---- cuts are of floats, not of whole numbers: 23 * 14 / 46 is 7
 inner-cut : cutOf 14 46 23 ≡ 6
@@ -40,6 +40,11 @@ mean-of-two : columnOf (asFloat 3 ∷ asFloat 4 ∷ []) ≡ floatOf 0x4062_4630
 unfolding columnOf fold add mul div ofInt size round rootBelow isqrt rootOf ofBits ofFields
 mean-of-two = refl
 
+-- and of 6 / 3: the root of 6 over the root of 3 is 3FB504F4
+mean-of-three : columnOf (asFloat 1 ∷ asFloat 1 ∷ asFloat 2 ∷ []) ≡ floatOf 0x3fb5_04f3
+unfolding columnOf fold add mul div ofInt size round rootBelow isqrt rootOf ofBits ofFields
+mean-of-three = refl
+
 no-samples : columnOf [] ≡ nan
 unfolding columnOf fold div ofInt rootOf
 no-samples = refl
@@ -56,6 +61,11 @@ too-large = refl
 too-small : columnOf (floatOf 0x0da2_4260 ∷ []) ≡ zero32
 unfolding columnOf fold add mul div ofInt size round rootBelow isqrt rootOf ofBits ofFields
 too-small = refl
+
+-- ---- a column of a recording: the samples from its cut to the next, and none before or after
+middle-column : columnAt 3 (0x3f80_0000 ∷ 0x3f80_0000 ∷ 0x4000_0000 ∷ 0x4000_0000 ∷ 0x4080_0000 ∷ 0x4080_0000 ∷ []) 1 ≡ asFloat 2
+unfolding columnAt cutOf columnOf fold floorOf add mul div ofInt toUnsigned size round rootBelow isqrt rootOf ofBits ofFields
+middle-column = refl
 
 -- ---- a NaN doesn't count, wherever it stands
 largest-of-some : largestOf (nan ∷ one32 ∷ nan ∷ []) ≡ one32

@@ -8,7 +8,7 @@ pub use Prim.Native.Nat.{ℕ, suc, _+_, _-_, _*_, _/_, _%_, _^_, _≤_, _<_, min
 pub use lib.Dec.{T, eqb, ltb}
 pub use lib.ListN.{length, take, drop}
 pub use lib.IntN.{ℤ}
-pub use lib.Ieee.{Float, nan, fin, binary32, up, down, add, sub, mul, div, eq, isNan, fits}
+pub use lib.Ieee.{Float, nan, fin, binary32, up, down, add, sub, mul, div, eq, le, isNan, fits}
 pub use lib.Ieee.Exact.{HasValue}
 pub use lib.Ieee.Scale.{finite}
 pub use lib.Ieee.Positive.{positive}
