@@ -3,17 +3,17 @@
 -- Assumes nothing.
 use mathlib.Core.Path.{_≡_, refl, sym, ap, ap₂, _∙_, subst}
 use mathlib.Core.Logic.{_⊎_, inl, inr}
-use Prim.Native.Nat.{ℕ, suc, _+_, _-_, _*_, _/_, _%_, _^_, _≤_, _<_}
+use Prim.Native.Nat.{ℕ, suc, _+_, _-_, _*_, _/_, _%_, _^_, _≤_, _<_, zero-le}
 use native.Mathlib.Nat.{add-comm, eq-or-lt-of-le, lt-trans, le-trans, le-of-eq, le-of-lt, le-of-suc-le-suc, lt-of-lt-of-le, lt-of-le-of-lt, lt-of-not-le, lt-irrefl, zero-lt-suc, mul-comm, mul-assoc, mul-left-comm, mul-right-comm, mul-mul-mul-comm, add-mul, suc-mul, mul-pos, mul-le-mul-left, mul-le-mul-right, mul-lt-mul-of-pos-right, le-of-mul-le-mul-right, lt-of-mul-lt-mul-right, mul-div-cancel, div-lt-iff-lt-mul, le-div-iff-mul-le, div-add-mod', two-pow-succ, pow-succ', mod-lt, zero-add, mul-lt-mul-of-pos-left}
 use native.Mathlib.Decide.{decLe}
 use native.Mathlib.Omega.{arith}
 use mathlib.Core.Bool.{Bool, true, false, true≢false}
-use lib.Dec.{T, lit<, lit≤, ltb→lt, lt→ltb, eqb→eq}
+use lib.Dec.{T, lit<, lit≤, ltb→lt, lt→ltb, le→leb, eqb→eq}
 use lib.Arith.{lt-of-le-ne}
 use lib.Pow.{pow-add, pow-pos, pow-mono}
 use lib.Ieee.{Float, nan, inf, fin, Format, binary32, prec, up, down, size, round, lt, eq, le, fits}
 use lib.Ieee.Digits.{size-lt, size-reaches}
-use lib.Ieee.Fits.{down-pos, two, two-le-pos, eq→eqb}
+use lib.Ieee.Fits.{down-pos, two, two-le-pos, eq→eqb, round-fits}
 use lib.Ieee.Exact.{HasValue}
 use lib.Ieee.Scale.{finite, overflow}
 use lib.Ieee.Nearest.{closest}
@@ -21,7 +21,7 @@ use lib.Ieee.Positive.{num, den, den-pos, positive, positive-finite, value-pos}
 use Rattle.binary32.specs.Leaves.{zero32, signOf, isqrt, rootOf}
 use Rattle.binary32.specs.Roots.{square, MiddleBelow, MiddleAbove, NearestRoot}
 use Rattle.binary32.proofs.Values.{le-value, most}
-use Rattle.binary32.proofs.Units.{Grid, Held, Units, grid-multiple, pow-over, on-grid, lt-units, eq-units}
+use Rattle.binary32.proofs.Units.{Grid, Held, Units, grid-multiple, pow-over, on-grid, lt-units, eq-units, units-finite}
 use Rattle.binary32.proofs.Rounding.{rd, rd-at, rd-le, round-value}
 use Rattle.binary32.proofs.Tops.{closest-below, closest-above}
 use Rattle.binary32.proofs.WholeRoots.{square-mono, square-lt, four-squares, isqrt-root, root-reaches, root-stays, never-odd, pow-lt-back}
@@ -273,6 +273,15 @@ module _ (x : Float) (p : T (positive x)) (h : T (fits binary32 x)) where
   root-counted : Units binary32 (rootOf x) r
   root-counted = record { sign = false; is = root-value; null = λ t. absurd t }
 
+  root-held : T (fits binary32 (rootOf x))
+  root-held = subst (λ (z : Float). T (fits binary32 z)) (sym (root-units x n value)) (round-fits binary32 false (isqrt (n * 2 ^ 149)) (2 ^ 149))
+
+  root-bounded : T (finite (rootOf x))
+  root-bounded = units-finite root-counted
+
+  root-not-below : T (le zero32 (rootOf x))
+  root-not-below = subst T (sym (le-value zero32 (rootOf x) false 0 false r (2 ^ 149) (pow-pos 149) (refl, refl) root-value)) (le→leb 0 r zero-le)
+
   module _ (y : Float) (k : T (fits binary32 y)) (t : T (finite y)) (l : T (le zero32 y)) where
     abbrev m : ℕ
     m = count y k t l
@@ -294,7 +303,7 @@ module _ (x : Float) (p : T (positive x)) (h : T (fits binary32 x)) where
         (middle-above n above-zero (held .grid) (held .under) m (at y k t l .grid) (ltb→lt r m (subst T (lt-units root-counted (counted y k t l)) a)))
 
 pub nearest : (x : Float) → T (positive x) → T (fits binary32 x) → NearestRoot x (rootOf x)
-nearest x p h = record { below = below x p h; above = above x p h }
+nearest x p h = record { held = root-held x p h; bounded = root-bounded x p h; not-below = root-not-below x p h; below = below x p h; above = above x p h }
 
 -- ---- no two floats are nearest: their middle would lie both below the root and above it
 turned : (x r s : Float) → MiddleBelow r s x → MiddleAbove s r x → ⊥
@@ -304,20 +313,20 @@ turned x r s h k =
     let k′ = subst (λ (z : ℕ). 4 * num x * square z < square (num s * den r + num r * den s) * den x) (mul-comm (den s) (den r)) k in
     lt-irrefl (4 * num x * square (den r * den s)) (lt-trans k′ h′)
 
-pub determined : (x r s : Float) → T (fits binary32 r) → T (finite r) → T (le zero32 r) → T (fits binary32 s) → T (finite s) → T (le zero32 s) → NearestRoot x r → NearestRoot x s → T (eq r s)
-determined x r s f t l g u m p q = elim (eq-or-lt-of-le (le-of-suc-le-suc (lt-of-not-le over))) [
+pub determined : (x r s : Float) → NearestRoot x r → NearestRoot x s → T (eq r s)
+determined x r s p q = elim (eq-or-lt-of-le (le-of-suc-le-suc (lt-of-not-le over))) [
   | inl e ↦ subst T (sym (eq-units R S)) (eq→eqb e)
-  | inr h ↦ absurd (turned x r s (q .below r f t l (less R S h)) (p .above s g u m (less R S h)))
+  | inr h ↦ absurd (turned x r s (q .below r (p .held) (p .bounded) (p .not-below) (less R S h)) (p .above s (q .held) (q .bounded) (q .not-below) (less R S h)))
 ]
   where
-    R : Units binary32 r (count r f t l)
-    R = counted r f t l
+    R : Units binary32 r (count r (p .held) (p .bounded) (p .not-below))
+    R = counted r (p .held) (p .bounded) (p .not-below)
 
-    S : Units binary32 s (count s g u m)
-    S = counted s g u m
+    S : Units binary32 s (count s (q .held) (q .bounded) (q .not-below))
+    S = counted s (q .held) (q .bounded) (q .not-below)
 
     less : {y z : Float} {a b : ℕ} → Units binary32 y a → Units binary32 z b → a < b → T (lt y z)
     less {y} {z} {a} {b} c d h = subst T (sym (lt-units c d)) (lt→ltb a b h)
 
-    over : count s g u m < count r f t l → ⊥
-    over h = turned x s r (p .below s g u m (less S R h)) (q .above r f t l (less S R h))
+    over : count s (q .held) (q .bounded) (q .not-below) < count r (p .held) (p .bounded) (p .not-below) → ⊥
+    over h = turned x s r (p .below s (q .held) (q .bounded) (q .not-below) (less S R h)) (q .above r (p .held) (p .bounded) (p .not-below) (less S R h))

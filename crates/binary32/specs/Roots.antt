@@ -17,7 +17,10 @@ MiddleBelow y r x = square (num y * den r + num r * den y) * den x < 4 * num x *
 abbrev pub MiddleAbove : Float → Float → Float → Type 0
 MiddleAbove y r x = 4 * num x * square (den y * den r) < square (num y * den r + num r * den y) * den x
 
--- r is nearer to the root of x than every other float that is not below zero
+-- r is a finite float that is not below zero, and nearer to the root of x than every other
 pub record NearestRoot (x r : Float) : Type 0 where
+  pub held : T (fits binary32 r)
+  pub bounded : T (finite r)
+  pub not-below : T (le zero32 r)
   pub below : (y : Float) → T (fits binary32 y) → T (finite y) → T (le zero32 y) → T (lt y r) → MiddleBelow y r x
   pub above : (y : Float) → T (fits binary32 y) → T (finite y) → T (le zero32 y) → T (lt r y) → MiddleAbove y r x

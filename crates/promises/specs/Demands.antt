@@ -275,8 +275,8 @@ pub record Demand2 : Type 0 where
   -- "note packing both ways."
   pub packed : (n : Note) → n .note < 256 → n .channel < 256 → fromU64Of (intoU64Of n) ≡ n
   pub unpacked : (v : ℕ) → intoU64Of (fromU64Of v) ≡ v % 2 ^ 16
-  -- 1/12: "the root is the one that IEEE 754 rounds to nearest, given by a definition over whole numbers." Every other
-  -- float that is not below 0 lies further from the root of x than `rootOf x` does.
+  -- 1/12: "the root is the one that IEEE 754 rounds to nearest, given by a definition over whole numbers."
+  -- `rootOf x` is a finite float that is not below 0, and every other one lies further from the root of x.
   pub roots : (x : Float) → T (positive x) → T (fits binary32 x) → NearestRoot x (rootOf x)
   -- "The cuts .. follow the Rust": `cutOf`. "Show that no cut passes the end of the data." They begin at the first
   -- sample and don't fall. The last need not reach the end.
