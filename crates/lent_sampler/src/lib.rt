@@ -170,7 +170,7 @@ fn change_number(s: &Sampler, taken: usize, change: Change, other_taken: usize) 
     change_of(t, taken, change, other_taken)
 }
 
-// The call that makes a change of every channel, all or none, where the record stands. The six names are it, each at
+// The call that makes a change of every channel, all or none, where the record stands. The names below are it, each at
 // the change that a function makes of the name's arguments.
 pub fn change(s: &mut Sampler, change: Change) -> u8
     ensures { λ r. ⌜ record { sampler = now (s .exit); number = r } ≡ changeOf (now (s .entry)) change ⌝ }

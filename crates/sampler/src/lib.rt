@@ -394,7 +394,7 @@ impl Sampler {
         }
     }
 
-    // The call that makes a change of every channel, all or none. The six below are it under the Rust's names.
+    // The call that makes a change of every channel, all or none. Those below are it under their names.
     pub fn changed(self, change: Change) -> Answer
         ensures { λ r. ⌜ r ≡ changeOf self change ⌝ }
     {
