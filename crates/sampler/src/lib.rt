@@ -261,7 +261,8 @@ impl Sampler {
         false
     }
 
-    fn any_recording(self) -> bool
+    // Whether one of the channels in use records.
+    pub fn any_recording(self) -> bool
         ensures { λ r. ⌜ r ≡ anyRecording self ⌝ }
     {
         let n = places(self.count);
@@ -331,6 +332,7 @@ impl Sampler {
         self
     }
 
+    // The change where the number is 0.
     pub fn answer(self, number: u8, change: Change) -> Answer
         ensures { λ r. ⌜ r ≡ answerOf number change self ⌝ }
     {
@@ -348,7 +350,7 @@ impl Sampler {
     }
 
     // What the rows of a change ask of the record.
-    pub fn asked(self) -> Asked
+    fn asked(self) -> Asked
         ensures { λ r. ⌜ r ≡ askedOf self ⌝ }
     {
         let full = self.any_full();
