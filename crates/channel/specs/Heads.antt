@@ -79,12 +79,12 @@ headChangedOf (Interpolate on)
 -- request 10/12: the recording is what stands in the front of the channel's part, so many samples
 headChangedOf (Load samples) h = withRecorded (record { recorder = h .recorder; «data_len» = samples }) h
 
--- 7/12's setting after such a change
-unfoldable pub settingBy : HeadChange → Bool → Bool
-settingBy StartRecording on = on
-settingBy StopRecording on = on
-settingBy (Interpolate new) on = new
-settingBy (Load samples) on = on
+-- 7/12's setting after such a change: the one that sets it does, and the others keep it
+unfoldable pub interpolatesAfter : HeadChange → Bool → Bool
+interpolatesAfter StartRecording on = on
+interpolatesAfter StopRecording on = on
+interpolatesAfter (Interpolate new) on = new
+interpolatesAfter (Load samples) on = on
 
 -- ---- handle_passthru: the input passes while it is asked for and no voice is unfinished;
 -- a change of that begins a ramp
