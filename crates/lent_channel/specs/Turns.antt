@@ -119,7 +119,7 @@ conditionOf h count good = record {
 }
 
 -- row 9 by this channel in a record of that capacity, row 5 and row 15 (10/12) by it
-unfoldable pub judgedOf : ℕ → Channel → Condition
+abbrev pub judgedOf : ℕ → Channel → Condition
 judgedOf capacity c = record {
   good = goodChannel capacity c;
   full = fullOf c;

@@ -131,24 +131,27 @@ fn read_of(
     }
 }
 
-// Whether the record is good.
-fn good(t: Readings) -> bool
-    ensures { λ r. ⌜ r ≡ goodBy t ⌝ }
+// Whether the record is good, by whether its channels are.
+fn good(count: usize, capacity: usize, first: bool, second: bool) -> bool
+    ensures { λ r. ⌜ r ≡ goodBy count capacity first second ⌝ }
 {
-    sampler::good_sizes(t.count, t.capacity) & all_of(t.count, t.first, t.second)
+    sampler::good_sizes(count, capacity) & all_of(count, first, second)
 }
 
-// The number of a change, from what each channel was found to be.
-fn change_of(count: usize, capacity: usize, first: Condition, second: Condition, change: Change) -> u8
+// The number of a change, from what each channel was judged to be.
+fn change_of(
+    count: usize,
+    capacity: usize,
+    first: Condition,
+    second: Condition,
+    change: Change,
+) -> u8
     ensures { λ r. ⌜ r ≡ changeRows (askedBy count capacity first second) change ⌝ }
 {
-    let good = sampler::good_sizes(count, capacity) & all_of(count, first.good, second.good);
-    let full = any_of(count, first.full, second.full);
-    let recording = any_of(count, first.recording, second.recording);
     let asked = Asked {
-        good,
-        full,
-        recording,
+        good: good(count, capacity, first.good, second.good),
+        full: any_of(count, first.full, second.full),
+        recording: any_of(count, first.recording, second.recording),
         capacity,
     };
     sampler::change_rows(asked, change)
@@ -436,7 +439,7 @@ fn steps(number: u8, n: usize) -> usize
 fn good_with(t: Readings, size: usize) -> bool
     ensures { λ r. ⌜ r ≡ goodWithBy t size ⌝ }
 {
-    if good(t) {
+    if good(t.count, t.capacity, t.first, t.second) {
         sampler::enough(t.count, t.capacity, size)
     } else {
         false
