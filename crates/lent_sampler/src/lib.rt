@@ -38,7 +38,8 @@ ghost use Rattle.questions.specs.Questions.{
   noInfo,
 };
 ghost use Rattle.questions.specs.Waveforms.{getWaveformSummaryOf, waveformAfter};
-ghost use Rattle.lent_sampler.specs.Lists.{countedOf, listedOf, voiceInfoCounted, voiceInfoAfter};
+ghost use Rattle.recordings.specs.Waves.{writeWaveOf, waveAfter, readWaveOf, readMemory};
+ghost use Rattle.questions.specs.Lists.{countedOf, listedOf, voiceInfoCounted, voiceInfoAfter};
 ghost use Rattle.lent_channel.specs.Turns.{heardOf};
 ghost use Rattle.lent_sampler.specs.Numbers.{
   allOf,
@@ -69,6 +70,7 @@ use questions::Told;
 use questions::VoiceInfo;
 use questions::VoiceInfos;
 use questions::WaveformSummary;
+use recordings::WaveRead;
 use sampler::Asked;
 use sampler::FrameAsked;
 use sampler::Ran;
@@ -426,6 +428,25 @@ pub fn get_waveform_summary(
         × (now (list .exit) ≡ waveformAfter (now (s .entry)) columns (now (list .entry)) (now (memory .entry))) ⌝ }
 {
     questions::get_waveform_summary(*s, columns, list, memory)
+}
+
+// Writes the recordings of all channels as a WAVE file to the front of `out`, and answers how many bytes it has.
+pub fn write_wave(s: &Sampler, rate: u32, memory: &[u32], out: &mut [u8]) -> Counted
+    ensures { λ r. ⌜ (r ≡ writeWaveOf (now (s .entry)) (length (now (out .entry))) (length (now (memory .entry))))
+        × (now (out .exit) ≡ waveAfter (now (s .entry)) rate (now (memory .entry)) (now (out .entry))) ⌝ }
+{
+    recordings::write_wave(*s, rate, memory, out)
+}
+
+// Replaces the recording of each channel by a WAVE file's.
+pub fn read_wave(s: &mut Sampler, file: &[u8], memory: &mut [u32]) -> WaveRead
+    ensures { λ r. ⌜ (record { sampler = now (s .exit); read = r }
+        ≡ readWaveOf (now (s .entry)) (now (file .entry)) (length (now (memory .entry))))
+        × (now (memory .exit) ≡ readMemory (now (s .entry)) (now (file .entry)) (now (memory .entry))) ⌝ }
+{
+    let r = recordings::read_wave(*s, file, memory);
+    *s = r.sampler;
+    r.read
 }
 
 // How many of n turns are taken: a call that is refused takes none. A frame's are its entries, a change's its channels.

@@ -40,7 +40,7 @@ use Rattle.questions.specs.declared.VoiceInfos.{VoiceInfos}
 use Rattle.questions.specs.Waveforms.{columnOf, columnsFrom, smallestOf, largestOf, summaryWith, waveformNumber, waveformOf, getWaveformSummaryOf, waveformAfter}
 use Rattle.questions.proofs.Cuts.{cut-first, cut-inside, cuts-rise}
 use Rattle.questions.proofs.Summaries.{columns-count, smallest-zero, waveform-done}
-use Rattle.lent_sampler.specs.Lists.{listedOf}
+use Rattle.questions.specs.Lists.{listedOf}
 use Rattle.channel.specs.declared.Change.the-variants.{Start, Stop, Speed, Head, Reset}
 use Rattle.channel.specs.declared.HeadChange.the-variants.{Load}
 use Rattle.wave.specs.Reader.{judgedOf}

@@ -17,7 +17,7 @@ use Rattle.common_types.specs.declared.Params.{Params}
 use Rattle.sampler.specs.Samplers.{answerOf, processSampleOf, sampleMemory, framedOf, frameMoved, ranOf, runAnswer}
 use Rattle.questions.specs.declared.VoiceInfos.{VoiceInfos}
 use Rattle.questions.specs.declared.Counted.the-variants as counted
-use Rattle.lent_sampler.specs.Lists.{countedOf, voiceInfoCounted, voiceInfoAfter}
+use Rattle.questions.specs.Lists.{countedOf, voiceInfoCounted, voiceInfoAfter}
 use Rattle.questions.specs.Questions.{countedNumber, toldNumber, offsetNumber, recorderAt, notesOf, answered, printErrorInfoOf, errorTextAfter, iterActiveNotesOf, activeNotesAfter, getVoiceInfoOf}
 use Rattle.questions.specs.declared.WaveformSummary.{WaveformSummary}
 use Rattle.questions.specs.Waveforms.{getWaveformSummaryOf, waveformAfter}

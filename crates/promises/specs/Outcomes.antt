@@ -50,7 +50,7 @@ use Rattle.questions.specs.declared.WaveformSummary.{WaveformSummary}
 use Rattle.questions.specs.Waveforms.{getWaveformSummaryOf, waveformAfter}
 use Rattle.recordings.specs.declared.ReadAnswer.{ReadAnswer}
 use Rattle.recordings.specs.Waves.{writeWaveOf, waveAfter, readWaveOf, readMemory}
-use Rattle.lent_sampler.specs.Lists.{voiceInfoCounted, voiceInfoAfter}
+use Rattle.questions.specs.Lists.{voiceInfoCounted, voiceInfoAfter}
 use Rattle.promises.specs.Runs.{
   World,
   getFramesProcessed,
