@@ -45,7 +45,7 @@ module _ {A : Type 0} (p : A → Bool) where
   any-none [] d h = refl
   any-none (x ∷ xs) d h = rw (h 0 (omega arith)) (any-none xs d (λ j k. h (suc j) (omega arith)))
 
-  any-front : (l : List A) (n j : ℕ) (d : A) → any p (take n l) ≡ false → j < n → n ≤ length l → p (getD l j d) ≡ false
+  pub any-front : (l : List A) (n j : ℕ) (d : A) → any p (take n l) ≡ false → j < n → n ≤ length l → p (getD l j d) ≡ false
   any-front l n j d h a b = ap p (sym (getD-take n l j d a)) ∙ any-at (take n l) j d h (omega (arith, length-take-le n l b))
 
 -- ---- a start

@@ -88,6 +88,7 @@ use Rattle.promises.proofs.Table.{table-holds}
 use Rattle.promises.proofs.Broken.{row-nine}
 use Rattle.promises.proofs.Rows.{row-tests}
 use Rattle.promises.proofs.SmallParts.{row-seven}
+use Rattle.promises.proofs.Recordings.{recordings}
 use Rattle.promises.proofs.Whole.{memory-after}
 use Rattle.promises.proofs.Turns.{in-turn}
 use Rattle.promises.proofs.Makes.{no-panic, third, true-positions, spreads, count-makes, capacity-makes, whole}
@@ -314,6 +315,7 @@ demands = record {
   true-positions = true-positions;
   one-setting = one-setting;
   tidying = tidying;
+  recordings = recordings;
   in-turn = in-turn;
   spreads = spreads;
   count-stays = count-makes;

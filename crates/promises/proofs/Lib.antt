@@ -6,6 +6,7 @@ pub mod Accepted
 pub mod Demand3
 pub mod TruePositions
 pub mod Settings
+pub mod Recordings
 pub mod Whole
 pub mod Turns
 pub mod Makes

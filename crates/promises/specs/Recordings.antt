@@ -34,6 +34,10 @@ Holds w channels samples words = (j : ℕ) → j < channels → recording w j �
 abbrev pub Words : List ℕ → Type 0
 Words m = Each (λ (x : ℕ). x < 2 ^ 32) m
 
+-- and each record two channels by its type
+abbrev pub Two : World → Type 0
+Two w = length (w .sampler .channels) ≡ 2
+
 -- where the next sample would be written: the recorder's place, and while nothing is recorded the end of the data
 abbrev pub writePlaceOf : Head → ℕ
 writePlaceOf h = elim (h .recorder .state) [ Triggered write ↦ write | Idle ↦ h .«data_len» ]
@@ -94,16 +98,16 @@ pub record Recordings (w : World) : Type 0 where
       → code w (readWave f)
       ≡ row (not (goodWith (w .sampler) (length (w .memory)))) 9 (row (anyRecording (w .sampler)) 15 17)
   pub written : (rate : ℕ) (out : List ℕ) (r : ListOutcome) → Allows (on w (asks (writeWave rate out))) r
-      → code w (asks (writeWave rate out)) ≡ 0 → rate < 2 ^ 32 → Words (w .memory) → Written w rate out r
+      → code w (asks (writeWave rate out)) ≡ 0 → rate < 2 ^ 32 → Words (w .memory) → Two w → Written w rate out r
   pub read : (f : List ℕ) (rate channels : ℕ) (words : List ℕ) (g : IsWave f rate channels words) (r : ReadOutcome)
-      → Allows (on w (readWave f)) r → code w (readWave f) ≡ 0 → length (w .sampler .channels) ≡ 2
+      → Allows (on w (readWave f)) r → code w (readWave f) ≡ 0 → Two w
       → Read w (leftBy w (readWave f) r) rate channels (g .samples) words (r .answer .read)
   -- "Written and read back, every sample has the same bits, NaN included, and the rate, a 32-bit whole number from the
   -- caller, is the same": whatever record reads it.
   pub back : (rate : ℕ) (out : List ℕ) (r : ListOutcome) → Allows (on w (asks (writeWave rate out))) r
-      → code w (asks (writeWave rate out)) ≡ 0 → rate < 2 ^ 32 → Words (w .memory)
+      → code w (asks (writeWave rate out)) ≡ 0 → rate < 2 ^ 32 → Words (w .memory) → Two w
       → (u : World) (q : ReadOutcome) → Allows (on u (readWave (take (bytesIn w) (r .lent)))) q
-      → code u (readWave (take (bytesIn w) (r .lent))) ≡ 0 → length (u .sampler .channels) ≡ 2
+      → code u (readWave (take (bytesIn w) (r .lent))) ≡ 0 → Two u
       → (q .answer .read .rate ≡ rate)
       × ((j : ℕ) → j < w .sampler .count
       → recording (leftBy u (readWave (take (bytesIn w) (r .lent))) q) j ≡ recording w j)

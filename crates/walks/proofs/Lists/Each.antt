@@ -11,7 +11,8 @@ use lib.ListN.{length, getD, take, drop, set, length-map}
 use lib.Seq.{sets, sets-eq, take-append-seam, length-take-le}
 use Rattle.walks.specs.Walks.{any, every, without, behind}
 use Rattle.walks.specs.Each.{Each}
-use Rattle.walks.proofs.Lists.Every.{both, neither}
+use Rattle.walks.proofs.Lists.Every.{both}
+use Rattle.walks.proofs.Tests.{neither}
 
 module _ {A : Type 0} (P : A → Type 0) where
   pub each-at : (l : List A) (i : ℕ) (d : A) → Each P l → i < length l → P (getD l i d)
