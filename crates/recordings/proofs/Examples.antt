@@ -28,7 +28,7 @@ use Rattle.recordings.specs.Waves.{writeNumber, writeWaveOf, waveAfter, 
 use Rattle.recordings.specs.declared.ReadAnswer.{ReadAnswer}
 
 -- whatever an answer computes by
-computing : Unit {0}
+unfoldable pub computing : Unit {0}
 unfolding fromHex pairs digitsOf bytesAt littleOf littleBytes twoAt fourAt wordBytes listed formatOf riffRow formatRow factRow dataRow headerOf paddedAt metOf chunkAt walkFrom walkOf goodRiff goodFormat goodFact countedOf judgedAt judgedOf fitsMemory cellAt framesOf recorded numberAt storedOf loadedOf any every goodVolume inState startOf isRecordingOf goodRecorder headOf headChangedOf goodHead channelOf changedOf goodVoicesOf goodChannel goodSizes goodSampler capacityOf goodWith setUpNumber setUpOf eachOf answerOf answered writeNumber writeWaveOf waveAfter readNumber readWaveOf readMemory
 computing = tt
 
@@ -61,25 +61,25 @@ alone s = record { channels = s .channels; count = 1; capacity = s .capacity }
 abbrev memory : List ℕ
 memory = 0x7FC00001 ∷ 0x3F800000 ∷ 12 ∷ 0x80000000 ∷ 0x3F000000 ∷ 22 ∷ 99 ∷ []
 
-abbrev others : List ℕ
+abbrev pub others : List ℕ
 others = 30 ∷ 31 ∷ 32 ∷ 40 ∷ 41 ∷ 42 ∷ 98 ∷ []
 
 -- ---- files: that of two samples a channel, at 44,100
 abbrev file : List ℕ
 file = fromHex "52494646 42000000 57415645 666D7420 12000000 0300 0200 44AC0000 20620500 0800 2000 0000 66616374 04000000 02000000 64617461 10000000 0100C07F 00000080 0000803F 0000003F"
 
-abbrev no-samples : List ℕ
+abbrev pub no-samples : List ℕ
 no-samples = fromHex "52494646 32000000 57415645 666D7420 12000000 0300 0200 44AC0000 20620500 0800 2000 0000 66616374 04000000 00000000 64617461 00000000"
 
 -- any words, so many samples a channel
-abbrev mono : ℕ → List ℕ
+abbrev pub mono : ℕ → List ℕ
 mono n = fileOf 44100 1 n (replicate n 5)
 
-abbrev stereo : ℕ → List ℕ
+abbrev pub stereo : ℕ → List ℕ
 stereo n = fileOf 44100 2 n (replicate (2 * n) 5)
 
 -- without its last byte
-abbrev cut : List ℕ → List ℕ
+abbrev pub cut : List ℕ → List ℕ
 cut f = take (length f - 1) f
 
 -- ---- writing: room for the last byte or none; a memory of the parts alone, and one word short; then 9, 15, 16, 8, each where those behind it hold too; a channel that isn't in use counts for nothing
