@@ -21,5 +21,6 @@ pub mod SmallParts
 pub mod Tidying
 pub mod Demands
 pub mod Examples
+pub mod WaveExamples
 pub mod Edges
 pub mod Rules
