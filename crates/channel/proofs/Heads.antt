@@ -18,11 +18,11 @@ use Rattle.recorder.specs.Recording.{goodRecorder, goodRecorded}
 use Rattle.recorder.proofs.Good.{new-good}
 use Rattle.voice.specs.Soundness.{Fits, SoundParams, FittingVolume, SoundVolume}
 use Rattle.voice.proofs.Volumes.{static-sound, volume-later, volume-stepped, volume-toward}
-use Rattle.channel.specs.Heads.{withRecorded, withPassthru, lastTime, nextTime, headOf, headChangedOf, passesOf, rampOf, passthruOf, closedOf, goodHead}
+use Rattle.channel.specs.Heads.{withRecorded, withPassthru, lastTime, nextTime, headOf, headChangedOf, interpolatesAfter, passesOf, rampOf, passthruOf, closedOf, goodHead}
 use Rattle.volume.specs.declared.Volume.{Volume}
 use Rattle.channel.specs.declared.Head.{Head}
 use Rattle.channel.specs.declared.HeadChange.{HeadChange}
-use Rattle.channel.specs.declared.HeadChange.the-variants.{StartRecording, StopRecording, Interpolate}
+use Rattle.channel.specs.declared.HeadChange.the-variants.{StartRecording, StopRecording, Interpolate, Load}
 
 pub record SoundHead (capacity : ℕ) (h : Head) : Type 0 where
   pub time : h .now ≤ 2 ^ 48
@@ -62,6 +62,15 @@ unfolding headChangedOf
 head-change-now StartRecording h = refl
 head-change-now StopRecording h = refl
 head-change-now (Interpolate on) h = refl
+head-change-now (Load samples) h = refl
+
+-- and what becomes of 7/12's setting is one function of it
+pub head-change-setting : (d : HeadChange) (h : Head) → headChangedOf d h .interpolates ≡ interpolatesAfter d (h .interpolates)
+unfolding headChangedOf interpolatesAfter
+head-change-setting StartRecording h = refl
+head-change-setting StopRecording h = refl
+head-change-setting (Interpolate on) h = refl
+head-change-setting (Load samples) h = refl
 
 -- ---- changes
 -- what pass-through's state and level don't touch, they hold

@@ -20,19 +20,19 @@ use Rattle.common_types.specs.declared.Note.{Note}
 use Rattle.common_types.proofs.Limits.{within}
 use Rattle.binary32.specs.Leaves.{zero32, one32}
 use Rattle.recorder.specs.Recording.{startOf, stopOf}
-use Rattle.recorder.proofs.Good.{start-good, stop-good}
+use Rattle.recorder.proofs.Good.{unrecorded-good, start-good, stop-good}
 use Rattle.voice.specs.declared.Voice.{Voice}
 use Rattle.voice.specs.Voices.{finishOf, freshOf, atSpeedOf, blankVoice}
 use Rattle.voice.specs.Soundness.{Fits, SoundParams, SoundPosition, SoundVoice}
 use Rattle.voice.proofs.Kept.{finish-sound, at-speed-sound, fresh-sound}
 use Rattle.channel.specs.Heads.{momentOf, passthruOf, headChangedOf}
 use Rattle.channel.specs.Channels.{withHead, withVoices, live, channelOf, resetOf, anyUnfinishedOf, handledOf, pushedOf, startPlayingOf, sameNote, findOf, finishedAtOf, stopPlayingOf, spedOf, setNoteSpeedOf, changedOf}
-use Rattle.channel.specs.Soundness.{SoundChannel, SoundChange}
+use Rattle.channel.specs.Soundness.{SoundChannel, SoundHeadChange, SoundChange}
 use Rattle.channel.specs.declared.Channel.{Channel}
 use Rattle.channel.specs.declared.Change.{Change}
 use Rattle.channel.specs.declared.Change.the-variants as change
 use Rattle.channel.specs.declared.HeadChange.{HeadChange}
-use Rattle.channel.specs.declared.HeadChange.the-variants.{StartRecording, StopRecording, Interpolate}
+use Rattle.channel.specs.declared.HeadChange.the-variants.{StartRecording, StopRecording, Interpolate, Load}
 use Rattle.channel.specs.declared.Found.{Found}
 use Rattle.channel.specs.declared.Found.the-variants.{At, Nothing}
 use Rattle.channel.proofs.Heads.{new-sound, passthru-now, passthru-sound}
@@ -112,22 +112,24 @@ module _ (capacity : ℕ) (c : Channel) (s : SoundChannel capacity c) where
       (pushed-sound v (fresh-sound p (momentOf (c .head)) ok (some n e) (le-trans (data-within capacity c s) small) (parts s .head .time) position note velocity at t)) p ok)
 
   -- ---- every change
-  head-change-sound : (d : HeadChange) → SoundChannel capacity (withHead (headChangedOf d (c .head)) c)
-  unfolding headChangedOf
-  head-change-sound StartRecording =
+  head-change-sound : (d : HeadChange) → SoundHeadChange capacity (c .head) d → SoundChannel capacity (withHead (headChangedOf d (c .head)) c)
+  unfolding headChangedOf SoundHeadChange
+  head-change-sound StartRecording ok =
       recording-changed capacity c s (record { recorder = startOf (c .head .recorder); «data_len» = c .head .«data_len» })
       (start-good (c .head .recorder) (c .head .«data_len») capacity (parts s .head .recorder))
-  head-change-sound StopRecording =
+  head-change-sound StopRecording ok =
       recording-changed capacity c s (stopOf (c .head .recorder) (c .head .«data_len»))
       (stop-good (c .head .recorder) (c .head .«data_len») capacity (parts s .head .recorder))
-  head-change-sound (Interpolate on) =
+  head-change-sound (Interpolate on) ok =
       let g = parts s .head in
       head-changed capacity c s (headChangedOf (Interpolate on) (c .head)) (record { time = g .time; volume = g .volume; recorder = g .recorder }) (le-refl (c .head .now))
+  head-change-sound (Load samples) ok =
+      recording-changed capacity c s (record { recorder = c .head .recorder; «data_len» = samples }) (unrecorded-good (c .head .recorder) samples capacity (ok .0) (ok .1))
 
-  pub change-sound : capacity ≤ 2 ^ 22 → (x : Change) → SoundChange x → SoundChannel capacity (changedOf x c)
+  pub change-sound : capacity ≤ 2 ^ 22 → (x : Change) → SoundChange capacity c x → SoundChannel capacity (changedOf x c)
   unfolding changedOf SoundChange stopPlayingOf
   change-sound small (change.Start p position note velocity) ok = started-sound small p (ok .0) position (ok .1) note velocity (ok .2)
   change-sound small (change.Stop p note) ok = finished-sound p ok (findOf note c)
   change-sound small (change.Speed note speed) ok = sped-sound note speed ok
-  change-sound small (change.Head d) ok = head-change-sound d
+  change-sound small (change.Head d) ok = head-change-sound d ok
   change-sound small change.Reset ok = reset-sound capacity c (parts s .places)

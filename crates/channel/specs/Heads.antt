@@ -14,7 +14,7 @@ use Rattle.recorder.specs.Recording.{newRecorderOf, startOf, stopOf, goodRecord
 use Rattle.voice.specs.declared.Moment.{Moment}
 use Rattle.channel.specs.declared.Head.{Head}
 use Rattle.channel.specs.declared.HeadChange.{HeadChange}
-use Rattle.channel.specs.declared.HeadChange.the-variants.{StartRecording, StopRecording, Interpolate}
+use Rattle.channel.specs.declared.HeadChange.the-variants.{StartRecording, StopRecording, Interpolate, Load}
 
 -- ---- parts of a head changed
 abbrev pub withRecorded : Recorded → Head → Head
@@ -76,6 +76,15 @@ headChangedOf (Interpolate on)
       «passthru_on» = h .«passthru_on»;
       interpolates = on;
     }
+-- request 10/12: the recording is what stands in the front of the channel's part, so many samples
+headChangedOf (Load samples) h = withRecorded (record { recorder = h .recorder; «data_len» = samples }) h
+
+-- 7/12's setting after such a change: the one that sets it does, and the others keep it
+unfoldable pub interpolatesAfter : HeadChange → Bool → Bool
+interpolatesAfter StartRecording on = on
+interpolatesAfter StopRecording on = on
+interpolatesAfter (Interpolate new) on = new
+interpolatesAfter (Load samples) on = on
 
 -- ---- handle_passthru: the input passes while it is asked for and no voice is unfinished;
 -- a change of that begins a ramp

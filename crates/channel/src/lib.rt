@@ -11,7 +11,7 @@ ghost use lib.ListN.{length};
 ghost use Rattle.binary32.specs.Leaves.{bitsOf, zero32, one32};
 ghost use Rattle.recorder.specs.Recording.{recordedOf, dataAfter, isRecordingOf};
 ghost use Rattle.voice.specs.Voices.{shouldRemoveOf};
-ghost use Rattle.channel.specs.declared.HeadChange.the-variants.{StartRecording, StopRecording, Interpolate};
+ghost use Rattle.channel.specs.declared.HeadChange.the-variants.{StartRecording, StopRecording, Interpolate, Load};
 ghost use Rattle.channel.specs.Heads.{
   nextTime,
   headOf,
@@ -123,6 +123,7 @@ pub enum HeadChange {
     StartRecording,
     StopRecording,
     Interpolate(bool),
+    Load(usize),
 }
 
 impl Head {
@@ -186,6 +187,17 @@ impl Head {
         }
     }
 
+    // The first `samples` words of the channel's part are its recording.
+    fn loaded(self, samples: usize) -> Self
+        ensures { λ r. ⌜ r ≡ headChangedOf (Load samples) self ⌝ }
+    {
+        let recorder = self.recorder;
+        self.with_recorded(Recorded {
+            recorder: recorder.copied(),
+            data_len: samples,
+        })
+    }
+
     pub fn changed(self, change: HeadChange) -> Self
         ensures { λ r. ⌜ r ≡ headChangedOf change self ⌝ }
     {
@@ -193,6 +205,7 @@ impl Head {
             HeadChange::StartRecording => self.start_recording(),
             HeadChange::StopRecording => self.stop_recording(),
             HeadChange::Interpolate(on) => self.interpolating(on),
+            HeadChange::Load(samples) => self.loaded(samples),
         }
     }
 
@@ -505,7 +518,7 @@ impl Channel {
     }
 
     // A change that touches no voice.
-    fn head_changed(mut self, change: HeadChange) -> Self
+    pub fn head_changed(mut self, change: HeadChange) -> Self
         ensures { λ r. ⌜ r ≡ withHead (headChangedOf change (self .head)) self ⌝ }
     {
         let head = self.head;

@@ -20,6 +20,8 @@ use Rattle.lent_sampler.proofs.print_error_info.Met as print-error-info-thm
 use Rattle.lent_sampler.proofs.iter_active_notes.Met as iter-active-notes-thm
 use Rattle.lent_sampler.proofs.get_voice_info.Met as get-voice-info-thm
 use Rattle.lent_sampler.proofs.get_waveform_summary.Met as get-waveform-summary-thm
+use Rattle.lent_sampler.proofs.write_wave.Met as write-wave-thm
+use Rattle.lent_sampler.proofs.read_wave.Met as read-wave-thm
 use Rattle.contracts.specs.Lent.{Lent}
 
 pub lent : (m : List ℕ) → Lent m
@@ -43,4 +45,6 @@ lent m = record {
   iter-active-notes = λ M. iter-active-notes-thm.met;
   get-voice-info = λ M. get-voice-info-thm.met;
   get-waveform-summary = λ M. get-waveform-summary-thm.met;
+  write-wave = λ M. write-wave-thm.met;
+  read-wave = λ M. read-wave-thm.met;
 }

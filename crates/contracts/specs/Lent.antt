@@ -28,6 +28,7 @@ use Rattle.promises.specs.Runs.{
   iterActiveNotes,
   fillVoiceInfo,
   getWaveformSummary,
+  writeWave,
   change,
   start,
   stop,
@@ -38,6 +39,7 @@ use Rattle.promises.specs.Runs.{
   reset,
   sample,
   frame,
+  readWave,
   asks,
 }
 use Rattle.promises.specs.Outcomes.{on, along, Allows}
@@ -79,6 +81,10 @@ use Rattle.lent_sampler.proofs.get_voice_info as get-voice-info
 use Rattle.lent_sampler.proofs.get_voice_info.Symbol as get-voice-info-code
 use Rattle.lent_sampler.proofs.get_waveform_summary as get-waveform-summary
 use Rattle.lent_sampler.proofs.get_waveform_summary.Symbol as get-waveform-summary-code
+use Rattle.lent_sampler.proofs.write_wave as write-wave
+use Rattle.lent_sampler.proofs.write_wave.Symbol as write-wave-code
+use Rattle.lent_sampler.proofs.read_wave as read-wave
+use Rattle.lent_sampler.proofs.read_wave.Symbol as read-wave-code
 
 -- The function, whatever it is given, is safe, ends, and then Q holds of its arguments, its result, and what its
 -- arguments are at the end. It is what the check states of a function with no `requires` and Q for its `ensures`.
@@ -96,7 +102,8 @@ lying s m = record { sampler = s; memory = m }
 abbrev pub answer : Sampler → ℕ → Answer
 answer s number = record { sampler = s; number = number }
 
--- m is the memory that lies beside the record; only a sample, a frame, a run of frames and a waveform are lent it
+-- m is the memory that lies beside the record; only a sample, a frame, a run of frames, a waveform and a
+-- file are lent it
 pub record Lent (m : List ℕ) : Type 2 where
   pub change : Ensures change-call.ended change-code.routine
       (λ κs (s, (d, _)) r (left, _). Allows (on (lying (now s) m) (change d)) (answer (now left) r))
@@ -159,3 +166,11 @@ pub record Lent (m : List ℕ) : Type 2 where
       (λ κs (s, (columns, (list, (memory, _)))) r (_, (_, (filled, _))).
       Allows (on (lying (now s) (now memory)) (asks (getWaveformSummary columns (now list))))
       (record { answer = r; lent = now filled }))
+  pub write-wave : Ensures write-wave.ended write-wave-code.routine
+      (λ κs (s, (rate, (memory, (out, _)))) r (_, (_, (_, (filled, _)))).
+      Allows (on (lying (now s) (now memory)) (asks (writeWave rate (now out))))
+      (record { answer = r; lent = now filled }))
+  pub read-wave : Ensures read-wave.ended read-wave-code.routine
+      (λ κs (s, (file, (memory, _))) r (left, (_, (written, _))).
+      Allows (on (lying (now s) (now memory)) (readWave (now file)))
+      (record { answer = record { sampler = now left; read = r }; memory = now written }))

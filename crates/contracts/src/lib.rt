@@ -12,6 +12,7 @@ ghost use Rattle.promises.specs.Runs.{
   iterActiveNotes,
   getVoiceInfo,
   getWaveformSummary,
+  writeWave,
   change as changeCall,
   start,
   stop,
@@ -22,6 +23,7 @@ ghost use Rattle.promises.specs.Runs.{
   reset as resetCall,
   sample,
   frame as frameCall,
+  readWave,
   asks,
 };
 ghost use Rattle.promises.specs.Outcomes.{new as setUpCall, on, along, Allows};
@@ -34,6 +36,7 @@ use questions::OffsetAnswer;
 use questions::Told;
 use questions::VoiceInfos;
 use questions::WaveformSummary;
+use recordings::ReadAnswer;
 use sampler::Answer;
 use sampler::FrameAnswer;
 use sampler::RunAnswer;
@@ -191,4 +194,19 @@ pub fn get_waveform_summary(
         (record { answer = r; lent = now (list .exit) }) ⌝ }
 {
     questions::get_waveform_summary(s, columns, list, memory)
+}
+
+pub fn write_wave(s: Sampler, rate: u32, memory: &[u32], out: &mut [u8]) -> Counted
+    ensures { λ r. ⌜ Allows
+        (on (record { sampler = s; memory = now (memory .entry) }) (asks (writeWave rate (now (out .entry)))))
+        (record { answer = r; lent = now (out .exit) }) ⌝ }
+{
+    recordings::write_wave(s, rate, memory, out)
+}
+
+pub fn read_wave(s: Sampler, file: &[u8], memory: &mut [u32]) -> ReadAnswer
+    ensures { λ r. ⌜ Allows (on (record { sampler = s; memory = now (memory .entry) }) (readWave (now (file .entry))))
+        (record { answer = r; memory = now (memory .exit) }) ⌝ }
+{
+    recordings::read_wave(s, file, memory)
 }

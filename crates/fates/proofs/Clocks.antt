@@ -15,7 +15,6 @@ use Rattle.volume.specs.declared.Volume.{Volume}
 use Rattle.channel.specs.declared.Head.{Head}
 use Rattle.channel.specs.declared.Channel.{Channel}
 use Rattle.channel.specs.declared.Change.the-variants as change
-use Rattle.channel.specs.declared.HeadChange.the-variants.{StartRecording, StopRecording, Interpolate}
 use Rattle.channel.specs.declared.Found.{Found}
 use Rattle.channel.specs.declared.Found.the-variants.{At, Nothing}
 use Rattle.channel.specs.Heads.{lastTime, nextTime, withPassthru, headOf, headChangedOf}
@@ -30,7 +29,7 @@ use Rattle.channel.specs.Channels.{
   resetOf,
   takenOf,
 }
-use Rattle.channel.proofs.Heads.{head-change-now, passthru-holds, next-later, next-one, closed-now, closed-setting}
+use Rattle.channel.proofs.Heads.{head-change-now, head-change-setting, passthru-holds, next-later, next-one, closed-now, closed-setting}
 use Rattle.fates.specs.Engine.{begunOf, stepOf}
 use Rattle.fates.specs.Events.{Event, idle, changes, sounds, act, acts, settingAfter, isReset, isSample}
 use Rattle.walks.proofs.Tests.{neither, either}
@@ -72,9 +71,7 @@ setting-after idle c = refl
 setting-after (changes (change.Start p position note velocity)) c = started-holds setting (λ on v h. refl) p position note velocity c
 setting-after (changes (change.Stop p note)) c = finished-holds setting (λ on v h. refl) p c (findOf note c)
 setting-after (changes (change.Speed note speed)) c = refl
-setting-after (changes (change.Head StartRecording)) c = refl
-setting-after (changes (change.Head StopRecording)) c = refl
-setting-after (changes (change.Head (Interpolate on))) c = refl
+setting-after (changes (change.Head d)) c = head-change-setting d (c .head)
 setting-after (changes change.Reset) c = refl
 setting-after (sounds p x m) c = closed-setting p _ (takenOf m c .head)
 

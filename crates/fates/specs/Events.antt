@@ -13,8 +13,7 @@ use Rattle.voice.specs.Voices.{tickOf}
 use Rattle.channel.specs.declared.Channel.{Channel}
 use Rattle.channel.specs.declared.Change.{Change}
 use Rattle.channel.specs.declared.Change.the-variants as change
-use Rattle.channel.specs.declared.HeadChange.the-variants.{StartRecording, StopRecording, Interpolate}
-use Rattle.channel.specs.Heads.{headChangedOf, momentOf}
+use Rattle.channel.specs.Heads.{headChangedOf, interpolatesAfter, momentOf}
 use Rattle.channel.specs.Channels.{withHead, resetOf, stopPlayingOf, setNoteSpeedOf, takenOf}
 use Rattle.fates.specs.Engine.{begunOf, stepOf}
 
@@ -42,9 +41,7 @@ settingAfter idle on = on
 settingAfter (changes (change.Start p position note velocity)) on = on
 settingAfter (changes (change.Stop p note)) on = on
 settingAfter (changes (change.Speed note speed)) on = on
-settingAfter (changes (change.Head StartRecording)) on = on
-settingAfter (changes (change.Head StopRecording)) on = on
-settingAfter (changes (change.Head (Interpolate new))) on = new
+settingAfter (changes (change.Head d)) on = interpolatesAfter d on
 settingAfter (changes change.Reset) on = on
 settingAfter (sounds p x m) on = on
 

@@ -1,5 +1,5 @@
 -- How a walk goes to a voice of a channel behind a reference.
---     channel, voice   their rows
+--     channel, voice, condition    their rows, and that of what a channel is judged to be
 --     points           a pointer to voice i is made: i times a voice's bytes, the address of the first voice, and that many bytes on. It asks what each local holds and takes, in the order of the three statements
 --     visits           the walk goes to voice i, takes a step of its own there, which leaves w in the voice's place, and comes out again
 --     copies-voice     so the voice is copied
@@ -30,6 +30,8 @@ use Rattle.channel.specs.declared.Channel.{Channel}
 use Rattle.channel.proofs.Slots.{none}
 use Rattle.channel.proofs.Channel as C
 use Rattle.channel.proofs.Channel.Laws as C′
+use Rattle.lent_channel.proofs.Condition as D
+use Rattle.lent_channel.proofs.Condition.Laws as D′
 use Rattle.lent_channel.proofs.Bytes.{voice-bytes}
 use Rattle.walks.proofs.Steps.Data.{Datum, struct, Typed}
 use Rattle.walks.proofs.Steps.Locals.{Held, Taken, puts, beyond}
@@ -40,6 +42,9 @@ channel = struct C.the-type C′.the-laws C′.the-plain
 
 abbrev pub voice : Datum
 voice = struct R.the-type R′.the-laws R′.the-plain
+
+abbrev pub condition : Datum
+condition = struct D.the-type D′.the-laws D′.the-plain
 
 -- the three statements, and what follows
 abbrev pointing : Operand → (m r p t : ℕ) → Body → Body

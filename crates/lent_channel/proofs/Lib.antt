@@ -2,4 +2,5 @@ pub mod Bytes
 pub mod Places
 pub mod Holding
 pub mod Sharing
+pub mod Asking
 pub mod Turns

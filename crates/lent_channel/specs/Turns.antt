@@ -20,12 +20,14 @@ use Rattle.channel.specs.declared.Head.{Head}
 use Rattle.channel.specs.declared.Channel.{Channel}
 use Rattle.channel.specs.declared.Played.{Played}
 use Rattle.channel.specs.Heads.{goodHead, mixedOf}
-use Rattle.channel.specs.Channels.{withVoices, keptOf, tidiedOf, addedOf}
+use Rattle.channel.specs.Channels.{withVoices, keptOf, tidiedOf, addedOf, fullOf, goodChannel}
+use Rattle.recorder.specs.Recording.{isRecordingOf}
 use Rattle.lent_channel.specs.declared.Start.{Start}
 use Rattle.lent_channel.specs.declared.Heard.{Heard}
 use Rattle.lent_channel.specs.declared.Glided.{Glided}
 use Rattle.lent_channel.specs.declared.Going.{Going}
 use Rattle.lent_channel.specs.declared.Turn.{Turn}
+use Rattle.lent_channel.specs.declared.Condition.{Condition}
 
 -- how many voices take a turn: none if the recording is empty, otherwise as many as there are, and never more than
 -- there are places
@@ -107,3 +109,19 @@ mixedWith t x h = record { output = mixedOf x (h .output) t; moved = h .moved }
 -- what of a good channel isn't said of its voices
 unfoldable pub headGoodOf : ℕ → Head → ℕ → Bool
 headGoodOf capacity h count = leb count 32 && goodHead capacity h
+
+-- ---- what the rows of a change ask of a channel
+abbrev pub conditionOf : Head → ℕ → Bool → Condition
+conditionOf h count good = record {
+  good = good;
+  full = not (eqb (h .«data_len») 0) && leb 32 count;
+  recording = isRecordingOf (h .recorder);
+}
+
+-- row 9 by this channel in a record of that capacity, row 5 and row 15 (10/12) by it
+abbrev pub judgedOf : ℕ → Channel → Condition
+judgedOf capacity c = record {
+  good = goodChannel capacity c;
+  full = fullOf c;
+  recording = isRecordingOf (c .head .recorder);
+}

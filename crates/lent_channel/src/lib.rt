@@ -29,6 +29,8 @@ ghost use Rattle.lent_channel.specs.Turns.{
   headGoodOf,
   heardOf,
   mixedWith,
+  conditionOf,
+  judgedOf,
 };
 use channel::Channel;
 use channel::Head;
@@ -171,6 +173,31 @@ pub fn good(c: &Channel, capacity: usize) -> bool
         return good_voices(c);
     }
     false
+}
+
+// What the rows of a change ask of a channel: whether it is good, takes no further voice, and is recording.
+pub struct Condition {
+    pub good: bool,
+    pub full: bool,
+    pub recording: bool,
+}
+
+fn condition_of(head: Head, count: usize, good: bool) -> Condition
+    ensures { λ r. ⌜ r ≡ conditionOf head count good ⌝ }
+{
+    Condition {
+        good,
+        full: (head.data_len != 0) & (32 <= count),
+        recording: head.is_recording(),
+    }
+}
+
+// A channel judged, in a record of that capacity.
+pub fn judged(c: &Channel, capacity: usize) -> Condition
+    ensures { λ r. ⌜ r ≡ judgedOf capacity (now (c .entry)) ⌝ }
+{
+    let good = good(c, capacity);
+    condition_of(c.head, c.count, good)
 }
 
 // How many voices took a plain turn, from the first on, and what was heard of them.

@@ -3,9 +3,9 @@ pub mod Numbers
 pub mod Bytes
 pub mod Seats
 pub mod Judging
+pub mod Numbering
 pub mod Turned
 pub mod RunTurns
 pub mod RunTurned
 pub mod Stepping
-pub mod Numbering
 pub mod Changing

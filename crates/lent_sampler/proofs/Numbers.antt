@@ -11,17 +11,19 @@ use lib.Seq.{take-nil}
 use Rattle.walks.proofs.Tests.{and-true, or-false}
 use Rattle.walks.specs.Walks.{any, every, fold}
 use Rattle.common_types.specs.declared.Params.{Params}
+use Rattle.channel.specs.declared.Change.{Change}
 use Rattle.channel.specs.declared.Channel.{Channel}
-use Rattle.channel.specs.Channels.{goodChannel}
+use Rattle.channel.specs.Channels.{fullOf, goodChannel}
 use Rattle.channel.specs.Heads.{lastTime}
 use Rattle.sampler.specs.declared.Sampler.{Sampler}
 use Rattle.sampler.specs.declared.RunAsked.{RunAsked}
 use Rattle.sampler.specs.declared.Ran.{Ran}
-use Rattle.sampler.specs.Refusals.{channelAt, goodSizes, goodSampler, goodWith, atEnd, frameRows, frameNumber, latestOf, roomOf, runRows, runDone}
+use Rattle.sampler.specs.Refusals.{channelAt, goodSizes, goodSampler, goodWith, records, atEnd, changeRows, changeNumber, frameRows, frameNumber, latestOf, roomOf, runRows, runDone}
 use Rattle.sampler.specs.Samplers.{runAnswer}
 use Rattle.sampler.proofs.RunRows.{run-asked}
+use Rattle.lent_channel.specs.Turns.{judgedOf}
 use Rattle.lent_sampler.specs.declared.Readings.{Readings}
-use Rattle.lent_sampler.specs.Numbers.{allOf, anyOf, readingsIn, goodBy, goodWithBy, frameAskedBy, latestTime, roomLeft, runAskedBy}
+use Rattle.lent_sampler.specs.Numbers.{allOf, anyOf, readingsIn, goodBy, goodWithBy, askedBy, frameAskedBy, latestTime, roomLeft, runAskedBy}
 
 -- ---- of two, the first n
 pub all-first : (a b : Bool) → a ≡ allOf 1 (a ∷ b ∷ [])
@@ -77,7 +79,7 @@ module _ {A B : Type 0} (f : A → B) where
   every-first p (suc n) [] = refl
   every-first p (suc n) (x ∷ l) = ap (λ (c : Bool). p (f x) && c) (every-first p n l)
 
-  pub any-first-of : (p : B → Bool) (n : ℕ) (l : List A) → any p (take n (map f l)) ≡ any (λ (x : A). p (f x)) (take n l)
+  any-first-of : (p : B → Bool) (n : ℕ) (l : List A) → any p (take n (map f l)) ≡ any (λ (x : A). p (f x)) (take n l)
   unfolding any
   any-first-of p zero l = refl
   any-first-of p (suc n) [] = refl
@@ -94,7 +96,7 @@ module _ (s : Sampler) (two : length (s .channels) ≡ 2) where
   abbrev t : Readings
   t = readingsIn s
 
-  pub are-two : channelAt s 0 ∷ channelAt s 1 ∷ [] ≡ s .channels
+  are-two : channelAt s 0 ∷ channelAt s 1 ∷ [] ≡ s .channels
   are-two = go (s .channels) refl
     where
       go : (l : List Channel) → s .channels ≡ l → channelAt s 0 ∷ channelAt s 1 ∷ [] ≡ s .channels
@@ -103,7 +105,7 @@ module _ (s : Sampler) (two : length (s .channels) ≡ 2) where
       go (c ∷ d ∷ []) e = simp e
       go (c ∷ d ∷ x ∷ l) e = absurd (omega (arith, two, ap length e))
 
-  pub good-is : goodBy t ≡ goodSampler s
+  good-is : goodBy (t .count) (t .capacity) (t .first) (t .second) ≡ goodSampler s
   unfolding goodBy allOf goodSampler
   good-is = ap (λ (b : Bool). goodSizes (s .count) (s .capacity) && b)
       (every-first (goodChannel (s .capacity)) (λ (b : Bool). b) (s .count) (channelAt s 0 ∷ channelAt s 1 ∷ []) ∙ ap (λ (l : List Channel). every (goodChannel (s .capacity)) (take (s .count) l)) are-two)
@@ -112,18 +114,21 @@ module _ (s : Sampler) (two : length (s .channels) ≡ 2) where
   unfolding goodWithBy goodWith
   with-is size = ap (λ (b : Bool). b && leb (s .count * s .capacity) size) good-is
 
-  ended-is : (n : ℕ) → anyOf n (leb lastTime (t .time) ∷ leb lastTime (t .other) ∷ []) ≡ any atEnd (take n (s .channels))
+  any-is : (p : Channel → Bool) (n : ℕ) → anyOf n (p (channelAt s 0) ∷ p (channelAt s 1) ∷ []) ≡ any p (take n (s .channels))
   unfolding anyOf
-  ended-is n = any-first-of atEnd (λ (b : Bool). b) n (channelAt s 0 ∷ channelAt s 1 ∷ []) ∙ ap (λ (l : List Channel). any atEnd (take n l)) are-two
+  any-is p n = any-first-of p (λ (b : Bool). b) n (channelAt s 0 ∷ channelAt s 1 ∷ []) ∙ ap (λ (l : List Channel). any p (take n l)) are-two
 
   room-is : roomLeft t ≡ roomOf s
   unfolding roomLeft latestTime roomOf latestOf
   room-is = ap (λ (latest : ℕ). lastTime - latest)
       (fold-first (λ (c : Channel). c .head .now) (s .count) 0 (channelAt s 0 ∷ channelAt s 1 ∷ []) ∙ ap (λ (l : List Channel). fold (λ (u : ℕ) (c : Channel). max u (c .head .now)) 0 (take (s .count) l)) are-two)
 
+  pub change-is : (x : Change) → changeRows (askedBy (s .count) (s .capacity) (judgedOf (s .capacity) (channelAt s 0)) (judgedOf (s .capacity) (channelAt s 1))) x ≡ changeNumber s x
+  change-is x = λ i. changeRows (record { good = good-is i; full = any-is fullOf (s .count) i; recording = any-is records (s .count) i; capacity = s .capacity }) x
+
   pub frame-is : (n : ℕ) (p : Params) (size : ℕ) → frameRows (frameAskedBy t n size) n p ≡ frameNumber s n p size
   unfolding frameNumber
-  frame-is n p size = λ i. frameRows (record { good = with-is size i; count = s .count; ended = ended-is n i }) n p
+  frame-is n p size = λ i. frameRows (record { good = with-is size i; count = s .count; ended = any-is atEnd n i }) n p
 
   pub run-is : (n : ℕ) (p : Params) (size : ℕ) → runDone (runAskedBy t size) n p ≡ runAnswer s n p size
   run-is n p size = run-asked s n p size _ (runAskedBy t size) refl (λ i. record { good = with-is size i; count = s .count; room = room-is i })

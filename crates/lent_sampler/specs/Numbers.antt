@@ -6,7 +6,6 @@ use mathlib.Core.List.{List, [], _∷_}
 use lib.Dec.{leb, eqb}
 use lib.ListN.{take}
 use Rattle.walks.specs.Walks.{any, every, fold}
-use Rattle.channel.specs.declared.Change.{Change}
 use Rattle.channel.specs.Heads.{lastTime}
 use Rattle.channel.specs.Channels.{goodChannel}
 use Rattle.sampler.specs.declared.Sampler.{Sampler}
@@ -14,7 +13,8 @@ use Rattle.sampler.specs.declared.Asked.{Asked}
 use Rattle.sampler.specs.declared.FrameAsked.{FrameAsked}
 use Rattle.sampler.specs.declared.RunAsked.{RunAsked}
 use Rattle.sampler.specs.declared.Ran.{Ran}
-use Rattle.sampler.specs.Refusals.{channelAt, goodSizes, goodSampler, changeRows}
+use Rattle.sampler.specs.Refusals.{channelAt, goodSizes}
+use Rattle.lent_channel.specs.declared.Condition.{Condition}
 use Rattle.lent_sampler.specs.declared.Readings.{Readings}
 use Rattle.lent_sampler.specs.declared.Framing.{Framing}
 use Rattle.lent_sampler.specs.declared.Running.{Running}
@@ -44,28 +44,24 @@ readingsIn s =
     readingsOf (s .count) (s .capacity) (goodChannel (s .capacity) c) (goodChannel (s .capacity) d) (c .head .now)
     (d .head .now)
 
--- `goodSampler` of such a record
-unfoldable pub goodBy : Readings → Bool
-goodBy t = goodSizes (t .count) (t .capacity) && allOf (t .count) (t .first ∷ t .second ∷ [])
+-- `goodSampler`, by whether each of the two channels is good
+unfoldable pub goodBy : ℕ → ℕ → Bool → Bool → Bool
+goodBy count capacity first second = goodSizes count capacity && allOf count (first ∷ second ∷ [])
 
 -- `goodWith`
 unfoldable pub goodWithBy : Readings → ℕ → Bool
-goodWithBy t size = goodBy t && leb (t .count * t .capacity) size
+goodWithBy t size = goodBy (t .count) (t .capacity) (t .first) (t .second) && leb (t .count * t .capacity) size
 
 -- ---- a change
 
--- how many voices stand in the way of one more: none where there is no recording
-unfoldable pub placesTaken : ℕ → ℕ → ℕ
-placesTaken len count = cond (eqb len 0) 0 count
-
--- `askedOf`; a channel takes no further voice where all 32 places are taken
-abbrev pub askedBy : Readings → ℕ → ℕ → Asked
-askedBy t taken other = record { good = goodBy t; full = anyOf (t .count) (leb 32 taken ∷ leb 32 other ∷ []) }
-
--- the number of a change of a record, given how many places its channels have taken
-unfoldable pub changeNumberBy : Sampler → ℕ → Change → ℕ → ℕ
-changeNumberBy s taken x other =
-    changeRows (record { good = goodSampler s; full = anyOf (s .count) (leb 32 taken ∷ leb 32 other ∷ []) }) x
+-- `askedOf`, by what each of the two channels is judged to be
+abbrev pub askedBy : ℕ → ℕ → Condition → Condition → Asked
+askedBy count capacity first second = record {
+  good = goodBy count capacity (first .good) (second .good);
+  full = anyOf count (first .full ∷ second .full ∷ []);
+  recording = anyOf count (first .recording ∷ second .recording ∷ []);
+  capacity = capacity;
+}
 
 -- ---- a frame
 

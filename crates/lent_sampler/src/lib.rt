@@ -19,7 +19,7 @@ ghost use Rattle.sampler.specs.Samplers.{
   runAnswer,
 };
 ghost use Rattle.sampler.specs.Samplers.{processSampleOf as sampleOf};
-ghost use Rattle.sampler.specs.Refusals.{changeRows, frameRows, frameNumber, runDone};
+ghost use Rattle.sampler.specs.Refusals.{changeRows, changeNumber, frameRows, frameNumber, runDone};
 ghost use Rattle.channel.specs.Channels.{processSampleOf, memoryOf};
 ghost use Prim.Native.Nat.{_+_, _*_, _-_, _%_, _^_, _≤_, _<_};
 ghost use mathlib.Core.Bool.{cond};
@@ -38,17 +38,16 @@ ghost use Rattle.questions.specs.Questions.{
   noInfo,
 };
 ghost use Rattle.questions.specs.Waveforms.{getWaveformSummaryOf, waveformAfter};
-ghost use Rattle.lent_sampler.specs.Lists.{countedOf, listedOf, voiceInfoCounted, voiceInfoAfter};
+ghost use Rattle.recordings.specs.Waves.{writeWaveOf, waveAfter, readWaveOf, readMemory};
+ghost use Rattle.questions.specs.Lists.{countedOf, listedOf, voiceInfoCounted, voiceInfoAfter};
 ghost use Rattle.lent_channel.specs.Turns.{heardOf};
 ghost use Rattle.lent_sampler.specs.Numbers.{
-  placesTaken,
   allOf,
   anyOf,
   readingsOf,
   goodBy,
   goodWithBy,
   askedBy,
-  changeNumberBy,
   frameAskedBy,
   framing,
   latestTime,
@@ -63,6 +62,7 @@ use channel::Channel;
 use channel::HeadChange;
 use common_types::Note;
 use common_types::Params;
+use lent_channel::Condition;
 use lent_channel::Heard;
 use questions::Counted;
 use questions::OffsetAnswer;
@@ -70,18 +70,12 @@ use questions::Told;
 use questions::VoiceInfo;
 use questions::VoiceInfos;
 use questions::WaveformSummary;
+use recordings::WaveRead;
 use sampler::Asked;
 use sampler::FrameAsked;
 use sampler::Ran;
 use sampler::RunAsked;
 use sampler::Sampler;
-
-// How many voices stand in the way of one more: none where there is no recording.
-fn places_taken(data_len: usize, count: usize) -> usize
-    ensures { λ r. ⌜ r ≡ placesTaken «data_len» count ⌝ }
-{
-    if data_len == 0 { 0 } else { count }
-}
 
 // Of two answers, the first n: whether all hold, and whether one does.
 fn all_of(n: usize, first: bool, second: bool) -> bool
@@ -139,35 +133,40 @@ fn read_of(
     }
 }
 
-// Whether the record is good.
-fn good(t: Readings) -> bool
-    ensures { λ r. ⌜ r ≡ goodBy t ⌝ }
+// Whether the record is good, by whether its channels are.
+fn good(count: usize, capacity: usize, first: bool, second: bool) -> bool
+    ensures { λ r. ⌜ r ≡ goodBy count capacity first second ⌝ }
 {
-    sampler::good_sizes(t.count, t.capacity) & all_of(t.count, t.first, t.second)
+    sampler::good_sizes(count, capacity) & all_of(count, first, second)
 }
 
-// The number of a change; `taken` and `other_taken` are the channels' places taken.
-fn change_of(t: Readings, taken: usize, change: Change, other_taken: usize) -> u8
-    ensures { λ r. ⌜ r ≡ changeRows (askedBy t taken «other_taken») change ⌝ }
+// The number of a change, from what each channel was judged to be.
+fn change_of(
+    count: usize,
+    capacity: usize,
+    first: Condition,
+    second: Condition,
+    change: Change,
+) -> u8
+    ensures { λ r. ⌜ r ≡ changeRows (askedBy count capacity first second) change ⌝ }
 {
     let asked = Asked {
-        good: good(t),
-        full: any_of(t.count, 32 <= taken, 32 <= other_taken),
+        good: good(count, capacity, first.good, second.good),
+        full: any_of(count, first.full, second.full),
+        recording: any_of(count, first.recording, second.recording),
+        capacity,
     };
     sampler::change_rows(asked, change)
 }
 
-// The number of a change, with no channel copied; `taken` and `other_taken` are the channels' places taken.
-fn change_number(s: &Sampler, taken: usize, change: Change, other_taken: usize) -> u8
-    ensures { λ r. ⌜ r ≡ changeNumberBy (now (s .entry)) taken change «other_taken» ⌝ }
+// The number of a change, with no channel copied.
+fn change_number(s: &Sampler, change: Change) -> u8
+    ensures { λ r. ⌜ r ≡ changeNumber (now (s .entry)) change ⌝ }
 {
     let capacity = s.capacity;
-    let first = lent_channel::good(&s.channels[0], capacity);
-    let second = lent_channel::good(&s.channels[1], capacity);
-    let time = s.channels[0].head.now;
-    let other = s.channels[1].head.now;
-    let t = read_of(s.count, capacity, first, second, time, other);
-    change_of(t, taken, change, other_taken)
+    let first = lent_channel::judged(&s.channels[0], capacity);
+    let second = lent_channel::judged(&s.channels[1], capacity);
+    change_of(s.count, capacity, first, second, change)
 }
 
 // The call that makes a change of every channel, all or none, where the record stands. The names below are it, each at
@@ -175,9 +174,7 @@ fn change_number(s: &Sampler, taken: usize, change: Change, other_taken: usize) 
 pub fn change(s: &mut Sampler, change: Change) -> u8
     ensures { λ r. ⌜ record { sampler = now (s .exit); number = r } ≡ changeOf (now (s .entry)) change ⌝ }
 {
-    let taken = places_taken(s.channels[0].head.data_len, s.channels[0].count);
-    let other = places_taken(s.channels[1].head.data_len, s.channels[1].count);
-    let number = change_number(s, taken, change, other);
+    let number = change_number(s, change);
     let n = steps(number, sampler::places(s.count));
     let mut j: usize = 0;
     while j < n {
@@ -433,6 +430,25 @@ pub fn get_waveform_summary(
     questions::get_waveform_summary(*s, columns, list, memory)
 }
 
+// Writes the recordings of all channels as a WAVE file to the front of `out`, and answers how many bytes it has.
+pub fn write_wave(s: &Sampler, rate: u32, memory: &[u32], out: &mut [u8]) -> Counted
+    ensures { λ r. ⌜ (r ≡ writeWaveOf (now (s .entry)) (length (now (out .entry))) (length (now (memory .entry))))
+        × (now (out .exit) ≡ waveAfter (now (s .entry)) rate (now (memory .entry)) (now (out .entry))) ⌝ }
+{
+    recordings::write_wave(*s, rate, memory, out)
+}
+
+// Replaces the recording of each channel by a WAVE file's.
+pub fn read_wave(s: &mut Sampler, file: &[u8], memory: &mut [u32]) -> WaveRead
+    ensures { λ r. ⌜ (record { sampler = now (s .exit); read = r }
+        ≡ readWaveOf (now (s .entry)) (now (file .entry)) (length (now (memory .entry))))
+        × (now (memory .exit) ≡ readMemory (now (s .entry)) (now (file .entry)) (now (memory .entry))) ⌝ }
+{
+    let r = recordings::read_wave(*s, file, memory);
+    *s = r.sampler;
+    r.read
+}
+
 // How many of n turns are taken: a call that is refused takes none. A frame's are its entries, a change's its channels.
 fn steps(number: u8, n: usize) -> usize
     ensures { λ r. ⌜ r ≡ cond (eqb number 0) n 0 ⌝ }
@@ -444,7 +460,7 @@ fn steps(number: u8, n: usize) -> usize
 fn good_with(t: Readings, size: usize) -> bool
     ensures { λ r. ⌜ r ≡ goodWithBy t size ⌝ }
 {
-    if good(t) {
+    if good(t.count, t.capacity, t.first, t.second) {
         sampler::enough(t.count, t.capacity, size)
     } else {
         false

@@ -27,7 +27,7 @@ use Rattle.sampler.specs.Samplers.{partOf, playedAt, outputOf, processSampleOf,
 use Rattle.sampler.proofs.Rows.{passed, frame-steps}
 use Rattle.sampler.proofs.Entries.{sample-reaches, frame-reaches}
 use Rattle.fates.specs.Events.{idle, changes, sounds}
-use Rattle.promises.specs.Runs.{World, Call, change, start, sample, frame, asks, code, chan, doneTo, event, output, FittingCall}
+use Rattle.promises.specs.Runs.{World, Call, change, start, sample, frame, readWave, asks, code, chan, doneTo, event, output, FittingCall}
 use Rattle.walks.proofs.Tests.{neither}
 use Rattle.promises.proofs.Apart.{frame-output}
 use Rattle.promises.proofs.Calls.{Standing}
@@ -45,7 +45,7 @@ module _ {A : Type 0} (p : A → Bool) where
   any-none [] d h = refl
   any-none (x ∷ xs) d h = rw (h 0 (omega arith)) (any-none xs d (λ j k. h (suc j) (omega arith)))
 
-  any-front : (l : List A) (n j : ℕ) (d : A) → any p (take n l) ≡ false → j < n → n ≤ length l → p (getD l j d) ≡ false
+  pub any-front : (l : List A) (n j : ℕ) (d : A) → any p (take n l) ≡ false → j < n → n ≤ length l → p (getD l j d) ≡ false
   any-front l n j d h a b = ap p (sym (getD-take n l j d a)) ∙ any-at (take n l) j d h (omega (arith, length-take-le n l b))
 
 -- ---- a start
@@ -180,4 +180,5 @@ module _ (w : World) (st : Standing w) (j : ℕ) (k : j < w .sampler .count) (p 
   heard (change d) h = absurd (not-change p x m _ (done p x m w (change d) j h))
   heard (sample i y q) h = sample-heard i y q h
   heard (frame xs q) h = frame-heard xs q h
+  heard (readWave f) h = absurd (not-change p x m _ (done p x m w (readWave f) j h))
   heard (asks y) h = absurd (not-idle p x m (done p x m w (asks y) j h))

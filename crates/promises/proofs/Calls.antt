@@ -25,7 +25,9 @@ use Rattle.sampler.proofs.Rows.{sizes-count, frame-steps}
 use Rattle.sampler.proofs.Entries.{Kept, kept-refl, kept-trans, kept-step, kept-entries}
 use Rattle.fates.specs.Events.{idle, changes, sounds, act, acts}
 use Rattle.fates.specs.Places.{Housed}
-use Rattle.promises.specs.Runs.{World, setUp, Call, change, sample, frame, asks, questionNumber, code, after, run, chan, doneTo, event, events}
+use Rattle.wave.specs.Reader.{judgedOf}
+use Rattle.recordings.specs.Waves.{readNumber, readWaveOf}
+use Rattle.promises.specs.Runs.{World, setUp, Call, change, sample, frame, readWave, asks, questionNumber, code, after, run, chan, doneTo, event, events}
 use Rattle.promises.proofs.Engine.{changes-same, sounds-same}
 use Rattle.fates.proofs.Housing.{housed, housed-new}
 use Rattle.promises.proofs.Apart.{channel-apart, channel-own, frame-channel}
@@ -109,10 +111,11 @@ module _ (w : World) (two : length (w .sampler .channels) ≡ 2) (few : w .sampl
   nothing false = refl
 
   pub chan-after : (c : Call) → chan (after w c) j ≡ act (event w c j) (chan w j)
-  unfolding after event code doneTo act
+  unfolding after event code doneTo act readWaveOf
   chan-after (change d) = answer-channel _ _ (w .sampler) two few j h
   chan-after (sample i x p) = sample-channel i x p
   chan-after (frame xs p) = frame-channels xs p
+  chan-after (readWave f) = answer-channel (readNumber (w .sampler) (judgedOf f) (length (w .memory))) _ (w .sampler) two few j h
   chan-after (asks q) = nothing (eqb (questionNumber w q) 0)
 
 -- ---- what no call changes
@@ -126,7 +129,7 @@ kept-answer number d s =
     kept-if s (eachOf d s) s (eqb number 0) (record { channels = length-sets (s .channels) 0 (map (changedOf d) (present s)); count = refl; capacity = refl }) (kept-refl s)
 
 pub kept : (w : World) (c : Call) → Kept (w .sampler) (after w c .sampler)
-unfolding after processSampleOf framedOf
+unfolding after processSampleOf framedOf readWaveOf
 kept w (change d) = kept-answer _ _ (w .sampler)
 kept w (sample j x p) = kept-if (w .sampler) _ _ (eqb (sampleNumber (w .sampler) j p (length (w .memory))) 0) (kept-step (w .sampler) j p x (w .memory)) (kept-refl (w .sampler))
 kept w (frame xs p) = go (eqb (frameNumber (w .sampler) (length xs) p (length (w .memory))) 0)
@@ -137,6 +140,7 @@ kept w (frame xs p) = go (eqb (frameNumber (w .sampler) (length xs) p (length (w
     go : (b : Bool) → Kept (w .sampler) (cond b (entriesOf p (length xs) 0 f) f .sampler)
     go true = kept-entries p (length xs) 0 f
     go false = kept-refl (w .sampler)
+kept w (readWave f) = kept-answer _ _ (w .sampler)
 kept w (asks q) = kept-refl (w .sampler)
 
 -- ---- from set-up on

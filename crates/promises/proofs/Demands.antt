@@ -40,8 +40,12 @@ use Rattle.questions.specs.declared.VoiceInfos.{VoiceInfos}
 use Rattle.questions.specs.Waveforms.{columnOf, columnsFrom, smallestOf, largestOf, summaryWith, waveformNumber, waveformOf, getWaveformSummaryOf, waveformAfter}
 use Rattle.questions.proofs.Cuts.{cut-first, cut-inside, cuts-rise}
 use Rattle.questions.proofs.Summaries.{columns-count, smallest-zero, waveform-done}
-use Rattle.lent_sampler.specs.Lists.{listedOf}
+use Rattle.questions.specs.Lists.{listedOf}
 use Rattle.channel.specs.declared.Change.the-variants.{Start, Stop, Speed, Head, Reset}
+use Rattle.channel.specs.declared.HeadChange.the-variants.{Load}
+use Rattle.wave.specs.Reader.{judgedOf}
+use Rattle.wave.specs.Memory.{loadedOf}
+use Rattle.recordings.specs.Waves.{writeNumber, waveAfter, heldIn, readNumber, readWaveOf, readMemory}
 use Rattle.promises.specs.Runs.{
   World,
   setUp,
@@ -55,6 +59,7 @@ use Rattle.promises.specs.Runs.{
   getVoiceInfo,
   fillVoiceInfo,
   getWaveformSummary,
+  writeWave,
   questionNumber,
   Call,
   change,
@@ -66,6 +71,7 @@ use Rattle.promises.specs.Runs.{
   reset,
   sample,
   frame,
+  readWave,
   asks,
   code,
   after,
@@ -82,6 +88,7 @@ use Rattle.promises.proofs.Table.{table-holds}
 use Rattle.promises.proofs.Broken.{row-nine}
 use Rattle.promises.proofs.Rows.{row-tests}
 use Rattle.promises.proofs.SmallParts.{row-seven}
+use Rattle.promises.proofs.Recordings.{recordings}
 use Rattle.promises.proofs.Whole.{memory-after}
 use Rattle.promises.proofs.Turns.{in-turn}
 use Rattle.promises.proofs.Makes.{no-panic, third, true-positions, spreads, count-makes, capacity-makes, whole}
@@ -114,22 +121,26 @@ sample-held w j x y p h =
     λ t. record { sampler = other n (channelSteppedOf (w .sampler) j p x (w .memory)) (w .sampler) h t; memory = other n (memoryAt (w .sampler) j y (w .memory)) (w .memory) h t }
 
 after-held : (w : World) (c : Call) → code w c ≢ 0 → after w c ≡ w
-unfolding after code framedOf
+unfolding after code framedOf readWaveOf readMemory answerOf
 after-held w (change d) h = answer-held w _ _ h
 after-held w (sample j x p) h = sample-held w j x _ p h
 after-held w (frame xs p) h =
     let f = framed (w .sampler) xs (w .memory) in
     let e = other (frameNumber (w .sampler) (length xs) p (length (w .memory))) (entriesOf p (length xs) 0 f) f h in
     λ t. record { sampler = e t .sampler; memory = e t .memory }
+after-held w (readWave f) h =
+    let n = readNumber (w .sampler) (judgedOf f) (length (w .memory)) in
+    λ t. record { sampler = other n (eachOf (Head (Load (heldIn (judgedOf f) .samples))) (w .sampler)) (w .sampler) h t; memory = other n (loadedOf f (w .sampler .capacity) (w .memory)) (w .memory) h t }
 after-held w (asks q) h = refl
 
 untouched : (w : World) (c : Call) (r : Outcome (on w c)) → Allows (on w c) r → code w c ≢ 0 → Untouched w c r
-unfolding Untouched code questionNumber framedOf listAfter getVoiceInfoOf answered listedOf waveformAfter
+unfolding Untouched code questionNumber framedOf listAfter getVoiceInfoOf answered listedOf waveformAfter waveAfter
 untouched w (change d) r h n = tt
 untouched w (sample j x p) r h n = tt
 untouched w (frame xs p) r h n =
     let f = framed (w .sampler) xs (w .memory) in
     h .1 .frame ∙ ap (λ (g : Framed). g .frame) (other (frameNumber (w .sampler) (length xs) p (length (w .memory))) (entriesOf p (length xs) 0 f) f n)
+untouched w (readWave f) r h n = tt
 untouched w (asks (getFramesProcessed j)) r h n = tt
 untouched w (asks (getDataLen j)) r h n = tt
 untouched w (asks (isRecording j)) r h n = tt
@@ -145,10 +156,11 @@ untouched w (asks (fillVoiceInfo j p list)) r h n =
     h .1 ∙ ap (λ (v : VoiceInfos). listedOf v list) (other (infoNumber (w .sampler) j p (length list)) _ (infosWith noInfos 0 (infoNumber (w .sampler) j p (length list))) n)
 untouched w (asks (getWaveformSummary columns list)) r h n =
     h .1 ∙ other (waveformNumber (w .sampler) columns (length list) (length (w .memory))) (inFront (waveformOf (w .sampler) columns (w .memory)) list) list n
+untouched w (asks (writeWave rate out)) r h n = h .1 ∙ other (writeNumber (w .sampler) (length out) (length (w .memory))) _ out n
 
 -- ---- a refused set-up
 empty-record : (p : InitParams) (m : List ℕ) (c : Call) → code (record { sampler = samplerOf 0 p 0; memory = m }) c ≡ 9
-unfolding code questionNumber startRows stopRows speedRows sampleNumber frameNumber channelNumber listNumber infoNumber waveformNumber goodWith goodSampler goodSizes
+unfolding code questionNumber startRows stopRows speedRows sampleNumber frameNumber channelNumber listNumber infoNumber waveformNumber writeNumber readNumber goodWith goodSampler goodSizes
 empty-record p m (change (Start q position note velocity)) = refl
 empty-record p m (change (Stop q note)) = refl
 empty-record p m (change (Speed note s)) = refl
@@ -156,6 +168,7 @@ empty-record p m (change (Head d)) = refl
 empty-record p m (change Reset) = refl
 empty-record p m (sample j x q) = refl
 empty-record p m (frame xs q) = refl
+empty-record p m (readWave f) = refl
 empty-record p m (asks (getFramesProcessed j)) = refl
 empty-record p m (asks (getDataLen j)) = refl
 empty-record p m (asks (isRecording j)) = refl
@@ -165,6 +178,7 @@ empty-record p m (asks (iterActiveNotes j notes)) = refl
 empty-record p m (asks (getVoiceInfo j q room)) = refl
 empty-record p m (asks (fillVoiceInfo j q list)) = refl
 empty-record p m (asks (getWaveformSummary columns list)) = refl
+empty-record p m (asks (writeWave rate out)) = refl
 
 unmade : (count : ℕ) (p : InitParams) (m : List ℕ) → setUpNumber count (length m) ≢ 0 → (c : Call) → code (setUp count p m) c ≡ 9
 unfolding setUp setUpOf
@@ -201,7 +215,7 @@ unfolding setUpOf setUpNumber code questionNumber startRows stopRows speedRows s
 demand1 = record {
   takes = settled;
   one = one-outcome;
-  unwritten = λ w c r h j n. ap (λ (v : World). ownPart v j) (left-after w c r h) ∙ part-unwritten w j c n;
+  unwritten = λ w c r h j n e. ap (λ (v : World). ownPart v j) (left-after w c r h) ∙ part-unwritten w j c n e;
   written = λ w c r h j p x m e. ap (λ (v : World). ownPart v j) (left-after w c r h) ∙ part-written w j c p x m e;
   filled = λ w j p list r h n q. (h .0 ∙ infos-counted w j p (length list) n q, h .1 ∙ infos-listed w j p (length list) n q list);
   informed = λ w j p room r h n q. infos-given w j p room n q r h;
@@ -301,6 +315,7 @@ demands = record {
   true-positions = true-positions;
   one-setting = one-setting;
   tidying = tidying;
+  recordings = recordings;
   in-turn = in-turn;
   spreads = spreads;
   count-stays = count-makes;

@@ -17,7 +17,7 @@ use Rattle.questions.specs.declared.Counted.{Counted}
 use Rattle.questions.specs.declared.Counted.the-variants as counted
 use Rattle.questions.specs.Questions.{noInfos, inFront, answered, voiceInfoOf, voiceInfosOf, infoNumber, getVoiceInfoOf}
 use Rattle.questions.proofs.Room.{infos-fit}
-use Rattle.lent_sampler.specs.Lists.{countedOf, listedOf}
+use Rattle.questions.specs.Lists.{countedOf, listedOf}
 use Rattle.promises.specs.Runs.{World, chan}
 use Rattle.promises.specs.Demands.{figures}
 

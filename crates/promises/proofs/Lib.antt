@@ -6,6 +6,7 @@ pub mod Accepted
 pub mod Demand3
 pub mod TruePositions
 pub mod Settings
+pub mod Recordings
 pub mod Whole
 pub mod Turns
 pub mod Makes
@@ -20,5 +21,6 @@ pub mod SmallParts
 pub mod Tidying
 pub mod Demands
 pub mod Examples
+pub mod WaveExamples
 pub mod Edges
 pub mod Rules

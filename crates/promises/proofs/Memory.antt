@@ -16,7 +16,7 @@ use Rattle.sampler.specs.Refusals.{channelAt, sampleNumber, frameNumber}
 use Rattle.sampler.specs.Samplers.{partOf, memoryAt, sampleMemory, Framed, framed, entriesOf, framedOf}
 use Rattle.sampler.proofs.Rows.{sample-ready, frame-steps}
 use Rattle.fates.specs.Events.{Event, idle, changes, sounds, isSample}
-use Rattle.promises.specs.Runs.{World, Call, change, sample, frame, asks, code, after, chan, ownPart, doneTo, event}
+use Rattle.promises.specs.Runs.{World, Call, change, sample, frame, readWave, asks, code, after, chan, ownPart, doneTo, event, isRead}
 use Rattle.promises.proofs.Apart.{part-apart, part-own, frame-part}
 use Rattle.promises.proofs.Calls.{kept}
 
@@ -72,12 +72,14 @@ module _ (w : World) (j : ℕ) where
       go true e = which (ltb j (length xs)) (frame-part s xs p m (frame-steps s (length xs) p (length m) (eqb-true _ 0 e)) j)
       go false e = refl
 
-  part-after : (c : Call) → ownPart (after w c) j ≡ partBy (event w c j) (chan w j) (ownPart w j)
-  unfolding after event doneTo s m
-  part-after (change d) = same-part s _ j m (kept w (change d) .capacity) ∙ still (eqb (code w (change d)) 0) (changes d) (chan w j) (ownPart w j) refl
-  part-after (sample i x p) = same-part s _ j (sampleMemory s i x p m) (kept w (sample i x p) .capacity) ∙ sample-part i x p
-  part-after (frame xs p) = frame-parts xs p
-  part-after (asks q) = still (eqb (code w (asks q)) 0) idle (chan w j) (ownPart w j) refl
+  -- of a call that is no read
+  part-after : (c : Call) → isRead c ≡ false → ownPart (after w c) j ≡ partBy (event w c j) (chan w j) (ownPart w j)
+  unfolding after event doneTo isRead s m
+  part-after (change d) r = same-part s _ j m (kept w (change d) .capacity) ∙ still (eqb (code w (change d)) 0) (changes d) (chan w j) (ownPart w j) refl
+  part-after (sample i x p) r = same-part s _ j (sampleMemory s i x p m) (kept w (sample i x p) .capacity) ∙ sample-part i x p
+  part-after (frame xs p) r = frame-parts xs p
+  part-after (readWave f) r = absurd (true≢false r)
+  part-after (asks q) r = still (eqb (code w (asks q)) 0) idle (chan w j) (ownPart w j) refl
 
   not-sampled : (e : Event) (c : Channel) (k : List ℕ) → isSample e ≡ false → partBy e c k ≡ k
   unfolding isSample
@@ -85,8 +87,21 @@ module _ (w : World) (j : ℕ) where
   not-sampled (changes d) c k h = refl
   not-sampled (sounds p x l) c k h = absurd (true≢false h)
 
-  pub part-unwritten : (c : Call) → isSample (event w c j) ≡ false → ownPart (after w c) j ≡ ownPart w j
-  part-unwritten c h = part-after c ∙ not-sampled (event w c j) (chan w j) (ownPart w j) h
+  pub part-unwritten : (c : Call) → isSample (event w c j) ≡ false → isRead c ≡ false → ownPart (after w c) j ≡ ownPart w j
+  part-unwritten c h r = part-after c r ∙ not-sampled (event w c j) (chan w j) (ownPart w j) h
+
+  -- a read is no sample
+  no-read : (c : Call) (p : Params) (x : Float) (k : List ℕ) → event w c j ≡ sounds p x k → isRead c ≡ false
+  unfolding event doneTo isRead isSample
+  no-read (change d) p x k h = refl
+  no-read (sample i y q) p x k h = refl
+  no-read (frame xs q) p x k h = refl
+  no-read (readWave f) p x k h = sym (ap isSample h) ∙ unsampled (eqb (code w (readWave f)) 0)
+    where
+      unsampled : (b : Bool) → isSample (cond b (doneTo w (readWave f) j) idle) ≡ false
+      unsampled true = refl
+      unsampled false = refl
+  no-read (asks q) p x k h = refl
 
   pub part-written : (c : Call) (p : Params) (x : Float) (k : List ℕ) → event w c j ≡ sounds p x k → ownPart (after w c) j ≡ memoryOf x (chan w j) k
-  part-written c p x k h = part-after c ∙ ap (λ (e : Event). partBy e (chan w j) (ownPart w j)) h
+  part-written c p x k h = part-after c (no-read c p x k h) ∙ ap (λ (e : Event). partBy e (chan w j) (ownPart w j)) h

@@ -17,11 +17,14 @@ use Rattle.common_types.specs.declared.Params.{Params}
 use Rattle.sampler.specs.Samplers.{answerOf, processSampleOf, sampleMemory, framedOf, frameMoved, ranOf, runAnswer}
 use Rattle.questions.specs.declared.VoiceInfos.{VoiceInfos}
 use Rattle.questions.specs.declared.Counted.the-variants as counted
-use Rattle.lent_sampler.specs.Lists.{countedOf, voiceInfoCounted, voiceInfoAfter}
+use Rattle.questions.specs.Lists.{countedOf, voiceInfoCounted, voiceInfoAfter}
 use Rattle.questions.specs.Questions.{countedNumber, toldNumber, offsetNumber, recorderAt, notesOf, answered, printErrorInfoOf, errorTextAfter, iterActiveNotesOf, activeNotesAfter, getVoiceInfoOf}
 use Rattle.questions.specs.declared.WaveformSummary.{WaveformSummary}
 use Rattle.questions.specs.Waveforms.{getWaveformSummaryOf, waveformAfter}
 use Rattle.questions.proofs.Numbers.{frames-number, data-len-number, recording-number, offset-number, list-number, info-number, summary-number}
+use Rattle.recordings.specs.declared.ReadAnswer.{ReadAnswer}
+use Rattle.recordings.specs.Waves.{writeWaveOf, waveAfter, readWaveOf, readMemory}
+use Rattle.recordings.proofs.Numbers.{write-number}
 use Rattle.promises.specs.Runs.{
   World,
   getFramesProcessed,
@@ -33,11 +36,13 @@ use Rattle.promises.specs.Runs.{
   getVoiceInfo,
   fillVoiceInfo,
   getWaveformSummary,
+  writeWave,
   questionNumber,
   Call,
   change,
   sample,
   frame,
+  readWave,
   asks,
   code,
   after,
@@ -81,6 +86,11 @@ settled (along w xs p) =
       allowed = (refl, record { sampler = refl; frame = refl; memory = refl });
       only = λ r h t. record { answer = record { sampler = (h .1 .sampler) t; ran = (h .0) t }; run = (h .1 .frame) t; memory = (h .1 .memory) t };
     }
+settled (on w (readWave f)) = record {
+  outcome = record { answer = readWaveOf (w .sampler) f (length (w .memory)); memory = readMemory (w .sampler) f (w .memory) };
+  allowed = (refl, refl);
+  only = λ r h t. record { answer = (h .0) t; memory = (h .1) t };
+}
 settled (on w (asks (getFramesProcessed j))) = record { outcome = _; allowed = refl; only = λ r h. h }
 settled (on w (asks (getDataLen j))) = record { outcome = _; allowed = refl; only = λ r h. h }
 settled (on w (asks (isRecording j))) = record { outcome = _; allowed = refl; only = λ r h. h }
@@ -106,6 +116,11 @@ settled (on w (asks (getWaveformSummary columns list))) = record {
   allowed = (refl, refl);
   only = λ r h t. record { answer = (h .0) t; lent = (h .1) t };
 }
+settled (on w (asks (writeWave rate out))) = record {
+  outcome = record { answer = writeWaveOf (w .sampler) (length out) (length (w .memory)); lent = waveAfter (w .sampler) rate (w .memory) out };
+  allowed = (refl, refl);
+  only = λ r h t. record { answer = (h .0) t; lent = (h .1) t };
+}
 
 pub one-outcome : (g : Given) (r s : Outcome g) → Allows g r → Allows g s → r ≡ s
 one-outcome g r s h k = settled g .only r h ∙ sym (settled g .only s k)
@@ -120,10 +135,11 @@ counted-number v = go (eqb (v .number) 0) refl
     go false e = refl
 
 pub number-code : (w : World) (c : Call) (r : Outcome (on w c)) → Allows (on w c) r → numberIn (on w c) r ≡ code w c
-unfolding code questionNumber answerOf processSampleOf
+unfolding code questionNumber answerOf processSampleOf readWaveOf
 number-code w (change d) r h = ap (λ (a : Answer). a .number) h
 number-code w (sample j x p) r h = ap (λ (a : SampleAnswer). a .number) (h .0)
 number-code w (frame xs p) r h = h .0
+number-code w (readWave f) r h = ap (λ (a : ReadAnswer). a .read .number) (h .0)
 number-code w (asks (getFramesProcessed j)) r h = ap countedNumber h ∙ frames-number (w .sampler) j
 number-code w (asks (getDataLen j)) r h = ap countedNumber h ∙ data-len-number (w .sampler) j
 number-code w (asks (isRecording j)) r h = ap toldNumber h ∙ recording-number (w .sampler) j
@@ -134,6 +150,7 @@ number-code w (asks (getVoiceInfo j p room)) r h = ap (λ (a : VoiceInfos). a .n
 number-code w (asks (fillVoiceInfo j p list)) r h =
     ap countedNumber (h .0) ∙ counted-number (getVoiceInfoOf (w .sampler) j p (length list)) ∙ info-number (w .sampler) j p (length list)
 number-code w (asks (getWaveformSummary columns list)) r h = ap (λ (a : WaveformSummary). a .number) (h .0) ∙ summary-number (w .sampler) columns (length list) (w .memory)
+number-code w (asks (writeWave rate out)) r h = ap countedNumber (h .0) ∙ write-number (w .sampler) (length out) (length (w .memory))
 
 -- ---- the record and the memory afterwards
 pub left-after : (w : World) (c : Call) (r : Outcome (on w c)) → Allows (on w c) r → leftBy w c r ≡ after w c
@@ -141,6 +158,7 @@ unfolding after
 left-after w (change d) r h = ap (leftBy w (change d)) h
 left-after w (sample j x p) r h = λ t. record { sampler = (h .0) t .sampler; memory = (h .1) t }
 left-after w (frame xs p) r h = λ t. record { sampler = (h .1 .sampler) t; memory = (h .1 .memory) t }
+left-after w (readWave f) r h = λ t. record { sampler = (h .0) t .sampler; memory = (h .1) t }
 left-after w (asks q) r h = refl
 
 -- ---- the output
@@ -149,6 +167,7 @@ unfolding output
 output-answered w (change d) r h j = refl
 output-answered w (sample i x p) r h j = ap (λ (a : SampleAnswer). a .output) (h .0)
 output-answered w (frame xs p) r h j = λ t. outputIn w (frame xs p) (record { answer = r .answer; frame = (h .1 .frame) t; memory = r .memory }) j
+output-answered w (readWave f) r h j = refl
 output-answered w (asks q) r h j = refl
 
 pub left-along : (w : World) (xs : List Float) (p : Params) (r : RunOutcome) → Allows (along w xs p) r → leftAlong r ≡ made w (frames xs p)

@@ -9,14 +9,13 @@ use lib.ListN.{length, getD}
 use Rattle.common_types.specs.declared.InitParams.{InitParams}
 use Rattle.channel.specs.declared.Channel.{Channel}
 use Rattle.channel.specs.declared.Change.the-variants.{Start, Stop, Speed, Head, Reset}
-use Rattle.channel.specs.declared.HeadChange.the-variants.{StartRecording, StopRecording, Interpolate}
-use Rattle.channel.specs.Heads.{headOf}
+use Rattle.channel.specs.Heads.{headOf, interpolatesAfter}
 use Rattle.channel.specs.Channels.{channelOf}
 use Rattle.sampler.specs.Refusals.{setUpNumber, capacityOf}
 use Rattle.sampler.specs.Samplers.{samplerOf, setUpOf}
 use Rattle.fates.specs.Events.{Event, idle, settingAfter}
 use Rattle.fates.proofs.Clocks.{setting-after}
-use Rattle.promises.specs.Runs.{World, setUp, Call, change, sample, frame, asks, code, after, run, chan, doneTo, event, settingBy, settingIn}
+use Rattle.promises.specs.Runs.{World, setUp, Call, change, sample, frame, readWave, asks, code, after, run, chan, doneTo, event, settingBy, settingIn}
 use Rattle.promises.proofs.Calls.{Standing, count-kept, standing-after, standing-new}
 use Rattle.promises.proofs.Demand3.{next, still}
 
@@ -27,20 +26,19 @@ kept e true on h = h
 kept e false on h = refl
 
 by-event : (w : World) (c : Call) (j : ℕ) (on : Bool) → settingAfter (event w c j) on ≡ settingBy (eqb (code w c) 0) c on
-unfolding event doneTo settingAfter
+unfolding event doneTo settingAfter interpolatesAfter
 by-event w (change (Start p position note velocity)) j on = kept _ (eqb (code w (change (Start p position note velocity))) 0) on refl
 by-event w (change (Stop p note)) j on = kept _ (eqb (code w (change (Stop p note))) 0) on refl
 by-event w (change (Speed note s)) j on = kept _ (eqb (code w (change (Speed note s))) 0) on refl
-by-event w (change (Head StartRecording)) j on = kept _ (eqb (code w (change (Head StartRecording))) 0) on refl
-by-event w (change (Head StopRecording)) j on = kept _ (eqb (code w (change (Head StopRecording))) 0) on refl
-by-event w (change (Head (Interpolate new))) j on = go (eqb (code w (change (Head (Interpolate new)))) 0)
+by-event w (change (Head d)) j on = go (eqb (code w (change (Head d))) 0)
   where
-    go : (b : Bool) → settingAfter (cond b (doneTo w (change (Head (Interpolate new))) j) idle) on ≡ cond b new on
+    go : (b : Bool) → settingAfter (cond b (doneTo w (change (Head d)) j) idle) on ≡ cond b (interpolatesAfter d on) on
     go true = refl
     go false = refl
 by-event w (change Reset) j on = kept _ (eqb (code w (change Reset)) 0) on refl
 by-event w (sample i x p) j on = kept _ (eqb (code w (sample i x p)) 0) on (kept _ (eqb i j) on refl)
 by-event w (frame xs p) j on = kept _ (eqb (code w (frame xs p)) 0) on (kept _ (ltb j (length xs)) on refl)
+by-event w (readWave f) j on = kept _ (eqb (code w (readWave f)) 0) on refl
 by-event w (asks q) j on = kept idle (eqb (code w (asks q)) 0) on refl
 
 setting-run : (w : World) → Standing w → (j : ℕ) → j < w .sampler .count → (cs : List Call) → chan (run w cs) j .head .interpolates ≡ settingIn w (chan w j .head .interpolates) cs

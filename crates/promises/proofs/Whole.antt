@@ -37,7 +37,7 @@ use Rattle.channel.specs.Soundness.{FittingChange, SoundChannel}
 use Rattle.channel.proofs.Parts.{data-within, voice-at}
 use Rattle.channel.proofs.Samples.{taken-sound, memory-kept, voice-recorded}
 use Rattle.sampler.specs.declared.Sampler.{Sampler}
-use Rattle.sampler.specs.Refusals.{channelAt, goodSampler, goodWith, noChannel, setUpNumber, frameNumber, channelNumber, row, roomOf, runNumber}
+use Rattle.sampler.specs.Refusals.{channelAt, goodSampler, goodWith, anyRecording, noChannel, setUpNumber, frameNumber, channelNumber, row, roomOf, runNumber}
 use Rattle.sampler.specs.Soundness.{SoundSampler, Reached, Unbroken}
 use Rattle.sampler.proofs.Entries.{part-length, sample-memory-length, frame-memory-length}
 use Rattle.sampler.proofs.Kept.{small, channel-sound}
@@ -45,7 +45,13 @@ use Rattle.sampler.proofs.Reach.{passes, another, none, reached-sound, reached-
 use Rattle.fates.specs.Events.{lengthAt, tickAt}
 use Rattle.questions.specs.Questions.{recorderAt, notesOf, listNumber, infoNumber}
 use Rattle.questions.specs.Waveforms.{waveformNumber}
-use Rattle.promises.specs.Runs.{World, setUp, Question, getFramesProcessed, getDataLen, isRecording, getLastRecordedOffset, printErrorInfo, iterActiveNotes, getVoiceInfo, fillVoiceInfo, getWaveformSummary, questionNumber, Call, change, sample, frame, asks, code, after, run, chan, FittingCall}
+use Rattle.wave.specs.Reader.{judgedOf}
+use Rattle.wave.specs.Memory.{bytesOf}
+use Rattle.recordings.specs.Waves.{lengthsDiffer, layoutIn, writeNumber, badFile, heldIn, readNumber}
+use Rattle.recordings.proofs.Numbers.{read-sampler, read-memory-length}
+use Rattle.channel.specs.declared.Change.the-variants.{Head}
+use Rattle.channel.specs.declared.HeadChange.the-variants.{Load}
+use Rattle.promises.specs.Runs.{World, setUp, Question, getFramesProcessed, getDataLen, isRecording, getLastRecordedOffset, printErrorInfo, iterActiveNotes, getVoiceInfo, fillVoiceInfo, getWaveformSummary, writeWave, questionNumber, Call, change, sample, frame, readWave, asks, code, after, run, chan, FittingCall}
 use Rattle.promises.specs.Demands.{lengthened, sped, toldLength, Asked, AllPlaced, Plays, NoPanic, Whole}
 use Rattle.walks.proofs.Lists.Looks.{look-below, look-value}
 use Rattle.fates.proofs.Lives.{live-length}
@@ -58,6 +64,7 @@ unfolding after FittingCall FittingChange
 reached-after size w (change d) f r = Reached.changed (w .sampler) d r f
 reached-after size w (sample j x p) f r = Reached.sampled (w .sampler) j x p (w .memory) r f
 reached-after size w (frame xs p) f r = Reached.framed (w .sampler) xs p (w .memory) r f
+reached-after size w (readWave g) f r = read-sampler (w .sampler) g (w .memory) (Reached size) r (λ z. Reached.changed (w .sampler) (Head (Load (heldIn (judgedOf g) .samples))) r tt)
 reached-after size w (asks q) f r = r
 
 pub memory-after : (w : World) (c : Call) → length (after w c .memory) ≡ length (w .memory)
@@ -65,6 +72,7 @@ unfolding after
 memory-after w (change d) = refl
 memory-after w (sample j x p) = sample-memory-length (w .sampler) j _ p (w .memory)
 memory-after w (frame xs p) = frame-memory-length (w .sampler) xs p (w .memory)
+memory-after w (readWave f) = read-memory-length (w .sampler) f (w .memory)
 memory-after w (asks q) = refl
 
 reached-run : (size : ℕ) (w : World) (cs : List Call) → Each FittingCall cs → Reached size (w .sampler) → Reached size (run w cs .sampler)
@@ -87,7 +95,7 @@ unfolding frameNumber
 good-with s size u = not-nine (goodWith s size) _ (u .frame 0 defaultParams)
 
 asked-nine : (w : World) → goodSampler (w .sampler) ≡ true → goodWith (w .sampler) (length (w .memory)) ≡ true → (q : Question) → questionNumber w q ≢ 9
-unfolding questionNumber channelNumber listNumber infoNumber waveformNumber
+unfolding questionNumber channelNumber listNumber infoNumber waveformNumber writeNumber
 asked-nine w g m (getFramesProcessed j) = passes (goodSampler (w .sampler)) _ g (another (noChannel (w .sampler) j) 1 0 tt none)
 asked-nine w g m (getDataLen j) = passes (goodSampler (w .sampler)) _ g (another (noChannel (w .sampler) j) 1 0 tt none)
 asked-nine w g m (isRecording j) = passes (goodSampler (w .sampler)) _ g (another (noChannel (w .sampler) j) 1 0 tt none)
@@ -100,12 +108,20 @@ asked-nine w g m (fillVoiceInfo j p list) =
     passes (goodSampler (w .sampler)) _ g (another (noChannel (w .sampler) j) 1 _ tt (another (beyondLimits p) 4 _ tt (another (ltb (length list) (channelAt (w .sampler) j .count)) 8 0 tt none)))
 asked-nine w g m (getWaveformSummary columns list) =
     passes (goodWith (w .sampler) (length (w .memory))) _ m (another (ltb 4096 columns) 11 _ tt (another (ltb (length list) columns) 8 0 tt none))
+asked-nine w g m (writeWave rate out) =
+    passes (goodWith (w .sampler) (length (w .memory))) _ m
+    (another (anyRecording (w .sampler)) 15 _ tt (another (lengthsDiffer (w .sampler)) 16 _ tt (another (ltb (length out) (bytesOf (layoutIn (w .sampler)))) 8 0 tt none)))
 
 no-nine : (w : World) → SoundSampler (w .sampler) → Unbroken (w .sampler) (length (w .memory)) → (c : Call) → code w c ≢ 9
-unfolding code
+unfolding code readNumber
 no-nine w h u (change d) = u .change d
 no-nine w h u (sample j x p) = u .sample j p
 no-nine w h u (frame xs p) = u .frame (length xs) p
+no-nine w h u (readWave f) =
+    let s = w .sampler in
+    let held = heldIn (judgedOf f) in
+    passes (goodWith s (length (w .memory))) _ (good-with s (length (w .memory)) u)
+    (another (anyRecording s) 15 _ tt (another (badFile (judgedOf f)) 17 _ tt (another (not (eqb (held .channels) (s .count))) 16 _ tt (another (ltb (s .capacity) (held .samples)) 18 0 tt none))))
 no-nine w h u (asks q) = asked-nine w (h .good) (good-with (w .sampler) (length (w .memory)) u) q
 
 -- a run is tested for row 9 as a frame is

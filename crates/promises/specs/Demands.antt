@@ -32,13 +32,13 @@ pub record Demand1 : Type 0 where
   pub takes : (g : Given) → Settled g
   pub one : (g : Given) (r s : Outcome g) → Allows g r → Allows g s → r ≡ s
   -- and lent memory keeps its size. "Channel j owns the j-th part of that size. Only a sample that records writes
-  -- sample memory, at its write place in its channel's part." So a call that is no sample of channel j leaves its part
-  -- as it was, for every j, past the last channel too; a sample x of it, alone or in a frame, leaves `memoryOf x` of
-  -- it.
+  -- sample memory, at its write place in its channel's part", or a read (10/12: `Recordings.antt` says where). So a
+  -- call that is neither a sample of channel j nor a read leaves its part as it was, for every j, past the last channel
+  -- too; a sample x of it, alone or in a frame, leaves `memoryOf x` of it.
   pub sized : (w : World) (c : Call) (r : Outcome (on w c)) → Allows (on w c) r
       → length (leftBy w c r .memory) ≡ length (w .memory)
   pub unwritten : (w : World) (c : Call) (r : Outcome (on w c)) → Allows (on w c) r
-      → (j : ℕ) → isSample (event w c j) ≡ false → ownPart (leftBy w c r) j ≡ ownPart w j
+      → (j : ℕ) → isSample (event w c j) ≡ false → isRead c ≡ false → ownPart (leftBy w c r) j ≡ ownPart w j
   pub written : (w : World) (c : Call) (r : Outcome (on w c)) → Allows (on w c) r
       → (j : ℕ) (p : Params) (x : Float) (m : List ℕ) → event w c j ≡ sounds p x m
       → ownPart (leftBy w c r) j ≡ memoryOf x (chan w j) m
@@ -591,6 +591,8 @@ pub record Demands : Type 0 where
       → chan (run (setUp count p m) cs) j .head .interpolates ≡ settingIn (setUp count p m) false cs
   -- of every record and memory
   pub tidying : (w : World) → Tidying w
+  -- 10/12: `Recordings.antt`
+  pub recordings : (w : World) → Recordings w
   -- "Demand 3 counts each frame of a run as a sample." What demand 3 says of calls it says of a run's frames: the run
   -- is its frame calls, each one event on the channel, and so are any calls of a host, runs among them.
   pub in-turn : (w : World) → FittingSampler (w .sampler) → (xs : List Float) (p : Params) → FittingParams p

@@ -1,5 +1,6 @@
 pub mod Runs
 pub mod Outcomes
+pub mod Recordings
 pub mod Tidies
 pub mod Table
 pub mod Broken

@@ -1,7 +1,7 @@
 -- Every public call with all that it is given, and which outcomes its contract allows: the result, and what was lent to
 -- it as it is at the end. `Allows` says of each call what the `ensures` lines of its function say, in the same
 -- definitions. That it does is checked of each function in the crate `contracts`: of those by value
--- (sampler/src/lib.rt, questions/src/lib.rt) by a twin whose `ensures` is `Allows`, and of those on a record that the
+-- (sampler/src/lib.rt, questions/src/lib.rt, recordings/src/lib.rt) by a twin whose `ensures` is `Allows`, and of those on a record that the
 -- host lends (lent_sampler/src/lib.rt) by the theorem `Lent` on the function itself. Definitions only. Assumes nothing.
 use mathlib.Core.Path.{_≡_}
 use Prim.Native.Nat.{ℕ}
@@ -48,7 +48,9 @@ use Rattle.questions.specs.Questions.{
 }
 use Rattle.questions.specs.declared.WaveformSummary.{WaveformSummary}
 use Rattle.questions.specs.Waveforms.{getWaveformSummaryOf, waveformAfter}
-use Rattle.lent_sampler.specs.Lists.{voiceInfoCounted, voiceInfoAfter}
+use Rattle.recordings.specs.declared.ReadAnswer.{ReadAnswer}
+use Rattle.recordings.specs.Waves.{writeWaveOf, waveAfter, readWaveOf, readMemory}
+use Rattle.questions.specs.Lists.{voiceInfoCounted, voiceInfoAfter}
 use Rattle.promises.specs.Runs.{
   World,
   getFramesProcessed,
@@ -60,10 +62,12 @@ use Rattle.promises.specs.Runs.{
   getVoiceInfo,
   fillVoiceInfo,
   getWaveformSummary,
+  writeWave,
   Call,
   change,
   sample,
   frame,
+  readWave,
   asks,
   Made,
   one,
@@ -93,6 +97,10 @@ pub record RunOutcome : Type 0 where
   pub run : List Float
   pub memory : List ℕ
 
+pub record ReadOutcome : Type 0 where
+  pub answer : ReadAnswer
+  pub memory : List ℕ
+
 -- of a question that is answered in a lent list
 pub record ListOutcome : Type 0 where
   pub answer : Counted
@@ -111,6 +119,7 @@ Outcome (new count p m) = Answer
 Outcome (on w (change d)) = Answer
 Outcome (on w (sample j x p)) = SampleOutcome
 Outcome (on w (frame xs p)) = FrameOutcome
+Outcome (on w (readWave f)) = ReadOutcome
 Outcome (along w xs p) = RunOutcome
 Outcome (on w (asks (getFramesProcessed j))) = Counted
 Outcome (on w (asks (getDataLen j))) = Counted
@@ -121,6 +130,7 @@ Outcome (on w (asks (iterActiveNotes j notes))) = ListOutcome
 Outcome (on w (asks (getVoiceInfo j p room))) = VoiceInfos
 Outcome (on w (asks (fillVoiceInfo j p list))) = InfoOutcome
 Outcome (on w (asks (getWaveformSummary columns list))) = WaveformOutcome
+Outcome (on w (asks (writeWave rate out))) = ListOutcome
 
 -- ---- what the contracts allow
 abbrev pub Allows : (g : Given) → Outcome g → Type 0
@@ -132,6 +142,8 @@ Allows (on w (frame xs p)) r =
     (r .answer .number ≡ frameNumber (w .sampler) (length xs) p (length (w .memory)))
     × Frames (framedOf (w .sampler) xs p (w .memory)) (r .answer .sampler) (r .frame) (r .memory)
     × (r .answer .moved ≡ frameMoved (w .sampler) xs p (w .memory))
+Allows (on w (readWave f)) r =
+    (r .answer ≡ readWaveOf (w .sampler) f (length (w .memory))) × (r .memory ≡ readMemory (w .sampler) f (w .memory))
 Allows (along w xs p) r =
     (r .answer .ran ≡ runAnswer (w .sampler) (length xs) p (length (w .memory)))
     × Frames (ranOf (w .sampler) xs p (w .memory)) (r .answer .sampler) (r .run) (r .memory)
@@ -149,6 +161,8 @@ Allows (on w (asks (fillVoiceInfo j p list))) r = (r .answer ≡ voiceInfoCounte
 Allows (on w (asks (getWaveformSummary columns list))) r =
     (r .answer ≡ getWaveformSummaryOf (w .sampler) columns (length list) (w .memory))
     × (r .lent ≡ waveformAfter (w .sampler) columns list (w .memory))
+Allows (on w (asks (writeWave rate out))) r = (r .answer ≡ writeWaveOf (w .sampler) (length out) (length (w .memory)))
+    × (r .lent ≡ waveAfter (w .sampler) rate (w .memory) out)
 
 -- one outcome, and no other
 pub record Settled (g : Given) : Type 0 where
@@ -164,6 +178,7 @@ numberIn (new count p m) r = r .number
 numberIn (on w (change d)) r = r .number
 numberIn (on w (sample j x p)) r = r .answer .number
 numberIn (on w (frame xs p)) r = r .answer .number
+numberIn (on w (readWave f)) r = r .answer .read .number
 numberIn (along w xs p) r = r .answer .ran .number
 numberIn (on w (asks (getFramesProcessed j))) r = countedNumber r
 numberIn (on w (asks (getDataLen j))) r = countedNumber r
@@ -174,12 +189,14 @@ numberIn (on w (asks (iterActiveNotes j notes))) r = countedNumber (r .answer)
 numberIn (on w (asks (getVoiceInfo j p room))) r = r .number
 numberIn (on w (asks (fillVoiceInfo j p list))) r = countedNumber (r .answer)
 numberIn (on w (asks (getWaveformSummary columns list))) r = r .answer .number
+numberIn (on w (asks (writeWave rate out))) r = countedNumber (r .answer)
 
 -- the record and the memory for the next call
 abbrev pub leftBy : (w : World) (c : Call) → Outcome (on w c) → World
 leftBy w (change d) r = withSampler (r .sampler) w
 leftBy w (sample j x p) r = record { sampler = r .answer .sampler; memory = r .memory }
 leftBy w (frame xs p) r = record { sampler = r .answer .sampler; memory = r .memory }
+leftBy w (readWave f) r = record { sampler = r .answer .sampler; memory = r .memory }
 leftBy w (asks q) r = w
 
 -- the same after a run
@@ -191,6 +208,7 @@ abbrev pub outputIn : (w : World) (c : Call) → Outcome (on w c) → ℕ → Fl
 outputIn w (change d) r j = zero32
 outputIn w (sample i x p) r j = r .answer .output
 outputIn w (frame xs p) r j = getD (r .frame) j zero32
+outputIn w (readWave f) r j = zero32
 outputIn w (asks q) r j = zero32
 
 -- a frame or list that was lent holds what it held
@@ -198,6 +216,7 @@ unfoldable pub Untouched : (w : World) (c : Call) → Outcome (on w c) → Type 
 Untouched w (change d) r = Unit {0}
 Untouched w (sample j x p) r = Unit {0}
 Untouched w (frame xs p) r = r .frame ≡ xs
+Untouched w (readWave f) r = Unit {0}
 Untouched w (asks (getFramesProcessed j)) r = Unit {0}
 Untouched w (asks (getDataLen j)) r = Unit {0}
 Untouched w (asks (isRecording j)) r = Unit {0}
@@ -207,6 +226,7 @@ Untouched w (asks (iterActiveNotes j notes)) r = r .lent ≡ notes
 Untouched w (asks (getVoiceInfo j p room)) r = Unit {0}
 Untouched w (asks (fillVoiceInfo j p list)) r = r .lent ≡ list
 Untouched w (asks (getWaveformSummary columns list)) r = r .lent ≡ list
+Untouched w (asks (writeWave rate out)) r = r .lent ≡ out
 
 -- ---- what a host calls by the contracts alone: each call leaves what some outcome that its contract allows leaves
 pub data Chain : World → List Made → World → Type 0 where

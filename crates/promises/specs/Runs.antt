@@ -16,7 +16,8 @@ use Rattle.voice.specs.Soundness.{FittingParams}
 use Rattle.channel.specs.declared.Channel.{Channel}
 use Rattle.channel.specs.declared.Change.{Change}
 use Rattle.channel.specs.declared.Change.the-variants.{Start, Stop, Speed, Head, Reset}
-use Rattle.channel.specs.declared.HeadChange.the-variants.{StartRecording, StopRecording, Interpolate}
+use Rattle.channel.specs.declared.HeadChange.the-variants.{StartRecording, StopRecording, Interpolate, Load}
+use Rattle.channel.specs.Heads.{interpolatesAfter}
 use Rattle.channel.specs.Soundness.{FittingChange}
 use Rattle.sampler.specs.declared.Sampler.{Sampler}
 use Rattle.recorder.specs.ErrorText.{errorText}
@@ -34,6 +35,8 @@ use Rattle.sampler.specs.Samplers.{
 use Rattle.questions.specs.declared.VoiceInfo.{VoiceInfo}
 use Rattle.questions.specs.Questions.{recorderAt, notesOf, listNumber, infoNumber}
 use Rattle.questions.specs.Waveforms.{waveformNumber}
+use Rattle.wave.specs.Reader.{judgedOf}
+use Rattle.recordings.specs.Waves.{writeNumber, heldIn, readNumber, readWaveOf, readMemory}
 use Rattle.fates.specs.Events.{Event, idle, changes, sounds, isReset}
 
 pub record World : Type 0 where
@@ -45,7 +48,8 @@ unfoldable pub setUp : ℕ → InitParams → List ℕ → World
 setUp count p m = record { sampler = setUpOf count p (length m) .sampler; memory = m }
 
 -- the questions, each of one channel; a lent list is given as it is lent. Voice info is answered by value, with the
--- room that the caller has, and in a lent list. The waveform summary is of channel 0, and reads the memory
+-- room that the caller has, and in a lent list. The waveform summary is of channel 0, and reads the memory; so does a
+-- write of all recordings as a WAVE file (request 10/12), to a lent list of bytes
 pub data Question : Type 0 where
   getFramesProcessed : (j : ℕ) → Question
   getDataLen : (j : ℕ) → Question
@@ -56,12 +60,15 @@ pub data Question : Type 0 where
   getVoiceInfo : (j : ℕ) (p : Params) (room : ℕ) → Question
   fillVoiceInfo : (j : ℕ) (p : Params) (list : List VoiceInfo) → Question
   getWaveformSummary : (columns : ℕ) (list : List Float) → Question
+  writeWave : (rate : ℕ) (out : List ℕ) → Question
 
--- every public call after set-up: a change of every channel, a sample, a frame, or a question, which changes nothing
+-- every public call after set-up: a change of every channel, a sample, a frame, a read of a WAVE file (10/12), or a
+-- question, which changes nothing
 pub data Call : Type 0 where
   change : (d : Change) → Call
   sample : (j : ℕ) (x : Float) (p : Params) → Call
   frame : (xs : List Float) (p : Params) → Call
+  readWave : (file : List ℕ) → Call
   asks : (q : Question) → Call
 
 -- the changes under their names
@@ -100,12 +107,14 @@ questionNumber w (getVoiceInfo j p room) = infoNumber (w .sampler) j p room
 questionNumber w (fillVoiceInfo j p list) = infoNumber (w .sampler) j p (length list)
 questionNumber w (getWaveformSummary columns list) =
     waveformNumber (w .sampler) columns (length list) (length (w .memory))
+questionNumber w (writeWave rate out) = writeNumber (w .sampler) (length out) (length (w .memory))
 
 -- document 01's number of a call: 0 where it is accepted
 unfoldable pub code : World → Call → ℕ
 code w (change d) = changeNumber (w .sampler) d
 code w (sample j x p) = sampleNumber (w .sampler) j p (length (w .memory))
 code w (frame xs p) = frameNumber (w .sampler) (length xs) p (length (w .memory))
+code w (readWave f) = readNumber (w .sampler) (judgedOf f) (length (w .memory))
 code w (asks q) = questionNumber w q
 
 abbrev pub withSampler : Sampler → World → World
@@ -122,6 +131,11 @@ after w (frame xs p) =
     record {
       sampler = framedOf (w .sampler) xs p (w .memory) .sampler;
       memory = framedOf (w .sampler) xs p (w .memory) .memory;
+    }
+after w (readWave f) =
+    record {
+      sampler = readWaveOf (w .sampler) f (length (w .memory)) .sampler;
+      memory = readMemory (w .sampler) f (w .memory);
     }
 after w (asks q) = w
 
@@ -142,6 +156,7 @@ unfoldable pub doneTo : World → Call → ℕ → Event
 doneTo w (change d) j = changes d
 doneTo w (sample i x p) j = cond (eqb i j) (sounds p x (ownPart w j)) idle
 doneTo w (frame xs p) j = cond (ltb j (length xs)) (sounds p (getD xs j zero32) (ownPart w j)) idle
+doneTo w (readWave f) j = changes (Head (Load (heldIn (judgedOf f) .samples)))
 doneTo w (asks q) j = idle
 
 -- a refused call does nothing
@@ -156,15 +171,14 @@ events w (c ∷ cs) j = event w c j ∷ events (after w c) cs j
 
 -- the setting after the calls, where it was `on` before: each accepted call that sets it does
 abbrev pub settingBy : Bool → Call → Bool → Bool
-settingBy accepted (change (Head (Interpolate new))) on = cond accepted new on
-settingBy accepted (change (Head StartRecording)) on = on
-settingBy accepted (change (Head StopRecording)) on = on
+settingBy accepted (change (Head d)) on = cond accepted (interpolatesAfter d on) on
 settingBy accepted (change (Start p position note velocity)) on = on
 settingBy accepted (change (Stop p note)) on = on
 settingBy accepted (change (Speed note s)) on = on
 settingBy accepted (change Reset) on = on
 settingBy accepted (sample j x p) on = on
 settingBy accepted (frame xs p) on = on
+settingBy accepted (readWave f) on = on
 settingBy accepted (asks q) on = on
 
 unfoldable pub settingIn : World → Bool → List Call → Bool
@@ -175,13 +189,23 @@ unfoldable pub isResetCall : Call → Bool
 isResetCall (change d) = isReset (changes d)
 isResetCall (sample j x p) = false
 isResetCall (frame xs p) = false
+isResetCall (readWave f) = false
 isResetCall (asks q) = false
+
+-- a read, which alone writes memory beside samples
+unfoldable pub isRead : Call → Bool
+isRead (change d) = false
+isRead (sample j x p) = false
+isRead (frame xs p) = false
+isRead (readWave f) = true
+isRead (asks q) = false
 
 -- ---- the output that a call answers for channel j, where it is a sample of it
 unfoldable pub output : World → Call → ℕ → Float
 output w (change d) j = zero32
 output w (sample i x p) j = processSampleOf (w .sampler) i x p (w .memory) .output
 output w (frame xs p) j = getD (framedOf (w .sampler) xs p (w .memory) .frame) j zero32
+output w (readWave f) j = zero32
 output w (asks q) j = zero32
 
 -- ---- the last of the calls c ∷ cs, and the world as that one finds it
@@ -198,6 +222,7 @@ unfoldable pub FittingCall : Call → Type 0
 FittingCall (change d) = FittingChange d
 FittingCall (sample j x p) = FittingParams p
 FittingCall (frame xs p) = FittingParams p
+FittingCall (readWave f) = Unit {0}
 FittingCall (asks q) = Unit {0}
 
 -- ---- a host's calls: those above, and a run of frames (request 3/12), whose entries are lent frame after frame
@@ -241,6 +266,7 @@ unfoldable pub playedIn : World → Call → List Float
 playedIn w (change d) = []
 playedIn w (sample j x p) = []
 playedIn w (frame xs p) = framedOf (w .sampler) xs p (w .memory) .frame
+playedIn w (readWave f) = []
 playedIn w (asks q) = []
 
 unfoldable pub playedBy : World → List Call → List Float

@@ -1,28 +1,16 @@
 -- An answer of infos has at most as many as there is room for, and at most 32: a channel that is asked is a good one. Assumes nothing.
 use mathlib.Core.Path.{_≡_, refl}
-use mathlib.Core.Bool.{Bool, true, false, not, _&&_}
+use mathlib.Core.Bool.{Bool, true, false, not}
 use Prim.Native.Nat.{ℕ, _≤_, zero-le}
 use native.Mathlib.Omega.{arith}
 use borrow.Author.Tests.{eqb-true, ltb-true, ltb-false}
-use lib.Dec.{eqb, leb, ltb}
-use Rattle.walks.proofs.Lists.Every.{both}
+use lib.Dec.{eqb, ltb}
 use Rattle.common_types.specs.declared.Params.{Params}
 use Rattle.common_types.specs.Settings.{beyondLimits}
-use Rattle.channel.specs.Heads.{lastTime, goodHead}
-use Rattle.recorder.specs.Recording.{goodRecorder}
-use Rattle.recorder.proofs.Good.{good-length}
-use Rattle.volume.specs.Levels.{goodVolume}
 use Rattle.sampler.specs.declared.Sampler.{Sampler}
 use Rattle.sampler.specs.Refusals.{channelAt, row, goodSampler}
-use Rattle.sampler.proofs.Channels.{good-at, head-and-count, few-voices}
+use Rattle.sampler.proofs.Channels.{few-voices}
 use Rattle.questions.specs.Questions.{answered, infoNumber, getVoiceInfoOf, voiceInfosOf}
-
-pub short-data : (s : Sampler) → goodSampler s ≡ true → 1 ≤ s .count → channelAt s 0 .head .«data_len» ≤ s .capacity
-unfolding goodHead
-short-data s good some =
-    let h = channelAt s 0 .head in
-    good-length (h .recorder) (h .«data_len») (s .capacity)
-    (both (leb (h .now) lastTime && goodVolume (h .now) (h .«passthru_volume»)) (goodRecorder (h .recorder) (h .«data_len») (s .capacity)) (head-and-count (s .capacity) (channelAt s 0) (good-at s 0 good some) .1) .1)
 
 module _ (s : Sampler) (j : ℕ) (p : Params) (room : ℕ) where
   done-fits : infoNumber s j p room ≡ 0 → (channelAt s j .count ≤ room) × (channelAt s j .count ≤ 32)

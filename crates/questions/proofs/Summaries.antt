@@ -1,12 +1,11 @@
 -- What a number says of the waveform summary: refused with the list kept, or done with the values in its front; and then the recording lies within the memory. The smallest of the columns is where the extremes start. Assumes nothing.
 use mathlib.Core.Path.{_≡_, refl, sym, ap, ap₂, _∙_, subst}
-use mathlib.Core.Bool.{Bool, true, false, not, _&&_, _||_, true≢false}
+use mathlib.Core.Bool.{true, false, not}
 use mathlib.Core.List.{List}
-use Prim.Native.Nat.{ℕ, zero, suc, _+_, _*_, _^_, _≤_}
+use Prim.Native.Nat.{ℕ, zero, suc, _+_, _^_, _≤_}
 use native.Mathlib.Nat.{le-trans, le-of-eq, one-mul, zero-mul, mul-le-mul-right}
-use native.Mathlib.Omega.{arith}
-use borrow.Author.Tests.{ne-eqb, ltb-false, leb-true, eqb-true}
-use lib.Dec.{T, ltb, leb, eqb}
+use borrow.Author.Tests.{ne-eqb, ltb-false}
+use lib.Dec.{T, ltb}
 use lib.ListN.{length, take, drop}
 use lib.Seq.{sets, length-sets, length-take-le, take-at, take-take}
 use lib.Ieee.{Float, nan, inf, fin, binary32, up, down, round, lt, isNan}
@@ -16,18 +15,17 @@ use Rattle.binary32.proofs.Rounding.{round-sign, round-not-nan}
 use Rattle.binary32.proofs.Signs.{unsigned}
 use Rattle.walks.specs.Walks.{fold}
 use Rattle.walks.proofs.Tests.{denied}
-use Rattle.walks.proofs.Lists.Every.{both}
 use Rattle.walks.proofs.Lists.Runs.{run-front}
 use Rattle.channel.specs.declared.Channel.{Channel}
 use Rattle.channel.specs.Channels.{recordingOf}
 use Rattle.sampler.specs.declared.Sampler.{Sampler}
-use Rattle.sampler.specs.Refusals.{channelAt, goodSizes, goodSampler, goodWith}
+use Rattle.sampler.specs.Refusals.{channelAt, goodWith}
 use Rattle.sampler.specs.Samplers.{partOf}
-use Rattle.sampler.proofs.Rows.{passed, is-true, good-sizes}
+use Rattle.sampler.proofs.Rows.{passed, is-true, fitting}
+use Rattle.sampler.proofs.Channels.{short-data}
 use Rattle.questions.specs.Questions.{answered, inFront}
 use Rattle.questions.specs.Waveforms.{columnOf, columnAt, columnsFrom, columnsOf, smallestOf, largestOf, summaryWith, waveformNumber, waveformOf, getWaveformSummaryOf, waveformAfter}
 use Rattle.questions.specs.declared.WaveformSummary.{WaveformSummary}
-use Rattle.questions.proofs.Room.{short-data}
 
 -- ---- as many values as columns
 pub columns-count : (columns : ℕ) (recording : List ℕ) (count i : ℕ) → length (columnsFrom columns recording count i) ≡ count
@@ -67,17 +65,6 @@ smallest-zero columns recording (suc count) i =
     ap (λ (x : Float). fold minOf x (columnsFrom columns recording count (i + 1))) (least-on (columnAt columns recording i) (column-above columns recording i)) ∙ smallest-zero columns recording count (i + 1)
 
 -- ---- what a number of 0 says
-some-count : (n capacity : ℕ) → goodSizes n capacity ≡ true → (1 ≤ n) × (capacity ≤ 2 ^ 22)
-unfolding goodSizes
-some-count n capacity h =
-    let g = both ((eqb n 1 || eqb n 2) && leb 1 capacity) (leb capacity 4194304) h in
-    (go (eqb n 1) (eqb n 2) refl refl (both (eqb n 1 || eqb n 2) (leb 1 capacity) (g .0) .0), leb-true capacity 4194304 (g .1))
-  where
-    go : (a b : Bool) → eqb n 1 ≡ a → eqb n 2 ≡ b → (a || b) ≡ true → 1 ≤ n
-    go true b e f h = let k : n ≡ 1 = eqb-true n 1 e in omega arith
-    go false true e f h = let k : n ≡ 2 = eqb-true n 2 f in omega arith
-    go false false e f h = absurd (true≢false (sym h))
-
 module _ (s : Sampler) (columns : ℕ) (list : List Float) (m : List ℕ) where
   abbrev end : ℕ
   end = channelAt s 0 .head .«data_len»
@@ -91,17 +78,16 @@ module _ (s : Sampler) (columns : ℕ) (list : List Float) (m : List ℕ) where
     pub front : recordingOf (channelAt s 0) (partOf s 0 m) ≡ take end m
 
   pub done-written : waveformNumber s columns (length list) (length m) ≡ 0 → Written
-  unfolding waveformNumber goodWith partOf
+  unfolding waveformNumber partOf
   done-written h =
       let g = passed (not (goodWith s (length m))) 8 _ h in
       let k = passed (ltb 4096 columns) 10 _ (g .1) in
       let r = passed (ltb (length list) columns) 7 _ (k .1) in
-      let w = both (goodSampler s) (leb (s .count * s .capacity) (length m)) (is-true (goodWith s (length m)) (g .0)) in
-      let c = some-count (s .count) (s .capacity) (good-sizes s (w .0)) in
-      let d = short-data s (w .0) (c .0) in
+      let w = fitting s (length m) (is-true (goodWith s (length m)) (g .0)) in
+      let d = short-data s 0 (w .good) (w .some) in
       record {
-        short = le-trans d (le-trans (le-of-eq (sym (one-mul (s .capacity)))) (le-trans (mul-le-mul-right (s .capacity) (c .0)) (leb-true _ _ (w .1))));
-        few = le-trans d (c .1);
+        short = le-trans d (le-trans (le-of-eq (sym (one-mul (s .capacity)))) (le-trans (mul-le-mul-right (s .capacity) (w .some)) (w .fits)));
+        few = le-trans d (w .small);
         most = ltb-false 4096 columns (k .0);
         room = ltb-false (length list) columns (r .0);
         front = ap (λ (a : ℕ). take end (take (s .capacity) (drop a m))) (zero-mul (s .capacity)) ∙ take-take end (s .capacity) m d;

@@ -1,15 +1,15 @@
 -- A good recorder's write place doesn't exceed the length of the data, nor that the capacity, and each call leaves it good.
 -- Assumes nothing.
 use mathlib.Core.Path.{_≡_, refl, sym, _∙_}
-use mathlib.Core.Bool.{true, and-eq-true-iff}
+use mathlib.Core.Bool.{true, false, and-eq-true-iff}
 use Prim.Native.Nat.{ℕ, _+_, max, min, _≤_}
 use native.Mathlib.Omega.{arith}
 use lib.Dec.{leb}
 use borrow.Author.Tests.{le-leb, leb-true}
 use Rattle.recorder.specs.declared.State.the-variants.{Triggered, Idle}
 use Rattle.recorder.specs.declared.Recorder.{Recorder}
-use Rattle.recorder.specs.Recording.{newRecorderOf, inState, misusedOf, skippedOf, startOf, stopOf, recordedOf, goodRecorder, goodRecorded}
-use Rattle.recorder.proofs.Cases.{by-state, by-room, start-idle, stop-idle, sample-idle, good-idle, start-again, stop-cuts, sample-next, sample-dropped, good-recording}
+use Rattle.recorder.specs.Recording.{newRecorderOf, inState, misusedOf, skippedOf, startOf, stopOf, recordedOf, isRecordingOf, goodRecorder, goodRecorded}
+use Rattle.recorder.proofs.Cases.{by-state, not-recording, by-room, start-idle, stop-idle, sample-idle, good-idle, start-again, stop-cuts, sample-next, sample-dropped, good-recording}
 
 idle-good : (r : Recorder) (len capacity : ℕ) → r .state ≡ Idle → len ≤ capacity → goodRecorder r len capacity ≡ true
 idle-good r len capacity idle h = good-idle r idle len capacity ∙ le-leb len capacity h
@@ -25,6 +25,10 @@ misused-good r len capacity = refl
 skipped-good : (r : Recorder) (len capacity : ℕ) → goodRecorder (skippedOf r) len capacity ≡ goodRecorder r len capacity
 unfolding goodRecorder skippedOf
 skipped-good r len capacity = refl
+
+-- while nothing is recorded, any length that the capacity has room for
+pub unrecorded-good : (r : Recorder) (len capacity : ℕ) → isRecordingOf r ≡ false → len ≤ capacity → goodRecorder r len capacity ≡ true
+unrecorded-good r len capacity unrecorded h = idle-good r len capacity (not-recording r unrecorded) h
 
 pub new-good : (capacity : ℕ) → goodRecorder newRecorderOf 0 capacity ≡ true
 new-good capacity = idle-good newRecorderOf 0 capacity refl (omega arith)

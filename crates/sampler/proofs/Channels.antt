@@ -1,4 +1,4 @@
--- What is known of a channel of a good record: it is a good one, with at most 32 voices. Assumes nothing.
+-- What is known of a channel of a good record: it is a good one, with at most 32 voices, and its recording has room in the capacity. Assumes nothing.
 use mathlib.Core.Path.{_≡_, refl, sym, ap, _∙_}
 use mathlib.Core.Bool.{Bool, true, false, _&&_}
 use Prim.Native.Nat.{ℕ, _≤_, _<_}
@@ -10,7 +10,10 @@ use lib.Seq.{getD-take}
 use Rattle.walks.specs.Walks.{every}
 use Rattle.walks.proofs.Lists.Every.{both, every-at}
 use Rattle.channel.specs.declared.Channel.{Channel}
-use Rattle.channel.specs.Heads.{goodHead}
+use Rattle.volume.specs.Levels.{goodVolume}
+use Rattle.recorder.specs.Recording.{goodRecorder}
+use Rattle.recorder.proofs.Good.{good-length}
+use Rattle.channel.specs.Heads.{lastTime, goodHead}
 use Rattle.channel.specs.Channels.{live, channelOf, goodVoicesOf, goodChannel}
 use Rattle.channel.proofs.Kept.{new-channel-sound}
 use Rattle.sampler.specs.Refusals.{present, channelAt, goodSizes, goodSampler}
@@ -42,3 +45,10 @@ few-voices s j good k = leb-true _ 32 (head-and-count (s .capacity) (channelAt s
 
 pub few-live : (s : Sampler) (j : ℕ) → goodSampler s ≡ true → j < s .count → length (live (channelAt s j)) ≤ 32
 few-live s j good k = omega (arith, few-voices s j good k, length-take (channelAt s j .count) (channelAt s j .voices))
+
+pub short-data : (s : Sampler) (j : ℕ) → goodSampler s ≡ true → j < s .count → channelAt s j .head .«data_len» ≤ s .capacity
+unfolding goodHead
+short-data s j good k =
+    let h = channelAt s j .head in
+    good-length (h .recorder) (h .«data_len») (s .capacity)
+    (both (leb (h .now) lastTime && goodVolume (h .now) (h .«passthru_volume»)) (goodRecorder (h .recorder) (h .«data_len») (s .capacity)) (head-and-count (s .capacity) (channelAt s j) (good-at s j good k) .1) .1)

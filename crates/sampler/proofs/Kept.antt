@@ -4,8 +4,8 @@ use Prim.Native.Nat.{ℕ, _^_, _≤_, _<_}
 use native.Mathlib.Nat.{le-trans, le-of-eq}
 use mathlib.Core.Bool.{true, false, not, _&&_, _||_}
 use mathlib.Core.List.{List, [], _∷_, map}
-use borrow.Author.Tests.{leb-true}
-use lib.Dec.{leb, eqb, eqb→eq}
+use borrow.Author.Tests.{leb-true, ltb-false}
+use lib.Dec.{leb, ltb, eqb, eqb→eq}
 use lib.ListN.{length, take, getD, set, length-set}
 use lib.Seq.{sets, length-sets, getD-take, length-take-le}
 use lib.Ieee.{Float, le}
@@ -13,7 +13,7 @@ use Rattle.binary32.proofs.Truth.{yes, no, cond-split}
 use Rattle.walks.specs.Walks.{every}
 use Rattle.walks.specs.Each.{Each}
 use Rattle.walks.proofs.Lists.Every.{both}
-use Rattle.walks.proofs.Lists.Each.{each-at, each-front, each-set, each-every, each-map, each-weaker, every-each, front-map}
+use Rattle.walks.proofs.Lists.Each.{each-at, each-front, each-set, each-every, each-map, each-weaker, every-each, any-each, front-map}
 use Rattle.binary32.specs.Leaves.{zero32, one32}
 use Rattle.common_types.specs.declared.InitParams.{InitParams}
 use Rattle.common_types.specs.declared.Params.{Params}
@@ -22,11 +22,12 @@ use Rattle.voice.specs.Soundness.{FittingParams, SoundParams}
 use Rattle.channel.specs.declared.Channel.{Channel}
 use Rattle.channel.specs.declared.Change.{Change}
 use Rattle.channel.specs.declared.Change.the-variants as change
+use Rattle.channel.specs.declared.HeadChange.the-variants.{StartRecording, StopRecording, Interpolate, Load}
 use Rattle.channel.specs.Channels.{channelOf, changedOf, goodChannel}
-use Rattle.channel.specs.Soundness.{FittingChannel, SoundChannel, FittingChange, SoundChange}
+use Rattle.channel.specs.Soundness.{FittingChannel, SoundChannel, FittingChange, SoundHeadChange, SoundChange}
 use Rattle.channel.proofs.Kept.{new-channel-sound, change-sound}
 use Rattle.channel.proofs.Samples.{sample-sound}
-use Rattle.sampler.specs.Refusals.{present, channelAt, goodSizes, goodSampler, badNote, badPosition, startRows, stopRows, changeNumber, setUpNumber, sampleNumber, capacityOf}
+use Rattle.sampler.specs.Refusals.{present, channelAt, goodSizes, goodSampler, badNote, badPosition, records, anyRecording, startRows, stopRows, changeNumber, setUpNumber, sampleNumber, capacityOf}
 use Rattle.sampler.specs.Samplers.{withChannels, samplerOf, setUpOf, eachOf, answerOf, changeOf, partOf, playedAt, channelSteppedOf, processSampleOf, Framed, entryOf, framedOf}
 use Rattle.sampler.specs.Soundness.{SoundSampler}
 use Rattle.sampler.specs.declared.Sampler.{Sampler}
@@ -78,14 +79,31 @@ module _ (s : Sampler) (h : SoundSampler s) where
   channels-changed : (cs : List Channel) → length cs ≡ length (s .channels) → Each (SoundChannel (s .capacity)) (take (s .count) cs) → SoundSampler (withChannels cs s)
   channels-changed cs same k = joined (record { sizes = parts h .sizes; seats = same ∙ parts h .seats; channels = k })
 
-  each-sound : (x : Change) → SoundChange x → SoundSampler (eachOf x s)
+  -- a change that is sound on each of its channels
+  abbrev SoundOn : Change → Channel → Type 0
+  SoundOn x c = SoundChannel (s .capacity) c × SoundChange (s .capacity) c x
+
+  each-sound : (x : Change) → Each (SoundOn x) (present s) → SoundSampler (eachOf x s)
   unfolding eachOf
   each-sound x ok =
       let S = SoundChannel (s .capacity) in
       let cs = map (changedOf x) (present s) in
       channels-changed (sets (s .channels) 0 cs) (length-sets (s .channels) 0 cs)
       (subst (Each S) (sym (front-map (changedOf x) (s .channels) (s .count) room))
-      (each-map S S (changedOf x) (λ c k. change-sound (s .capacity) c k small x ok) (present s) (parts h .channels)))
+      (each-map (SoundOn x) S (changedOf x) (λ c k. change-sound (s .capacity) c (k .0) small x (k .1)) (present s) ok))
+
+  -- what no channel has to be asked for
+  of-each : (x : Change) → ((c : Channel) → SoundChange (s .capacity) c x) → Each (SoundOn x) (present s)
+  of-each x ok = each-weaker (SoundChannel (s .capacity)) (SoundOn x) (λ c k. (k, ok c)) (present s) (parts h .channels)
+
+  -- where no channel records, a recording that it has room for
+  load-on : (samples : ℕ) → anyRecording s ≡ false → samples ≤ s .capacity → Each (SoundOn (change.Head (Load samples))) (present s)
+  unfolding SoundChange SoundHeadChange
+  load-on samples idle few =
+      any-each (SoundChannel (s .capacity)) (SoundOn (change.Head (Load samples))) records (λ c e k. (k, (e, few))) (present s) idle (parts h .channels)
+
+  pub load-kept : (samples : ℕ) → anyRecording s ≡ false → samples ≤ s .capacity → SoundSampler (eachOf (change.Head (Load samples)) s)
+  load-kept samples idle few = each-sound (change.Head (Load samples)) (load-on samples idle few)
 
 -- ---- set-up
 pub set-up-sound : (count : ℕ) (p : InitParams) (size : ℕ) → setUpNumber count size ≡ 0 → SoundSampler (setUpOf count p size .sampler)
@@ -99,26 +117,31 @@ set-up-sound count p size h =
 -- ---- calls that change every channel
 
 -- what the number 0 says of a change
-change-let-through : (s : Sampler) (x : Change) → changeNumber s x ≡ 0 → FittingChange x → SoundChange x
-unfolding startRows stopRows FittingChange SoundChange
-change-let-through s (change.Start p position note velocity) h f =
+change-let-through : (s : Sampler) (g : SoundSampler s) (x : Change) → changeNumber s x ≡ 0 → FittingChange x → Each (SoundOn s g x) (present s)
+unfolding startRows stopRows FittingChange SoundChange SoundHeadChange
+change-let-through s g (change.Start p position note velocity) h f =
     let a = passed (not (goodSampler s)) 8 _ h .1 in
     let b = passed (badPosition position) 2 _ (passed (badNote note) 1 _ a .1) in
-    let c = passed (beyondLimits p) 3 _ (b .1) .0 in
+    let k = passed (beyondLimits p) 3 _ (b .1) .0 in
     let d = both (le zero32 position) (le position one32) (is-true (le zero32 position && le position one32) (b .0)) in
-    (record { within = no c; fitting = f .0 }, record { fitting = f .1; low = yes (d .0); high = yes (d .1) }, f .2)
-change-let-through s (change.Stop p note) h f =
+    of-each s g (change.Start p position note velocity) (λ c. (record { within = no k; fitting = f .0 }, record { fitting = f .1; low = yes (d .0); high = yes (d .1) }, f .2))
+change-let-through s g (change.Stop p note) h f =
     let a = passed (badNote note) 1 _ (passed (not (goodSampler s)) 8 _ h .1) in
-    record { within = no (passed (beyondLimits p) 3 _ (a .1) .0); fitting = f }
-change-let-through s (change.Speed note speed) h f = f
-change-let-through s (change.Head d) h f = tt
-change-let-through s change.Reset h f = tt
+    of-each s g (change.Stop p note) (λ c. record { within = no (passed (beyondLimits p) 3 _ (a .1) .0); fitting = f })
+change-let-through s g (change.Speed note speed) h f = of-each s g (change.Speed note speed) (λ c. f)
+change-let-through s g (change.Head StartRecording) h f = of-each s g (change.Head StartRecording) (λ c. tt)
+change-let-through s g (change.Head StopRecording) h f = of-each s g (change.Head StopRecording) (λ c. tt)
+change-let-through s g (change.Head (Interpolate on)) h f = of-each s g (change.Head (Interpolate on)) (λ c. tt)
+change-let-through s g (change.Head (Load samples)) h f =
+    let a = passed (anyRecording s) 14 _ (passed (not (goodSampler s)) 8 _ h .1) in
+    load-on s g samples (a .0) (ltb-false (s .capacity) samples (passed (ltb (s .capacity) samples) 17 0 (a .1) .0))
+change-let-through s g change.Reset h f = of-each s g change.Reset (λ c. tt)
 
 pub change-kept : (s : Sampler) → SoundSampler s → (x : Change) → FittingChange x → SoundSampler (changeOf s x .sampler)
 unfolding answerOf
 change-kept s h x f =
     cond-split SoundSampler (eqb (changeNumber s x) 0) (eachOf x s) s
-    (λ t. each-sound s h x (change-let-through s x (eqb→eq (changeNumber s x) 0 t) f)) (λ t. h)
+    (λ t. each-sound s h x (change-let-through s h x (eqb→eq (changeNumber s x) 0 t) f)) (λ t. h)
 
 -- ---- a sample, and a frame
 step-kept : (p : Params) → SoundParams p → (s : Sampler) → SoundSampler s → (j : ℕ) (x : Float) (m : List ℕ) → Reaches s j (length m) → SoundSampler (channelSteppedOf s j p x m)

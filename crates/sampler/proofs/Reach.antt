@@ -16,8 +16,8 @@ use Rattle.common_types.specs.Settings.{beyondLimits}
 use Rattle.channel.specs.declared.Change.{Change}
 use Rattle.channel.specs.declared.Change.the-variants as change
 use Rattle.channel.specs.declared.HeadChange.{HeadChange}
-use Rattle.channel.specs.declared.HeadChange.the-variants.{StartRecording, StopRecording, Interpolate}
-use Rattle.sampler.specs.Refusals.{row, capacityOf, goodSampler, goodWith, noChannel, badNote, badPosition, anyFull, atEnd, channelAt, startRows, stopRows, speedRows, headRows, changeNumber, sampleNumber, frameNumber, channelNumber}
+use Rattle.channel.specs.declared.HeadChange.the-variants.{StartRecording, StopRecording, Interpolate, Load}
+use Rattle.sampler.specs.Refusals.{row, capacityOf, goodSampler, goodWith, noChannel, badNote, badPosition, anyFull, anyRecording, atEnd, channelAt, askedOf, startRows, stopRows, speedRows, headRows, changeNumber, sampleNumber, frameNumber, channelNumber}
 use Rattle.sampler.specs.Samplers.{setUpOf, eachOf, answerOf, channelSteppedOf, processSampleOf, Framed, framed, entryOf}
 use Rattle.sampler.specs.Soundness.{SoundSampler, Reached, Unbroken}
 use Rattle.sampler.specs.declared.Sampler.{Sampler}
@@ -78,17 +78,18 @@ good-unbroken s size h =
       question = λ j. passes (goodSampler s) _ good (another (noChannel s j) 1 0 tt none);
     }
   where
-    of-head : (d : HeadChange) → headRows d ≢ 9
+    of-head : (d : HeadChange) → headRows (askedOf s) d ≢ 9
     of-head StartRecording = none
     of-head StopRecording = none
     of-head (Interpolate on) = none
+    of-head (Load samples) = another (anyRecording s) 15 _ tt (another (ltb (s .capacity) samples) 18 0 tt none)
 
     of-change : goodSampler s ≡ true → (x : Change) → changeNumber s x ≢ 9
     of-change g (change.Start p position note velocity) =
         passes (goodSampler s) _ g (another (badNote note) 2 _ tt (another (badPosition position) 3 _ tt (another (beyondLimits p) 4 _ tt (another (anyFull s) 5 0 tt none))))
     of-change g (change.Stop p note) = passes (goodSampler s) _ g (another (badNote note) 2 _ tt (another (beyondLimits p) 4 0 tt none))
     of-change g (change.Speed note speed) = passes (goodSampler s) _ g (another (badNote note) 2 0 tt none)
-    of-change g (change.Head d) = passes (goodSampler s) (headRows d) g (of-head d)
+    of-change g (change.Head d) = passes (goodSampler s) (headRows (askedOf s) d) g (of-head d)
     of-change g change.Reset = passes (goodSampler s) 0 g none
 
 -- with memory at least as long as set-up's

@@ -1,7 +1,7 @@
 -- What a number of 0 says: the record is good, and what a step asks holds. Assumes nothing.
 use mathlib.Core.Path.{_≡_, refl, sym, ap, _∙_}
 use mathlib.Core.Bool.{Bool, true, false, not, _&&_, _||_, true≢false}
-use Prim.Native.Nat.{ℕ, suc, _*_, _/_, _≤_, _<_}
+use Prim.Native.Nat.{ℕ, suc, _*_, _/_, _^_, _≤_, _<_}
 use native.Mathlib.Nat.{le-trans, le-of-eq, mul-comm, mul-le-mul-right, suc-mul, le-div-iff-mul-le}
 use native.Mathlib.Omega.{arith}
 use borrow.Author.Tests.{leb-true, ltb-true, ltb-false, eqb-true}
@@ -37,6 +37,10 @@ unfolding goodSizes
 counts n capacity h =
     one-or-two n (eqb n 1) (eqb n 2) refl refl (both (eqb n 1 || eqb n 2) (leb 1 capacity) (both ((eqb n 1 || eqb n 2) && leb 1 capacity) (leb capacity 4194304) h .0) .0)
 
+most-samples : (n capacity : ℕ) → goodSizes n capacity ≡ true → capacity ≤ 2 ^ 22
+unfolding goodSizes
+most-samples n capacity h = leb-true capacity 4194304 (both ((eqb n 1 || eqb n 2) && leb 1 capacity) (leb capacity 4194304) h .1)
+
 pub sizes-count : (n capacity : ℕ) → goodSizes n capacity ≡ true → n ≤ 2
 sizes-count n capacity h = counts n capacity h .1
 
@@ -45,8 +49,10 @@ unfolding goodSampler
 good-sizes s h = both (goodSizes (s .count) (s .capacity)) _ h .0
 
 pub record Fitting (s : Sampler) (size : ℕ) : Type 0 where
+  pub good : goodSampler s ≡ true
   pub some : 1 ≤ s .count
   pub few : s .count ≤ 2
+  pub small : s .capacity ≤ 2 ^ 22
   pub fits : s .count * s .capacity ≤ size
 
 pub fitting : (s : Sampler) (size : ℕ) → goodWith s size ≡ true → Fitting s size
@@ -54,7 +60,13 @@ unfolding goodWith
 fitting s size h =
     let g = both (goodSampler s) (leb (s .count * s .capacity) size) h in
     let n = counts (s .count) (s .capacity) (good-sizes s (g .0)) in
-    record { some = n .0; few = n .1; fits = leb-true _ _ (g .1) }
+    record {
+      good = g .0;
+      some = n .0;
+      few = n .1;
+      small = most-samples (s .count) (s .capacity) (good-sizes s (g .0));
+      fits = leb-true _ _ (g .1);
+    }
 
 -- ---- the steps
 pub sample-ready : (s : Sampler) (j : ℕ) (p : Params) (size : ℕ) → sampleNumber s j p size ≡ 0 → Ready s j size

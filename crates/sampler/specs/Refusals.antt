@@ -11,10 +11,11 @@ use Rattle.binary32.specs.Leaves.{zero32, one32}
 use Rattle.common_types.specs.declared.Params.{Params}
 use Rattle.common_types.specs.declared.Note.{Note}
 use Rattle.common_types.specs.Settings.{beyondLimits}
+use Rattle.recorder.specs.Recording.{isRecordingOf}
 use Rattle.channel.specs.declared.Change.{Change}
 use Rattle.channel.specs.declared.Change.the-variants as change
 use Rattle.channel.specs.declared.HeadChange.{HeadChange}
-use Rattle.channel.specs.declared.HeadChange.the-variants.{StartRecording, StopRecording, Interpolate}
+use Rattle.channel.specs.declared.HeadChange.the-variants.{StartRecording, StopRecording, Interpolate, Load}
 use Rattle.channel.specs.declared.Channel.{Channel}
 use Rattle.channel.specs.Heads.{lastTime}
 use Rattle.channel.specs.Channels.{channelOf, fullOf, goodChannel}
@@ -61,13 +62,25 @@ badPosition position = not (le zero32 position && le position one32)
 abbrev pub anyFull : Sampler → Bool
 anyFull s = any fullOf (present s)
 
+-- row 15 of request 10/12
+abbrev pub records : Channel → Bool
+records c = isRecordingOf (c .head .recorder)
+
+abbrev pub anyRecording : Sampler → Bool
+anyRecording s = any records (present s)
+
 -- the clock of a channel that would be stepped stands at its end
 abbrev pub atEnd : Channel → Bool
 atEnd c = leb lastTime (c .head .now)
 
 -- ---- what the rows of a call ask of the record. Each engine answers in its own way, and the rows stand once
 abbrev pub askedOf : Sampler → Asked
-askedOf s = record { good = goodSampler s; full = anyFull s }
+askedOf s = record {
+  good = goodSampler s;
+  full = anyFull s;
+  recording = anyRecording s;
+  capacity = s .capacity;
+}
 
 -- a frame of n entries steps the first n channels
 abbrev pub frameAskedOf : Sampler → ℕ → ℕ → FrameAsked
@@ -91,18 +104,20 @@ stopRows a note p = row (not (a .good)) 9 (row (badNote note) 2 (row (beyondLimi
 unfoldable pub speedRows : Asked → Note → ℕ
 speedRows a note = row (not (a .good)) 9 (row (badNote note) 2 0)
 
--- what a change of the heads has behind row 9: start and stop of recording, and request 7/12's setting, nothing
-abbrev pub headRows : HeadChange → ℕ
-headRows StartRecording = 0
-headRows StopRecording = 0
-headRows (Interpolate on) = 0
+-- what a change of the heads has behind row 9: start and stop of recording, and request 7/12's setting, nothing; a
+-- recording that is loaded (10/12), "15 while recording" and "18 for more samples than capacity"
+abbrev pub headRows : Asked → HeadChange → ℕ
+headRows a StartRecording = 0
+headRows a StopRecording = 0
+headRows a (Interpolate on) = 0
+headRows a (Load samples) = row (a .recording) 15 (row (ltb (a .capacity) samples) 18 0)
 
 -- a call that changes every channel, by its change
 abbrev pub changeRows : Asked → Change → ℕ
 changeRows a (change.Start p position note velocity) = startRows a position note p
 changeRows a (change.Stop p note) = stopRows a note p
 changeRows a (change.Speed note speed) = speedRows a note
-changeRows a (change.Head d) = row (not (a .good)) 9 (headRows d)
+changeRows a (change.Head d) = row (not (a .good)) 9 (headRows a d)
 changeRows a change.Reset = row (not (a .good)) 9 0
 
 abbrev pub changeNumber : Sampler → Change → ℕ

@@ -8,6 +8,8 @@ ghost use lib.Ieee.{le};
 ghost use lib.ListN.{length, take};
 ghost use Rattle.binary32.specs.Leaves.{zero32, one32};
 ghost use Rattle.walks.specs.Walks.{any, every};
+ghost use Rattle.channel.specs.declared.Change.the-variants.{Head};
+ghost use Rattle.channel.specs.declared.HeadChange.the-variants.{Load};
 ghost use Rattle.channel.specs.Channels.{fullOf, goodChannel};
 ghost use Rattle.sampler.specs.Refusals.{
   present,
@@ -17,6 +19,7 @@ ghost use Rattle.sampler.specs.Refusals.{
   goodSampler,
   capacityOf,
   goodWith,
+  anyRecording,
   atEnd,
   setUpNumber,
   askedOf,
@@ -118,11 +121,13 @@ pub struct RunAnswer {
     pub ran: Ran,
 }
 
-// What the rows of a change ask of a record: whether it is good, and whether a channel takes no further voice. Each
-// engine answers in its own way, and the rows stand once.
+// What the rows of a change ask of a record: whether it is good, whether a channel takes no further voice, whether one
+// records, and how many samples a channel holds. Each engine answers in its own way, and the rows stand once.
 pub struct Asked {
     pub good: bool,
     pub full: bool,
+    pub recording: bool,
+    pub capacity: usize,
 }
 
 // What those of a frame ask: whether record and memory are good, how many channels there are, and whether the clock of
@@ -258,6 +263,23 @@ impl Sampler {
         false
     }
 
+    // Whether one of the channels in use records.
+    pub fn any_recording(self) -> bool
+        ensures { λ r. ⌜ r ≡ anyRecording self ⌝ }
+    {
+        let n = places(self.count);
+        let mut j = 0;
+        while j < n {
+            let c = self.channels[j];
+            let head = c.head;
+            if head.is_recording() {
+                return true;
+            }
+            j += 1;
+        }
+        false
+    }
+
     // Whether the clock of one of the first n channels stands at its end.
     fn any_at_end(self, n: usize) -> bool
         ensures { λ r. ⌜ r ≡ any atEnd (take n (self .channels)) ⌝ }
@@ -312,6 +334,22 @@ impl Sampler {
         self
     }
 
+    // Each channel with a recording of so many samples, by a walk of its own: as a caller of `each` a read would have what
+    // a key does to a channel compiled apart, and every key take more stack.
+    pub fn loaded(mut self, samples: usize) -> Sampler
+        ensures { λ r. ⌜ r ≡ eachOf (Head (Load samples)) self ⌝ }
+    {
+        let n = places(self.count);
+        let mut j = 0;
+        while j < n {
+            let c = self.channels[j];
+            self.channels[j] = c.head_changed(HeadChange::Load(samples));
+            j += 1;
+        }
+        self
+    }
+
+    // The change where the number is 0.
     fn answer(self, number: u8, change: Change) -> Answer
         ensures { λ r. ⌜ r ≡ answerOf number change self ⌝ }
     {
@@ -333,9 +371,12 @@ impl Sampler {
         ensures { λ r. ⌜ r ≡ askedOf self ⌝ }
     {
         let full = self.any_full();
+        let recording = self.any_recording();
         Asked {
             good: self.good(),
             full,
+            recording,
+            capacity: self.capacity,
         }
     }
 
@@ -626,13 +667,20 @@ fn speed_rows(asked: Asked, note: Note) -> u8
 }
 
 // The rows of a change of the heads behind row 9.
-fn head_rows(change: HeadChange) -> u8
-    ensures { λ r. ⌜ r ≡ headRows change ⌝ }
+fn head_rows(asked: Asked, change: HeadChange) -> u8
+    ensures { λ r. ⌜ r ≡ headRows asked change ⌝ }
 {
     match change {
         HeadChange::StartRecording => 0,
         HeadChange::StopRecording => 0,
         HeadChange::Interpolate(_) => 0,
+        HeadChange::Load(samples) => {
+            first_of(
+                asked.recording,
+                15,
+                first_of(asked.capacity < samples, 18, 0),
+            )
+        }
     }
 }
 
@@ -649,7 +697,7 @@ pub fn change_rows(asked: Asked, change: Change) -> u8
         } => start_rows(asked, position, note, params),
         Change::Stop { params, note } => stop_rows(asked, note, params),
         Change::Speed { note, .. } => speed_rows(asked, note),
-        Change::Head(change) => first_of(!asked.good, 9, head_rows(change)),
+        Change::Head(change) => first_of(!asked.good, 9, head_rows(asked, change)),
         Change::Reset => first_of(!asked.good, 9, 0),
     }
 }

@@ -345,6 +345,7 @@ module _ (f : List ℕ) (rate channels : ℕ) (words : List ℕ) (g : IsWave f r
   pub record Known : Type 0 where
     pub wave : Wave
     pub judged : judgedOf f ≡ Is wave
+    pub same-rate : wave .rate ≡ rate
     pub same-channels : wave .channels ≡ channels
     pub same-samples : wave .samples ≡ g .samples
     pub same-words : listed (wordAt f wave) 0 (wave .channels * wave .samples) ≡ words
@@ -354,7 +355,7 @@ module _ (f : List ℕ) (rate channels : ℕ) (words : List ℕ) (g : IsWave f r
   good-known =
       let r = good-reached in
       let answer = good-judged (r .end) (r .walks) (r .held) in
-      record { wave = _; judged = answer .0; same-channels = refl; same-samples = refl; same-words = answer .1 }
+      record { wave = _; judged = answer .0; same-rate = refl; same-channels = refl; same-samples = refl; same-words = answer .1 }
 
   pub good-answer : readOf f ≡ is rate channels words
   unfolding readOf walkOf

@@ -1,5 +1,5 @@
 -- What `write` and `load` answer and leave, case by case. Assumes nothing.
-use mathlib.Core.Path.{_≡_, ap, _∙_}
+use mathlib.Core.Path.{_≡_, refl, ap, _∙_}
 use mathlib.Core.Bool.{true, false}
 use mathlib.Core.List.{List}
 use Prim.Native.Nat.{ℕ, _+_, _*_}
@@ -11,11 +11,13 @@ use Rattle.walks.proofs.Lists.Runs.{run-front}
 use Rattle.wave.specs.Fields.{wordBytes}
 use Rattle.wave.specs.Files.{headerOf, fileOf}
 use Rattle.wave.specs.Reader.{wordAt, judgedOf}
-use Rattle.wave.specs.Memory.{fitsMemory, framesOf, storedOf, bytesOf, fitsFile, writes, writtenOf, outputOf, layoutOf, loads, loadedOf}
+use Rattle.wave.specs.Memory.{fitsMemory, framesOf, storedOf, bytesOf, fitsFile, writes, writtenOf, outputOf, layoutOf, loads, loadedIn, loadedOf}
 use Rattle.wave.specs.declared.Layout.{Layout}
 use Rattle.wave.specs.declared.Wave.{Wave}
+use Rattle.wave.specs.declared.Judged.{Judged}
 use Rattle.wave.specs.declared.Judged.the-variants.{Is, Refused}
 use Rattle.wave.proofs.Standing.{length-words, length-listed}
+use Rattle.wave.proofs.Judgements.{both}
 use Rattle.wave.proofs.Layouts.{file-true}
 use Rattle.wave.proofs.Rows.{after, length-header}
 
@@ -60,3 +62,12 @@ module _ (f : List ℕ) (capacity : ℕ) (m : List ℕ) where
       → (true ≡ loads f capacity (length m)) × (storedOf (layoutOf w capacity) (wordAt f w) m ≡ loadedOf f capacity m)
   unfolding loads loadedOf
   load-done w e g = (rw (e, g), rw (e, g))
+
+  -- the memory keeps its length
+  pub length-loaded : length (loadedOf f capacity m) ≡ length m
+  unfolding loadedOf storedOf
+  length-loaded = go (judgedOf f)
+    where
+      go : (j : Judged) → length (loadedIn f capacity m j) ≡ length m
+      go (Is w) = both (λ (x : List ℕ). length x ≡ length m) (fitsMemory (layoutOf w capacity) (length m)) _ _ (λ _. length-listed _ 0 (length m)) (λ _. refl)
+      go Refused = refl

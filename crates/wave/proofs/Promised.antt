@@ -92,7 +92,7 @@ module _ (rate channels samples : ℕ) (words : List ℕ) (s : Sized rate channe
     fact-body = (refl, tt);
   }
 
-  file-samples : file-good .samples ≡ samples
+  pub file-samples : file-good .samples ≡ samples
   unfolding file-good
   file-samples = refl
 
@@ -250,7 +250,7 @@ one-reading f rate channels rate₁ channels₁ words words₁ g h =
     (cc, cc, cc)
 
 -- ---- a channel's words, frame by frame and in its part
-frames-part : (l : Layout) (m : List ℕ) → Fits l (length m) → (j : ℕ) → j < l .channels
+pub frames-part : (l : Layout) (m : List ℕ) → Fits l (length m) → (j : ℕ) → j < l .channels
     → channelOf (l .channels) (l .samples) j (framesOf l m) ≡ take (l .samples) (partAt (l .capacity) j m)
 frames-part l m fits j h =
     let long : length (channelOf (l .channels) (l .samples) j (framesOf l m)) ≡ l .samples = length-listed _ 0 (l .samples) in
@@ -272,9 +272,9 @@ unfolding listed Each
 listed-each P g k zero h = tt
 listed-each P g k (suc n) h = (h k, listed-each P g (k + 1) n h)
 
-module _ (rate : ℕ) (l : Layout) (m m₁ : List ℕ) (small : rate < 2 ^ 32) (words : Each Word m) (fits : fitsMemory l (length m) ≡ true)
-    (file : fitsFile l (bytesOf l) ≡ true) (fits₁ : fitsMemory l (length m₁) ≡ true) where
-  sized : Sized rate (l .channels) (l .samples) (framesOf l m)
+module _ (rate : ℕ) (l : Layout) (m : List ℕ) (small : rate < 2 ^ 32) (words : Each Word m) (fits : fitsMemory l (length m) ≡ true)
+    (file : fitsFile l (bytesOf l) ≡ true) where
+  pub sized : Sized rate (l .channels) (l .samples) (framesOf l m)
   unfolding framesOf
   sized =
       let sizes = file-true l (bytesOf l) file in
@@ -287,9 +287,9 @@ module _ (rate : ℕ) (l : Layout) (m m₁ : List ℕ) (small : rate < 2 ^ 32) (
         words-fit = listed-each Word _ 0 (l .channels * l .samples) (λ k. word-fits m (cellAt l k .word) words);
       }
 
-  there-and-back : (j : ℕ) → j < l .channels
+  there-and-back : (m₁ : List ℕ) → fitsMemory l (length m₁) ≡ true → (j : ℕ) → j < l .channels
       → take (l .samples) (partAt (l .capacity) j (loadedOf (fileOf rate (l .channels) (l .samples) (framesOf l m)) (l .capacity) m₁)) ≡ take (l .samples) (partAt (l .capacity) j m)
-  there-and-back j h =
+  there-and-back m₁ fits₁ j h =
       let whole = fileOf rate (l .channels) (l .samples) (framesOf l m) in
       let known = good-known whole rate (l .channels) (framesOf l m) (file-good rate (l .channels) (l .samples) (framesOf l m) sized) in
       let w = known .wave in
@@ -315,7 +315,7 @@ promised = record {
   frame-at = frame-at;
   loaded-part = λ f w capacity m e. loaded-part f w capacity m e;
   loaded-rest = λ f w capacity m e. loaded-rest f w capacity m e;
-  there-and-back = there-and-back;
+  there-and-back = λ rate l m m₁ small words fits file fits₁. there-and-back rate l m small words fits file m₁ fits₁;
   write-rows = write-rows;
   load-held = load-held;
   write-held = write-held;

@@ -9,11 +9,14 @@ good-requires c κs = search needs
 any-of-requires : tie.Need-any-of-requires
 any-of-requires c κs = search needs
 
+any-of-requires-2 : tie.Need-any-of-requires-2
+any-of-requires-2 c κs = search needs
+
 change-rows-requires : tie.Need-change-rows-requires
 change-rows-requires c κs = search needs
 
 returns : tie.Need-returns
-returns c = simp (c .change-rows .ensures, c .before .any-of .ensures, c .before .before .good2 .ensures)
+returns c = simp (c .change-rows .ensures, c .before .any-of2 .ensures, c .before .before .any-of .ensures, c .before .before .before .good2 .ensures)
 
 pub change-of-spec : {M : Type 1} → statement M
-change-of-spec = tie.close (tie.spec good-requires any-of-requires change-rows-requires returns)
+change-of-spec = tie.close (tie.spec good-requires any-of-requires any-of-requires-2 change-rows-requires returns)

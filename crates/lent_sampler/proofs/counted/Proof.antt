@@ -1,7 +1,7 @@
 -- `counted` meets its contract. Assumes nothing.
 use borrow.Author.Tests.{ne-eqb}
 use Rattle.questions.specs.Questions.{answered}
-use Rattle.lent_sampler.specs.Lists.{countedOf}
+use Rattle.questions.specs.Lists.{countedOf}
 use Rattle.lent_sampler.proofs.counted.Statement.{statement}
 use Rattle.lent_sampler.proofs.counted.Tie as tie
 

@@ -60,7 +60,7 @@ use Rattle.questions.proofs.Counted as Q
 use Rattle.questions.proofs.Counted.Laws as Q′
 use Rattle.walks.proofs.Tests.{holds, fails}
 use Rattle.walks.proofs.Steps.Rounds.{rounds}
-use Rattle.lent_sampler.specs.Lists.{countedOf, listedOf}
+use Rattle.questions.specs.Lists.{countedOf, listedOf}
 use Rattle.walks.proofs.Lists.Stored.{fronted, fronted-next, fronted-length, fronted-front}
 use Rattle.lent_sampler.proofs.info_at as info-at
 use Rattle.lent_sampler.proofs.info_at.Symbol as info-at-def

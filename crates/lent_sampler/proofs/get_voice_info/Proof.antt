@@ -11,7 +11,7 @@ use Rattle.questions.proofs.get_voice_info as g
 use Rattle.questions.proofs.get_voice_info.Symbol as g-def
 use Rattle.questions.proofs.get_voice_info.Symbol.{name as #g}
 use Rattle.questions.proofs.get_voice_info.Met as g-thm
-use Rattle.lent_sampler.specs.Lists.{countedOf, listedOf}
+use Rattle.questions.specs.Lists.{countedOf, listedOf}
 use Rattle.walks.proofs.Steps.Data.{word}
 use Rattle.lent_sampler.proofs.Lent.{sampler, params, info, infos, counted}
 use Rattle.walks.proofs.Lending.PeekFill.{peek}

@@ -10,7 +10,6 @@ use Rattle.channel.specs.Channels.{processSampleOf, memoryOf}
 use Rattle.channel.proofs.Samples.{memory-kept}
 use Rattle.sampler.specs.Refusals.{frameNumber}
 use Rattle.sampler.specs.Samplers.{Frames, framedOf, frameMoved}
-use Rattle.sampler.proofs.part_start as start
 use Rattle.sampler.proofs.part_start.Symbol as start-def
 use Rattle.sampler.proofs.part_start.Symbol.{name as #start}
 use Rattle.sampler.proofs.part_start.Met as start-thm
@@ -27,7 +26,6 @@ use Rattle.lent_sampler.proofs.frame_asked as asked
 use Rattle.lent_sampler.proofs.frame_asked.Symbol as asked-def
 use Rattle.lent_sampler.proofs.frame_asked.Symbol.{name as #asked}
 use Rattle.lent_sampler.proofs.frame_asked.Met as asked-thm
-use Rattle.lent_sampler.proofs.frame_channel as seat
 use Rattle.lent_sampler.proofs.frame_channel.Symbol as seat-def
 use Rattle.lent_sampler.proofs.frame_channel.Symbol.{name as #seat}
 use Rattle.lent_sampler.proofs.frame_channel.Met as seat-thm
@@ -39,7 +37,6 @@ use Rattle.lent_sampler.proofs.frame_moved as gather
 use Rattle.lent_sampler.proofs.frame_moved.Symbol as gather-def
 use Rattle.lent_sampler.proofs.frame_moved.Symbol.{name as #gather}
 use Rattle.lent_sampler.proofs.frame_moved.Met as gather-thm
-use Rattle.lent_sampler.proofs.frame_done as answer
 use Rattle.lent_sampler.proofs.frame_done.Symbol as answer-def
 use Rattle.lent_sampler.proofs.frame_done.Symbol.{name as #answer}
 use Rattle.lent_sampler.proofs.frame_done.Met as answer-thm
@@ -76,8 +73,8 @@ process-frame-spec 𝓤 H 𝓜 𝓖 𝓡 =
     (tables 𝓤 H 𝓜 𝓡 code.env .C) (tables 𝓤 H 𝓜 𝓡 code.env .Λ) #f code.function (code.unfolded 𝓤 H 𝓜 𝓡)
     (steps-run sampler channel params (word w8) frame-done sounded frame-asking seats #asked #seat #start #sample #gather #answer turning 𝓤 H (𝓖 .A) (givenOf 𝓤 H 𝓜 𝓖) (tablesOf 𝓤 H 𝓜 (tables 𝓤 H 𝓜 𝓡 code.env))
     (cited 𝓤 H (tripleOf 𝓤 H (𝓖 .A) asked.signature (asked.spec 𝓤 H (𝓖 .A) (𝓜 .mem) (𝓡 .run))) 𝓜 𝓡 code.env #asked asked-def.routine code.calls-lent-sampler·frame-asked (asked-thm.met 𝓤 H 𝓜 𝓖 𝓡))
-    (cited 𝓤 H (tripleOf 𝓤 H (𝓖 .A) seat.signature (seat.spec 𝓤 H (𝓖 .A) (𝓜 .mem) (𝓡 .run))) 𝓜 𝓡 code.env #seat seat-def.routine code.calls-lent-sampler·frame-channel (seat-thm.met 𝓤 H 𝓜 𝓖 𝓡))
-    (cited 𝓤 H (tripleOf 𝓤 H (𝓖 .A) start.signature (start.spec 𝓤 H (𝓖 .A) (𝓜 .mem) (𝓡 .run))) 𝓜 𝓡 code.env #start start-def.routine code.calls-sampler·part-start (start-thm.met 𝓤 H 𝓜 𝓖 𝓡))
+    (record { met = cited 𝓤 H _ 𝓜 𝓡 code.env #seat seat-def.routine code.calls-lent-sampler·frame-channel (seat-thm.met 𝓤 H 𝓜 𝓖 𝓡) })
+    (record { met = cited 𝓤 H _ 𝓜 𝓡 code.env #start start-def.routine code.calls-sampler·part-start (start-thm.met 𝓤 H 𝓜 𝓖 𝓡) })
     (cited 𝓤 H (tripleOf 𝓤 H (𝓖 .A) sample.signature (sample.spec 𝓤 H (𝓖 .A) (𝓜 .mem) (𝓡 .run))) 𝓜 𝓡 code.env #sample sample-def.routine code.calls-lent-sampler·part-sample (sample-thm.met 𝓤 H 𝓜 𝓖 𝓡))
     (cited 𝓤 H (tripleOf 𝓤 H (𝓖 .A) gather.signature (gather.spec 𝓤 H (𝓖 .A) (𝓜 .mem) (𝓡 .run))) 𝓜 𝓡 code.env #gather gather-def.routine code.calls-lent-sampler·frame-moved (gather-thm.met 𝓤 H 𝓜 𝓖 𝓡))
-    (cited 𝓤 H (tripleOf 𝓤 H (𝓖 .A) answer.signature (answer.spec 𝓤 H (𝓖 .A) (𝓜 .mem) (𝓡 .run))) 𝓜 𝓡 code.env #answer answer-def.routine code.calls-lent-sampler·frame-done (answer-thm.met 𝓤 H 𝓜 𝓖 𝓡)))
+    (record { met = cited 𝓤 H _ 𝓜 𝓡 code.env #answer answer-def.routine code.calls-lent-sampler·frame-done (answer-thm.met 𝓤 H 𝓜 𝓖 𝓡) }))

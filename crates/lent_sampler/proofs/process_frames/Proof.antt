@@ -7,7 +7,6 @@ use denote.Triple.Table.{entered, cited}
 use Rattle.channel.specs.Channels.{processSampleOf, memoryOf}
 use Rattle.channel.proofs.Samples.{memory-kept}
 use Rattle.sampler.specs.Samplers.{Frames, ranOf, runAnswer}
-use Rattle.sampler.proofs.part_start as start
 use Rattle.sampler.proofs.part_start.Symbol as start-def
 use Rattle.sampler.proofs.part_start.Symbol.{name as #start}
 use Rattle.sampler.proofs.part_start.Met as start-thm
@@ -23,7 +22,6 @@ use Rattle.lent_sampler.proofs.run_asked as asked
 use Rattle.lent_sampler.proofs.run_asked.Symbol as asked-def
 use Rattle.lent_sampler.proofs.run_asked.Symbol.{name as #asked}
 use Rattle.lent_sampler.proofs.run_asked.Met as asked-thm
-use Rattle.lent_sampler.proofs.run_channel as seat
 use Rattle.lent_sampler.proofs.run_channel.Symbol as seat-def
 use Rattle.lent_sampler.proofs.run_channel.Symbol.{name as #seat}
 use Rattle.lent_sampler.proofs.run_channel.Met as seat-thm
@@ -35,7 +33,6 @@ use Rattle.lent_sampler.proofs.run_moved as gather
 use Rattle.lent_sampler.proofs.run_moved.Symbol as gather-def
 use Rattle.lent_sampler.proofs.run_moved.Symbol.{name as #gather}
 use Rattle.lent_sampler.proofs.run_moved.Met as gather-thm
-use Rattle.lent_sampler.proofs.run_done as answer
 use Rattle.lent_sampler.proofs.run_done.Symbol as answer-def
 use Rattle.lent_sampler.proofs.run_done.Symbol.{name as #answer}
 use Rattle.lent_sampler.proofs.run_done.Met as answer-thm
@@ -72,8 +69,8 @@ process-frames-spec 𝓤 H 𝓜 𝓖 𝓡 =
     (tables 𝓤 H 𝓜 𝓡 code.env .C) (tables 𝓤 H 𝓜 𝓡 code.env .Λ) #f code.function (code.unfolded 𝓤 H 𝓜 𝓡)
     (steps-run sampler channel params ran ran sounded run-asking seats #asked #seat #start #sample #gather #answer turning 𝓤 H (𝓖 .A) (givenOf 𝓤 H 𝓜 𝓖) (tablesOf 𝓤 H 𝓜 (tables 𝓤 H 𝓜 𝓡 code.env))
     (cited 𝓤 H (tripleOf 𝓤 H (𝓖 .A) asked.signature (asked.spec 𝓤 H (𝓖 .A) (𝓜 .mem) (𝓡 .run))) 𝓜 𝓡 code.env #asked asked-def.routine code.calls-lent-sampler·run-asked (asked-thm.met 𝓤 H 𝓜 𝓖 𝓡))
-    (cited 𝓤 H (tripleOf 𝓤 H (𝓖 .A) seat.signature (seat.spec 𝓤 H (𝓖 .A) (𝓜 .mem) (𝓡 .run))) 𝓜 𝓡 code.env #seat seat-def.routine code.calls-lent-sampler·run-channel (seat-thm.met 𝓤 H 𝓜 𝓖 𝓡))
-    (cited 𝓤 H (tripleOf 𝓤 H (𝓖 .A) start.signature (start.spec 𝓤 H (𝓖 .A) (𝓜 .mem) (𝓡 .run))) 𝓜 𝓡 code.env #start start-def.routine code.calls-sampler·part-start (start-thm.met 𝓤 H 𝓜 𝓖 𝓡))
+    (record { met = cited 𝓤 H _ 𝓜 𝓡 code.env #seat seat-def.routine code.calls-lent-sampler·run-channel (seat-thm.met 𝓤 H 𝓜 𝓖 𝓡) })
+    (record { met = cited 𝓤 H _ 𝓜 𝓡 code.env #start start-def.routine code.calls-sampler·part-start (start-thm.met 𝓤 H 𝓜 𝓖 𝓡) })
     (cited 𝓤 H (tripleOf 𝓤 H (𝓖 .A) sample.signature (sample.spec 𝓤 H (𝓖 .A) (𝓜 .mem) (𝓡 .run))) 𝓜 𝓡 code.env #sample sample-def.routine code.calls-lent-sampler·part-sample (sample-thm.met 𝓤 H 𝓜 𝓖 𝓡))
     (cited 𝓤 H (tripleOf 𝓤 H (𝓖 .A) gather.signature (gather.spec 𝓤 H (𝓖 .A) (𝓜 .mem) (𝓡 .run))) 𝓜 𝓡 code.env #gather gather-def.routine code.calls-lent-sampler·run-moved (gather-thm.met 𝓤 H 𝓜 𝓖 𝓡))
-    (cited 𝓤 H (tripleOf 𝓤 H (𝓖 .A) answer.signature (answer.spec 𝓤 H (𝓖 .A) (𝓜 .mem) (𝓡 .run))) 𝓜 𝓡 code.env #answer answer-def.routine code.calls-lent-sampler·run-done (answer-thm.met 𝓤 H 𝓜 𝓖 𝓡)))
+    (record { met = cited 𝓤 H _ 𝓜 𝓡 code.env #answer answer-def.routine code.calls-lent-sampler·run-done (answer-thm.met 𝓤 H 𝓜 𝓖 𝓡) }))

@@ -115,6 +115,7 @@ pub use Rattle.promises.specs.Runs.{
   events,
   settingIn,
   isResetCall,
+  isRead,
   output,
   final,
   before,
@@ -130,6 +131,7 @@ pub use Rattle.promises.specs.Runs.{
   Accepted,
   FittingMade,
 }
+pub use Rattle.promises.specs.Recordings.{Recordings}
 pub use Rattle.promises.specs.Tidies.{upIn, sumFrom, placesOf, takenAway}
 pub use Rattle.promises.specs.Outcomes.{
   Given,

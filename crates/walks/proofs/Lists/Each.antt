@@ -9,9 +9,10 @@ use native.Mathlib.Numerals.{add-one}
 use native.Mathlib.Omega.{arith}
 use lib.ListN.{length, getD, take, drop, set, length-map}
 use lib.Seq.{sets, sets-eq, take-append-seam, length-take-le}
-use Rattle.walks.specs.Walks.{every, without, behind}
+use Rattle.walks.specs.Walks.{any, every, without, behind}
 use Rattle.walks.specs.Each.{Each}
 use Rattle.walks.proofs.Lists.Every.{both}
+use Rattle.walks.proofs.Tests.{neither}
 
 module _ {A : Type 0} (P : A → Type 0) where
   pub each-at : (l : List A) (i : ℕ) (d : A) → Each P l → i < length l → P (getD l i d)
@@ -79,6 +80,14 @@ module _ {A : Type 0} where
   every-each P Q p f (x ∷ xs) h k =
       let b = both (p x) (every p xs) h in
       (f x (b .0) (k .0), every-each P Q p f xs (b .1) (k .1))
+
+  -- of none that p holds of
+  pub any-each : (P Q : A → Type 0) (p : A → Bool) → ((x : A) → p x ≡ false → P x → Q x) → (l : List A) → any p l ≡ false → Each P l → Each Q l
+  unfolding Each any
+  any-each P Q p f [] h k = tt
+  any-each P Q p f (x ∷ xs) h k =
+      let b = neither (p x) (any p xs) h in
+      (f x (b .0) (k .0), any-each P Q p f xs (b .1) (k .1))
 
   -- the front of an array in which a list was stored is that list
   pub front-sets : (l vs : List A) → length vs ≤ length l → take (length vs) (sets l 0 vs) ≡ vs

@@ -1,0 +1,166 @@
+-- What a refused call leaves, and what a number of 0 says of record, memory and file. Assumes nothing.
+use mathlib.Core.Path.{_≡_, refl, sym, ap, _∙_, subst}
+use mathlib.Core.Bool.{Bool, true, false, not, cond}
+use mathlib.Core.List.{List}
+use Prim.Native.Nat.{ℕ, _+_, _*_, _^_, _≤_}
+use native.Mathlib.Nat.{le-trans, le-of-eq, mul-le-mul-right}
+use native.Mathlib.Omega.{arith}
+use borrow.Author.Tests.{ne-eqb, eqb-true, le-leb, lt-ltb, le-ltb, ltb-false}
+use lib.Dec.{ltb, eqb}
+use lib.ListN.{length}
+use Rattle.binary32.proofs.Truth.{cond-split}
+use Rattle.wave.specs.declared.Layout.{Layout}
+use Rattle.wave.specs.declared.Judged.{Judged}
+use Rattle.wave.specs.declared.Wave.{Wave}
+use Rattle.wave.specs.Reader.{judgedOf}
+use Rattle.wave.specs.Memory.{fitsMemory, fitsFile, writes, bytesOf, writtenOf, outputOf, loadedOf}
+use Rattle.wave.proofs.Calls.{length-loaded}
+use Rattle.channel.specs.declared.Change.the-variants.{Head}
+use Rattle.channel.specs.declared.HeadChange.the-variants.{Load}
+use Rattle.sampler.specs.declared.Sampler.{Sampler}
+use Rattle.sampler.specs.Refusals.{goodWith, anyRecording, changeNumber}
+use Rattle.sampler.specs.Samplers.{eachOf, answerOf, changeOf}
+use Rattle.sampler.proofs.Rows.{passed, is-true, Fitting, fitting}
+use Rattle.sampler.proofs.Channels.{short-data}
+use Rattle.questions.specs.declared.Counted.{Counted}
+use Rattle.questions.specs.declared.Counted.the-variants as counted
+use Rattle.questions.specs.Questions.{countedNumber, answered}
+use Rattle.recordings.specs.Waves.{samplesOf, lengthsDiffer, layoutIn, writeNumber, writeWaveOf, waveAfter, badFile, heldIn, readNumber, readWaveOf, readMemory}
+use Rattle.recordings.specs.declared.ReadAnswer.{ReadAnswer}
+
+-- ---- writing
+module _ (s : Sampler) (size : ℕ) (good : goodWith s size ≡ true) where
+  g : Fitting s size
+  g = fitting s size good
+
+  short : samplesOf s ≤ s .capacity
+  short = short-data s 0 (g .good) (g .some)
+
+  -- a channel's words, of one channel or two
+  pub words-few : (l : Layout) → l ≡ layoutIn s → l .channels * l .samples ≤ 2 ^ 23
+  words-few l e =
+      let a : s .count * samplesOf s ≤ 2 * samplesOf s = mul-le-mul-right (samplesOf s) (g .few) in
+      le-trans (le-of-eq (ap (λ (k : Layout). k .channels * k .samples) e)) (omega (arith, a, short, g .small))
+
+  pub layout-fits : fitsMemory (layoutIn s) size ≡ true
+  unfolding fitsMemory
+  layout-fits = rw (le-leb 1 (s .count) (g .some), le-leb (samplesOf s) (s .capacity) short, le-leb (s .count * s .capacity) size (g .fits)) refl
+
+  pub file-fits : (room : ℕ) → bytesOf (layoutIn s) ≤ room → fitsFile (layoutIn s) room ≡ true
+  unfolding fitsFile
+  file-fits room h =
+      let few = words-few (layoutIn s) refl in
+      rw (lt-ltb (4 * s .count) (2 ^ 16) (omega (arith, g .few)), lt-ltb (bytesOf (layoutIn s)) (2 ^ 32 + 8) (omega (arith, few)), le-leb (bytesOf (layoutIn s)) room h) refl
+
+-- what a number of 0 says of a write
+pub record Writes (s : Sampler) (room size : ℕ) : Type 0 where
+  pub good : goodWith s size ≡ true
+  pub idle : anyRecording s ≡ false
+  pub alike : lengthsDiffer s ≡ false
+  pub fits : bytesOf (layoutIn s) ≤ room
+
+pub write-says : (s : Sampler) (room size : ℕ) → writeNumber s room size ≡ 0 → Writes s room size
+unfolding writeNumber
+write-says s room size z =
+    let a = passed (not (goodWith s size)) 8 _ z in
+    let b = passed (anyRecording s) 14 _ (a .1) in
+    let c = passed (lengthsDiffer s) 15 _ (b .1) in
+    let d = passed (ltb room (bytesOf (layoutIn s))) 7 0 (c .1) in
+    record {
+      good = is-true (goodWith s size) (a .0);
+      idle = b .0;
+      alike = c .0;
+      fits = ltb-false room (bytesOf (layoutIn s)) (d .0);
+    }
+
+module _ (s : Sampler) (rate : ℕ) (m out : List ℕ) where
+  -- r is what the call answers, and `after` the list afterwards
+  abbrev pub Answers : Counted → List ℕ → Type 0
+  Answers r after = (r ≡ writeWaveOf s (length out) (length m)) × (after ≡ waveAfter s rate m out)
+
+  module _ (number : ℕ) (e : number ≡ writeNumber s (length out) (length m)) where
+    pub write-refused : (number ≡ 0 → ⊥) → Answers (counted.Refused number) out
+    unfolding writeWaveOf waveAfter answered
+    write-refused h = (simp (← e, ne-eqb number 0 h), simp (← e, ne-eqb number 0 h))
+
+    pub write-done : number ≡ 0 → (l : Layout) → l ≡ layoutIn s → (bytes : ℕ) → bytes ≡ writtenOf l (length m) (length out) → (after : List ℕ) → after ≡ outputOf rate l m out
+        → Answers (counted.Done bytes) after
+    unfolding writeWaveOf waveAfter answered writtenOf outputOf writes
+    write-done z l k bytes b after o =
+        let w = write-says s (length out) (length m) (sym e ∙ z) in
+        let x = layout-fits s (length m) (w .good) in
+        let y = file-fits s (length m) (w .good) (length out) (w .fits) in
+        (rw (← e, z, b, k, x, y) refl, rw (← e, z) (o ∙ rw (k, x, y) refl))
+
+-- the number of its answer
+pub write-number : (s : Sampler) (room size : ℕ) → countedNumber (writeWaveOf s room size) ≡ writeNumber s room size
+unfolding writeWaveOf answered
+write-number s room size = go (eqb (writeNumber s room size) 0) refl
+  where
+    go : (b : Bool) → eqb (writeNumber s room size) 0 ≡ b
+        → countedNumber (cond b (counted.Done (bytesOf (layoutIn s))) (counted.Refused (writeNumber s room size))) ≡ writeNumber s room size
+    go true e = sym (eqb-true _ 0 e)
+    go false e = refl
+
+-- ---- reading
+module _ (s : Sampler) (f m : List ℕ) where
+  -- r is what the call answers, and `after` the memory afterwards
+  abbrev pub Reads : ReadAnswer → List ℕ → Type 0
+  Reads r after = (r ≡ readWaveOf s f (length m)) × (after ≡ readMemory s f m)
+
+  module _ (j : Judged) (is : j ≡ judgedOf f) (number : ℕ) (e : number ≡ readNumber s j (length m)) where
+    pub read-refused : (number ≡ 0 → ⊥) → Reads (record { sampler = s; read = record { rate = 0; number = number } }) m
+    unfolding readWaveOf readMemory answerOf
+    read-refused h = (simp (← is, ← e, ne-eqb number 0 h), simp (← is, ← e, ne-eqb number 0 h))
+
+    pub read-done : number ≡ 0 → (after : List ℕ) → after ≡ loadedOf f (s .capacity) m → (w : Wave) → w ≡ heldIn j → (a : Sampler) → a ≡ eachOf (Head (Load (w .samples))) s
+        → Reads (record { sampler = a; read = record { rate = w .rate; number = 0 } }) after
+    unfolding readWaveOf readMemory answerOf
+    read-done z after l w h a g = (rw (← is, ← e, z, g, h) refl, rw (← is, ← e, z) l)
+
+-- what a number of 0 says of a read
+pub record Loads (s : Sampler) (j : Judged) (size : ℕ) : Type 0 where
+  pub good : goodWith s size ≡ true
+  pub idle : anyRecording s ≡ false
+  pub whole : badFile j ≡ false
+  pub counts : heldIn j .channels ≡ s .count
+  pub room : heldIn j .samples ≤ s .capacity
+
+pub read-says : (s : Sampler) (j : Judged) (size : ℕ) → readNumber s j size ≡ 0 → Loads s j size
+unfolding readNumber
+read-says s j size z =
+    let a = passed (not (goodWith s size)) 8 _ z in
+    let b = passed (anyRecording s) 14 _ (a .1) in
+    let c = passed (badFile j) 16 _ (b .1) in
+    let d = passed (not (eqb (heldIn j .channels) (s .count))) 15 _ (c .1) in
+    let e = passed (ltb (s .capacity) (heldIn j .samples)) 17 0 (d .1) in
+    record {
+      good = is-true (goodWith s size) (a .0);
+      idle = b .0;
+      whole = c .0;
+      counts = eqb-true _ _ (is-true _ (d .0));
+      room = ltb-false (s .capacity) (heldIn j .samples) (e .0);
+    }
+
+-- and then so many samples may be loaded by a change of every channel too
+pub loads-change : (s : Sampler) (j : Judged) (size : ℕ) → Loads s j size → changeNumber s (Head (Load (heldIn j .samples))) ≡ 0
+loads-change s j size l = rw (fitting s size (l .good) .good, l .idle, le-ltb (s .capacity) (heldIn j .samples) (l .room)) refl
+
+module _ (s : Sampler) (f m : List ℕ) where
+  pub read-memory-length : length (readMemory s f m) ≡ length m
+  unfolding readMemory
+  read-memory-length = cond-split (λ (x : List ℕ). length x ≡ length m) (eqb (readNumber s (judgedOf f) (length m)) 0) _ _ (λ _. length-loaded f (s .capacity) m) (λ _. refl)
+
+  -- a read leaves the record as a change does, or as it was
+  pub read-sampler : (P : Sampler → Type 0) → P s → (changeNumber s (Head (Load (heldIn (judgedOf f) .samples))) ≡ 0 → P (changeOf s (Head (Load (heldIn (judgedOf f) .samples))) .sampler)) → P (readWaveOf s f (length m) .sampler)
+  unfolding readWaveOf answerOf
+  read-sampler P held changed = go (eqb number 0) refl
+    where
+      number : ℕ
+      number = readNumber s (judgedOf f) (length m)
+
+      go : (b : Bool) → eqb number 0 ≡ b → P (cond b (eachOf (Head (Load (heldIn (judgedOf f) .samples))) s) s)
+      go true e =
+          let z = loads-change s (judgedOf f) (length m) (read-says s (judgedOf f) (length m) (eqb-true number 0 e)) in
+          subst (λ (k : ℕ). P (cond (eqb k 0) (eachOf (Head (Load (heldIn (judgedOf f) .samples))) s) s)) z (changed z)
+      go false e = held

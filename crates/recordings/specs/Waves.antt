@@ -1,0 +1,87 @@
+-- Recordings out and in as WAVE files (request 10/12): what the two calls answer, and what they leave of the record and
+-- of what is lent with it. A file's bytes are said in crate `wave`. Definitions only. Assumes nothing.
+use Prim.Native.Nat.{ℕ}
+use mathlib.Core.Bool.{Bool, true, false, not, cond}
+use mathlib.Core.List.{List, _++_}
+use lib.Dec.{eqb, ltb}
+use lib.ListN.{length, drop}
+use Rattle.walks.specs.Walks.{any}
+use Rattle.wave.specs.declared.Layout.{Layout}
+use Rattle.wave.specs.declared.Wave.{Wave}
+use Rattle.wave.specs.declared.Judged.{Judged}
+use Rattle.wave.specs.declared.Judged.the-variants.{Is, Refused}
+use Rattle.wave.specs.Files.{fileOf}
+use Rattle.wave.specs.Reader.{judgedOf}
+use Rattle.wave.specs.Memory.{framesOf, bytesOf, loadedOf}
+use Rattle.channel.specs.declared.Channel.{Channel}
+use Rattle.channel.specs.declared.Change.the-variants.{Head}
+use Rattle.channel.specs.declared.HeadChange.the-variants.{Load}
+use Rattle.sampler.specs.declared.Sampler.{Sampler}
+use Rattle.sampler.specs.Refusals.{present, channelAt, row, goodWith, anyRecording}
+use Rattle.sampler.specs.Samplers.{answerOf}
+use Rattle.questions.specs.declared.Counted.{Counted}
+use Rattle.questions.specs.declared.Counted.the-variants as counted
+use Rattle.questions.specs.Questions.{answered}
+use Rattle.recordings.specs.declared.ReadAnswer.{ReadAnswer}
+
+-- ---- writing: "15, 16, 8", behind row 9
+
+-- how long the recordings are: as channel 0's is, where row 16 doesn't answer
+abbrev pub samplesOf : Sampler → ℕ
+samplesOf s = channelAt s 0 .head .«data_len»
+
+-- "16 for channels of different lengths"
+abbrev pub lengthsDiffer : Sampler → Bool
+lengthsDiffer s = any (λ (c : Channel). not (eqb (c .head .«data_len») (samplesOf s))) (present s)
+
+-- where the recordings stand in the memory
+abbrev pub layoutIn : Sampler → Layout
+layoutIn s = record { channels = s .count; capacity = s .capacity; samples = samplesOf s }
+
+-- "8 for a short output buffer"
+unfoldable pub writeNumber : Sampler → ℕ → ℕ → ℕ
+writeNumber s room size = row (not (goodWith s size)) 9
+    (row (anyRecording s) 15 (row (lengthsDiffer s) 16 (row (ltb room (bytesOf (layoutIn s))) 8 0)))
+
+-- how many bytes are written
+unfoldable pub writeWaveOf : Sampler → ℕ → ℕ → Counted
+writeWaveOf s room size = answered (counted.Done (bytesOf (layoutIn s))) counted.Refused (writeNumber s room size)
+
+-- the file in the front of the list, whose rest is kept
+unfoldable pub waveAfter : Sampler → ℕ → List ℕ → List ℕ → List ℕ
+waveAfter s rate m out =
+    cond (eqb (writeNumber s (length out) (length m)) 0)
+    (fileOf rate (s .count) (samplesOf s) (framesOf (layoutIn s) m) ++ drop (bytesOf (layoutIn s)) out) out
+
+-- ---- reading: "15, 17, 16, 18", behind row 9
+
+-- "17 for a file cut short, of another form, or with sizes or a `fact` count that disagree"
+abbrev pub badFile : Judged → Bool
+badFile (Is w) = false
+badFile Refused = true
+
+-- what a file holds; of a bad one nothing
+abbrev pub heldIn : Judged → Wave
+heldIn (Is w) = w
+heldIn Refused = record { rate = 0; channels = 0; samples = 0; first = 0 }
+
+-- "16 for .. another channel count", "18 for more samples than capacity"
+unfoldable pub readNumber : Sampler → Judged → ℕ → ℕ
+readNumber s j size = row (not (goodWith s size)) 9
+    (row (anyRecording s) 15
+    (row (badFile j) 17
+    (row (not (eqb (heldIn j .channels) (s .count))) 16 (row (ltb (s .capacity) (heldIn j .samples)) 18 0))))
+
+-- the record: each channel's recording is as long as the file's. The answer has the rate, 0 where it is refused
+unfoldable pub readWaveOf : Sampler → List ℕ → ℕ → ReadAnswer
+readWaveOf s f size =
+    let j = judgedOf f in
+    let number = readNumber s j size in
+    record {
+      sampler = answerOf number (Head (Load (heldIn j .samples))) s .sampler;
+      read = record { rate = cond (eqb number 0) (heldIn j .rate) 0; number = number };
+    }
+
+-- the memory: the front of each channel's part is the file's channel
+unfoldable pub readMemory : Sampler → List ℕ → List ℕ → List ℕ
+readMemory s f m = cond (eqb (readNumber s (judgedOf f) (length m)) 0) (loadedOf f (s .capacity) m) m
