@@ -207,15 +207,14 @@ impl Voice {
     {
         let data_length = binary32::usize_to_f32(data_len);
         let loop_mode = params.loop_mode;
-        let clip2 = Clip {
-            since: now,
-            start: position * data_length,
-            speed: params.speed(),
-            length: params.loop_length(data_len),
+        let clip2 = Clip::made(
+            now,
+            position * data_length,
+            params.speed(),
+            params.loop_length(data_len),
             data_length,
-            shift: 0.0,
-            mode: clip_mode(loop_mode),
-        };
+            clip_mode(loop_mode),
+        );
         Self {
             finished_at: 0,
             last_sample_index: 0,
