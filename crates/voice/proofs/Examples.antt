@@ -18,13 +18,13 @@ use Rattle.clip.specs.Positions.{positionOf, leadOf, travelAt, loopedOf, wrappe
 use Rattle.clip.specs.Updates.{madeOf, withLength, withSpeed, withDataLength, withMode}
 use Rattle.voice.specs.Voices.{lateOf, overOf, shouldRemoveOf, movedOf, betweenOf, valueOf, productOf, soundedOf, playedOutOf, endedOf, volumeStepped, turnOf}
 use Rattle.voice.specs.Agreeing.{agreesOf}
-use Rattle.voice.specs.Plain.{plainOf, soundedAt}
+use Rattle.voice.specs.Plain.{plainOf, glidedAt}
 use Rattle.voice.specs.declared.Voice.{Voice}
 use Rattle.voice.specs.declared.Tick.{Tick}
 
 -- whatever a turn computes by
 unfoldable computing : Unit {0}
-unfolding plainOf soundedAt agreesOf keepsOf turnOf volumeStepped endedOf playedOutOf shouldRemoveOf overOf lateOf soundedOf productOf valueOf betweenOf positionOf movedOf withLength withSpeed withDataLength withMode madeOf indexAt nextAt aheadOf offsetAt clipToDataOf clipOffsetAt placedOf wrappedOf loopedOf travelAt leadOf levelOf steppedOf floorOf minOf crossingOf ofInt ofBits neg add sub mul div rem lt le eq isNan toUnsigned
+unfolding plainOf glidedAt agreesOf keepsOf turnOf volumeStepped endedOf playedOutOf shouldRemoveOf overOf lateOf soundedOf productOf valueOf betweenOf positionOf movedOf withLength withSpeed withDataLength withMode madeOf indexAt nextAt aheadOf offsetAt clipToDataOf clipOffsetAt placedOf wrappedOf loopedOf travelAt leadOf levelOf steppedOf floorOf minOf crossingOf ofInt ofBits neg add sub mul div rem lt le eq isNan toUnsigned
 computing = tt
 
 -- a tick at a time, on either setting, with a decay of 3

@@ -16,7 +16,7 @@ use Rattle.clip.specs.Quick.{noIndex, QuickIndex}
 use Rattle.clip.specs.declared.Near.{Near}
 use Rattle.voice.specs.Voices.{recordedValueOf, betweenOf, valueAt, valueOf, productOf, soundedOf, playedOutOf, endedOf, shouldRemoveOf, volumeStepped, turnOf}
 use Rattle.voice.specs.Agreeing.{agreesOf}
-use Rattle.voice.specs.Plain.{plainOf, soundedAt, glidedOf, goesOnOf, QuickBeside, QuickValue, Quickly}
+use Rattle.voice.specs.Plain.{plainOf, glidedAt, glidedOf, goesOnOf, QuickBeside, QuickValue, Quickly}
 use Rattle.voice.specs.declared.Voice.{Voice}
 use Rattle.voice.specs.declared.Tick.{Tick}
 use Rattle.voice.proofs.Unmoved.{unmoved, agrees}
@@ -24,16 +24,16 @@ use Rattle.voice.proofs.Unmoved.{unmoved, agrees}
 module _ (t : Tick) (m : List ℕ) (v : Voice) where
   -- its clip stays, so it sounds at the index that it had
   sounded-glides : agreesOf t v ≡ true → soundedOf t m v ≡ glidedOf t m v
-  unfolding soundedOf productOf soundedAt
+  unfolding soundedOf productOf glidedAt
   sounded-glides h = simp (unmoved t v h)
 
   -- whether play-once is over hangs neither on the index nor on the value
-  out-at : (index : ℕ) (sample : Float) → playedOutOf t (soundedOf t m v) ≡ playedOutOf t (soundedAt t v index sample)
-  unfolding playedOutOf soundedOf soundedAt
+  out-at : (index : ℕ) (sample : Float) → playedOutOf t (soundedOf t m v) ≡ playedOutOf t (glidedAt t v index sample)
+  unfolding playedOutOf soundedOf glidedAt
   out-at index sample = refl
 
-  stepped-glided : (index : ℕ) (sample : Float) → keepsOf (v .volume) (t .now) ≡ true → volumeStepped (t .now) (soundedAt t v index sample) ≡ soundedAt t v index sample
-  unfolding volumeStepped soundedAt
+  stepped-glided : (index : ℕ) (sample : Float) → keepsOf (v .volume) (t .now) ≡ true → volumeStepped (t .now) (glidedAt t v index sample) ≡ glidedAt t v index sample
+  unfolding volumeStepped glidedAt
   stepped-glided index sample h = simp (stepped-keeps (v .volume) (t .now) h)
 
   -- the first four parts of `plainOf` are enough for what the turn comes to
@@ -94,7 +94,7 @@ module _ (t : Tick) (m : List ℕ) (v : Voice) where
     pub finished : w .finished ≡ v .finished
 
   glided-holds : Held (glidedOf t m v)
-  unfolding soundedAt
+  unfolding glidedAt
   glided-holds = record { finished-at = refl; clip = refl; volume = refl; start = refl; speed = refl; note = refl; finished = refl }
 
   pub holds : plainOf t m v ≡ true → Held (turnOf t m v)
@@ -136,8 +136,8 @@ module _ (t : Tick) (m : List ℕ) (v : Voice) where
         go true e = ap (λ (i : ℕ). betweenOf (recordedValueOf m (p .index)) (recordedValueOf m i) (p .fraction)) e
         go false e = refl
 
-    pub answered : (w : Voice) (keeps goes : Bool) → w ≡ soundedAt t v (near .index) sample → keeps ≡ keepsOf (v .volume) (t .now) → goes ≡ goesOnOf t v w → keeps ≡ true → Quickly t m v (record { voice = w; plain = goes })
+    pub answered : (w : Voice) (keeps goes : Bool) → w ≡ glidedAt t v (near .index) sample → keeps ≡ keepsOf (v .volume) (t .now) → goes ≡ goesOnOf t v w → keeps ≡ true → Quickly t m v (record { voice = w; plain = goes })
     answered w keeps goes is k g kept plain =
         let at = found some in
-        let same : w ≡ glidedOf t m v = is ∙ ap (λ (i : ℕ). soundedAt t v i sample) (at .1) ∙ ap (soundedAt t v (indexAt (v .clip2) (t .now))) valued in
+        let same : w ≡ glidedOf t m v = is ∙ ap (λ (i : ℕ). glidedAt t v i sample) (at .1) ∙ ap (glidedAt t v (indexAt (v .clip2) (t .now))) valued in
         going w (agrees t v (at .0)) same (sym k ∙ kept) (sym g ∙ plain)

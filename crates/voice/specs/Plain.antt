@@ -5,15 +5,15 @@ use Prim.Native.Nat.{ℕ, _<_}
 use mathlib.Core.Bool.{Bool, true, not, _&&_, cond}
 use mathlib.Core.List.{List}
 use lib.Dec.{T}
-use lib.Ieee.{Float, binary32, add, mul, le}
-use Rattle.binary32.specs.Leaves.{crossingOf, zero32}
-use Rattle.volume.specs.Levels.{levelOf, keepsOf}
+use lib.Ieee.{Float, le}
+use Rattle.binary32.specs.Leaves.{zero32}
+use Rattle.volume.specs.Levels.{keepsOf}
 use Rattle.clip.specs.declared.Clip.{Clip}
 use Rattle.clip.specs.declared.Near.{Near}
 use Rattle.clip.specs.Positions.{indexOf, positionOf, indexAt, nextAt}
 use Rattle.clip.specs.Updates.{sameAll}
 use Rattle.clip.specs.Quick.{noIndex}
-use Rattle.voice.specs.Voices.{valueAt, valueOf, soundedOf, playedOutOf, shouldRemoveOf, turnOf}
+use Rattle.voice.specs.Voices.{valueAt, valueOf, atLevelOf, soundedAt, soundedOf, playedOutOf, shouldRemoveOf, turnOf}
 use Rattle.voice.specs.Agreeing.{agreesOf}
 use Rattle.voice.specs.declared.Voice.{Voice}
 use Rattle.voice.specs.declared.Tick.{Tick}
@@ -28,28 +28,13 @@ plainOf t m v =
     && (not (playedOutOf t (soundedOf t m v))
     && (not (shouldRemoveOf t v) && not (shouldRemoveOf t (turnOf t m v)))))
 
--- the voice as it has sounded at that index, by that value at its level: four fields are new, and every other is what
--- it was
-unfoldable pub soundedAt : Tick → Voice → ℕ → Float → Voice
-soundedAt t v index sample =
-    let value = mul binary32 sample (levelOf (v .volume) (t .now)) in
-    record {
-      «finished_at» = v .«finished_at»;
-      «last_sample_index» = index;
-      clip2 = v .clip2;
-      volume = v .volume;
-      «loop_start_percent» = v .«loop_start_percent»;
-      played = add binary32 (v .played) (mul binary32 (v .speed) (t .speed));
-      «last_sample_value» = value;
-      speed = v .speed;
-      note = v .note;
-      finished = v .finished;
-      «is_at_zero_crossing» = crossingOf value (v .«last_sample_value»);
-    }
+-- the voice as it has sounded by the clip that it has, at that index, from that sample: four fields are new
+unfoldable pub glidedAt : Tick → Voice → ℕ → Float → Voice
+glidedAt t v index sample = soundedAt t v (v .clip2) index (atLevelOf t v sample)
 
 -- and at its clip's own index, by the value there: what a plain turn comes to
 abbrev pub glidedOf : Tick → List ℕ → Voice → Voice
-glidedOf t m v = soundedAt t v (indexAt (v .clip2) (t .now)) (valueOf t m (v .clip2))
+glidedOf t m v = glidedAt t v (indexAt (v .clip2) (t .now)) (valueOf t m (v .clip2))
 
 -- whether a turn that leaves the voice as w neither ends it nor finds it to be removed, before or after
 unfoldable pub goesOnOf : Tick → Voice → Voice → Bool

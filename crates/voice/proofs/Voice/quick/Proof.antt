@@ -3,7 +3,7 @@ use mathlib.Core.Path.{sym}
 use mathlib.Core.Bool.{true≢false}
 use borrow.Author.Needs.{needs}
 use borrow.Author.Tests.{not-false}
-use Rattle.voice.specs.Plain.{soundedAt}
+use Rattle.voice.specs.Plain.{glidedAt}
 use Rattle.voice.proofs.Plain.{answered}
 use Rattle.voice.proofs.Voice.quick.Statement.{statement}
 use Rattle.voice.proofs.Voice.quick.Tie as tie
@@ -39,7 +39,7 @@ goes-on-requires : tie.Need-goes-on-requires
 goes-on-requires c κs = search needs
 
 returns-4 : tie.Need-returns-4
-unfolding soundedAt
+unfolding glidedAt
 returns-4 c =
     let a = c .before .before .before .before .before .before .before .before .before .before .before .before .before .before .before .before .before .args in
     let found = c .before .before .before .before .before .before .before .before .before .quick-index in
