@@ -1,7 +1,6 @@
 // One voice, and what it does in one sample. Each function takes every value of its arguments, and equals a definition
 // in specs/Voices.antt.
 ghost use mathlib.Core.Path.{_≡_};
-ghost use Prim.Native.Nat.{_-_};
 ghost use mathlib.Core.Bool.{cond};
 ghost use Rattle.clip.specs.Positions.{soundingOf};
 ghost use Rattle.voice.specs.Voices.{
@@ -39,6 +38,7 @@ use common_types::Note;
 use common_types::NoteOffBehaviour;
 use common_types::Params;
 use volume::Volume;
+use volume::since;
 
 // The fields stand in an order that leaves no gaps between them.
 pub struct Voice {
@@ -527,10 +527,4 @@ fn over(behavior: NoteOffBehaviour, mute: bool, late: bool) -> bool
         NoteOffBehaviour::ZeroCrossing => late,
         NoteOffBehaviour::DecayAndZeroCrossing => mute | late,
     }
-}
-
-fn since(start: usize, now: usize) -> usize
-    ensures { λ r. ⌜ r ≡ now - start ⌝ }
-{
-    if now < start { 0 } else { now - start }
 }
