@@ -27,7 +27,7 @@ ghost use Rattle.voice.specs.Voices.{
   atSpeedOf,
   goodVoice,
 };
-ghost use Rattle.voice.specs.Plain.{goesOnOf, QuickBeside, QuickValue, Quickly};
+ghost use Rattle.voice.specs.Gliding.{goesOnOf, QuickBeside, QuickValue, Quickly};
 use clip::Clip;
 use clip::Mode;
 use clip::Near;
@@ -81,10 +81,10 @@ pub struct Tick {
     pub interpolates: bool,
 }
 
-// A turn taken the quick way, where it is plain; elsewhere `voice` is not to be looked at.
+// A turn taken the quick way, where the voice glides; elsewhere `voice` is not to be looked at.
 pub struct Quick {
     pub voice: Voice,
-    pub plain: bool,
+    pub glides: bool,
 }
 
 impl Span {
@@ -434,14 +434,14 @@ impl Voice {
         !next.should_remove(t)
     }
 
-    // Its whole sample, where that is plain: `turn`, quickly. The voice is made here and not by a call, which would copy
+    // Its whole sample, where it glides: `turn`, quickly. The voice is made here and not by a call, which would copy
     // all of it.
     pub fn quick(self, t: Tick, data: &[u32]) -> Quick
         ensures { λ r. ⌜ Quickly t (now («data» .entry)) self r ⌝ }
     {
         let otherwise = Quick {
             voice: self,
-            plain: false,
+            glides: false,
         };
         let volume = self.volume;
         if !volume.keeps(t.now) {
@@ -478,7 +478,7 @@ impl Voice {
         };
         Quick {
             voice: sounded,
-            plain: self.goes_on(t, sounded),
+            glides: self.goes_on(t, sounded),
         }
     }
 

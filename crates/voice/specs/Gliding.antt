@@ -1,5 +1,5 @@
--- Plain turns: those that change nothing of a voice but what it has just sounded and how far it has played. Most turns
--- are plain, and there is a quick way for them. Definitions only. Assumes nothing.
+-- Turns in which a voice glides: nothing of it changes but what it has just sounded and how far it has played. Most
+-- turns are such, and there is a quick way for them. Definitions only. Assumes nothing.
 use mathlib.Core.Path.{_≡_}
 use Prim.Native.Nat.{ℕ, _<_}
 use mathlib.Core.Bool.{Bool, true, not, _&&_, cond}
@@ -21,8 +21,8 @@ use Rattle.voice.specs.declared.Quick.{Quick}
 
 -- None of the four updates of the clip changes anything; the level is steady, or its ramp isn't over after the step;
 -- play-once doesn't finish the voice; and it isn't to be removed, neither before its turn nor after it.
-unfoldable pub plainOf : Tick → List ℕ → Voice → Bool
-plainOf t m v =
+unfoldable pub glidesOf : Tick → List ℕ → Voice → Bool
+glidesOf t m v =
     agreesOf t v
     && (keepsOf (v .volume) (t .now)
     && (not (playedOutOf t (soundedOf t m v))
@@ -32,7 +32,7 @@ plainOf t m v =
 unfoldable pub glidedAt : Tick → Voice → ℕ → Float → Voice
 glidedAt t v index sample = soundedAt t v (v .clip2) index (atLevelOf t v sample)
 
--- and at its clip's own index, by the value there: what a plain turn comes to
+-- and at its clip's own index, by the value there: what a turn comes to that glides
 abbrev pub glidedOf : Tick → List ℕ → Voice → Voice
 glidedOf t m v = glidedAt t v (indexAt (v .clip2) (t .now)) (valueOf t m (v .clip2))
 
@@ -53,7 +53,7 @@ QuickValue t m near next r =
     near .index < noIndex → near .index ≡ indexOf (near .offset) → T (le zero32 (near .offset))
     → r ≡ valueAt t m (positionOf (near .offset)) next
 
--- What a quick turn promises: where it answers that the turn is plain, it is, and its voice is the voice after it.
+-- What a quick turn promises: where it answers that the voice glides, it does, and its voice is the voice after it.
 -- Elsewhere its voice is not to be looked at.
 abbrev pub Quickly : Tick → List ℕ → Voice → Quick → Type 0
-Quickly t m v r = r .plain ≡ true → (plainOf t m v ≡ true) × (r .voice ≡ turnOf t m v)
+Quickly t m v r = r .glides ≡ true → (glidesOf t m v ≡ true) × (r .voice ≡ turnOf t m v)
