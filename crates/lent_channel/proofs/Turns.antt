@@ -20,8 +20,8 @@ use Rattle.voice.specs.declared.Tick.{Tick}
 use Rattle.voice.specs.declared.Moment.{Moment}
 use Rattle.voice.specs.declared.Quick.{Quick}
 use Rattle.voice.specs.Voices.{tickOf, turnOf, shouldRemoveOf}
-use Rattle.voice.specs.Plain.{Quickly}
-use Rattle.voice.proofs.Plain.{glides}
+use Rattle.voice.specs.Gliding.{Quickly}
+use Rattle.voice.proofs.Gliding.{glides}
 use Rattle.channel.specs.declared.Head.{Head}
 use Rattle.channel.specs.declared.Channel.{Channel}
 use Rattle.channel.specs.declared.Played.{Played}
@@ -42,7 +42,7 @@ with-count : {r r′ : Walked} {n n′ : ℕ} → r ≡ r′ → n ≡ n′ → 
 with-count e f = λ i. counting (e i) (f i)
 
 -- a plain turn: the voice stays in its place, and is heard
-pub rest-glide : (t : Tick) (m : List ℕ) (c : Channel) (k : ℕ) (out out′ : Float) (v : Voice) (r : Quick) → Quickly t m v r → r .plain ≡ true → out′ ≡ add binary32 out (r .voice .«last_sample_value»)
+pub rest-glide : (t : Tick) (m : List ℕ) (c : Channel) (k : ℕ) (out out′ : Float) (v : Voice) (r : Quick) → Quickly t m v r → r .glides ≡ true → out′ ≡ add binary32 out (r .voice .«last_sample_value»)
     → (vs : List Voice) → restFrom t m c k out (v ∷ vs) ≡ restFrom t m (withVoices (set (c .voices) k (r .voice)) (c .count) c) (k + 1) out′ vs
 unfolding addedOf
 rest-glide t m c k out out′ v r quickly plain adds vs =

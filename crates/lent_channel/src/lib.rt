@@ -223,7 +223,7 @@ fn glide(c: &mut Channel, b: Start, data: &[u32]) -> Glided
     while i < n {
         let v = c.voices[i];
         let q = v.quick(t, data);
-        if !q.plain {
+        if !q.glides {
             return Glided { upto: i, output };
         }
         let w = q.voice;

@@ -55,7 +55,7 @@ use Rattle.binary32.specs.Leaves.{zero32}
 use Rattle.voice.specs.declared.Voice.{Voice}
 use Rattle.voice.specs.declared.Tick.{Tick}
 use Rattle.voice.specs.declared.Quick.{Quick}
-use Rattle.voice.specs.Plain.{Quickly}
+use Rattle.voice.specs.Gliding.{Quickly}
 use Rattle.voice.proofs.Tick as K
 use Rattle.voice.proofs.Tick.Laws as K′
 use Rattle.voice.proofs.Voice as R
@@ -271,10 +271,10 @@ module _ {M : Type 1} (𝓤 : URA M) (H : Heap 𝓤) (A : Atoms 𝓤) (W : Given
         abbrev next : State
         next = record { i = i + 1; voices = set l i (x .voice); out = add binary32 out (x .voice .«last_sample_value») }
 
-        goes-on : T (not (not (x .plain))) → Going next r
+        goes-on : T (not (not (x .glides))) → Going next r
         goes-on y = record {
           left = omega (arith, g .left);
-          walk = stores none i (x .voice) (g .walk) small (le-refl i) (rest-glide t ms (turned l) i out (next .out) v x quickly (not-false (x .plain) (denied (not (x .plain)) y)) refl);
+          walk = stores none i (x .voice) (g .walk) small (le-refl i) (rest-glide t ms (turned l) i out (next .out) v x quickly (not-false (x .glides) (denied (not (x .glides)) y)) refl);
           fits = fits;
         }
 
