@@ -73,9 +73,16 @@ module _ (by : Tick → List ℕ → Turning) (p : Params) (at : Moment) (m : Li
   unfolding turningOf turningAt
   turning-none e = rw e
 
-pub plays-some : (p : Params) (at : Moment) (m : List ℕ) (c : Channel) → eqb (at .«data_len») 0 ≡ false → playedIfOf p at m c ≡ playedOf (turningBy (tickOf p at) m) c
+pub plays-by : (p : Params) (at : Moment) (m : List ℕ) (c : Channel)
+    → playedIfOf p at m c ≡ cond (eqb (at .«data_len») 0) (record { channel = c; output = zero32; moved = 0 }) (playedOf (turningBy (tickOf p at) m) c)
 unfolding playedIfOf
-plays-some p at m c e = rw (e, turning-some turningBy p at m e)
+plays-by p at m c = go (eqb (at .«data_len») 0) refl
+  where
+    go : (b : Bool) → eqb (at .«data_len») 0 ≡ b
+        → cond b (record { channel = c; output = zero32; moved = 0 }) (playedOf (turningOf turningBy p (λ (v : Voice). at) (λ (v : Voice). m)) c)
+        ≡ cond b (record { channel = c; output = zero32; moved = 0 }) (playedOf (turningBy (tickOf p at) m) c)
+    go true e = refl
+    go false e = rw (turning-some turningBy p at m e)
 
 -- ---- a walk over the voices, whatever a sample does with each
 module _ (s : Turning) where
