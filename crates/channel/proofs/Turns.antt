@@ -1,18 +1,17 @@
 -- One turn of `play`: what is left of the walk, with the turn taken, is what the walk gives; and on an empty recording nothing moves. Assumes nothing.
 use mathlib.Core.Path.{_≡_, refl, sym, ap, _∙_}
 use mathlib.Core.Bool.{Bool, true, false, not, cond}
-use mathlib.Core.List.{List, [], _∷_, _++_, map}
+use mathlib.Core.List.{List, [], _∷_, map}
 use Prim.Native.Nat.{ℕ, suc, _+_, _≤_}
 use native.Mathlib.Nat.{le-trans, le-of-eq, add-zero, zero-add, add-suc, suc-add}
 use native.Mathlib.Omega.{arith}
 use native.Mathlib.Numerals.{add-one}
 use borrow.Author.Tests.{not-true, not-false, lt-ltb, le-ltb, ltb-true, ltb-false}
 use lib.Dec.{eqb, ltb}
-use lib.ListN.{length, take, drop, set, take-append-drop}
-use lib.Seq.{sets, length-take-le}
+use lib.ListN.{length, set}
+use lib.Seq.{sets}
 use lib.Ieee.{Float}
 use Rattle.walks.specs.Walks.{without, behind, fold}
-use Rattle.walks.proofs.Lists.Runs.{run-front}
 use Rattle.common_types.specs.declared.Params.{Params}
 use Rattle.binary32.specs.Leaves.{zero32}
 use Rattle.voice.specs.declared.Voice.{Voice}
@@ -186,26 +185,17 @@ module _ (s : Turning) where
           go false f = simp (f, later, tidied-first h)
 
 -- ---- on an empty recording nothing moves
-resting-kept : (vs : List Voice) → keptOf resting vs ≡ vs
+pub resting-kept : (vs : List Voice) → keptOf resting vs ≡ vs
 unfolding keptOf resting without
 resting-kept [] = refl
 resting-kept (v ∷ vs) = ap (λ (l : List Voice). v ∷ l) (resting-kept vs)
 
-resting-tidied : (vs : List Voice) → tidiedOf resting vs ≡ 0
+pub resting-tidied : (vs : List Voice) → tidiedOf resting vs ≡ 0
 unfolding tidiedOf resting behind
 resting-tidied [] = refl
 resting-tidied (v ∷ vs) = resting-tidied vs
 
-resting-heard : (vs : List Voice) → heardOf resting vs ≡ zero32
+pub resting-heard : (vs : List Voice) → heardOf resting vs ≡ zero32
 unfolding heardOf resting fold
 resting-heard [] = refl
 resting-heard (v ∷ vs) = resting-heard vs
-
-restored : (l : List Voice) (n : ℕ) → n ≤ length l → sets l 0 (take n l) ≡ l
-restored l n h =
-    let e = length-take-le n l h in
-    run-front l (take n l) (le-trans (le-of-eq e) h) ∙ ap (λ (k : ℕ). take n l ++ drop k l) e ∙ take-append-drop n l
-
-pub resting-played : (c : Channel) → c .count ≤ length (c .voices) → playedOf resting c ≡ record { channel = c; output = zero32; moved = 0 }
-unfolding playedOf
-resting-played c room = rw (resting-kept (live c), resting-tidied (live c), resting-heard (live c), restored (c .voices) (c .count) room, length-take-le (c .count) (c .voices) room)

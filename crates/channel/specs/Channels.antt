@@ -169,8 +169,8 @@ turningOf by p at m = record {
   adds = λ (out : Float) (v : Voice). turningAt by p (at v) (m v) .adds out v;
 }
 
--- All voices have one moment and one recording. With an empty one the channel is left as it is, with a count above 32
--- too; up to 32, `playedOf` says so by itself (`Turns: resting-played`).
+-- All voices have one moment and one recording. With an empty one the channel is left as it is: by `resting` too, but for
+-- a count above 32, which `playedOf` lowers to 32.
 unfoldable pub playedIfOf : Params → Moment → List ℕ → Channel → Played
 playedIfOf p at m c = cond (eqb (at .«data_len») 0) (record { channel = c; output = zero32; moved = 0 })
     (playedOf (turningOf turningBy p (λ (v : Voice). at) (λ (v : Voice). m)) c)
