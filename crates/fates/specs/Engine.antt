@@ -64,7 +64,7 @@ letsGo off.DecayAndZeroCrossing t u = isStaticAndMuteOf (u .volume) || lateOf t 
 unfoldable pub leavesOf : Tick → Voice → Bool
 leavesOf t u = u .finished && letsGo (t .«note_off_behavior») t u
 
--- so much a sample does with the voices of one recording
+-- what a sample does with the voices of one recording, by these parts
 unfoldable pub turnsBy : Tick → List ℕ → Turning
 turnsBy t m = record {
   turn = turnedOf t m;

@@ -39,7 +39,7 @@ unfoldable pub fateOf : Turning → List Voice → ℕ → Option Voice → Plac
 fateOf s vs n none = gone
 fateOf s vs n (some v) = cond (s .leaves (s .turn v)) gone (at (length (keptOf s (take n vs))))
 
--- a reset takes all
+-- on an empty recording nothing moves; a reset takes all
 unfoldable pub follow : Event → Channel → ℕ → Place
 follow (sounds p x m) c n = fateOf (turnsIn p x m c) (live c) n (voiceAt c n)
 follow (changes change) c n = cond (isReset (changes change)) gone (at n)

@@ -33,9 +33,9 @@ termsOf p x m c (v ∷ vs) = cond (emptyAt m c v || passesOver (tickAt p m c v) 
 unfoldable pub totalOf : List Float → Float
 totalOf xs = fold (add binary32) zero32 xs
 
--- The voice v at place n sounds in the sample x, on the memory m with the parameters p: its term, its recorded
--- value times its level, is an operand of the sum, behind those of the voices before it. That the number can be read
--- off the output is not said: a float sum may absorb it.
+-- The voice v at place n sounds in the sample x, on the memory m with the parameters p: its term is an operand of the
+-- sum, behind those of the voices before it. That the number can be read off the output is not said: a float sum may
+-- absorb it.
 pub record Sounds (p : Params) (x : Float) (m : List ℕ) (c : Channel) (n : ℕ) (v : Voice) : Type 0 where
   pub stands : voiceAt c n ≡ some v
   pub unfinished : v .finished ≡ false
