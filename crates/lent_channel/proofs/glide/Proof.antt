@@ -68,7 +68,7 @@ use Rattle.voice.proofs.Voice.quick.Symbol.{name as #voice·Voice·quick}
 use Rattle.voice.proofs.Voice.quick.Met as quick-thm
 use Rattle.channel.specs.declared.Channel.{Channel}
 use Rattle.channel.specs.declared.Played.{Played}
-use Rattle.channel.specs.Channels.{withVoices}
+use Rattle.channel.specs.Channels.{withVoices, turningBy}
 use Rattle.channel.proofs.Slots.{none}
 use Rattle.channel.proofs.Channel as C
 use Rattle.channel.proofs.Channel.Laws as C′
@@ -185,12 +185,12 @@ module _ {M : Type 1} (𝓤 : URA M) (H : Heap 𝓤) (A : Atoms 𝓤) (W : Given
   turned l = withVoices l (h .count) h
 
   abbrev goal : Played
-  goal = restFrom t ms h 0 zero32 (take n (h .voices))
+  goal = restFrom (turningBy t ms) h 0 zero32 (take n (h .voices))
 
   -- where r turns are left
   record Going (s : State) (r : ℕ) : Type 0 where
     left : s .i + r ≡ n
-    walk : Walk goal (restFrom t ms (turned (s .voices)) (s .i) (s .out)) (s .voices) n (s .i)
+    walk : Walk goal (restFrom (turningBy t ms) (turned (s .voices)) (s .i) (s .out)) (s .voices) n (s .i)
     fits : fitsF binary32 (s .out) ≡ true
 
   small-at : (s : State) (r : ℕ) → Going s r → s .i < 2 ^ 64

@@ -67,7 +67,7 @@ use Rattle.voice.proofs.Voice as R
 use Rattle.voice.proofs.Voice.Laws as R′
 use Rattle.channel.specs.declared.Channel.{Channel}
 use Rattle.channel.specs.declared.Played.{Played}
-use Rattle.channel.specs.Channels.{withVoices, playedIfOf}
+use Rattle.channel.specs.Channels.{withVoices, turningBy, playedIfOf}
 use Rattle.channel.proofs.Slots.{none}
 use Rattle.channel.proofs.Channel as C
 use Rattle.channel.proofs.Channel.Laws as C′
@@ -251,12 +251,12 @@ module _ {M : Type 1} (𝓤 : URA M) (H : Heap 𝓤) (A : Atoms 𝓤) (W : Given
         with-voices l = withVoices l (d .count) d
 
         abbrev goal : Played
-        goal = restFrom t ms h 0 zero32 (take n (h .voices))
+        goal = restFrom (turningBy t ms) h 0 zero32 (take n (h .voices))
 
         -- where r turns are left
         record Still (s : State) (r : ℕ) : Type 0 where
           left : s .at .place + r ≡ n
-          walk : Walk goal (restBy t ms (with-voices (s .voices)) (s .at)) (s .voices) n (s .at .place)
+          walk : Walk goal (restBy (turningBy t ms) (with-voices (s .voices)) (s .at)) (s .voices) n (s .at .place)
           less : s .at .kept ≤ s .at .place
           few : s .at .moved ≤ s .at .place
           is : Is N.the-row (s .at) (going .val (s .at) ∷ [])
@@ -348,12 +348,12 @@ module _ {M : Type 1} (𝓤 : URA M) (H : Heap 𝓤) (A : Atoms 𝓤) (W : Given
             abbrev left-out : State
             left-out = record { at = x .next; voices = l }
 
-            still : (l′ : List Voice) → Walk goal (restBy t ms (with-voices l′) (x .next)) l′ n (i + 1) → Still (record { at = x .next; voices = l′ }) r
+            still : (l′ : List Voice) → Walk goal (restBy (turningBy t ms) (with-voices l′) (x .next)) l′ n (i + 1) → Still (record { at = x .next; voices = l′ }) r
             still l′ walk =
                 let place = next-place t ms (with-voices l) (s .at) v (g .less) x e in
                 record {
                   left = omega (arith, g .left, place);
-                  walk = subst (λ (j : ℕ). Walk goal (restBy t ms (with-voices l′) (x .next)) l′ n j) (sym place) walk;
+                  walk = subst (λ (j : ℕ). Walk goal (restBy (turningBy t ms) (with-voices l′) (x .next)) l′ n j) (sym place) walk;
                   less = next-less t ms (with-voices l) (s .at) v (g .less) x e;
                   few = next-few t ms (with-voices l) (s .at) v (g .less) x e (g .few);
                   is = is;
