@@ -27,8 +27,8 @@ abbrev pub recording : World → ℕ → List ℕ
 recording w j = recordingOf (chan w j) (ownPart w j)
 
 -- the words of a file, frame by frame, are the recordings of so many channels
-abbrev pub Holds : World → ℕ → ℕ → List ℕ → Type 0
-Holds w channels samples words = (j : ℕ) → j < channels → recording w j ≡ channelOf channels samples j words
+abbrev pub Filed : World → ℕ → ℕ → List ℕ → Type 0
+Filed w channels samples words = (j : ℕ) → j < channels → recording w j ≡ channelOf channels samples j words
 
 -- each word of a memory has 32 bits, as in every memory of a program
 abbrev pub Words : List ℕ → Type 0
@@ -56,7 +56,7 @@ pub record Written (w : World) (rate : ℕ) (out : List ℕ) (r : ListOutcome) :
   pub good : IsWave (take (bytesIn w) (r .lent)) rate (w .sampler .count) words
   pub samples : good .samples ≡ samplesOf (w .sampler)
   -- it has the recordings;
-  pub recordings : Holds w (w .sampler .count) (samplesOf (w .sampler)) words
+  pub recordings : Filed w (w .sampler .count) (samplesOf (w .sampler)) words
   -- the answer has the bytes written, and a longer list keeps its rest
   pub answer : r .answer ≡ Done (bytesIn w)
   pub rest : drop (bytesIn w) (r .lent) ≡ drop (bytesIn w) out
@@ -67,7 +67,7 @@ pub record Read (w u : World) (rate channels samples : ℕ) (words : List ℕ) (
   -- the answer has the rate
   pub rated : answer ≡ record { rate = rate; number = 0 }
   -- "Reading replaces the recording of each channel"; "Demand 3's recording is then the one read."
-  pub recordings : Holds u channels samples words
+  pub recordings : Filed u channels samples words
   -- a part keeps what stands behind its recording, and the memory what stands behind the parts
   pub rest : (j : ℕ) → j < channels → drop samples (ownPart u j) ≡ drop samples (ownPart w j)
   pub behind : drop (channels * w .sampler .capacity) (u .memory) ≡ drop (channels * w .sampler .capacity) (w .memory)
