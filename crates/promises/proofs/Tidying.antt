@@ -11,7 +11,7 @@ use borrow.Author.Tests.{lt-ltb, le-ltb, ltb-true, ltb-false, eq-eqb, ne-eqb, eq
 use lib.Dec.{eqb, ltb, leb}
 use lib.ListN.{length, take, getD, getElem?, length-map}
 use lib.Seq.{length-take-le, take-all}
-use lib.Ieee.{Float}
+use lib.Ieee.{Float, binary32, mul}
 use Rattle.binary32.specs.Leaves.{zero32}
 use Rattle.common_types.specs.declared.Params.{Params}
 use Rattle.walks.specs.Walks.{without, behind}
@@ -32,13 +32,16 @@ use Rattle.sampler.specs.Samplers.{partOf, playedAt, movedAt, processSampleOf, 
 use Rattle.sampler.proofs.Rows.{passed, is-true, frame-steps}
 use Rattle.sampler.proofs.Entries.{sample-reaches, frame-reaches}
 use Rattle.fates.specs.Engine.{turnsIn}
-use Rattle.fates.specs.Events.{Event, idle, changes, sounds, isReset, emptyAt}
+use Rattle.fates.specs.Events.{Event, idle, changes, sounds, act, isReset, emptyAt}
 use Rattle.fates.specs.Places.{Place, at, gone, voiceAt, fateOf, follow}
-use Rattle.fates.proofs.Own.{own-leaves, step-moved}
+use Rattle.fates.proofs.Own.{own-leaves, step-moved, step-output}
+use Rattle.fates.proofs.Lives.{live-sounded}
 use Rattle.fates.proofs.Tracks.{at-same, gone-never}
 use Rattle.promises.specs.Runs.{World, Call, sample, frame, code, chan, ownPart, doneTo, event}
 use Rattle.promises.specs.Tidies.{movesUp, upOf, upIn, sumFrom, removeAt, placesOf, takenAway}
-use Rattle.promises.specs.Demands.{Tidying}
+use Rattle.promises.specs.Demands.{Tidying, turnedIn, OldRemoval}
+use Rattle.promises.proofs.Calls.{Standing}
+use Rattle.promises.proofs.Demand3.{next, standing-demand3}
 use Rattle.promises.proofs.Engine.{step-same}
 use Rattle.promises.proofs.Apart.{frame-moved}
 use Rattle.sampler.proofs.Channels.{few-live}
@@ -431,5 +434,14 @@ tidying w = record {
   none = λ c j h. event-none (event w c j) (chan w j) h;
   refused = λ c n j. refused-none w c n j;
   empty = λ j x p h. empty-none w j x p h;
-  old-removal = old-removal;
+}
+
+-- ---- the old removal, of an accepted sample
+pub standing-old : (w : World) → Standing w → (j : ℕ) → j < w .sampler .count → OldRemoval w j
+unfolding act keptOf
+standing-old w st j k = record {
+  lists = λ s p x m e.
+      ap live (next w st j k s ∙ ap (λ (d : Event). act d (chan w j)) e) ∙ live-sounded p x m (chan w j) (st .housing j k)
+      ∙ sym (old-removal (turnsIn p x m (chan w j) .leaves) (turnedIn p x m (chan w j)));
+  outputs = λ s p x m e. standing-demand3 w st j k .hears s p x m e ∙ ap (mul binary32 (p .volume)) (step-output p x m (chan w j));
 }

@@ -247,5 +247,6 @@ whole count q m z cs f =
     record {
       unbroken = no-nine w h u;
       unbroken-run = λ xs p. run-nine w u xs p;
+      fitting = h .fitting;
       opens = λ position note velocity p a b d u. start-opens w st position note velocity p (h .good) a b d u;
     }

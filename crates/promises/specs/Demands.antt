@@ -42,6 +42,11 @@ pub record Demand1 : Type 0 where
   pub written : (w : World) (c : Call) (r : Outcome (on w c)) → Allows (on w c) r
       → (j : ℕ) (p : Params) (x : Float) (m : List ℕ) → event w c j ≡ sounds p x m
       → ownPart (leftBy w c r) j ≡ memoryOf x (chan w j) m
+  -- So it is of several calls, and of a run of frames, which is its frame calls (`in-turn`).
+  pub unwritten-run : (w : World) (cs : List Call) (j : ℕ) → any isSample (events w cs j) ≡ false
+      → any isRead cs ≡ false → ownPart (run w cs) j ≡ ownPart w j
+  pub run-sized : (w : World) → FittingSampler (w .sampler) → (xs : List Float) (p : Params) → FittingParams p
+      → (r : RunOutcome) → Allows (along w xs p) r → length (leftAlong r .memory) ≡ length (w .memory)
   -- "voice info fills a lent list of `VoiceInfo` records", and "a lent list longer than the answer keeps its rest." The
   -- answer is how many voices there are of the 32 places that a channel has by its type. By value the figures stand in
   -- front of 32.
@@ -121,6 +126,8 @@ pub record Demand1 : Type 0 where
   -- A set-up that is refused leaves a record that every call answers with 9.
   pub unmade : (count : ℕ) (p : InitParams) (m : List ℕ) → setUpNumber count (length m) ≢ 0 → (c : Call)
       → code (setUp count p m) c ≡ 9
+  pub unmade-run : (count : ℕ) (p : InitParams) (m : List ℕ) → setUpNumber count (length m) ≢ 0
+      → (xs : List Float) (q : Params) → runNumber (setUp count p m .sampler) (length xs) q (length m) ≡ 9
   -- "and state, sample memory and frame hold what they held." So do lent lists.
   pub held : (w : World) (c : Call) (r : Outcome (on w c)) → Allows (on w c) r → code w c ≢ 0
       → (leftBy w c r ≡ w) × Untouched w c r
@@ -556,16 +563,32 @@ pub record Tidying (w : World) : Type 0 where
   pub empty : (j : ℕ) (x : Float) (p : Params)
       → ((n : ℕ) (v : Voice) → voiceAt (chan w j) n ≡ some v → emptyAt (ownPart w j) (chan w j) v ≡ true)
       → upIn w (sample j x p) j ≡ 0
-  -- "Outputs and lists are those of the old removal": what one walk keeps is what is left where the places are noted
-  -- first and then taken away one at a time, the last first. An output is the sum before anything leaves.
-  pub old-removal : (leaves : Voice → Bool) (vs : List Voice)
-      → takenAway (placesOf leaves 0 vs) vs ≡ without leaves vs
+
+-- the voices once all have taken their turns in the sample, in their order
+abbrev pub turnedIn : Params → Float → List ℕ → Channel → List Voice
+turnedIn p x m c = map (turnsIn p x m c .turn) (live c)
+
+-- "Outputs and lists are those of the old removal", of every accepted sample of channel j
+pub record OldRemoval (w : World) (j : ℕ) : Type 0 where
+  -- once all voices have taken their turns the places of those that leave are noted, and then taken away one at a time,
+  -- the last first
+  pub lists : (s : Call) (p : Params) (x : Float) (m : List ℕ) → event w s j ≡ sounds p x m
+      → live (chan (after w s) j)
+      ≡ takenAway (placesOf (turnsIn p x m (chan w j) .leaves) 0 (turnedIn p x m (chan w j))) (turnedIn p x m (chan w j))
+  -- an output is the sum over all voices, before any of them leaves
+  pub outputs : (s : Call) (p : Params) (x : Float) (m : List ℕ) → event w s j ≡ sounds p x m
+      → output w s j
+      ≡ mul binary32 (p .volume)
+      (add binary32 (add binary32 zero32 (heardOf (turnsIn p x m (chan w j)) (live (chan w j))))
+      (mul binary32 x (levelOf (chan w j .head .«passthru_volume») (chan w j .head .now))))
 
 -- What holds beside it
 pub record Whole (w : World) : Type 0 where
   -- Row 9 answers no call.
   pub unbroken : (c : Call) → code w c ≢ 9
   pub unbroken-run : (xs : List Float) (p : Params) → runNumber (w .sampler) (length xs) p (length (w .memory)) ≢ 9
+  -- Its floats are of binary32, and it has its channels and places: what `in-turn` asks of a record.
+  pub fitting : FittingSampler (w .sampler)
   -- "an accepted start can take the place": a start that rows 2 to 4 let through is accepted where no channel in use is
   -- full.
   pub opens : (position : Float) (note : Note) (velocity : Float) (p : Params) → badNote note ≡ false
@@ -593,6 +616,9 @@ pub record Demands : Type 0 where
       → chan (run (setUp count p m) cs) j .head .interpolates ≡ settingIn (setUp count p m) false cs
   -- of every record and memory
   pub tidying : (w : World) → Tidying w
+  -- of those that set-up and calls leave
+  pub old-removal : (count : ℕ) (p : InitParams) (m : List ℕ) → setUpNumber count (length m) ≡ 0
+      → (hs : List Made) (j : ℕ) → j < count → OldRemoval (makes (setUp count p m) hs) j
   -- 10/12: `Recordings.antt`
   pub recordings : (w : World) → Recordings w
   -- "Demand 3 counts each frame of a run as a sample." What demand 3 says of calls it says of a run's frames: the run
