@@ -32,7 +32,7 @@ use Rattle.channel.proofs.Turns.{sounds-by, plays-by, Walked, restOf, rest-star
 use Rattle.lent_channel.specs.declared.Glided.{Glided}
 use Rattle.lent_channel.specs.declared.Going.{Going}
 use Rattle.lent_channel.specs.declared.Turn.{Turn}
-use Rattle.lent_channel.specs.Turns.{unusedTick, silent, turnCountOf, sharedOf, voicesLeftOf, restFrom, Glides, afterPlain, turnedOf, heardOf}
+use Rattle.lent_channel.specs.Turns.{unusedTick, silent, turnCountOf, sharedOf, voicesLeftOf, restFrom, Glides, afterGliding, turnedOf, heardOf}
 
 -- what a walk leaves and what is heard of it, with how many have moved up
 abbrev counting : Walked → ℕ → Played
@@ -41,7 +41,7 @@ counting r n = record { channel = r .channel; output = r .output; moved = n }
 with-count : {r r′ : Walked} {n n′ : ℕ} → r ≡ r′ → n ≡ n′ → counting r n ≡ counting r′ n′
 with-count e f = λ i. counting (e i) (f i)
 
--- a plain turn: the voice stays in its place, and is heard
+-- a gliding turn: the voice stays in its place, and is heard
 pub rest-glide : (t : Tick) (m : List ℕ) (c : Channel) (k : ℕ) (out out′ : Float) (v : Voice) (r : Quick) → Quickly t m v r → r .glides ≡ true → out′ ≡ add binary32 out (r .voice .«last_sample_value»)
     → (vs : List Voice) → restFrom (turningBy t m) c k out (v ∷ vs) ≡ restFrom (turningBy t m) (withVoices (set (c .voices) k (r .voice)) (c .count) c) (k + 1) out′ vs
 unfolding turningBy addedOf
@@ -57,10 +57,10 @@ rest-glide t m c k out out′ v r quickly plain adds vs =
 abbrev pub restBy : Turning → Channel → Going → List Voice → Played
 restBy s c g vs = counting (restOf s c (g .kept) (g .output) vs) (tidiedFrom s (g .moved) (g .kept) (g .place) vs)
 
--- after the plain turns none has
-rest-plain : (s : Turning) (c : Channel) (g : Glided) (vs : List Voice) → restBy s c (afterPlain g) vs ≡ restFrom s c (g .upto) (g .output) vs
-unfolding afterPlain
-rest-plain s c g vs =
+-- after the gliding turns none has
+rest-gliding : (s : Turning) (c : Channel) (g : Glided) (vs : List Voice) → restBy s c (afterGliding g) vs ≡ restFrom s c (g .upto) (g .output) vs
+unfolding afterGliding
+rest-gliding s c g vs =
     let level = le-ltb (g .upto) (g .upto) (le-refl (g .upto)) in
     with-count refl (zero-add _ ∙ ap (λ (b : Bool). cond b (length (keptOf s vs)) (tidiedOf s vs)) level)
 
@@ -154,12 +154,12 @@ module _ (p : Params) (at : Moment) (ms : List ℕ) (h : Channel) (all : length 
   all-few : min n 32 ≡ n
   all-few = omega (arith, turns-few p at (h .count))
 
-  -- the loop begins where the plain turns end
-  pub begins-there : (d : Channel) (g : Glided) → Glides (sharedOf p at (h .count)) ms h d g → length (d .voices) ≡ 32 → Walk goal (restBy shared (withVoices (d .voices) (d .count) d) (afterPlain g)) (d .voices) n (g .upto)
+  -- the loop begins where the gliding turns end
+  pub begins-there : (d : Channel) (g : Glided) → Glides (sharedOf p at (h .count)) ms h d g → length (d .voices) ≡ 32 → Walk goal (restBy shared (withVoices (d .voices) (d .count) d) (afterGliding g)) (d .voices) n (g .upto)
   begins-there d g e long = record {
     upto = subst (λ (j : ℕ). g .upto ≤ j) all-few (e .few);
     within = omega (arith, turns-few p at (h .count), long);
-    same = rest-plain shared d g _ ∙ subst (λ (j : ℕ). restFrom shared d (g .upto) (g .output) (slice (g .upto) j (d .voices)) ≡ restFrom shared h 0 zero32 (take j (h .voices))) all-few (e .same);
+    same = rest-gliding shared d g _ ∙ subst (λ (j : ℕ). restFrom shared d (g .upto) (g .output) (slice (g .upto) j (d .voices)) ≡ restFrom shared h 0 zero32 (take j (h .voices))) all-few (e .same);
   }
 
   -- what the loop leaves, where the turns stand at g
@@ -207,7 +207,7 @@ module _ (p : Params) (at : Moment) (ms : List ℕ) (h : Channel) (all : length 
           let v = tickOf p at in
           ended-at (turningBy v ms) (eqb (at .«data_len») 0) (sym (rest-none shared (withVoices l (h .count) h) g) ∙ e ∙ by-tick unusedTick v n (eqb n 0) refl) ∙ sym (plays-by p at ms h)
 
-    -- the same of the channel that the plain turns left
+    -- the same of the channel that the gliding turns left
     module _ (d : Channel) (count : d .count ≡ h .count) (e : restBy shared (withVoices l (d .count) d) g [] ≡ goal) where
       head : d .head ≡ h .head
       head = ap (λ (r : Played). r .channel .head) e
