@@ -94,7 +94,7 @@ fn turns_of(data_len: usize, count: usize) -> usize
     channel::places(count)
 }
 
-fn shared(at: Moment, count: usize, params: Params) -> Shared
+fn shared_of(at: Moment, count: usize, params: Params) -> Shared
     ensures { λ r. ⌜ r ≡ sharedOf params at count ⌝ }
 {
     let turns = turns_of(at.data_len, count);
@@ -304,7 +304,7 @@ fn play(c: &mut Channel, at: Moment, params: Params, data: &[u32]) -> Heard
     ensures { λ r. ⌜ (r ≡ heardOf (playedIfOf params at (now («data» .entry)) (now (c .entry))))
         × (now (c .exit) ≡ playedIfOf params at (now («data» .entry)) (now (c .entry)) .channel) ⌝ }
 {
-    let b = shared(at, c.count, params);
+    let b = shared_of(at, c.count, params);
     let t = b.tick;
     let n = b.turns;
     let mut g = after_gliding(glide(c, b, data));

@@ -96,9 +96,9 @@ use Rattle.lent_channel.proofs.Turn as Z
 use Rattle.lent_channel.proofs.Turn.Laws as Z′
 use Rattle.lent_channel.proofs.Heard as Y
 use Rattle.lent_channel.proofs.Heard.Laws as Y′
-use Rattle.lent_channel.proofs.shared.Symbol as shared-def
-use Rattle.lent_channel.proofs.shared.Symbol.{name as #lent-channel·shared}
-use Rattle.lent_channel.proofs.shared.Met as shared-thm
+use Rattle.lent_channel.proofs.shared_of.Symbol as shared-def
+use Rattle.lent_channel.proofs.shared_of.Symbol.{name as #lent-channel·shared-of}
+use Rattle.lent_channel.proofs.shared_of.Met as shared-thm
 use Rattle.lent_channel.proofs.glide as glide
 use Rattle.lent_channel.proofs.glide.Symbol as glide-def
 use Rattle.lent_channel.proofs.glide.Symbol.{name as #lent-channel·glide}
@@ -155,7 +155,7 @@ module _ {M : Type 1} (𝓤 : URA M) (H : Heap 𝓤) (A : Atoms 𝓤) (mem : Mem
 
   -- the calls
   record Known (𝓣 : Tables 𝓤 H) : Type 2 where
-    begins : Says 𝓤 H A 𝓣 #lent-channel·shared (record { takes = moment ∷ word w64 ∷ params ∷ []; gives = sharing; says = λ a. sharedOf (a .1 .1 .0) (a .0) (a .1 .0) })
+    begins : Says 𝓤 H A 𝓣 #lent-channel·shared-of (record { takes = moment ∷ word w64 ∷ params ∷ []; gives = sharing; says = λ a. sharedOf (a .1 .1 .0) (a .0) (a .1 .0) })
     glides : Triple 𝓤 (𝓣 .C #lent-channel·glide) Glide
     goes-on : Says 𝓤 H A 𝓣 #lent-channel·after-gliding (record { takes = glided ∷ []; gives = going; says = λ a. afterGliding (a .0) })
     turns : Triple 𝓤 (𝓣 .C #lent-channel·turned) Turned
@@ -437,12 +437,12 @@ module _ {M : Type 1} (𝓤 : URA M) (H : Heap 𝓤) (A : Atoms 𝓤) (W : Given
         loops : Is N.the-row (afterGliding g₀) (going .val (afterGliding g₀) ∷ []) → ent 𝓤 (⋆ 𝓤 H A (At first-state)) (Wp 𝓤 H Cs Λ En (loop code.Mir.turn-1) Left)
         loops is = rounds 𝓤 H A W 𝓣 En code.Mir.turn-1 Left Still At ends more (n - g₀ .upto) first-state (begins is)
 
-      abbrev Shared : List (Item 𝓤)
-      Shared = Has h (some (sharing .val s₀) ∷ some (tick .val t) ∷ some (vint w64 n) ∷ [])
+      abbrev Borrowed : List (Item 𝓤)
+      Borrowed = Has h (some (sharing .val s₀) ∷ some (tick .val t) ∷ some (vint w64 n) ∷ [])
 
-      lends-on : Is S.the-row s₀ (sharing .val s₀ ∷ []) → length (h .voices) ≡ 32 → ent 𝓤 (⋆ 𝓤 H A Shared) (Wp 𝓤 H Cs Λ En code.Mir.t-5 (atReturn 𝓤 H En Post))
+      lends-on : Is S.the-row s₀ (sharing .val s₀ ∷ []) → length (h .voices) ≡ 32 → ent 𝓤 (⋆ 𝓤 H A Borrowed) (Wp 𝓤 H Cs Λ En code.Mir.t-5 (atReturn 𝓤 H En Post))
       lends-on iss all =
-          qed W Shared ∵ exec ! Cs Λ En code.Mir.t-5 (atRet En Post) $
+          qed W Borrowed ∵ exec ! Cs Λ En code.Mir.t-5 (atRet En Post) $
           -- the channel is lent on
           puts ! (addr ! (beyond ! (held ! refl) (stop !))) (fills ! refl (tt, tt)) $ lft-new ! tt (λ α. move ! (1 ∷ []) $
           use1 W (later (any (λ (δ : GName). ‵ (MutRef (named 0) (α ∷ []) C.the-row .own (at-channel δ) (vptr b o ∷ [])) ⊛ ‵ (flent (α ∷ []) (Body (mem C.the-row) b o δ))))) (lends-ref 𝓤 H A W C.the-row (named 0) (α ∷ []) h b o) $ await ! tt $
@@ -521,7 +521,7 @@ play-spec 𝓤 H 𝓜 𝓖 𝓡 =
     entered 𝓤 H (tripleOf 𝓤 H (𝓖 .A) play.signature (play.spec 𝓤 H (𝓖 .A) (𝓜 .mem) (𝓡 .run)))
     (tables 𝓤 H 𝓜 𝓡 code.env .C) (tables 𝓤 H 𝓜 𝓡 code.env .Λ) #lent-channel·play code.function (code.unfolded 𝓤 H 𝓜 𝓡)
     (play-meets 𝓤 H (𝓖 .A) (givenOf 𝓤 H 𝓜 𝓖) (𝓜 .mem) (𝓡 .run) (tablesOf 𝓤 H 𝓜 (tables 𝓤 H 𝓜 𝓡 code.env)) (record {
-      begins = record { met = cited 𝓤 H _ 𝓜 𝓡 code.env #lent-channel·shared shared-def.routine code.calls-lent-channel·shared (shared-thm.met 𝓤 H 𝓜 𝓖 𝓡) };
+      begins = record { met = cited 𝓤 H _ 𝓜 𝓡 code.env #lent-channel·shared-of shared-def.routine code.calls-lent-channel·shared-of (shared-thm.met 𝓤 H 𝓜 𝓖 𝓡) };
       glides = cited 𝓤 H _ 𝓜 𝓡 code.env #lent-channel·glide glide-def.routine code.calls-lent-channel·glide (glide-thm.met 𝓤 H 𝓜 𝓖 𝓡);
       goes-on = record { met = cited 𝓤 H _ 𝓜 𝓡 code.env #lent-channel·after-gliding gliding-def.routine code.calls-lent-channel·after-gliding (gliding-thm.met 𝓤 H 𝓜 𝓖 𝓡) };
       turns = cited 𝓤 H _ 𝓜 𝓡 code.env #lent-channel·turned turn-def.routine code.calls-lent-channel·turned (turn-thm.met 𝓤 H 𝓜 𝓖 𝓡);
