@@ -21,5 +21,6 @@ pub mod Rows
 pub mod SmallParts
 pub mod Demands
 pub mod Examples
+pub mod WaveExamples
 pub mod Edges
 pub mod Rules
