@@ -28,6 +28,9 @@ use std::process::ExitCode;
 use std::time::Duration;
 
 extern "C" {
+    /// The port twice, to play frame by frame and in runs.
+    fn port_main() -> i32;
+    fn runs_main() -> i32;
     fn whole_played(row: u32, frames: u32, idle: bool) -> u64;
 }
 
@@ -60,7 +63,7 @@ fn whole(job: Job) -> Result<(u64, Duration), String> {
 
 fn ported(job: Job) -> Result<(u64, Duration), String> {
     let scenario = job.scenario();
-    port::played(&scenario.bytes(), scenario.run > 1)
+    port::played(&scenario.bytes(), if scenario.run > 1 { runs_main } else { port_main })
 }
 
 fn timed(played: impl Fn() -> u64) -> (u64, Duration) {

@@ -1,5 +1,4 @@
-//! The port's side: its program, compiled for this machine and linked in twice, to play frame by frame and in runs, reads its standard input and writes its
-//! standard output.
+//! The port's side: a program, compiled for this machine and linked in, that reads its standard input and writes its standard output.
 
 use crate::clock;
 use std::fs::File;
@@ -8,8 +7,6 @@ use std::os::fd::AsRawFd;
 use std::time::Duration;
 
 extern "C" {
-    fn port_main() -> i32;
-    fn runs_main() -> i32;
     fn dup(fd: i32) -> i32;
     fn dup2(fd: i32, as_fd: i32) -> i32;
     fn close(fd: i32) -> i32;
@@ -38,8 +35,11 @@ impl Drop for StandIn {
     }
 }
 
+/// The `main` of a program.
+pub type Main = unsafe extern "C" fn() -> i32;
+
 /// The sum that the program writes for this input, and the time that it took.
-pub fn played(bytes: &[u8], in_runs: bool) -> Result<(u64, Duration), String> {
+pub fn played(bytes: &[u8], program: Main) -> Result<(u64, Duration), String> {
     let path = std::env::temp_dir().join(format!("bench-{}", std::process::id()));
     let words = |e: std::io::Error| format!("{}: {e}", path.display());
     let open = || File::options().read(true).write(true).create(true).truncate(true).open(&path);
@@ -51,7 +51,7 @@ pub fn played(bytes: &[u8], in_runs: bool) -> Result<(u64, Duration), String> {
     let (status, time) = {
         let _stand_ins = (StandIn::new(0, &input), StandIn::new(1, &output));
         let begin = clock::now();
-        let status = unsafe { if in_runs { runs_main() } else { port_main() } };
+        let status = unsafe { program() };
         (status, clock::now() - begin)
     };
     let text = std::fs::read_to_string(&path).map_err(words)?;

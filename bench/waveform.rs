@@ -12,6 +12,10 @@ use audio_sampler_lib::sampler::Sampler;
 use std::process::ExitCode;
 use std::time::Duration;
 
+extern "C" {
+    fn waveform_main() -> i32;
+}
+
 #[derive(Clone, Copy)]
 struct Plan {
     samples: u32,
@@ -46,7 +50,7 @@ fn rust(plan: Plan) -> Result<(u64, Duration), String> {
 
 fn ported(plan: Plan) -> Result<(u64, Duration), String> {
     let words = [plan.samples, plan.columns, plan.summaries];
-    port::played(&words.map(u32::to_be_bytes).concat())
+    port::played(&words.map(u32::to_be_bytes).concat(), waveform_main)
 }
 
 /// Microseconds a summary: a run without them is taken away.

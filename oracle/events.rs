@@ -37,6 +37,9 @@ mod text;
 #[allow(dead_code)]
 #[path = "shared/values.rs"]
 mod values;
+#[allow(dead_code)]
+#[path = "shared/wave.rs"]
+mod wave;
 
 use std::process::ExitCode;
 

@@ -41,6 +41,8 @@ mod text;
 mod values;
 #[path = "trace/vectors.rs"]
 mod vectors;
+#[path = "shared/wave.rs"]
+mod wave;
 
 use engine::Calls;
 use port::Port;

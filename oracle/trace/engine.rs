@@ -6,6 +6,8 @@ use crate::params::{beyond_limits, float, params, KIND, WHOLE_BARS};
 use crate::record::Record;
 use crate::tally::{Census, Tally};
 use crate::text::{bits, Text};
+use crate::values::quiet;
+use crate::wave;
 use audio_sampler_lib::common_types::{InitParams, Note, Params};
 use audio_sampler_lib::sampler::{Channel, Sampler, VoiceInfo};
 use std::ops::Range;
@@ -36,6 +38,9 @@ pub struct Engine {
     pub capacity: usize,
     /// The skip counts of document 01, which the Rust doesn't have: its recording grows without end.
     pub skipped: [u64; 2],
+    /// The memory that the port is lent, of which the Rust has the recordings alone.
+    pub memory: Vec<u32>,
+    pub file: [u8; FILE],
 }
 
 /// What a record's line has after its kind and number.
@@ -55,6 +60,9 @@ pub enum Shown {
     Infos(Vec<VoiceInfo>),
     /// The extremes, and the list.
     Waveform([f32; 2], Vec<f32>),
+    /// How many bytes were written; and the rate of a file that was read.
+    Written(usize),
+    Took(u32),
 }
 
 /// The number of the first row whose test holds.
@@ -76,13 +84,15 @@ pub fn play(calls: Calls, records: &[Record], text: &mut Text, tally: &mut Tally
 impl Engine {
     pub fn new(calls: Calls) -> Self {
         let sampler = Sampler::new(0, &InitParams::default());
-        Engine { sampler, params: Params::default(), length_kind: RATIO, calls, count: 0, capacity: 0, skipped: [0; 2] }
+        let (params, memory, file) = (Params::default(), vec![0; MEMORY], [0; FILE]);
+        Engine { sampler, params, length_kind: RATIO, calls, count: 0, capacity: 0, skipped: [0; 2], memory, file }
     }
 
     fn record(&mut self, r: &Record, text: &mut Text, tally: &mut Tally) {
         let kind = r.u8_at(0);
         let before = Census::of(self);
         let (number, shown) = self.call(r);
+        self.remember();
         let after = Census::of(self);
         tally.call(kind, number, &before, &after, &self.params, self.length_kind);
         match &shown {
@@ -118,6 +128,12 @@ impl Engine {
             }
             RECORDINGS => (0, Shown::Recordings),
             WAVEFORM => self.waveform(r),
+            PIECE => {
+                self.piece(r);
+                (0, Shown::Nothing)
+            }
+            WRITE => self.write(r),
+            READ => self.read(r),
             _ => self.query(r),
         }
     }
@@ -131,6 +147,8 @@ impl Engine {
         self.sampler = Sampler::new(self.count, &InitParams { auto_passthru: r.u8_at(AUTO) != 0 });
         (self.params, self.length_kind) = (Params::default(), RATIO);
         self.skipped = [0; 2];
+        self.memory.fill(0);
+        self.file = [0; FILE];
         if good { 0 } else { 9 }
     }
 
@@ -199,7 +217,8 @@ impl Engine {
         (number, Shown::Heard(heard, moved))
     }
 
-    fn frame(&mut self, r: &Record, mut heard: [f32; 3]) -> (u8, Shown) {
+    fn frame(&mut self, r: &Record, heard: [f32; 3]) -> (u8, Shown) {
+        let mut heard = heard.map(quiet);
         let entries = r.u8_at(ENTRIES).min(3) as usize;
         let number = self.step_number(r, entries <= self.count, 0..entries);
         let mut moved = 0;
@@ -311,16 +330,83 @@ impl Engine {
     }
 
     /// Rows 9, 11 and 8; the list is as it was where one holds.
-    fn waveform(&self, r: &Record) -> (u8, Shown) {
+    fn waveform(&mut self, r: &Record) -> (u8, Shown) {
         let (columns, room) = (r.u32_at(COLUMNS) as usize, (r.u32_at(ROOM) as usize).min(VALUES));
         let number = row(&[(9, self.broken() || self.short(r)), (11, columns > 4096), (8, room < columns)]);
         let mut list = vec![7.0; VALUES];
         if number != 0 {
             return (number, Shown::Waveform([0.0; 2], list));
         }
+        // A recording that was read may have signaling NaNs, at which the Rust's minimum and maximum are wrong on Arm.
+        let recording = inside::recording_mut(&mut self.sampler.channels[0]);
+        let quieted = recording.iter().map(|x| quiet(*x)).collect();
+        let kept = std::mem::replace(recording, quieted);
         let summary = self.sampler.get_waveform_summary(columns);
+        *inside::recording_mut(&mut self.sampler.channels[0]) = kept;
         list[..columns].copy_from_slice(&summary.data);
         (0, Shown::Waveform([summary.min, summary.max], list))
+    }
+
+    /// Keeps what the recordings leave in the memory.
+    fn remember(&mut self) {
+        if self.broken() || self.count * self.capacity > MEMORY {
+            return;
+        }
+        for (part, c) in self.memory.chunks_mut(self.capacity).zip(&self.sampler.channels) {
+            part.iter_mut().zip(inside::recording(c)).for_each(|(word, x)| *word = x.to_bits());
+        }
+    }
+
+    fn piece(&mut self, r: &Record) {
+        let (count, place) = ((r.u8_at(BYTES) as usize).min(PIECE_BYTES), (r.u32_at(PLACE) as usize).min(FILE - PIECE_BYTES));
+        self.file[place..].iter_mut().zip(&r.0[FIRST_BYTE..FIRST_BYTE + count]).for_each(|(byte, new)| *byte = *new);
+    }
+
+    fn any_records(&self) -> bool {
+        self.sampler.channels.iter().any(|c| inside::write_place(c).is_some())
+    }
+
+    /// Request 10/12's rows in its order, behind row 9.
+    fn write(&mut self, r: &Record) -> (u8, Shown) {
+        let words: Vec<&[f32]> = self.sampler.channels.iter().map(inside::recording).collect();
+        let samples = words.first().map_or(0, |w| w.len());
+        let room = (r.u32_at(ROOM) as usize).min(FILE);
+        let number = row(&[
+            (9, self.broken() || self.short(r)),
+            (15, self.any_records()),
+            (16, words.iter().any(|w| w.len() != samples)),
+            (8, room < 58 + 4 * words.len() * samples),
+        ]);
+        if number != 0 {
+            return (number, Shown::Written(0));
+        }
+        let file = wave::written(r.u32_at(WAVE_RATE), self.count, samples, |j, i| words[j][i].to_bits());
+        self.file[..file.len()].copy_from_slice(&file);
+        (0, Shown::Written(file.len()))
+    }
+
+    /// The same. The recordings are then the file's, and nothing else changes.
+    fn read(&mut self, r: &Record) -> (u8, Shown) {
+        let said = u16::from_le_bytes([self.file[4], self.file[5]]) as usize + 8;
+        let length = if r.u8_at(SAID) != 0 { said } else { r.u32_at(FILE_LENGTH) as usize };
+        let file = &self.file[..length.min(FILE)];
+        let judged = wave::read(file);
+        let holds = |test: fn(&wave::Wave, &Self) -> bool| judged.as_ref().is_some_and(|w| test(w, self));
+        let number = row(&[
+            (9, self.broken() || self.short(r)),
+            (15, self.any_records()),
+            (17, judged.is_none()),
+            (16, holds(|w, s| w.channels != s.count)),
+            (18, holds(|w, s| w.samples > s.capacity)),
+        ]);
+        let Some(w) = judged.filter(|_| number == 0) else {
+            return (number, Shown::Took(0));
+        };
+        let words: Vec<f32> = file[w.first..].chunks(4).take(w.channels * w.samples).map(|b| f32::from_bits(wave::four(b, 0))).collect();
+        for (j, c) in self.sampler.channels.iter_mut().enumerate() {
+            *inside::recording_mut(c) = words.iter().skip(j).step_by(w.channels).copied().collect();
+        }
+        (0, Shown::Took(w.rate))
     }
 
     fn show(&self, shown: Shown, text: &mut Text) {
@@ -358,6 +444,17 @@ impl Engine {
             Shown::Waveform(extremes, list) => {
                 extremes.iter().for_each(|x| text.float(*x));
                 text.last(16, list.into_iter().map(bits).sum());
+            }
+            Shown::Written(count) => {
+                text.put(16, count as u64);
+                self.file.iter().for_each(|b| text.put(2, *b as u64));
+                self.show_record(text);
+            }
+            Shown::Took(rate) => {
+                text.put(8, rate as u64);
+                let mixed = |x: u32, word: &u32| x.wrapping_mul(1664525).wrapping_add(*word);
+                text.put(8, self.memory[..MIXED].iter().fold(0, mixed) as u64);
+                self.show_record(text);
             }
         }
     }

@@ -27,12 +27,16 @@ pub const FRAMES: u8 = 19;
 pub const WAVEFORM: u8 = 20;
 pub const RUN: u8 = 21;
 pub const INTERPOLATION: u8 = 22;
+pub const PIECE: u8 = 23;
+pub const WRITE: u8 = 24;
+pub const READ: u8 = 25;
 
 /// The kinds by their numbers. Those in brackets are no calls.
-pub const NAMES: [&str; 23] = [
+pub const NAMES: [&str; 26] = [
     "set-up", "parameters", "start_playing", "stop_playing", "set_note_speed", "start_recording", "stop_recording", "reset", "process_sample",
     "process_frame", "(a field put)", "(recordings)", "get_frames_processed", "get_data_len", "is_recording", "get_last_recorded_offset",
     "print_error_info", "iter_active_notes", "get_voice_info", "many of process_frame", "get_waveform_summary", "process_frames", "set_interpolation",
+    "(a piece of a file)", "write_wave", "read_wave",
 ];
 
 /// How many samples of memory the port has to lend.
@@ -45,6 +49,11 @@ pub const NOTES: usize = 34;
 pub const INFOS: usize = 34;
 /// The same of the list for a waveform, of which a sum is shown; before a call it holds 7.0 everywhere.
 pub const VALUES: usize = 4100;
+/// The bytes of the file that is written, put together and read, and how many a piece has at most.
+pub const FILE: usize = 1024;
+pub const PIECE_BYTES: usize = 56;
+/// Of how many words of the memory a number is shown after a read.
+pub const MIXED: usize = 2048;
 
 /// The places of the fields.
 pub const NOTE: usize = 1;
@@ -63,6 +72,12 @@ pub const ROOM: usize = 12;
 pub const TIMES: usize = 12;
 pub const RUN_LENGTH: usize = 12;
 pub const LENT: usize = 16;
+pub const BYTES: usize = 1;
+pub const PLACE: usize = 4;
+pub const FIRST_BYTE: usize = 8;
+pub const WAVE_RATE: usize = 4;
+pub const SAID: usize = 1;
+pub const FILE_LENGTH: usize = 12;
 
 pub fn set_up(count: u32, auto: bool, memory: u32) -> Record {
     Record::new(SET_UP).with_u32(COUNT, count).with_u8(AUTO, auto as u8).with_u32(SIZE, memory)
@@ -117,6 +132,34 @@ pub fn waveform(columns: u32, room: u32, lent: u32) -> Record {
     Record::new(WAVEFORM).with_u32(COLUMNS, columns).with_u32(ROOM, room).with_u32(LENT, lent)
 }
 
+/// At most as many bytes as a piece has, put into the file.
+pub fn piece(place: usize, bytes: &[u8]) -> Record {
+    let mut record = Record::new(PIECE).with_u8(BYTES, bytes.len() as u8).with_u32(PLACE, place as u32);
+    record.0[FIRST_BYTE..FIRST_BYTE + bytes.len()].copy_from_slice(bytes);
+    record
+}
+
+/// A whole file, put together and read.
+pub fn file_read(file: &[u8], lent: u32) -> Vec<Record> {
+    let mut records: Vec<Record> = file.chunks(PIECE_BYTES).enumerate().map(|(k, bytes)| piece(k * PIECE_BYTES, bytes)).collect();
+    records.push(read(file.len() as u32, lent));
+    records
+}
+
+pub fn write(rate: u32, room: u32, lent: u32) -> Record {
+    Record::new(WRITE).with_u32(WAVE_RATE, rate).with_u32(ROOM, room).with_u32(LENT, lent)
+}
+
+/// The file is read to that length.
+pub fn read(length: u32, lent: u32) -> Record {
+    Record::new(READ).with_u32(FILE_LENGTH, length).with_u32(LENT, lent)
+}
+
+/// The file is read to the length that the low two bytes of its own size say.
+pub fn read_said(lent: u32) -> Record {
+    read(0, lent).with_u8(SAID, 1)
+}
+
 pub fn bytes(records: &[Record]) -> Vec<u8> {
     records.iter().flat_map(|r| r.0).collect()
 }
@@ -149,6 +192,10 @@ pub fn describe(r: &Record) -> String {
         INTERPOLATION => (if r.u8_at(ON) != 0 { "on" } else { "off" }).into(),
         FRAMES_PROCESSED..=LAST_OFFSET => format!("channel {}", r.u32_at(CHANNEL)),
         ERROR_TEXT..=VOICE_INFO => format!("channel {}, room for {}", r.u32_at(CHANNEL), r.u32_at(ROOM)),
+        PIECE => format!("of {} bytes, from byte {} on", r.u8_at(BYTES), r.u32_at(PLACE)),
+        WRITE => format!("rate {}, room for {}, {} samples lent", r.u32_at(WAVE_RATE), r.u32_at(ROOM), r.u32_at(LENT)),
+        READ if r.u8_at(SAID) != 0 => format!("as long as it says, {} samples lent", r.u32_at(LENT)),
+        READ => format!("{} bytes, {} samples lent", r.u32_at(FILE_LENGTH), r.u32_at(LENT)),
         WAVEFORM => format!("{} columns, room for {}, {} samples lent", r.u32_at(COLUMNS), r.u32_at(ROOM), r.u32_at(LENT)),
         _ => String::new(),
     };

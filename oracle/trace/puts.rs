@@ -82,8 +82,9 @@ impl Engine {
             CAPACITY => self.capacity = by,
             _ => {
                 let (capacity, j) = (self.capacity, (r.u8_at(OF_CHANNEL) != 0) as usize);
+                let part = self.memory.get(j * capacity..).unwrap_or(&[]);
                 if let Some(c) = self.sampler.channels.get_mut(j) {
-                    put_channel(c, capacity, r);
+                    put_channel(c, capacity, part, r);
                 }
             }
         }
@@ -103,11 +104,17 @@ fn put_on(c: &mut Channel, by: usize) {
     }
 }
 
-fn put_channel(c: &mut Channel, capacity: usize, r: &Record) {
+fn put_channel(c: &mut Channel, capacity: usize, part: &[u32], r: &Record) {
     let (by, now, length) = (r.u64_at(BY) as usize, inside::clock(c), inside::recording(c).len());
     match r.u8_at(WHAT) {
         VOICES => put_count(inside::voices_mut(c), by),
-        DATA_LENGTH => inside::recording_mut(c).resize(capacity + by, 0.0),
+        DATA_LENGTH => {
+            // What is added is what stands in the memory.
+            let left = part.iter().skip(length).map(|w| f32::from_bits(*w)).chain(std::iter::repeat(0.0));
+            let data = inside::recording_mut(c);
+            data.truncate(capacity + by);
+            data.extend(left.take((capacity + by).saturating_sub(length)));
+        }
         WRITE_PLACE => inside::put_write_place(c, Some(length.wrapping_add(by))),
         CLOCK => inside::put_clock(c, LAST_TIME.wrapping_add(by)),
         PASSTHRU => inside::put_passthru(c, ramp(now, r)),

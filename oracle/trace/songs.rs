@@ -6,6 +6,7 @@ use crate::puts;
 use crate::random::Random;
 use crate::record::Record;
 use crate::values::{hostile_float, hostile_whole};
+use crate::wave;
 
 pub struct Style {
     pub name: &'static str,
@@ -43,7 +44,63 @@ pub fn listing(seed: u64, number: u64) -> (usize, Vec<Record>) {
     let mut s = Song { r, records: Vec::new(), hostile: 0, bad: 0, count: 1, memory: 0, room: 0, recorder: None, data: 0 };
     (STYLES[style].make)(&mut s);
     s.records.push(Record::new(RECORDINGS));
-    (style, sprinkled(s.records, seed, number))
+    (style, waved(sprinkled(s.records, seed, number), seed, number))
+}
+
+/// The listing with 10/12's calls: a third are left as they are, in the others files are written and read anywhere. It has random numbers of its own.
+fn waved(records: Vec<Record>, seed: u64, number: u64) -> Vec<Record> {
+    let mut r = Random::new(seed.wrapping_mul(0x1_0000_0001).wrapping_add(number).wrapping_mul(0x94d0_49bb_1331_11eb));
+    let way = r.below(3);
+    let (mut count, mut room) = (1, 1);
+    let mut waved = Vec::new();
+    for record in records {
+        if way > 0 && !waved.is_empty() && r.below(10) == 0 {
+            if r.below(4) == 0 {
+                waved.push(Record::new(STOP_RECORDING));
+            }
+            waved.extend(of_waves(&mut r, count, room));
+        }
+        if record.u8_at(0) == SET_UP {
+            count = record.u32_at(COUNT).clamp(1, 2) as u64;
+            room = record.u32_at(SIZE) as u64 / count;
+        }
+        waved.push(record);
+    }
+    waved
+}
+
+/// A file written; written, hurt or not, and read; put together and read; the last one read again; or recordings of different lengths. The room is
+/// that of a channel.
+fn of_waves(r: &mut Random, count: u64, room: u64) -> Vec<Record> {
+    let least = (count * room) as u32;
+    let lent = r.pick(&[MEMORY as u32, MEMORY as u32, MEMORY as u32, least, least, least.wrapping_sub(1)]);
+    let rate = r.pick(&[0, 44_100, 48_000, u32::MAX]);
+    let whole = write(rate, FILE as u32, lent);
+    match r.below(11) {
+        // A sample more on one channel than on the other, where there are two.
+        10 => {
+            let one = sample(r.below(count) as u32, 0, MEMORY as u32);
+            vec![Record::new(START_RECORDING), one, Record::new(STOP_RECORDING), write(rate, r.pick(&[0, FILE as u32]), lent), read_said(lent)]
+        }
+        0 | 1 => {
+            let (few, any) = (58 + 4 * count * r.below(9), r.below(FILE as u64));
+            vec![write(rate, r.pick(&[57, 58, few, few, few + 3, any]) as u32, lent)]
+        }
+        2 | 3 => vec![whole, read_said(lent)],
+        4 => {
+            let place = r.pick(&[12, 64, 100]);
+            let place = r.below(place) as usize;
+            let length = r.pick(&[0, 57, 58, 58 + 4 * count, 62 + 4 * count]);
+            vec![whole, piece(place, &[r.bits() as u8]), if length == 0 { read_said(lent) } else { read(length as u32, lent) }]
+        }
+        5 => vec![read_said(lent)],
+        kind => {
+            let channels = if r.below(6) == 0 { r.below(3) + 1 } else { count };
+            let any = r.below(9);
+            let samples = r.pick(&[any, any, any, room, room, room + 1, room.saturating_sub(1), 0]).min(200 / channels);
+            file_read(&wave::made(r, channels as usize, samples as usize, kind == 9), lent)
+        }
+    }
 }
 
 /// The listing with 7/12's setting: two of six are left as they are, in one it is put on behind each set-up, and in the others on and off anywhere. It

@@ -5,6 +5,7 @@ use crate::params;
 use crate::puts::*;
 use crate::record::Record;
 use crate::vectors;
+use crate::wave;
 
 const KEY: (u8, u8) = (60, 0);
 /// Two channels of 8 samples.
@@ -13,7 +14,7 @@ const MOST_VOICES: usize = 32;
 
 pub fn listing() -> Vec<Record> {
     let refused = [refused_set_ups(), rows(), full(), tidied(), clock_end(), emptied(), broken(), broken_sizes(), judged()].concat();
-    [refused, waveforms(), runs(), runs_refused(), runs_at_the_end(), setting(), vectors::listing()].concat()
+    [refused, waveforms(), runs(), runs_refused(), runs_at_the_end(), setting(), waves(), waves_refused(), vectors::listing()].concat()
 }
 
 /// Row 9: after each refused set-up every call is refused.
@@ -201,6 +202,54 @@ fn setting() -> Vec<Record> {
     l
 }
 
+/// 10/12's files: a recording written and read back under voices; one of NaNs of each kind; the longest that there is room for, one without samples,
+/// and each written again; files with chunks of odd sizes, and without `fact`; and a file that is read after a reset.
+fn waves() -> Vec<Record> {
+    let mut l = begun();
+    l.extend([press(0.25), whole_frame(2, LENT_MEMORY), whole(), read_said(LENT_MEMORY), whole_frame(2, LENT_MEMORY), plain(RECORDINGS)]);
+    for samples in [3, 8, 0, 5] {
+        l.extend(file_read(&made(2, samples), LENT_MEMORY));
+        l.extend([whole_frame(2, LENT_MEMORY), sound(1), run(1, 6, LENT_MEMORY), press(0.5), query(DATA_LEN, 1, 0), query(LAST_OFFSET, 0, 0)]);
+        l.extend([whole(), plain(RECORDINGS), waveform(3, 3, LENT_MEMORY)]);
+    }
+    let file = made(2, 2);
+    let (format, data) = (&file[12..38], &file[50..]);
+    let other = [&b"LIST"[..], &[3, 0, 0, 0, 1, 2, 3, 0]].concat();
+    for chunks in [[format, data].concat(), [&other, format, &other, data, &other].concat(), [format, data, &file[38..50]].concat()] {
+        let head = [b"RIFF", &(4 + chunks.len() as u32).to_le_bytes()[..], b"WAVE"].concat();
+        l.extend(file_read(&[head, chunks].concat(), LENT_MEMORY));
+    }
+    l.extend([whole_frame(2, LENT_MEMORY), plain(RESET), read_said(LENT_MEMORY), press(0.0), whole_frame(2, LENT_MEMORY)]);
+    l.extend([plain(START_RECORDING), whole_frame(2, LENT_MEMORY), plain(STOP_RECORDING), whole()]);
+    l
+}
+
+/// Rows 9, 15, 16 and 8 of a write, 9, 15, 17, 16 and 18 of a read, each with the rows behind it.
+fn waves_refused() -> Vec<Record> {
+    let mut l = begun();
+    l.extend([write(1, 89, LENT_MEMORY), write(1, 90, LENT_MEMORY), write(1, 91, LENT_MEMORY), write(1, 90, LENT_MEMORY - 1), write(1, 0, LENT_MEMORY)]);
+    let refused = [made(2, 9), made(1, 4), made(3, 9), made(2, 4)[..89].to_vec(), [made(2, 4), vec![0]].concat(), vec![]];
+    let reads: Vec<Record> = refused.iter().flat_map(|file| file_read(file, LENT_MEMORY)).collect();
+    l.extend(reads.clone());
+    l.extend(file_read(&made(2, 9), LENT_MEMORY - 1));
+    l.push(plain(START_RECORDING));
+    l.extend(reads);
+    l.extend([whole(), write(1, 0, LENT_MEMORY), write(1, 0, LENT_MEMORY - 1), sound(1), plain(STOP_RECORDING), whole(), write(1, 0, LENT_MEMORY)]);
+    l.extend(file_read(&made(2, 4), LENT_MEMORY));
+    l.extend([whole(), put(CHANNELS, 0), whole(), read_said(LENT_MEMORY), plain(RECORDINGS)]);
+    l
+}
+
+fn whole() -> Record {
+    write(44_100, FILE as u32, LENT_MEMORY)
+}
+
+/// A file with a NaN of either kind and sign among its words.
+fn made(channels: usize, samples: usize) -> Vec<u8> {
+    let words = [0x3f00_0000, 0x7f80_0001, 0xffc0_1234, 0x8000_0000, 0xbe80_0000, 0xffff_ffff, 0x0000_0001];
+    wave::written(48_000, channels, samples, |j, i| words[(i * channels + j) % words.len()])
+}
+
 /// A voice that sounds and one that decays.
 fn sounding(channels: u32) -> Vec<Record> {
     let mut l = vec![set_up(channels, false, LENT_MEMORY), settings(4.0, 0).with_u64(params::DECAY, 1 << 24), plain(START_RECORDING)];
@@ -223,7 +272,7 @@ fn each_call(note: (u8, u8), channel: u32, lent: u32) -> Vec<Record> {
     let mut l = vec![start(note, level(0.0), level(1.0)), of_note(NOTE_SPEED, note).with_u32(FLOAT, level(0.5))];
     l.extend([plain(START_RECORDING), sample(channel, level(0.5), lent), whole_frame(1, lent), run(1, 2, lent), plain(STOP_RECORDING)]);
     l.extend((FRAMES_PROCESSED..=VOICE_INFO).map(|kind| query(kind, channel, 64)));
-    l.extend([interpolation(true), waveform(3, 3, lent), of_note(STOP, note), plain(RESET)]);
+    l.extend([interpolation(true), waveform(3, 3, lent), write(44_100, 90, lent), read_said(lent), of_note(STOP, note), plain(RESET)]);
     l
 }
 

@@ -48,7 +48,7 @@ pub struct Tally {
     pub listings: u64,
     pub calls: u64,
     pub fields: u64,
-    answers: [[u64; 12]; NAMES.len()],
+    answers: [[u64; 19]; NAMES.len()],
     frames_of_many: u64,
     /// The kind of the record before.
     last: u8,
@@ -77,6 +77,12 @@ impl Tally {
             RESET => {
                 self.met("voices", "gone by a reset", before.voices);
                 self.met("the setting", "kept on by a reset", (after.smooth > 0) as usize);
+            }
+            WRITE => self.met("files", "written without a sample", (after.recorded == 0) as usize),
+            READ => {
+                self.met("files", "read while voices sound", (before.voices > 0) as usize);
+                self.met("files", "read, with fewer samples than before", (after.recorded < before.recorded) as usize);
+                self.met("files", "read, with more samples than before", (after.recorded > before.recorded) as usize);
             }
             INTERPOLATION if before.voices > 0 => {
                 self.met("the setting", "put on while voices sound", (after.smooth > before.smooth) as usize);
@@ -189,7 +195,7 @@ impl Tally {
     }
 
     pub fn print(&self) {
-        let numbers = [0, 1, 2, 3, 4, 5, 6, 8, 9, 10, 11];
+        let numbers = [0, 1, 2, 3, 4, 5, 6, 8, 9, 10, 11, 15, 16, 17, 18];
         println!("{:<26}{}{:>10}", "answers", numbers.iter().map(|n| format!("{n:>10}")).collect::<String>(), "made");
         for ((name, counts), made) in NAMES.iter().zip(&self.answers).zip(self.times()) {
             let cells = numbers.iter().map(|n| counts[*n]).chain([made]);

@@ -124,10 +124,11 @@ impl Text {
         }
     }
 
+    /// Every sample by its bits, NaNs too.
     pub fn recording(&mut self, c: &Channel) {
         self.tag(b'M');
         for x in inside::recording(c) {
-            self.float(*x);
+            self.put(8, x.to_bits() as u64);
         }
         self.end();
     }

@@ -519,7 +519,7 @@ impl Channel {
     }
 
     // A change that touches no voice.
-    fn head_changed(mut self, change: HeadChange) -> Self
+    pub fn head_changed(mut self, change: HeadChange) -> Self
         ensures { λ r. ⌜ r ≡ withHead (headChangedOf change (self .head)) self ⌝ }
     {
         let head = self.head;

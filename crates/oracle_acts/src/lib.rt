@@ -3,3 +3,4 @@ pub mod calls;
 pub mod puts;
 pub mod recording;
 pub mod run;
+pub mod waves;

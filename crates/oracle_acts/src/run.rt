@@ -11,7 +11,11 @@ use oracle_lines::line::put_f32;
 use oracle_lines::line::put_u32;
 use oracle_lines::line::write;
 use oracle_show::record::put_sampler;
+use oracle_show::replies::put_file;
 use oracle_show::replies::put_number;
+use oracle_show::replies::put_written;
+use questions::Counted;
+use recordings::ReadAnswer;
 use sampler::Answer;
 use sampler::RunAnswer;
 use sampler::Sampler;
@@ -139,6 +143,32 @@ impl Run {
         let first = put_number(out, at, kind, ran.number);
         let second = put_u32(out, first, (ran.frames % 0x1_0000_0000) as u32);
         let third = put_run(out, second, entries);
+        let fourth = put_record(out, third, sampler);
+        self.on(sampler, fourth)
+    }
+
+    // How many bytes were written, and the file's room.
+    pub fn wrote(self, kind: u8, a: Counted, file: &[u8], out: &mut [u8; 65536], at: usize) -> Self
+        requires { ⌜ at ≤ 32768 ⌝ }
+        ensures { λ r. ⌜ r .at ≤ 65536 ⌝ }
+    {
+        let sampler = self.sampler;
+        let first = put_written(out, at, kind, a);
+        let second = put_file(out, first, file);
+        let third = put_record(out, second, sampler);
+        self.on(sampler, third)
+    }
+
+    // The file's rate, and a number that is made of the memory's words.
+    pub fn took(self, kind: u8, a: ReadAnswer, words: u32, out: &mut [u8; 65536], at: usize) -> Self
+        requires { ⌜ at ≤ 32768 ⌝ }
+        ensures { λ r. ⌜ r .at ≤ 65536 ⌝ }
+    {
+        let sampler = a.sampler;
+        let read = a.read;
+        let first = put_number(out, at, kind, read.number);
+        let second = put_u32(out, first, read.rate);
+        let third = put_u32(out, second, words);
         let fourth = put_record(out, third, sampler);
         self.on(sampler, fourth)
     }

@@ -25,6 +25,7 @@ use sampler::Sampler;
 // How much of `most` is lent, where n are asked for.
 pub fn lent(n: usize, most: usize) -> usize
     ensures { λ r. ⌜ r ≤ most ⌝ }
+    ensures { λ r. ⌜ r ≤ n ⌝ }
 {
     if n < most { n } else { most }
 }
@@ -187,6 +188,40 @@ fn put_size(out: &mut [u8; 65536], at: usize, kind: u8, number: u8, n: usize) ->
 {
     let first = put_number(out, at, kind, number);
     put(out, first, 2, n as u64)
+}
+
+// How many bytes a file has that was asked for.
+pub fn put_written(out: &mut [u8; 65536], at: usize, kind: u8, a: Counted) -> usize
+    requires { ⌜ at + 22 ≤ 65536 ⌝ }
+    ensures { λ r. ⌜ r ≡ at + 22 ⌝ }
+{
+    match a {
+        Counted::Done(n) => put_total(out, at, kind, 0, n),
+        Counted::Refused(number) => put_total(out, at, kind, number, 0),
+    }
+}
+
+fn put_total(out: &mut [u8; 65536], at: usize, kind: u8, number: u8, n: usize) -> usize
+    requires { ⌜ at + 22 ≤ 65536 ⌝ }
+    ensures { λ r. ⌜ r ≡ at + 22 ⌝ }
+{
+    let first = put_number(out, at, kind, number);
+    put_u64(out, first, n as u64)
+}
+
+// The bytes of a file's room, 1,024 at most.
+pub fn put_file(out: &mut [u8; 65536], at: usize, file: &[u8]) -> usize
+    requires { ⌜ at + 3072 ≤ 65536 ⌝ }
+    ensures { λ r. ⌜ r ≤ at + 3072 ⌝ }
+{
+    let n = lent(1024, file.len());
+    let mut place = at;
+    let mut i = 0;
+    while i < n {
+        place = put(out, place, 2, wide(file[i]) as u64);
+        i += 1;
+    }
+    place
 }
 
 fn error_text(s: Sampler, channel: usize, room: usize, out: &mut [u8; 65536], at: usize) -> usize

@@ -18,7 +18,6 @@ use Rattle.wave.proofs.Calls.{length-loaded}
 use Rattle.channel.specs.declared.Change.the-variants.{Head}
 use Rattle.channel.specs.declared.HeadChange.the-variants.{Load}
 use Rattle.sampler.specs.declared.Sampler.{Sampler}
-use Rattle.sampler.specs.declared.Answer.{Answer}
 use Rattle.sampler.specs.Refusals.{goodWith, anyRecording, changeNumber}
 use Rattle.sampler.specs.Samplers.{eachOf, answerOf, changeOf}
 use Rattle.sampler.proofs.Rows.{passed, is-true, Fitting, fitting}
@@ -114,9 +113,9 @@ module _ (s : Sampler) (f m : List ℕ) where
     unfolding readWaveOf readMemory answerOf
     read-refused h = (simp (← is, ← e, ne-eqb number 0 h), simp (← is, ← e, ne-eqb number 0 h))
 
-    pub read-done : number ≡ 0 → (after : List ℕ) → after ≡ loadedOf f (s .capacity) m → (w : Wave) → w ≡ heldIn j → (a : Answer) → a ≡ answerOf 0 (Head (Load (w .samples))) s
-        → Reads (record { sampler = a .sampler; read = record { rate = w .rate; number = 0 } }) after
-    unfolding readWaveOf readMemory
+    pub read-done : number ≡ 0 → (after : List ℕ) → after ≡ loadedOf f (s .capacity) m → (w : Wave) → w ≡ heldIn j → (a : Sampler) → a ≡ eachOf (Head (Load (w .samples))) s
+        → Reads (record { sampler = a; read = record { rate = w .rate; number = 0 } }) after
+    unfolding readWaveOf readMemory answerOf
     read-done z after l w h a g = (rw (← is, ← e, z, g, h) refl, rw (← is, ← e, z) l)
 
 -- what a number of 0 says of a read

@@ -19,8 +19,6 @@ ghost use Rattle.recordings.specs.Waves.{
   readWaveOf,
   readMemory,
 };
-use channel::Change;
-use channel::HeadChange;
 use questions::Counted;
 use sampler::Sampler;
 use sampler::first_of;
@@ -144,8 +142,7 @@ pub fn read_wave(s: Sampler, file: &[u8], memory: &mut [u32]) -> ReadAnswer
     }
     wave::load(file, s.capacity, memory);
     let w = held(judged);
-    let answer = s.answer(0, Change::Head(HeadChange::Load(w.samples)));
-    let sampler = answer.sampler;
+    let sampler = s.loaded(w.samples);
     ReadAnswer {
         sampler,
         read: WaveRead {

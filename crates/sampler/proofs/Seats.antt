@@ -11,7 +11,10 @@ use Rattle.volume.specs.declared.Volume.the-variants.{Static}
 use Rattle.recorder.specs.declared.State.the-variants.{Triggered}
 use Rattle.channel.specs.declared.Change.{Change}
 use Rattle.channel.specs.declared.Channel.{Channel}
-use Rattle.channel.specs.Channels.{changedOf}
+use Rattle.channel.specs.declared.Change.the-variants.{Head}
+use Rattle.channel.specs.declared.HeadChange.{HeadChange}
+use Rattle.channel.specs.Heads.{headChangedOf}
+use Rattle.channel.specs.Channels.{withHead, changedOf}
 use Rattle.sampler.specs.Samplers.{withChannels}
 use Rattle.sampler.specs.declared.Sampler.{Sampler}
 
@@ -37,3 +40,9 @@ eachFrom change s j cs = withChannels (sets (s .channels) j (map (changedOf chan
 pub each-on : (change : Change) (s : Sampler) (j : ℕ) (c d : Channel) (cs : List Channel) → d ≡ changedOf change c
     → eachFrom change s j (c ∷ cs) ≡ eachFrom change (withChannels (set (s .channels) j d) s) (j + 1) cs
 each-on change s j c d cs e = rw (e, add-one j)
+
+-- the same where no voice is touched
+pub head-on : (h : HeadChange) (s : Sampler) (j : ℕ) (c d : Channel) (cs : List Channel) → d ≡ withHead (headChangedOf h (c .head)) c
+    → eachFrom (Head h) s j (c ∷ cs) ≡ eachFrom (Head h) (withChannels (set (s .channels) j d) s) (j + 1) cs
+unfolding changedOf
+head-on h s j c d cs e = each-on (Head h) s j c d cs e

@@ -8,6 +8,8 @@ ghost use lib.Ieee.{le};
 ghost use lib.ListN.{length, take};
 ghost use Rattle.binary32.specs.Leaves.{zero32, one32};
 ghost use Rattle.walks.specs.Walks.{any, every};
+ghost use Rattle.channel.specs.declared.Change.the-variants.{Head};
+ghost use Rattle.channel.specs.declared.HeadChange.the-variants.{Load};
 ghost use Rattle.channel.specs.Channels.{fullOf, goodChannel};
 ghost use Rattle.sampler.specs.Refusals.{
   present,
@@ -332,8 +334,23 @@ impl Sampler {
         self
     }
 
+    // Each channel with a recording of so many samples, by a walk of its own: as a caller of `each` a read would have what
+    // a key does to a channel compiled apart, and every key take more stack.
+    pub fn loaded(mut self, samples: usize) -> Sampler
+        ensures { λ r. ⌜ r ≡ eachOf (Head (Load samples)) self ⌝ }
+    {
+        let n = places(self.count);
+        let mut j = 0;
+        while j < n {
+            let c = self.channels[j];
+            self.channels[j] = c.head_changed(HeadChange::Load(samples));
+            j += 1;
+        }
+        self
+    }
+
     // The change where the number is 0.
-    pub fn answer(self, number: u8, change: Change) -> Answer
+    fn answer(self, number: u8, change: Change) -> Answer
         ensures { λ r. ⌜ r ≡ answerOf number change self ⌝ }
     {
         if number == 0 {

@@ -1,4 +1,4 @@
--- `oracle_trace::play` is safe and ends. The invariant: the text fits, and the memory keeps its length. The measure is the turns that are left. Assumes nothing.
+-- `oracle_trace::play` is safe and ends. The invariant: the text fits, and memory and file keep their lengths. The measure is the turns that are left. Assumes nothing.
 use Prim.Native.Nat.{_≤_}
 use mathlib.Core.Path.{_≡_}
 use lib.ListN.{length}
@@ -7,10 +7,10 @@ use Rattle.oracle_trace.proofs.play.Statement.{statement}
 use Rattle.oracle_trace.proofs.play.Tie as tie
 
 abbrev Inv-loop : tie.InvT-loop
-Inv-loop memory₀ out₀ run₀ turns₀ memory out run turns = (run .at ≤ 65536) × (length memory ≡ length memory₀)
+Inv-loop memory₀ file₀ out₀ run₀ turns₀ memory file out run turns = (run .at ≤ 65536) × (length memory ≡ length memory₀) × (length file ≡ length file₀)
 
 abbrev μ-loop : tie.MeasureT-loop
-μ-loop memory₀ out₀ run₀ turns₀ memory out run turns = turns
+μ-loop memory₀ file₀ out₀ run₀ turns₀ memory file out run turns = turns
 
 begun-requires : tie.Need-begun-requires Inv-loop μ-loop
 begun-requires c κs = search needs
@@ -36,6 +36,9 @@ write-requires c κs = search needs
 same-length : tie.Need-same-length Inv-loop μ-loop
 same-length c = search needs
 
+same-length-2 : tie.Need-same-length-2 Inv-loop μ-loop
+same-length-2 c = search needs
+
 returns : tie.Need-returns Inv-loop μ-loop
 returns c = search needs
 
@@ -53,4 +56,5 @@ play-spec =
     loop-again
     write-requires
     same-length
+    same-length-2
     returns)

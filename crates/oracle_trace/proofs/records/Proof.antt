@@ -1,4 +1,4 @@
--- `oracle_trace::records` meets its contract. The invariant: the records passed lie in the chunk, the text fits, and the memory keeps its length.
+-- `oracle_trace::records` meets its contract. The invariant: the records passed lie in the chunk, the text fits, and memory and file keep their lengths.
 -- The measure is what is left of the chunk. Assumes nothing.
 use Prim.Native.Nat.{_-_, _≤_}
 use mathlib.Core.Path.{_≡_}
@@ -8,10 +8,10 @@ use Rattle.oracle_trace.proofs.records.Statement.{statement}
 use Rattle.oracle_trace.proofs.records.Tie as tie
 
 abbrev Inv-loop : tie.InvT-loop
-Inv-loop chunk memory₀ out₀ r₀ from₀ memory out r from = (from ≤ length chunk) × (r .at ≤ 65536) × (length memory ≡ length memory₀)
+Inv-loop chunk memory₀ file₀ out₀ r₀ from₀ memory file out r from = (from ≤ length chunk) × (r .at ≤ 65536) × (length memory ≡ length memory₀) × (length file ≡ length file₀)
 
 abbrev μ-loop : tie.MeasureT-loop
-μ-loop chunk memory₀ out₀ r₀ from₀ memory out r from = length chunk - from
+μ-loop chunk memory₀ file₀ out₀ r₀ from₀ memory file out r from = length chunk - from
 
 loop-holds : tie.Need-loop-holds Inv-loop μ-loop
 loop-holds c = search needs
@@ -46,6 +46,9 @@ loop-again c = search needs
 same-length : tie.Need-same-length Inv-loop μ-loop
 same-length c = search needs
 
+same-length-2 : tie.Need-same-length-2 Inv-loop μ-loop
+same-length-2 c = search needs
+
 returns : tie.Need-returns Inv-loop μ-loop
 returns c = search needs
 
@@ -55,8 +58,11 @@ room-requires c κs = search needs
 bad-requires : tie.Need-bad-requires Inv-loop μ-loop
 bad-requires c κs = search needs
 
-same-length-2 : tie.Need-same-length-2 Inv-loop μ-loop
-same-length-2 c = search needs
+same-length-3 : tie.Need-same-length-3 Inv-loop μ-loop
+same-length-3 c = search needs
+
+same-length-4 : tie.Need-same-length-4 Inv-loop μ-loop
+same-length-4 c = search needs
 
 returns-2 : tie.Need-returns-2 Inv-loop μ-loop
 returns-2 c = search needs
@@ -78,8 +84,10 @@ records-spec =
     loop-less
     loop-again
     same-length
+    same-length-2
     returns
     room-requires
     bad-requires
-    same-length-2
+    same-length-3
+    same-length-4
     returns-2)

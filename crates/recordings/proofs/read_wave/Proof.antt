@@ -19,18 +19,18 @@ load-requires c κs = search needs
 held-requires : tie.Need-held-requires
 held-requires c κs = search needs
 
-answer-requires : tie.Need-answer-requires
-answer-requires c κs = search needs
+loaded-requires : tie.Need-loaded-requires
+loaded-requires c κs = search needs
 
 same-length : tie.Need-same-length
 same-length c = search needs
 
 returns-2 : tie.Need-returns-2
 returns-2 c =
-    let b = c .before .before .before .before .before in
+    let b = c .before .before .before .before in
     let d = b .before .before in
     let a = d .before .before .before .before .before .args in
-    read-done (a .s) (a .file .now) (a .memory .now) _ (d .before .before .judge .ensures) _ (d .before .read-number .ensures) (d .if1 .left) _ (b .load .ensures .1) _ (c .before .before .held .ensures) _ (c .before .answer .ensures)
+    read-done (a .s) (a .file .now) (a .memory .now) _ (d .before .before .judge .ensures) _ (d .before .read-number .ensures) (d .if1 .left) _ (b .load .ensures .1) _ (c .before .held .ensures) _ (c .loaded .ensures)
 
 pub read-wave-spec : {M : Type 1} → statement M
 read-wave-spec =
@@ -41,6 +41,6 @@ read-wave-spec =
     returns
     load-requires
     held-requires
-    answer-requires
+    loaded-requires
     same-length
     returns-2)
