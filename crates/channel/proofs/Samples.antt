@@ -21,12 +21,11 @@ use Rattle.recorder.proofs.Good.{sample-good}
 use Rattle.recorder.proofs.Memory.{memory-length}
 use Rattle.voice.specs.declared.Voice.{Voice}
 use Rattle.voice.specs.declared.Moment.{Moment}
-use Rattle.voice.specs.declared.Tick.{Tick}
-use Rattle.voice.specs.Voices.{tickOf, movedOf, shouldRemoveOf, turnOf}
+use Rattle.voice.specs.Voices.{tickOf, movedOf}
 use Rattle.voice.specs.Soundness.{SoundParams, SoundVoice}
 use Rattle.voice.proofs.Kept.{index-recorded, turn-sound}
 use Rattle.channel.specs.Heads.{momentOf, closedOf}
-use Rattle.channel.specs.Channels.{live, anyUnfinishedOf, keptOf, tidiedOf, playedOf, playedIfOf, takenOf, memoryOf, processSampleOf}
+use Rattle.channel.specs.Channels.{live, anyUnfinishedOf, Turning, keptOf, tidiedOf, playedOf, turningBy, resting, turningAt, turningOf, playedIfOf, takenOf, memoryOf, processSampleOf}
 use Rattle.channel.specs.Soundness.{SoundChannel}
 use Rattle.channel.specs.declared.Head.{Head}
 use Rattle.channel.specs.declared.Channel.{Channel}
@@ -51,51 +50,55 @@ pub played-if-head : (p : Params) (at : Moment) (m : List ℕ) (c : Channel) →
 unfolding playedIfOf playedOf
 played-if-head p at m c = go (eqb (at .«data_len») 0)
   where
-    go : (b : Bool) → cond b (record { channel = c; output = zero32; moved = 0 }) (playedOf (tickOf p at) m c) .channel .head ≡ c .head
+    go : (b : Bool) → cond b (record { channel = c; output = zero32; moved = 0 }) (playedOf (turningOf turningBy p (λ (v : Voice). at) (λ (v : Voice). m)) c) .channel .head ≡ c .head
     go true = refl
     go false = refl
 
-module _ (capacity : ℕ) (c : Channel) (s : SoundChannel capacity c) (p : Params) (ok : SoundParams p) (small : capacity ≤ 2 ^ 22) where
+module _ (capacity : ℕ) (c : Channel) (h : SoundChannel capacity c) (p : Params) (ok : SoundParams p) (small : capacity ≤ 2 ^ 22) where
   -- the value that a voice sounds by is one recorded
   pub voice-recorded : (i : ℕ) (d : Voice) → i < c .count → 1 ≤ c .head .«data_len»
       → indexAt (movedOf (tickOf p (momentOf (c .head))) (getD (c .voices) i d)) (c .head .now) < c .head .«data_len»
   voice-recorded i d below full =
-      index-recorded p (momentOf (c .head)) ok full (le-trans (data-within capacity c s) small) (getD (c .voices) i d) (voice-at capacity c s i d below)
+      index-recorded p (momentOf (c .head)) ok full (le-trans (data-within capacity c h) small) (getD (c .voices) i d) (voice-at capacity c h i d below)
+
+  -- a channel stays sound where each voice does
+  played-sound : (s : Turning) → ((v : Voice) → SoundVoice (c .head .now) v → SoundVoice (c .head .now) (s .turn v)) → SoundChannel capacity (playedOf s c .channel)
+  unfolding playedOf keptOf
+  played-sound s turns =
+      let g = parts h in
+      let S = SoundVoice (c .head .now) in
+      let us = map (s .turn) (live c) in
+      let vs = without (s .leaves) us in
+      let few : length vs ≤ c .count = le-trans (fewer (s .leaves) us) (le-of-eq (length-map (live c) (s .turn) ∙ live-count capacity c h)) in
+      voices-changed capacity c h (sets (c .voices) 0 vs) (length vs) (le-trans few (g .few)) (length-sets (c .voices) 0 vs)
+      (subst (Each S) (sym (front-sets (c .voices) vs (le-trans few (room capacity c h)))) (each-without S (s .leaves) us (each-map S S (s .turn) turns (live c) (g .voices))))
 
   module _ (m : List ℕ) where
-    played-sound : 1 ≤ c .head .«data_len» → SoundChannel capacity (playedOf (tickOf p (momentOf (c .head))) m c .channel)
-    unfolding playedOf keptOf
-    played-sound full =
-        let g = parts s in
-        let S = SoundVoice (c .head .now) in
-        let t = tickOf p (momentOf (c .head)) in
-        let us = map (turnOf t m) (live c) in
-        let vs = without (shouldRemoveOf t) us in
-        let few : length vs ≤ c .count = le-trans (fewer (shouldRemoveOf t) us) (le-of-eq (length-map (live c) (turnOf t m) ∙ live-count capacity c s)) in
-        voices-changed capacity c s (sets (c .voices) 0 vs) (length vs) (le-trans few (g .few)) (length-sets (c .voices) 0 vs)
-        (subst (Each S) (sym (front-sets (c .voices) vs (le-trans few (room capacity c s))))
-        (each-without S (shouldRemoveOf t) us
-        (each-map S S (turnOf t m) (λ v h. turn-sound p (momentOf (c .head)) ok full (le-trans (data-within capacity c s) small) (g .head .time) m v h) (live c) (g .voices))))
+    -- and each does: on an empty recording it takes no turn
+    turning-sound : (v : Voice) → SoundVoice (c .head .now) v → SoundVoice (c .head .now) (turningAt turningBy p (momentOf (c .head)) m .turn v)
+    unfolding turningAt turningBy resting
+    turning-sound v k =
+        let at = momentOf (c .head) in
+        cond-split (λ (s : Turning). SoundVoice (c .head .now) (s .turn v)) (eqb (at .«data_len») 0) resting (turningBy (tickOf p at) m)
+        (λ e. k) (λ e. turn-sound p at ok (some (at .«data_len») e) (le-trans (data-within capacity c h) small) (parts h .head .time) m v k)
 
-    -- an empty recording plays none
     played-if-sound : SoundChannel capacity (playedIfOf p (momentOf (c .head)) m c .channel)
-    unfolding playedIfOf
+    unfolding playedIfOf turningOf
     played-if-sound =
-        let n = c .head .«data_len» in
-        cond-split (λ (r : Played). SoundChannel capacity (r .channel)) (eqb n 0) (record { channel = c; output = zero32; moved = 0 }) (playedOf (tickOf p (momentOf (c .head))) m c)
-        (λ e. s) (λ e. played-sound (some n e))
+        cond-split (λ (r : Played). SoundChannel capacity (r .channel)) (eqb (c .head .«data_len») 0) (record { channel = c; output = zero32; moved = 0 })
+        (playedOf (turningOf turningBy p (λ (v : Voice). momentOf (c .head)) (λ (v : Voice). m)) c) (λ e. h) (λ e. played-sound _ turning-sound)
 
 -- ---- of 32 voices at most 31 move up: one has left
-tidied-few : (t : Tick) (m : List ℕ) (vs : List Voice) → length vs ≤ 32 → tidiedOf t m vs ≤ 31
+tidied-few : (s : Turning) (vs : List Voice) → length vs ≤ 32 → tidiedOf s vs ≤ 31
 unfolding tidiedOf
-tidied-few t m vs few = omega (arith, few, length-map vs (turnOf t m), behind-fewer (shouldRemoveOf t) (map (turnOf t m) vs))
+tidied-few s vs few = omega (arith, few, length-map vs (s .turn), behind-fewer (s .leaves) (map (s .turn) vs))
 
 pub moved-few : (p : Params) (x : Float) (c : Channel) (m : List ℕ) → length (live c) ≤ 32 → processSampleOf p x c m .moved ≤ 31
 unfolding processSampleOf playedIfOf playedOf takenOf
 moved-few p x c m few =
     let d = takenOf m c in
-    cond-split (λ (r : Played). r .moved ≤ 31) (eqb (d .head .«data_len») 0) (record { channel = d; output = zero32; moved = 0 }) (playedOf (tickOf p (momentOf (d .head))) (memoryOf x c m) d)
-    (λ e. zero-le) (λ e. tidied-few (tickOf p (momentOf (d .head))) (memoryOf x c m) (live c) few)
+    let s = turningOf turningBy p (λ (v : Voice). momentOf (d .head)) (λ (v : Voice). memoryOf x c m) in
+    cond-split (λ (r : Played). r .moved ≤ 31) (eqb (d .head .«data_len») 0) (record { channel = d; output = zero32; moved = 0 }) (playedOf s d) (λ e. zero-le) (λ e. tidied-few s (live c) few)
 
 -- ---- and closed
 module _ (capacity : ℕ) (c : Channel) (s : SoundChannel capacity c) (p : Params) (ok : SoundParams p) (small : capacity ≤ 2 ^ 22) (x : Float) (m : List ℕ) (size : length m ≡ capacity) where

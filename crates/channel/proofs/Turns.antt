@@ -1,4 +1,4 @@
--- One turn of `play`: what is left of the walk, with the turn taken, is what the walk gives. Assumes nothing.
+-- One turn of `play`: what is left of the walk, with the turn taken, is what the walk gives; and on an empty recording nothing moves. Assumes nothing.
 use mathlib.Core.Path.{_≡_, refl, sym, ap, _∙_}
 use mathlib.Core.Bool.{Bool, true, false, not, cond}
 use mathlib.Core.List.{List, [], _∷_, map}
@@ -7,16 +7,18 @@ use native.Mathlib.Nat.{le-trans, le-of-eq, add-zero, zero-add, add-suc, suc-add
 use native.Mathlib.Omega.{arith}
 use native.Mathlib.Numerals.{add-one}
 use borrow.Author.Tests.{not-true, not-false, lt-ltb, le-ltb, ltb-true, ltb-false}
-use lib.Dec.{ltb}
+use lib.Dec.{eqb, ltb}
 use lib.ListN.{length, set}
 use lib.Seq.{sets}
 use lib.Ieee.{Float}
 use Rattle.walks.specs.Walks.{without, behind, fold}
+use Rattle.common_types.specs.declared.Params.{Params}
 use Rattle.binary32.specs.Leaves.{zero32}
 use Rattle.voice.specs.declared.Voice.{Voice}
+use Rattle.voice.specs.declared.Moment.{Moment}
 use Rattle.voice.specs.declared.Tick.{Tick}
-use Rattle.voice.specs.Voices.{shouldRemoveOf, productOf, turnOf, soundedOf, endedOf, finishOf, volumeStepped, playedOutOf}
-use Rattle.channel.specs.Channels.{live, withVoices, keptOf, tidiedOf, addedOf, heardOf, playedOf}
+use Rattle.voice.specs.Voices.{tickOf, shouldRemoveOf, productOf, turnOf, soundedOf, endedOf, finishOf, volumeStepped, playedOutOf}
+use Rattle.channel.specs.Channels.{live, withVoices, Turning, keptOf, tidiedOf, heardOf, playedOf, addedOf, turningBy, resting, turningAt, turningOf, playedIfOf}
 use Rattle.channel.specs.declared.Channel.{Channel}
 use Rattle.channel.specs.declared.Played.{Played}
 
@@ -36,6 +38,7 @@ step-up moved k i moved' h e = le-trans (le-of-eq e) (go (ltb k i))
     go true = omega arith
     go false = omega arith
 
+-- ---- the voices of one recording
 module _ (t : Tick) (m : List ℕ) where
   -- a voice that is not skipped leaves its product as its last value
   ended-value : (v : Voice) → endedOf t v .«last_sample_value» ≡ v .«last_sample_value»
@@ -50,26 +53,50 @@ module _ (t : Tick) (m : List ℕ) where
   unfolding turnOf volumeStepped soundedOf
   turn-value v h = ap (λ (b : Bool). cond b v (endedOf t (soundedOf t m v)) .«last_sample_value») h ∙ ended-value (soundedOf t m v)
 
-  pub turn-sounds : (out : Float) (v : Voice) → addedOf (shouldRemoveOf t v) out (turnOf t m v .«last_sample_value») ≡ addedOf (shouldRemoveOf t v) out (productOf t m v)
-  unfolding addedOf
-  turn-sounds out v = go (shouldRemoveOf t v) refl
+  -- so that value is what it adds
+  pub sounds-by : (out out' : Float) (v w : Voice) → w ≡ turnOf t m v → out' ≡ addedOf (shouldRemoveOf t v) out (w .«last_sample_value») → out' ≡ turningBy t m .adds out v
+  unfolding turningBy addedOf
+  sounds-by out out' v w turned sounds = sounds ∙ ap (λ (u : Voice). addedOf (shouldRemoveOf t v) out (u .«last_sample_value»)) turned ∙ go (shouldRemoveOf t v) refl
     where
       go : (b : Bool) → shouldRemoveOf t v ≡ b → addedOf b out (turnOf t m v .«last_sample_value») ≡ addedOf b out (productOf t m v)
       go true e = refl
       go false e = ap (λ (x : Float). addedOf false out x) (turn-value v e)
 
+-- ---- all voices at one moment, with one recording
+module _ (by : Tick → List ℕ → Turning) (p : Params) (at : Moment) (m : List ℕ) where
+  pub turning-some : eqb (at .«data_len») 0 ≡ false → turningOf by p (λ (v : Voice). at) (λ (v : Voice). m) ≡ by (tickOf p at) m
+  unfolding turningOf turningAt
+  turning-some e = rw e
+
+  pub turning-none : eqb (at .«data_len») 0 ≡ true → turningOf by p (λ (v : Voice). at) (λ (v : Voice). m) ≡ resting
+  unfolding turningOf turningAt
+  turning-none e = rw e
+
+pub plays-by : (p : Params) (at : Moment) (m : List ℕ) (c : Channel)
+    → playedIfOf p at m c ≡ cond (eqb (at .«data_len») 0) (record { channel = c; output = zero32; moved = 0 }) (playedOf (turningBy (tickOf p at) m) c)
+unfolding playedIfOf
+plays-by p at m c = go (eqb (at .«data_len») 0) refl
+  where
+    go : (b : Bool) → eqb (at .«data_len») 0 ≡ b
+        → cond b (record { channel = c; output = zero32; moved = 0 }) (playedOf (turningOf turningBy p (λ (v : Voice). at) (λ (v : Voice). m)) c)
+        ≡ cond b (record { channel = c; output = zero32; moved = 0 }) (playedOf (turningBy (tickOf p at) m) c)
+    go true e = refl
+    go false e = rw (turning-some turningBy p at m e)
+
+-- ---- a walk over the voices, whatever a sample does with each
+module _ (s : Turning) where
   -- the output from `out` on
   abbrev pub heardFrom : Float → List Voice → Float
-  heardFrom out vs = fold (λ (out : Float) (v : Voice). addedOf (shouldRemoveOf t v) out (productOf t m v)) out vs
+  heardFrom out vs = fold (s .adds) out vs
 
   -- what the rest of the walk gives, with k voices kept so far
   abbrev pub restOf : Channel → ℕ → Float → List Voice → Walked
   restOf c k out vs = record {
-    channel = withVoices (sets (c .voices) k (keptOf t m vs)) (k + length (keptOf t m vs)) c;
+    channel = withVoices (sets (c .voices) k (keptOf s vs)) (k + length (keptOf s vs)) c;
     output = heardFrom out vs;
   }
 
-  pub rest-start : (c : Channel) → restOf c 0 zero32 (live c) ≡ walked (playedOf t m c)
+  pub rest-start : (c : Channel) → restOf c 0 zero32 (live c) ≡ walked (playedOf s c)
   unfolding playedOf heardOf
   rest-start c = simp zero-add
 
@@ -79,9 +106,9 @@ module _ (t : Tick) (m : List ℕ) where
 
   -- how many the rest of the walk has moved up at its end, with the voice at i next, k kept so far and `moved` of them moved: once one has left, each that is kept
   abbrev pub tidiedFrom : ℕ → ℕ → ℕ → List Voice → ℕ
-  tidiedFrom moved k i vs = moved + cond (ltb k i) (length (keptOf t m vs)) (tidiedOf t m vs)
+  tidiedFrom moved k i vs = moved + cond (ltb k i) (length (keptOf s vs)) (tidiedOf s vs)
 
-  pub tidied-start : (c : Channel) → tidiedFrom 0 0 0 (live c) ≡ playedOf t m c .moved
+  pub tidied-start : (c : Channel) → tidiedFrom 0 0 0 (live c) ≡ playedOf s c .moved
   unfolding playedOf
   tidied-start c = simp zero-add
 
@@ -93,53 +120,53 @@ module _ (t : Tick) (m : List ℕ) where
       go true = add-zero moved
       go false = add-zero moved
 
-  module _ (c : Channel) (k : ℕ) (out out' : Float) (v w : Voice) (b : Bool) (turned : w ≡ turnOf t m v)
-      (sounds : out' ≡ addedOf (shouldRemoveOf t v) out (w .«last_sample_value»)) (is : b ≡ shouldRemoveOf t w) (vs : List Voice) where
+  module _ (c : Channel) (k : ℕ) (out out' : Float) (v w : Voice) (b : Bool) (turned : w ≡ s .turn v)
+      (sounds : out' ≡ s .adds out v) (is : b ≡ s .leaves w) (vs : List Voice) where
     heard-on : heardFrom out (v ∷ vs) ≡ heardFrom out' vs
     unfolding fold
-    heard-on = ap (λ (x : Float). heardFrom x vs) (sym (sounds ∙ ap (λ (u : Voice). addedOf (shouldRemoveOf t v) out (u .«last_sample_value»)) turned ∙ turn-sounds out v))
+    heard-on = ap (λ (x : Float). heardFrom x vs) (sym sounds)
 
-    kept-on : keptOf t m (v ∷ vs) ≡ cond b (keptOf t m vs) (w ∷ keptOf t m vs)
+    kept-on : keptOf s (v ∷ vs) ≡ cond b (keptOf s vs) (w ∷ keptOf s vs)
     unfolding keptOf without
     kept-on = simp (is, turned)
 
     pub rest-keep : not b ≡ true → restOf c k out (v ∷ vs) ≡ restOf (withVoices (set (c .voices) k w) (c .count) c) (k + 1) out' vs
     rest-keep h =
-        let kept : keptOf t m (v ∷ vs) ≡ w ∷ keptOf t m vs = kept-on ∙ ap (λ (x : Bool). cond x (keptOf t m vs) (w ∷ keptOf t m vs)) (not-true b h) in
+        let kept : keptOf s (v ∷ vs) ≡ w ∷ keptOf s vs = kept-on ∙ ap (λ (x : Bool). cond x (keptOf s vs) (w ∷ keptOf s vs)) (not-true b h) in
         simp (kept, heard-on, add-one k, add-suc, suc-add)
 
     pub rest-gone : not b ≡ false → restOf c k out (v ∷ vs) ≡ restOf c k out' vs
     rest-gone h =
-        let kept : keptOf t m (v ∷ vs) ≡ keptOf t m vs = kept-on ∙ ap (λ (x : Bool). cond x (keptOf t m vs) (w ∷ keptOf t m vs)) (not-false b h) in
+        let kept : keptOf s (v ∷ vs) ≡ keptOf s vs = kept-on ∙ ap (λ (x : Bool). cond x (keptOf s vs) (w ∷ keptOf s vs)) (not-false b h) in
         simp (kept, heard-on)
 
-    behind-on : behind (shouldRemoveOf t) (map (turnOf t m) (v ∷ vs)) ≡ cond b (keptOf t m vs) (behind (shouldRemoveOf t) (map (turnOf t m) vs))
+    behind-on : behind (s .leaves) (map (s .turn) (v ∷ vs)) ≡ cond b (keptOf s vs) (behind (s .leaves) (map (s .turn) vs))
     unfolding keptOf behind
     behind-on = simp (is, turned)
 
-    pub tidied-same : not b ≡ true → tidiedOf t m (v ∷ vs) ≡ tidiedOf t m vs
+    pub tidied-same : not b ≡ true → tidiedOf s (v ∷ vs) ≡ tidiedOf s vs
     unfolding tidiedOf
-    tidied-same h = ap length (behind-on ∙ ap (λ (x : Bool). cond x (keptOf t m vs) (behind (shouldRemoveOf t) (map (turnOf t m) vs))) (not-true b h))
+    tidied-same h = ap length (behind-on ∙ ap (λ (x : Bool). cond x (keptOf s vs) (behind (s .leaves) (map (s .turn) vs))) (not-true b h))
 
-    tidied-first : not b ≡ false → tidiedOf t m (v ∷ vs) ≡ length (keptOf t m vs)
+    tidied-first : not b ≡ false → tidiedOf s (v ∷ vs) ≡ length (keptOf s vs)
     unfolding tidiedOf
-    tidied-first h = ap length (behind-on ∙ ap (λ (x : Bool). cond x (keptOf t m vs) (behind (shouldRemoveOf t) (map (turnOf t m) vs))) (not-false b h))
+    tidied-first h = ap length (behind-on ∙ ap (λ (x : Bool). cond x (keptOf s vs) (behind (s .leaves) (map (s .turn) vs))) (not-false b h))
 
     -- the count goes on: it is one more where one that is kept isn't stored where it stood
     module _ (moved i : ℕ) (upto : k ≤ i) where
       pub tidied-keep : (moved' : ℕ) → moved' ≡ cond (ltb k i) (moved + 1) moved → not b ≡ true → tidiedFrom moved k i (v ∷ vs) ≡ tidiedFrom moved' (k + 1) (i + 1) vs
       tidied-keep moved' e h = go (ltb k i) refl
         where
-          kept : keptOf t m (v ∷ vs) ≡ w ∷ keptOf t m vs
-          kept = kept-on ∙ ap (λ (x : Bool). cond x (keptOf t m vs) (w ∷ keptOf t m vs)) (not-true b h)
+          kept : keptOf s (v ∷ vs) ≡ w ∷ keptOf s vs
+          kept = kept-on ∙ ap (λ (x : Bool). cond x (keptOf s vs) (w ∷ keptOf s vs)) (not-true b h)
 
           go : (z : Bool) → ltb k i ≡ z → tidiedFrom moved k i (v ∷ vs) ≡ tidiedFrom moved' (k + 1) (i + 1) vs
           go true f =
               let g : ltb (k + 1) (i + 1) ≡ true = lt-ltb (k + 1) (i + 1) (let u = ltb-true k i f in omega arith) in
-              let s : moved + suc (length (keptOf t m vs)) ≡ moved + 1 + length (keptOf t m vs) = omega arith in
-              let a : tidiedFrom moved k i (v ∷ vs) ≡ moved + suc (length (keptOf t m vs)) = simp (f, kept) in
-              let d : moved + 1 + length (keptOf t m vs) ≡ tidiedFrom moved' (k + 1) (i + 1) vs = simp (e, f, g) in
-              a ∙ s ∙ d
+              let q : moved + suc (length (keptOf s vs)) ≡ moved + 1 + length (keptOf s vs) = omega arith in
+              let a : tidiedFrom moved k i (v ∷ vs) ≡ moved + suc (length (keptOf s vs)) = simp (f, kept) in
+              let d : moved + 1 + length (keptOf s vs) ≡ tidiedFrom moved' (k + 1) (i + 1) vs = simp (e, f, g) in
+              a ∙ q ∙ d
           go false f =
               let g : ltb (k + 1) (i + 1) ≡ false = le-ltb (k + 1) (i + 1) (let u = ltb-false k i f in omega arith) in
               simp (f, g, e, tidied-same h)
@@ -147,8 +174,8 @@ module _ (t : Tick) (m : List ℕ) where
       pub tidied-gone : not b ≡ false → tidiedFrom moved k i (v ∷ vs) ≡ tidiedFrom moved k (i + 1) vs
       tidied-gone h = go (ltb k i) refl
         where
-          kept : keptOf t m (v ∷ vs) ≡ keptOf t m vs
-          kept = kept-on ∙ ap (λ (x : Bool). cond x (keptOf t m vs) (w ∷ keptOf t m vs)) (not-false b h)
+          kept : keptOf s (v ∷ vs) ≡ keptOf s vs
+          kept = kept-on ∙ ap (λ (x : Bool). cond x (keptOf s vs) (w ∷ keptOf s vs)) (not-false b h)
 
           later : ltb k (i + 1) ≡ true
           later = lt-ltb k (i + 1) (omega (arith, upto))
@@ -156,3 +183,19 @@ module _ (t : Tick) (m : List ℕ) where
           go : (z : Bool) → ltb k i ≡ z → tidiedFrom moved k i (v ∷ vs) ≡ tidiedFrom moved k (i + 1) vs
           go true f = simp (f, later, kept)
           go false f = simp (f, later, tidied-first h)
+
+-- ---- on an empty recording nothing moves
+pub resting-kept : (vs : List Voice) → keptOf resting vs ≡ vs
+unfolding keptOf resting without
+resting-kept [] = refl
+resting-kept (v ∷ vs) = ap (λ (l : List Voice). v ∷ l) (resting-kept vs)
+
+pub resting-tidied : (vs : List Voice) → tidiedOf resting vs ≡ 0
+unfolding tidiedOf resting behind
+resting-tidied [] = refl
+resting-tidied (v ∷ vs) = resting-tidied vs
+
+pub resting-heard : (vs : List Voice) → heardOf resting vs ≡ zero32
+unfolding heardOf resting fold
+resting-heard [] = refl
+resting-heard (v ∷ vs) = resting-heard vs

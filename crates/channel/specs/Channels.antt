@@ -115,32 +115,65 @@ stopRecordingOf c = withHead (headChangedOf StopRecording (c .head)) c
 
 -- ---- a sample
 
+-- what a sample does with a voice: its turn; whether it leaves, once it has taken that; and the output so far, with what
+-- the voice adds to it
+pub record Turning : Type 0 where
+  pub turn : Voice → Voice
+  pub leaves : Voice → Bool
+  pub adds : Float → Voice → Float
+
 -- what is left of the voices after their turns
-unfoldable pub keptOf : Tick → List ℕ → List Voice → List Voice
-keptOf t m vs = without (shouldRemoveOf t) (map (turnOf t m) vs)
+unfoldable pub keptOf : Turning → List Voice → List Voice
+keptOf s vs = without (s .leaves) (map (s .turn) vs)
 
 -- how many of them move up (request 12/12): the kept voices behind the first that leaves
-unfoldable pub tidiedOf : Tick → List ℕ → List Voice → ℕ
-tidiedOf t m vs = length (behind (shouldRemoveOf t) (map (turnOf t m) vs))
+unfoldable pub tidiedOf : Turning → List Voice → ℕ
+tidiedOf s vs = length (behind (s .leaves) (map (s .turn) vs))
 
--- each product added in turn; a voice that is to be removed is silent
+-- what they add, in turn
+unfoldable pub heardOf : Turning → List Voice → Float
+heardOf s vs = fold (s .adds) zero32 vs
+
+unfoldable pub playedOf : Turning → Channel → Played
+playedOf s c = record {
+  channel = withVoices (sets (c .voices) 0 (keptOf s (live c))) (length (keptOf s (live c))) c;
+  output = heardOf s (live c);
+  moved = tidiedOf s (live c);
+}
+
+-- a voice that is to be removed is silent
 unfoldable pub addedOf : Bool → Float → Float → Float
 addedOf silent out value = cond silent out (add binary32 out value)
 
-unfoldable pub heardOf : Tick → List ℕ → List Voice → Float
-heardOf t m vs = fold (λ (out : Float) (v : Voice). addedOf (shouldRemoveOf t v) out (productOf t m v)) zero32 vs
-
-unfoldable pub playedOf : Tick → List ℕ → Channel → Played
-playedOf t m c = record {
-  channel = withVoices (sets (c .voices) 0 (keptOf t m (live c))) (length (keptOf t m (live c))) c;
-  output = heardOf t m (live c);
-  moved = tidiedOf t m (live c);
+-- what a sample does with the voices of one recording
+unfoldable pub turningBy : Tick → List ℕ → Turning
+turningBy t m = record {
+  turn = turnOf t m;
+  leaves = shouldRemoveOf t;
+  adds = λ (out : Float) (v : Voice). addedOf (shouldRemoveOf t v) out (productOf t m v);
 }
 
--- the voices play if the recording isn't empty
+-- what it does with those of an empty one: nothing
+unfoldable pub resting : Turning
+resting = record { turn = λ (v : Voice). v; leaves = λ (v : Voice). false; adds = λ (out : Float) (v : Voice). out }
+
+-- what it does with one voice, at its moment and with its recording
+unfoldable pub turningAt : (Tick → List ℕ → Turning) → Params → Moment → List ℕ → Turning
+turningAt by p at m = cond (eqb (at .«data_len») 0) resting (by (tickOf p at) m)
+
+-- each voice v has a moment of its own, `at v`, and a recording of its own, `m v`
+unfoldable pub turningOf : (Tick → List ℕ → Turning) → Params → (Voice → Moment) → (Voice → List ℕ) → Turning
+turningOf by p at m = record {
+  turn = λ (v : Voice). turningAt by p (at v) (m v) .turn v;
+  leaves = λ (v : Voice). turningAt by p (at v) (m v) .leaves v;
+  adds = λ (out : Float) (v : Voice). turningAt by p (at v) (m v) .adds out v;
+}
+
+-- All voices have one moment and one recording. With an empty one the channel is left as it is: by `resting` too, but for
+-- a count above 32, which `playedOf` lowers to 32.
 unfoldable pub playedIfOf : Params → Moment → List ℕ → Channel → Played
 playedIfOf p at m c = cond (eqb (at .«data_len») 0) (record { channel = c; output = zero32; moved = 0 })
-    (playedOf (tickOf p at) m c)
+    (playedOf (turningOf turningBy p (λ (v : Voice). at) (λ (v : Voice). m)) c)
 
 -- the channel once the sample x has been recorded, and its memory
 unfoldable pub takenOf : List ℕ → Channel → Channel

@@ -47,6 +47,7 @@ ghost use Rattle.channel.specs.Channels.{
   stopRecordingOf,
   addedOf,
   playedOf,
+  turningBy,
   playedIfOf,
   takenOf,
   memoryOf,
@@ -550,7 +551,7 @@ impl Channel {
 
     // Each voice takes its turn; those that are then to be removed leave, and the others move up in order.
     fn play(mut self, t: Tick, data: &[u32]) -> Played
-        ensures { λ r. ⌜ r ≡ playedOf t (now («data» .entry)) self ⌝ }
+        ensures { λ r. ⌜ r ≡ playedOf (turningBy t (now («data» .entry))) self ⌝ }
         ensures { λ r. ⌜ r .moved ≤ 32 ⌝ }
     {
         let n = places(self.count);

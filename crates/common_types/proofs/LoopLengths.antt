@@ -1,5 +1,5 @@
 -- What row 4 lets through has a loop length from 1 to 2 ^ 22, for every data length up to 2 ^ 22. Assumes nothing.
-use mathlib.Core.Path.{_≡_, refl, sym, subst}
+use mathlib.Core.Path.{_≡_, refl, sym, subst, ap}
 use mathlib.Core.Bool.{Bool, true, false, not, cond, true≢false}
 use Prim.Native.Nat.{ℕ, _+_, _*_, _^_, _≤_, _<_}
 use native.Mathlib.Nat.{mul-le-mul, mul-pos, zero-lt-suc, le-trans}
@@ -10,7 +10,7 @@ use lib.Ieee.{Float, nan, inf, fin, binary32, up, down, round, mul, lt, le, eq, 
 use lib.Ieee.Fits.{down-pos, mul-fits}
 use lib.Ieee.Exact.{HasValue}
 use lib.Ieee.Order.{round-mono}
-use Rattle.binary32.specs.Leaves.{asFloat, signOf}
+use Rattle.binary32.specs.Leaves.{asFloat, maxOf, signOf}
 use Rattle.binary32.proofs.Truth.{or-l}
 use Rattle.binary32.proofs.Values.{mul-value}
 use Rattle.binary32.proofs.Units.{one}
@@ -23,7 +23,7 @@ use Rattle.common_types.specs.declared.time_value.TimeValue.the-variants
 use Rattle.common_types.specs.declared.time_value.TimeOrRatio.{TimeOrRatio}
 use Rattle.common_types.specs.declared.time_value.TimeOrRatio.the-variants.{Time, Ratio, WholeBars}
 use Rattle.common_types.specs.Times.{asSamplesOf}
-use Rattle.common_types.specs.Settings.{carried, timeLengthOf, lengthOf, loopLengthOf, lengthBeyond, beyondLimits}
+use Rattle.common_types.specs.Settings.{carried, timeLengthOf, lengthOf, timeIn, isWhole, isRatio, workedOf, loopLengthOf, measureOf, measuredOf, lengthBeyond, beyondLimits}
 use Rattle.common_types.proofs.Limits.{within}
 use Rattle.binary32.proofs.Extremes.{max-reaches, max-under, max-fits}
 
@@ -94,6 +94,20 @@ pub loop-length-to-most : (p : Params) (n : ℕ) → T (not (beyondLimits p)) �
 unfolding loopLengthOf
 loop-length-to-most p n b h =
     max-under (lengthOf (p .«loop_length») (p .transport) n) one most (length-under (p .«loop_length») (p .transport) n h (within p b .length)) (unfold le in tt)
+
+-- ---- over a recording of n samples, by its measure
+length-measured : (l : TimeOrRatio) (t : Transport) (n : ℕ) → lengthOf l t n ≡ cond (isRatio l) (mul binary32 (asFloat n) (workedOf (timeIn l) (isWhole l) t)) (workedOf (timeIn l) (isWhole l) t)
+unfolding lengthOf workedOf timeLengthOf
+length-measured (Time (QuarterNotes x)) t n = refl
+length-measured (Time (Samples x)) t n = refl
+length-measured (Time (Seconds x)) t n = refl
+length-measured (Time (Bars x)) t n = refl
+length-measured (Ratio r) t n = refl
+length-measured (WholeBars x) t n = refl
+
+pub loop-length-measured : (p : Params) (n : ℕ) → loopLengthOf p n ≡ measuredOf (measureOf p) (asFloat n)
+unfolding loopLengthOf measuredOf measureOf
+loop-length-measured p n = ap (λ (x : Float). maxOf x one) (length-measured (p .«loop_length») (p .transport) n)
 
 -- ---- in binary32
 

@@ -9,6 +9,7 @@ use Rattle.binary32.specs.Leaves.{asFloat, maxOf}
 use Rattle.common_types.specs.Times.{samplesPerQuarterNoteOf, asSamplesOf}
 use Rattle.common_types.specs.declared.Transport.{Transport}
 use Rattle.common_types.specs.declared.Params.{Params}
+use Rattle.common_types.specs.declared.Measure.{Measure}
 use Rattle.common_types.specs.declared.InitParams.{InitParams}
 use Rattle.common_types.specs.declared.LoopMode.the-variants.{Loop}
 use Rattle.common_types.specs.declared.NoteOffBehaviour.the-variants.{DecayAndZeroCrossing}
@@ -90,6 +91,22 @@ workedOf (Bars x) whole t = cond whole (asSamplesOf (Bars x) t) (timeLengthOf (B
 -- the larger of that and 1; NaN gives 1
 unfoldable pub loopLengthOf : Params → ℕ → Float
 loopLengthOf p n = maxOf (lengthOf (p .«loop_length») (p .transport) n) (fin false 1 (pos 0))
+
+-- what of that asks for no recording (document 02, 11/12: each voice goes by its own phrase): a ratio, or a length
+abbrev pub isRatio : TimeOrRatio → Bool
+isRatio (Time v) = false
+isRatio (Ratio r) = true
+isRatio (WholeBars x) = false
+
+unfoldable pub measureOf : Params → Measure
+measureOf p = record {
+  value = workedOf (timeIn (p .«loop_length»)) (isWhole (p .«loop_length»)) (p .transport);
+  «by_ratio» = isRatio (p .«loop_length»);
+}
+
+-- the loop length that it gives over a recording of that length
+unfoldable pub measuredOf : Measure → Float → Float
+measuredOf m length = maxOf (cond (m .«by_ratio») (mul binary32 length (m .value)) (m .value)) (fin false 1 (pos 0))
 
 -- ---- row 4: attack or decay above its limit, ratio above 1, or a time length worked out above 2 ^ 22.
 -- NaN is not above.

@@ -22,9 +22,12 @@ ghost use Rattle.common_types.specs.Settings.{
   speedOf,
   timeIn,
   isWhole,
+  isRatio,
   workedOf,
   lengthOf,
   loopLengthOf,
+  measureOf,
+  measuredOf,
   lengthBeyond,
   beyondLimits,
 };
@@ -271,6 +274,19 @@ impl Params {
         at_least_one(length(loop_length, transport, data_len))
     }
 
+    // What of the loop length asks for no recording (11/12). `loop_length` doesn't go by it, which would cost the calls
+    // stack.
+    pub fn measure(self) -> Measure
+        ensures { λ r. ⌜ r ≡ measureOf self ⌝ }
+    {
+        let transport = self.transport;
+        let loop_length = self.loop_length;
+        Measure {
+            value: time_length(timed(loop_length), whole(loop_length), transport),
+            by_ratio: is_ratio(loop_length),
+        }
+    }
+
     // Whether row 4 of document 01's table refuses these parameters.
     pub fn beyond_limits(self) -> bool
         ensures { λ r. ⌜ r ≡ beyondLimits self ⌝ }
@@ -284,6 +300,24 @@ impl Params {
         let transport = self.transport;
         let loop_length = self.loop_length;
         length_beyond(loop_length, transport)
+    }
+}
+
+// A loop length before it is known of which recording: a part of the recording's length, or a length of its own.
+pub struct Measure {
+    pub value: f32,
+    pub by_ratio: bool,
+}
+
+impl Measure {
+    // The loop length over a recording of that length, as a float.
+    pub fn length(self, data_length: f32) -> f32
+        ensures { λ r. ⌜ r ≡ measuredOf self «data_length» ⌝ }
+    {
+        if self.by_ratio {
+            return at_least_one(data_length * self.value);
+        }
+        at_least_one(self.value)
     }
 }
 
@@ -333,6 +367,16 @@ fn whole(length: TimeOrRatio) -> bool
         TimeOrRatio::Time(_) => false,
         TimeOrRatio::Ratio(_) => false,
         TimeOrRatio::WholeBars(_) => true,
+    }
+}
+
+fn is_ratio(length: TimeOrRatio) -> bool
+    ensures { λ r. ⌜ r ≡ isRatio length ⌝ }
+{
+    match length {
+        TimeOrRatio::Time(_) => false,
+        TimeOrRatio::Ratio(_) => true,
+        TimeOrRatio::WholeBars(_) => false,
     }
 }
 

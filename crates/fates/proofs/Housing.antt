@@ -14,7 +14,6 @@ use Rattle.common_types.specs.declared.Params.{Params}
 use Rattle.common_types.specs.declared.Note.{Note}
 use Rattle.binary32.specs.Leaves.{zero32}
 use Rattle.voice.specs.declared.Voice.{Voice}
-use Rattle.voice.specs.declared.Tick.{Tick}
 use Rattle.voice.specs.Voices.{finishOf, blankVoice}
 use Rattle.channel.specs.declared.Channel.{Channel}
 use Rattle.channel.specs.declared.Played.{Played}
@@ -35,11 +34,13 @@ use Rattle.channel.specs.Channels.{
   stopPlayingOf,
   spedOf,
   setNoteSpeedOf,
+  Turning,
+  keptOf,
+  playedOf,
   takenOf,
-  memoryOf,
 }
-use Rattle.fates.specs.Engine.{bornOf, begunOf, leftOf, turnsOf, stepOf}
-use Rattle.fates.specs.Events.{Event, idle, changes, sounds, act, emptyAt, tickAt}
+use Rattle.fates.specs.Engine.{bornOf, begunOf, turnsIn, stepOf}
+use Rattle.fates.specs.Events.{Event, idle, changes, sounds, act}
 use Rattle.fates.specs.Places.{Housed}
 use Rattle.fates.proofs.Lives.{live-length, left-length}
 
@@ -83,22 +84,19 @@ housed-finished p c (At i) h = go (ltb i 32)
     go true = headless (handledOf p (withVoices vs (c .count) c)) c (length-set (c .voices) i _) refl h
     go false = h
 
-housed-turned : (t : Tick) (m : List ℕ) (c : Channel) → Housed c → Housed (turnsOf t m c .channel)
-unfolding turnsOf
-housed-turned t m c h = record {
-  places = length-sets (c .voices) 0 (leftOf t m (live c)) ∙ h .places;
-  room = omega (arith, left-length t m (live c), live-length c h, h .room);
+housed-turned : (s : Turning) (c : Channel) → Housed c → Housed (playedOf s c .channel)
+unfolding playedOf
+housed-turned s c h = record {
+  places = length-sets (c .voices) 0 (keptOf s (live c)) ∙ h .places;
+  room = omega (arith, left-length s (live c), live-length c h, h .room);
 }
 
 housed-sounded : (p : Params) (x : Float) (m : List ℕ) (c : Channel) → Housed c → Housed (stepOf p x c m .channel)
 unfolding stepOf takenOf
-housed-sounded p x m c h = go (emptyAt m c)
+housed-sounded p x m c h = go (eqb (takenOf m c .head .«data_len») 0)
   where
-    q : Played
-    q = turnsOf (tickAt p m c) (memoryOf x c m) (takenOf m c)
-
     r : Bool → Played
-    r b = cond {A = Played} b (record { channel = takenOf m c; output = zero32; moved = 0 }) q
+    r b = cond {A = Played} b (record { channel = takenOf m c; output = zero32; moved = 0 }) (playedOf (turnsIn p x m c) (takenOf m c))
 
     k : Housed (takenOf m c)
     k = headless (takenOf m c) c refl refl h
@@ -106,7 +104,7 @@ housed-sounded p x m c h = go (emptyAt m c)
     go : (b : Bool) → Housed (record { voices = r b .channel .voices; count = r b .channel .count; head = stepOf p x c m .channel .head })
     go true = record { places = h .places; room = h .room }
     go false =
-        let s = housed-turned (tickAt p m c) (memoryOf x c m) (takenOf m c) k in
+        let s = housed-turned (turnsIn p x m c) (takenOf m c) k in
         record { places = s .places; room = s .room }
 
 pub housed : (e : Event) (c : Channel) → Housed c → Housed (act e c)

@@ -1,3 +1,4 @@
+pub mod Own
 pub mod Lives
 pub mod Stops
 pub mod Housing

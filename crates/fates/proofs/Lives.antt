@@ -1,5 +1,5 @@
 -- The voices that there are after each event, and that the 32 places stay. Assumes nothing.
-use mathlib.Core.Path.{_≡_, refl, sym}
+use mathlib.Core.Path.{_≡_, refl, sym, ap, _∙_}
 use mathlib.Core.Bool.{Bool, true, false, not, _||_, cond}
 use mathlib.Core.List.{List, [], _∷_, _++_, map, append-nil}
 use Prim.Native.Nat.{ℕ, _+_, _≤_}
@@ -15,7 +15,6 @@ use Rattle.common_types.specs.declared.Params.{Params}
 use Rattle.common_types.specs.declared.Note.{Note}
 use Rattle.binary32.specs.Leaves.{zero32}
 use Rattle.voice.specs.declared.Voice.{Voice}
-use Rattle.voice.specs.declared.Tick.{Tick}
 use Rattle.channel.specs.declared.Channel.{Channel}
 use Rattle.channel.specs.declared.Played.{Played}
 use Rattle.channel.specs.Channels.{
@@ -25,13 +24,17 @@ use Rattle.channel.specs.Channels.{
   pushedOf,
   spedOf,
   setNoteSpeedOf,
+  Turning,
+  keptOf,
+  playedOf,
   takenOf,
-  memoryOf,
 }
 use Rattle.channel.specs.declared.Change.the-variants as change
-use Rattle.fates.specs.Engine.{bornOf, begunOf, turnedOf, leavesOf, leftOf, turnsOf, stepOf}
-use Rattle.fates.specs.Events.{changes, emptyAt, tickAt}
+use Rattle.channel.proofs.Turns.{resting-kept}
+use Rattle.fates.specs.Engine.{bornOf, begunOf, turnsIn, stepOf}
+use Rattle.fates.specs.Events.{changes}
 use Rattle.fates.specs.Places.{Housed, addedBy}
+use Rattle.fates.proofs.Own.{rests}
 
 pub live-length : (c : Channel) → Housed c → length (live c) ≡ c .count
 live-length c h = length-take-le (c .count) (c .voices) (omega (arith, h .places, h .room))
@@ -57,21 +60,19 @@ unfolding setNoteSpeedOf
 live-sped note speed c h = front-map (spedOf note speed) (c .voices) (c .count) (omega (arith, h .places, h .room))
 
 -- ---- a sample
-pub left-length : (t : Tick) (m : List ℕ) (vs : List Voice) → length (leftOf t m vs) ≤ length vs
-unfolding leftOf
-left-length t m vs = omega (arith, fewer (leavesOf t) (map (turnedOf t m) vs), length-map vs (turnedOf t m))
+pub left-length : (s : Turning) (vs : List Voice) → length (keptOf s vs) ≤ length vs
+unfolding keptOf
+left-length s vs = omega (arith, fewer (s .leaves) (map (s .turn) vs), length-map vs (s .turn))
 
-live-turned : (t : Tick) (m : List ℕ) (c : Channel) → Housed c → live (turnsOf t m c .channel) ≡ leftOf t m (live c)
-unfolding turnsOf
-live-turned t m c h = front-sets (c .voices) (leftOf t m (live c)) (omega (arith, left-length t m (live c), live-length c h, h .places, h .room))
+live-turned : (s : Turning) (c : Channel) → Housed c → live (playedOf s c .channel) ≡ keptOf s (live c)
+unfolding playedOf
+live-turned s c h = front-sets (c .voices) (keptOf s (live c)) (omega (arith, left-length s (live c), live-length c h, h .places, h .room))
 
-pub live-sounded : (p : Params) (x : Float) (m : List ℕ) (c : Channel) → Housed c
-    → live (stepOf p x c m .channel) ≡ cond (emptyAt m c) (live c) (leftOf (tickAt p m c) (memoryOf x c m) (live c))
+pub live-sounded : (p : Params) (x : Float) (m : List ℕ) (c : Channel) → Housed c → live (stepOf p x c m .channel) ≡ keptOf (turnsIn p x m c) (live c)
 unfolding stepOf takenOf
-live-sounded p x m c h = go (emptyAt m c)
+live-sounded p x m c h = go (eqb (takenOf m c .head .«data_len») 0) refl
   where
-    go : (b : Bool)
-        → live (cond {A = Played} b (record { channel = takenOf m c; output = zero32; moved = 0 }) (turnsOf (tickAt p m c) (memoryOf x c m) (takenOf m c)) .channel)
-        ≡ cond b (live c) (leftOf (tickAt p m c) (memoryOf x c m) (live c))
-    go true = refl
-    go false = live-turned (tickAt p m c) (memoryOf x c m) (takenOf m c) (record { places = h .places; room = h .room })
+    go : (b : Bool) → eqb (takenOf m c .head .«data_len») 0 ≡ b
+        → live (cond {A = Played} b (record { channel = takenOf m c; output = zero32; moved = 0 }) (playedOf (turnsIn p x m c) (takenOf m c)) .channel) ≡ keptOf (turnsIn p x m c) (live c)
+    go true e = sym (ap (λ (s : Turning). keptOf s (live c)) (rests p x m c e) ∙ resting-kept (live c))
+    go false e = live-turned (turnsIn p x m c) (takenOf m c) (record { places = h .places; room = h .room })

@@ -23,6 +23,7 @@ use Rattle.fates.specs.Places.{Housed, voiceAt, Place, at, follow, becom
 use Rattle.fates.specs.Sounding.{First}
 use Rattle.walks.proofs.Tests.{neither}
 use Rattle.walks.proofs.Lists.Looks.{look-last}
+use Rattle.fates.proofs.Own.{finds-kept}
 use Rattle.fates.proofs.Lives.{live-started}
 use Rattle.fates.proofs.Housing.{housed}
 use Rattle.fates.proofs.Tracks.{tracks}
@@ -102,7 +103,7 @@ module _ (p₀ : Params) (position : Float) (note : Note) (velocity : Float) whe
     stands = subst (λ (l : List Voice). getElem? l (length (live c)) ≡ some (bornOf p₀ position note velocity c)) (sym taken) (look-last (live c) (bornOf p₀ position note velocity c))
 
     pub on-time : (es : List Event) → any isReset es ≡ false → any isSample es ≡ false → stoppedIn es (act begin c) (length (live c)) ≡ false
-        → (p : Params) (x : Float) (m : List ℕ) → emptyAt m (acts (begin ∷ es) c) ≡ false
+        → (p : Params) (x : Float) (m : List ℕ) → emptyAt m (acts (begin ∷ es) c) (bornOf p₀ position note velocity c) ≡ false
         → First p x m (acts (begin ∷ es) c) (length (live c)) (bornOf p₀ position note velocity c)
     unfolding acts atSpeedOf freshOf isReset isSample any
     on-time es r q f p x m g =
@@ -110,7 +111,7 @@ module _ (p₀ : Params) (position : Float) (note : Note) (velocity : Float) whe
         let z = clock-stands (begin ∷ es) c r q in
         record {
           voice = w .voice;
-          sounds = sounds-each p x m (acts es (act begin c)) (length (live c)) (w .voice) (w .stands) (ap (λ (v : Voice). v .finished) (w .same)) g;
+          sounds = sounds-each p x m (acts es (act begin c)) (length (live c)) (w .voice) (w .stands) (ap (λ (v : Voice). v .finished) (w .same)) (finds-kept m (acts es (act begin c)) (bornOf p₀ position note velocity c) (w .voice) g);
           as-started = w .same;
           since = ap (λ (v : Voice). v .clip2 .since) (w .same) ∙ sym z;
         }

@@ -10,7 +10,6 @@ use native.Mathlib.Omega.{arith}
 use lib.Dec.{eqb, ltb}
 use lib.ListN.{length, take, getD, set, getElem?, length-set, length-map}
 use Rattle.voice.specs.declared.Voice.{Voice}
-use Rattle.voice.specs.declared.Tick.{Tick}
 use Rattle.voice.specs.Voices.{finishOf, blankVoice}
 use Rattle.channel.specs.declared.Channel.{Channel}
 use Rattle.channel.specs.declared.Change.the-variants as change
@@ -21,10 +20,11 @@ use Rattle.channel.specs.Channels.{
   findOf,
   spedOf,
   resetOf,
-  memoryOf,
+  Turning,
+  keptOf,
 }
-use Rattle.fates.specs.Engine.{bornOf, turnedOf, leavesOf, leftOf}
-use Rattle.fates.specs.Events.{Event, idle, changes, sounds, act, isReset, emptyAt, tickAt}
+use Rattle.fates.specs.Engine.{bornOf, turnsIn}
+use Rattle.fates.specs.Events.{Event, idle, changes, sounds, act, isReset}
 use Rattle.fates.specs.Places.{Housed, voiceAt, at, gone, fateOf, follow, addedBy}
 use Rattle.walks.proofs.Lists.Looks.{never, look-below, look-some, look-back, look-map, look-unmap, take-map, rank-order, keep-stood, without-fewer}
 use Rattle.fates.proofs.Lives.{live-length, live-started, live-sped, live-sounded}
@@ -33,18 +33,17 @@ use Rattle.fates.proofs.Housing.{housed}
 use Rattle.fates.proofs.Tracks.{at-same, gone-never}
 
 -- ---- order
-fate-order : (t : Tick) (m : List ℕ) (vs : List Voice) (i n a b : ℕ) (v w : Voice) → i < n → getElem? vs i ≡ some v
-    → fateOf t m vs i (some v) ≡ at a → fateOf t m vs n (some w) ≡ at b → a < b
-unfolding fateOf leftOf
-fate-order t m vs i n a b v w o s f g = go (leavesOf t (turnedOf t m v)) refl (leavesOf t (turnedOf t m w)) f g
+fate-order : (s : Turning) (vs : List Voice) (i n a b : ℕ) (v w : Voice) → i < n → getElem? vs i ≡ some v → fateOf s vs i (some v) ≡ at a → fateOf s vs n (some w) ≡ at b → a < b
+unfolding fateOf keptOf
+fate-order s vs i n a b v w o k f g = go (s .leaves (s .turn v)) refl (s .leaves (s .turn w)) f g
   where
-    go : (x : Bool) → leavesOf t (turnedOf t m v) ≡ x → (y : Bool) → cond x gone (at (length (leftOf t m (take i vs)))) ≡ at a
-        → cond y gone (at (length (leftOf t m (take n vs)))) ≡ at b → a < b
+    go : (x : Bool) → s .leaves (s .turn v) ≡ x → (y : Bool) → cond x gone (at (length (keptOf s (take i vs)))) ≡ at a
+        → cond y gone (at (length (keptOf s (take n vs)))) ≡ at b → a < b
     go true e y f g = absurd (gone-never a f)
     go false e true f g = absurd (gone-never b g)
     go false e false f g =
-        let r = rank-order (leavesOf t) (map (turnedOf t m) vs) i n (turnedOf t m v) o (look-map (turnedOf t m) vs i v s) e in
-        omega (arith, rw (take-map (turnedOf t m) i vs, take-map (turnedOf t m) n vs) at r, at-same _ a f, at-same _ b g)
+        let r = rank-order (s .leaves) (map (s .turn) vs) i n (s .turn v) o (look-map (s .turn) vs i v k) e in
+        omega (arith, rw (take-map (s .turn) i vs, take-map (s .turn) n vs) at r, at-same _ a f, at-same _ b g)
 
 pub ordered : (e : Event) (c : Channel) (i n a b : ℕ) (v w : Voice) → i < n → voiceAt c i ≡ some v → voiceAt c n ≡ some w
     → follow e c i ≡ at a → follow e c n ≡ at b → a < b
@@ -55,20 +54,11 @@ ordered (changes d) c i n a b v w o s r f g = go (isReset (changes d)) f g
     go : (x : Bool) → cond x gone (at i) ≡ at a → cond x gone (at n) ≡ at b → a < b
     go true f g = absurd (gone-never a f)
     go false f g = omega (arith, at-same i a f, at-same n b g)
-ordered (sounds p x m) c i n a b v w o s r f g = go (emptyAt m c) f g
-  where
-    t : Tick
-    t = tickAt p m c
-
-    mem : List ℕ
-    mem = memoryOf x c m
-
-    go : (z : Bool) → cond z (at i) (fateOf t mem (live c) i (voiceAt c i)) ≡ at a → cond z (at n) (fateOf t mem (live c) n (voiceAt c n)) ≡ at b → a < b
-    go true f g = omega (arith, at-same i a f, at-same n b g)
-    go false f g =
-        fate-order t mem (live c) i n a b v w o s
-        (subst (λ (y : Option Voice). fateOf t mem (live c) i y ≡ at a) s f)
-        (subst (λ (y : Option Voice). fateOf t mem (live c) n y ≡ at b) r g)
+ordered (sounds p x m) c i n a b v w o s r f g =
+    let turns = turnsIn p x m c in
+    fate-order turns (live c) i n a b v w o s
+    (subst (λ (y : Option Voice). fateOf turns (live c) i y ≡ at a) s f)
+    (subst (λ (y : Option Voice). fateOf turns (live c) n y ≡ at b) r g)
 
 -- ---- whatever stands there afterwards
 -- a voice that was there was followed to place k
@@ -78,14 +68,14 @@ pub record Came (e : Event) (c : Channel) (k : ℕ) : Type 0 where
   pub stood : voiceAt c place ≡ some voice
   pub follows : follow e c place ≡ at k
 
-left-came : (t : Tick) (m : List ℕ) (vs : List Voice) (k : ℕ) (u : Voice) → getElem? (leftOf t m vs) k ≡ some u
-    → (n : ℕ) × (v : Voice) × (getElem? vs n ≡ some v) × (fateOf t m vs n (some v) ≡ at k)
-unfolding leftOf fateOf
-left-came t m vs k u h =
-    let s = keep-stood (leavesOf t) (map (turnedOf t m) vs) k u h in
-    let w = look-unmap (turnedOf t m) vs (s .place) u (s .stood) in
-    let b : leavesOf t (turnedOf t m (w .0)) ≡ false = subst (λ (y : Voice). leavesOf t y ≡ false) (w .2) (s .stays) in
-    (s .place, w .0, w .1, rw (b, ← take-map (turnedOf t m) (s .place) vs) (ap at (s .moves)))
+left-came : (s : Turning) (vs : List Voice) (k : ℕ) (u : Voice) → getElem? (keptOf s vs) k ≡ some u
+    → (n : ℕ) × (v : Voice) × (getElem? vs n ≡ some v) × (fateOf s vs n (some v) ≡ at k)
+unfolding keptOf fateOf
+left-came s vs k u h =
+    let q = keep-stood (s .leaves) (map (s .turn) vs) k u h in
+    let w = look-unmap (s .turn) vs (q .place) u (q .stood) in
+    let b : s .leaves (s .turn (w .0)) ≡ false = subst (λ (y : Voice). s .leaves y ≡ false) (w .2) (q .stays) in
+    (q .place, w .0, w .1, rw (b, ← take-map (s .turn) (q .place) vs) (ap at (q .moves)))
 
 pub covered : (e : Event) (c : Channel) → Housed c → (k : ℕ) (u : Voice) → voiceAt (act e c) k ≡ some u
     → Came e c k ⊎ ((k ≡ length (live c)) × (addedBy e c ≡ u ∷ []))
@@ -120,36 +110,20 @@ covered (changes (change.Speed note speed)) c h k u s =
     inl (record { place = k; voice = r .0; stood = r .1; follows = refl })
 covered (changes (change.Head d)) c h k u s = inl (record { place = k; voice = u; stood = s; follows = refl })
 covered (changes change.Reset) c h k u s = absurd (never u s)
-covered (sounds p x m) c h k u s = go (emptyAt m c) refl (subst (λ (l : List Voice). getElem? l k ≡ some u) (live-sounded p x m c h) s)
-  where
-    t : Tick
-    t = tickAt p m c
-
-    mem : List ℕ
-    mem = memoryOf x c m
-
-    go : (b : Bool) → emptyAt m c ≡ b → getElem? (cond b (live c) (leftOf t mem (live c))) k ≡ some u → Came (sounds p x m) c k ⊎ ((k ≡ length (live c)) × ([] ≡ u ∷ []))
-    go true e r = inl (record { place = k; voice = u; stood = r; follows = rw e })
-    go false e r =
-        let q = left-came t mem (live c) k u r in
-        inl (record { place = q .0; voice = q .1; stood = q .2; follows = rw (e, q .2) (q .3) })
+covered (sounds p x m) c h k u s =
+    let q = left-came (turnsIn p x m c) (live c) k u (subst (λ (l : List Voice). getElem? l k ≡ some u) (live-sounded p x m c h) s) in
+    inl (record { place = q .0; voice = q .1; stood = q .2; follows = rw (q .2) (q .3) })
 
 -- ---- the count falls
 nowhere : (i : ℕ) → at i ≡ gone → ⊥
 nowhere i h = gone-never i (sym h)
 
-left-fewer : (t : Tick) (m : List ℕ) (vs : List Voice) (n : ℕ) (v : Voice) → getElem? vs n ≡ some v → fateOf t m vs n (some v) ≡ gone
-    → length (leftOf t m vs) < length vs
-unfolding fateOf leftOf
-left-fewer t m vs n v s f = go (leavesOf t (turnedOf t m v)) refl f
+left-fewer : (s : Turning) (vs : List Voice) (n : ℕ) (v : Voice) → getElem? vs n ≡ some v → fateOf s vs n (some v) ≡ gone → length (keptOf s vs) < length vs
+unfolding fateOf keptOf
+left-fewer s vs n v k f = go (s .leaves (s .turn v)) refl f
   where
-    go : (b : Bool) → leavesOf t (turnedOf t m v) ≡ b → cond b gone (at (length (leftOf t m (take n vs)))) ≡ gone → length (leftOf t m vs) < length vs
-    go true e f =
-        omega (
-          arith,
-          without-fewer (leavesOf t) (map (turnedOf t m) vs) n (turnedOf t m v) (look-map (turnedOf t m) vs n v s) e,
-          length-map vs (turnedOf t m),
-        )
+    go : (b : Bool) → s .leaves (s .turn v) ≡ b → cond b gone (at (length (keptOf s (take n vs)))) ≡ gone → length (keptOf s vs) < length vs
+    go true e f = omega (arith, without-fewer (s .leaves) (map (s .turn) vs) n (s .turn v) (look-map (s .turn) vs n v k) e, length-map vs (s .turn))
     go false e f = absurd (nowhere _ f)
 
 live-fewer : (e : Event) (c : Channel) → Housed c → isReset e ≡ false → (n : ℕ) (v : Voice) → voiceAt c n ≡ some v → follow e c n ≡ gone
@@ -157,17 +131,10 @@ live-fewer : (e : Event) (c : Channel) → Housed c → isReset e ≡ false → 
 unfolding act follow
 live-fewer idle c h r n v s f = absurd (nowhere n f)
 live-fewer (changes d) c h r n v s f = absurd (nowhere n (rw r at f))
-live-fewer (sounds p x m) c h r n v s f = subst (λ (l : List Voice). length l < length (live c)) (sym (live-sounded p x m c h)) (go (emptyAt m c) f)
-  where
-    t : Tick
-    t = tickAt p m c
-
-    mem : List ℕ
-    mem = memoryOf x c m
-
-    go : (b : Bool) → cond b (at n) (fateOf t mem (live c) n (voiceAt c n)) ≡ gone → length (cond b (live c) (leftOf t mem (live c))) < length (live c)
-    go true f = absurd (nowhere n f)
-    go false f = left-fewer t mem (live c) n v s (subst (λ (y : Option Voice). fateOf t mem (live c) n y ≡ gone) s f)
+live-fewer (sounds p x m) c h r n v s f =
+    let turns = turnsIn p x m c in
+    subst (λ (l : List Voice). length l < length (live c)) (sym (live-sounded p x m c h))
+    (left-fewer turns (live c) n v s (subst (λ (y : Option Voice). fateOf turns (live c) n y ≡ gone) s f))
 
 pub fewer : (e : Event) (c : Channel) → Housed c → isReset e ≡ false → (n : ℕ) (v : Voice) → voiceAt c n ≡ some v → follow e c n ≡ gone → act e c .count < c .count
 fewer e c h r n v s f = omega (arith, live-fewer e c h r n v s f, live-length c h, live-length (act e c) (housed e c h))

@@ -1,7 +1,7 @@
 -- Stays: no voice leaves before a stop or play-once has finished it. An event other than a reset that doesn't finish an unfinished voice keeps it, unfinished; it may be the leaving event itself that finishes it,
 -- as play-once does with no decay. Assumes nothing.
 use mathlib.Core.Path.{_≡_, refl, sym, ap, _∙_, subst}
-use mathlib.Core.Bool.{Bool, true, false, not, _&&_, true≢false}
+use mathlib.Core.Bool.{Bool, true, false, not, _&&_, cond, true≢false}
 use mathlib.Core.List.{List, [], _∷_}
 use mathlib.Core.Option.{Option, some}
 use Prim.Native.Nat.{ℕ}
@@ -14,8 +14,8 @@ use Rattle.voice.specs.declared.Tick.{Tick}
 use Rattle.voice.specs.Voices.{shouldRemoveOf, soundedOf, playedOutOf, endedOf, volumeStepped, atSpeedOf}
 use Rattle.channel.specs.declared.Channel.{Channel}
 use Rattle.channel.specs.declared.Change.the-variants as change
-use Rattle.channel.specs.Channels.{live, findOf, sameNote, spedOf, memoryOf}
-use Rattle.fates.specs.Engine.{passesOver, turnedOf, leavesOf, leftOf}
+use Rattle.channel.specs.Channels.{live, findOf, sameNote, spedOf, keptOf}
+use Rattle.fates.specs.Engine.{passesOver, turnedOf, leavesOf, heldAt, turnsIn}
 use Rattle.fates.specs.Events.{Event, idle, changes, sounds, act, acts, isReset, emptyAt, tickAt}
 use Rattle.fates.specs.Places.{
   Housed,
@@ -37,6 +37,7 @@ use Rattle.fates.specs.Places.{
   finishedIn,
 }
 use Rattle.walks.proofs.Tests.{neither, either}
+use Rattle.fates.proofs.Own.{own-turn, own-leaves}
 use Rattle.fates.proofs.Housing.{housed}
 use Rattle.fates.proofs.Tracks.{gone-never, tracks}
 
@@ -73,19 +74,26 @@ stays-one (changes (change.Stop p note)) c r n v s u f = record { place = n; fol
 stays-one (changes (change.Speed note speed)) c r n v s u f = record { place = n; follows = refl; unfinished = sped-finished note speed v ∙ u }
 stays-one (changes (change.Head d)) c r n v s u f = record { place = n; follows = refl; unfinished = u }
 stays-one (changes change.Reset) c r n v s u f = absurd (true≢false r)
-stays-one (sounds p x m) c r n v s u f = go (emptyAt m c) refl f
+stays-one (sounds p x m) c r n v s u f = go (emptyAt m c v) refl (subst (λ (o : Option Voice). outOf p x m c o ≡ false) s f)
   where
     t : Tick
-    t = tickAt p m c
+    t = tickAt p m c v
 
     mem : List ℕ
-    mem = memoryOf x c m
+    mem = heldAt x m c v
 
-    go : (b : Bool) → emptyAt m c ≡ b → (not b && outOf t mem (voiceAt c n)) ≡ false → Stays (sounds p x m) c n v
-    go true e f = record { place = n; follows = rw e; unfinished = rw e u }
+    stay : (b : Bool) → emptyAt m c v ≡ b → cond b false (leavesOf t (turnedOf t mem v)) ≡ false → cond b v (turnedOf t mem v) .finished ≡ false → Stays (sounds p x m) c n v
+    stay b e leaves unfinished = record {
+      place = length (keptOf (turnsIn p x m c) (take n (live c)));
+      follows = rw (s, own-leaves p x m c v, e, leaves);
+      unfinished = ap (λ (w : Voice). w .finished) (own-turn p x m c v ∙ ap (λ (z : Bool). cond z v (turnedOf t mem v)) e) ∙ unfinished;
+    }
+
+    go : (b : Bool) → emptyAt m c v ≡ b → (not b && playedOutOf t (soundedOf t mem v)) ≡ false → Stays (sounds p x m) c n v
+    go true e f = stay true e refl u
     go false e f =
-        let w = turn-unfinished t mem v u (subst (λ (o : Option Voice). outOf t mem o ≡ false) s f) in
-        record { place = length (leftOf t mem (take n (live c))); follows = rw (e, s, unfinished-stays t (turnedOf t mem v) w); unfinished = rw e w }
+        let w = turn-unfinished t mem v u f in
+        stay false e (unfinished-stays t (turnedOf t mem v) w) w
 
 -- ---- any events without a reset
 pub record StaysAll (es : List Event) (c : Channel) (n : ℕ) : Type 0 where

@@ -17,13 +17,14 @@ use Rattle.voice.specs.Agreeing.{agreesOf}
 use Rattle.voice.proofs.Unmoved.{unmoved}
 use Rattle.channel.specs.declared.Channel.{Channel}
 use Rattle.channel.specs.declared.Change.the-variants as change
-use Rattle.channel.specs.Channels.{findOf, sameNote, spedOf, takenOf, memoryOf}
-use Rattle.fates.specs.Engine.{passesOver, turnedOf}
+use Rattle.channel.specs.Channels.{findOf, sameNote, spedOf, takenOf}
+use Rattle.fates.specs.Engine.{passesOver, turnedOf, momentAt, heldAt}
 use Rattle.fates.specs.Events.{Event, idle, changes, sounds, act, acts, isReset, emptyAt, tickAt}
 use Rattle.fates.specs.Places.{Housed, voiceAt, Place, at, gone, follow, findsAt, becomes, onward, followAll, somewhere, finishedIn}
-use Rattle.fates.specs.Sounding.{Sounds}
+use Rattle.fates.specs.Sounding.{termOf, Sounds}
 use Rattle.fates.specs.Steady.{disagrees, alters, alteredIn}
 use Rattle.walks.proofs.Tests.{neither, either}
+use Rattle.fates.proofs.Own.{finds-kept, own-turn}
 use Rattle.fates.proofs.Housing.{housed}
 use Rattle.fates.proofs.Tracks.{at-same, gone-never, tracks}
 use Rattle.fates.proofs.Stays.{unfinished-sounds, stays-all}
@@ -58,11 +59,12 @@ module _ (t : Tick) (m : List ℕ) (v : Voice) (a : agreesOf t v ≡ true) where
 
 -- ---- one event
 -- a sample that finds the recording and changes no field agrees
-agrees : (p : Params) (x : Float) (m : List ℕ) (c : Channel) (n : ℕ) (v : Voice) → voiceAt c n ≡ some v → emptyAt m c ≡ false → alters (sounds p x m) c n ≡ false
-    → agreesOf (tickAt p m c) v ≡ true
+agrees : (p : Params) (x : Float) (m : List ℕ) (c : Channel) (n : ℕ) (v : Voice) → voiceAt c n ≡ some v → emptyAt m c v ≡ false → alters (sounds p x m) c n ≡ false
+    → agreesOf (tickAt p m c v) v ≡ true
 unfolding alters disagrees
 agrees p x m c n v s e h =
-    not-false (agreesOf (tickAt p m c) v) (subst (λ (o : Option Voice). disagrees (tickAt p m c) o ≡ false) s (subst (λ (b : Bool). (not b && disagrees (tickAt p m c) (voiceAt c n)) ≡ false) e h))
+    not-false (agreesOf (tickAt p m c v) v)
+    (subst (λ (b : Bool). (not b && not (agreesOf (tickAt p m c v) v)) ≡ false) e (subst (λ (o : Option Voice). disagrees p m c o ≡ false) s h))
 
 becomes-clip : (e : Event) (c : Channel) (n : ℕ) (v : Voice) → voiceAt c n ≡ some v → alters e c n ≡ false → becomes e c n v .clip2 ≡ v .clip2
 unfolding becomes finishOf spedOf atSpeedOf
@@ -73,11 +75,11 @@ becomes-clip (changes (change.Stop p note)) c n v s h =
 becomes-clip (changes (change.Speed note speed)) c n v s h = either (λ (w : Voice). w .clip2) (sameNote (v .note) note) (atSpeedOf speed v) v (v .clip2) refl refl
 becomes-clip (changes (change.Head d)) c n v s h = refl
 becomes-clip (changes change.Reset) c n v s h = refl
-becomes-clip (sounds p x m) c n v s h = go (emptyAt m c) refl
+becomes-clip (sounds p x m) c n v s h = ap (λ (w : Voice). w .clip2) (own-turn p x m c v) ∙ go (emptyAt m c v) refl
   where
-    go : (b : Bool) → emptyAt m c ≡ b → cond b v (turnedOf (tickAt p m c) (memoryOf x c m) v) .clip2 ≡ v .clip2
+    go : (b : Bool) → emptyAt m c v ≡ b → cond b v (turnedOf (tickAt p m c v) (heldAt x m c v) v) .clip2 ≡ v .clip2
     go true e = refl
-    go false e = turned-clip (tickAt p m c) (memoryOf x c m) v (agrees p x m c n v s e h)
+    go false e = turned-clip (tickAt p m c v) (heldAt x m c v) v (agrees p x m c n v s e h)
 
 -- ---- any events
 -- where none is left to come, the place is reached
@@ -140,15 +142,15 @@ pub record Beats (p : Params) (x : Float) (m : List ℕ) (c : Channel) (n : ℕ)
   pub voice : Voice
   pub sounds : Sounds p x m c n voice
   pub clip : voice .clip2 ≡ q
-  pub term : productOf (tickAt p m c) (memoryOf x c m) voice ≡ mul binary32 (valueOf (tickAt p m c) (memoryOf x c m) q) (levelOf (voice .volume) (c .head .now))
-  pub last : turnedOf (tickAt p m c) (memoryOf x c m) voice .«last_sample_index» ≡ indexAt q (c .head .now)
+  pub term : termOf p x m c voice ≡ mul binary32 (valueOf (tickAt p m c voice) (heldAt x m c voice) q) (levelOf (voice .volume) (c .head .now))
+  pub last : turnedOf (tickAt p m c voice) (heldAt x m c voice) voice .«last_sample_index» ≡ indexAt q (c .head .now)
 
 module _ (p : Params) (x : Float) (m : List ℕ) where
-  beat : (c : Channel) (n : ℕ) (v : Voice) → voiceAt c n ≡ some v → v .finished ≡ false → emptyAt m c ≡ false → alters (sounds p x m) c n ≡ false → Beats p x m c n (v .clip2)
-  unfolding tickOf takenOf
+  beat : (c : Channel) (n : ℕ) (v : Voice) → voiceAt c n ≡ some v → v .finished ≡ false → emptyAt m c v ≡ false → alters (sounds p x m) c n ≡ false → Beats p x m c n (v .clip2)
+  unfolding tickOf momentAt takenOf
   beat c n v s u e a =
-      let t = tickAt p m c in
-      let mem = memoryOf x c m in
+      let t = tickAt p m c v in
+      let mem = heldAt x m c v in
       let b = agrees p x m c n v s e a in
       record { voice = v; sounds = sounds-each p x m c n v s u e; clip = refl; term = product-is t mem v b; last = turned-last t mem v b u }
 
@@ -158,7 +160,7 @@ module _ (p : Params) (x : Float) (m : List ℕ) where
     pub beats : Beats p x m (acts es c) place q
 
   pub beats-at : (es : List Event) (c : Channel) → Housed c → any isReset es ≡ false → (n : ℕ) (v : Voice) → voiceAt c n ≡ some v → v .finished ≡ false → finishedIn es c n ≡ false
-      → emptyAt m (acts es c) ≡ false → alteredIn (es ++ (sounds p x m ∷ [])) c n ≡ false → BeatsAt es c n (v .clip2)
+      → emptyAt m (acts es c) v ≡ false → alteredIn (es ++ (sounds p x m ∷ [])) c n ≡ false → BeatsAt es c n (v .clip2)
   beats-at es c h r n v s u f e a =
       let w = stays-all es c h r n v s u f in
       let k = steady es (sounds p x m) c h n (w .place) v s (w .follows) a in
@@ -166,19 +168,19 @@ module _ (p : Params) (x : Float) (m : List ℕ) where
       record {
         place = w .place;
         follows = w .follows;
-        beats = subst (Beats p x m (acts es c) (w .place)) (ap (λ (y : Voice). y .clip2) same ∙ k .keeps .clip) (beat (acts es c) (w .place) (w .voice) (w .stands) (w .unfinished) e (k .last));
+        beats = subst (Beats p x m (acts es c) (w .place)) (ap (λ (y : Voice). y .clip2) same ∙ k .keeps .clip) (beat (acts es c) (w .place) (w .voice) (w .stands) (w .unfinished) (finds-kept m (acts es c) v (w .voice) e) (k .last));
       }
     where
       alike : (a b : Voice) → some a ≡ some b → a ≡ b
       alike a b h = cc
 
   -- after the sample, where it is still there
-  pub shown : (c : Channel) → Housed c → (n i : ℕ) (q : Clip) → emptyAt m c ≡ false → Beats p x m c n q → follow (sounds p x m) c n ≡ at i
+  pub shown : (c : Channel) → Housed c → (n i : ℕ) (q : Clip) (b : Beats p x m c n q) → emptyAt m c (b .voice) ≡ false → follow (sounds p x m) c n ≡ at i
       → (u : Voice) × (voiceAt (act (sounds p x m) c) i ≡ some u) × (u .«last_sample_index» ≡ indexAt q (c .head .now))
   unfolding becomes
-  shown c h n i q e b f =
+  shown c h n i q b e f =
       let v = b .voice in (
         becomes (sounds p x m) c n v,
         tracks (sounds p x m) c h n i v (b .sounds .stands) f,
-        ap (λ (t : Bool). cond t v (turnedOf (tickAt p m c) (memoryOf x c m) v) .«last_sample_index») e ∙ b .last,
+        ap (λ (w : Voice). w .«last_sample_index») (own-turn p x m c v ∙ ap (λ (t : Bool). cond t v (turnedOf (tickAt p m c v) (heldAt x m c v) v)) e) ∙ b .last,
       )

@@ -12,7 +12,6 @@ use lib.Ieee.{Float}
 use Rattle.common_types.specs.declared.Params.{Params}
 use Rattle.common_types.specs.declared.Note.{Note}
 use Rattle.voice.specs.declared.Voice.{Voice}
-use Rattle.voice.specs.declared.Tick.{Tick}
 use Rattle.voice.specs.Voices.{finishOf}
 use Rattle.channel.specs.declared.Channel.{Channel}
 use Rattle.channel.specs.declared.Change.the-variants as change
@@ -23,10 +22,11 @@ use Rattle.channel.specs.Channels.{
   findOf,
   stopPlayingOf,
   spedOf,
-  memoryOf,
+  Turning,
+  keptOf,
 }
-use Rattle.fates.specs.Engine.{begunOf, turnedOf, leavesOf, leftOf}
-use Rattle.fates.specs.Events.{Event, idle, changes, sounds, act, isReset, emptyAt, tickAt}
+use Rattle.fates.specs.Engine.{begunOf, turnsIn}
+use Rattle.fates.specs.Events.{Event, idle, changes, sounds, act, isReset}
 use Rattle.fates.specs.Places.{Housed, voiceAt, at, gone, fateOf, follow, findsAt, becomes}
 use Rattle.walks.proofs.Lists.Looks.{look-front, look-map, look-set-same, look-set-other, take-map, keep-look}
 use Rattle.fates.proofs.Lives.{live-started, live-sped, live-sounded}
@@ -68,20 +68,16 @@ look-stopped p note c h n v k = go (findOf note c) refl
     go (At i) e = placed i e (eqb i n) refl
 
 -- ---- a sample
-left-look : (t : Tick) (m : List ℕ) (vs : List Voice) (n k : ℕ) (v : Voice) → getElem? vs n ≡ some v → fateOf t m vs n (some v) ≡ at k
-    → getElem? (leftOf t m vs) k ≡ some (turnedOf t m v)
-unfolding leftOf fateOf
-left-look t m vs n k v h f = go (leavesOf t (turnedOf t m v)) refl f
+left-look : (s : Turning) (vs : List Voice) (n k : ℕ) (v : Voice) → getElem? vs n ≡ some v → fateOf s vs n (some v) ≡ at k → getElem? (keptOf s vs) k ≡ some (s .turn v)
+unfolding keptOf fateOf
+left-look s vs n k v h f = go (s .leaves (s .turn v)) refl f
   where
-    us : List Voice
-    us = map (turnedOf t m) vs
-
-    go : (b : Bool) → leavesOf t (turnedOf t m v) ≡ b → cond b gone (at (length (leftOf t m (take n vs)))) ≡ at k → getElem? (leftOf t m vs) k ≡ some (turnedOf t m v)
+    go : (b : Bool) → s .leaves (s .turn v) ≡ b → cond b gone (at (length (keptOf s (take n vs)))) ≡ at k → getElem? (keptOf s vs) k ≡ some (s .turn v)
     go true e f = absurd (gone-never k f)
     go false e f =
-        subst (λ (j : ℕ). getElem? (leftOf t m vs) j ≡ some (turnedOf t m v))
-        (rw (take-map (turnedOf t m) n vs) (at-same _ k f))
-        (keep-look (leavesOf t) us n (turnedOf t m v) (look-map (turnedOf t m) vs n v h) e)
+        subst (λ (j : ℕ). getElem? (keptOf s vs) j ≡ some (s .turn v))
+        (rw (take-map (s .turn) n vs) (at-same _ k f))
+        (keep-look (s .leaves) (map (s .turn) vs) n (s .turn v) (look-map (s .turn) vs n v h) e)
 
 -- ---- every event
 pub tracks : (e : Event) (c : Channel) → Housed c → (n k : ℕ) (v : Voice) → voiceAt c n ≡ some v → follow e c n ≡ at k
@@ -95,15 +91,7 @@ tracks (changes (change.Speed note speed)) c h n k v s f =
     (subst (λ (l : List Voice). getElem? l n ≡ some (spedOf note speed v)) (sym (live-sped note speed c h)) (look-map (spedOf note speed) (live c) n v s))
 tracks (changes (change.Head d)) c h n k v s f = rw (← at-same n k f) s
 tracks (changes change.Reset) c h n k v s f = absurd (gone-never k f)
-tracks (sounds p x m) c h n k v s f = subst (λ (l : List Voice). getElem? l k ≡ some (becomes (sounds p x m) c n v)) (sym (live-sounded p x m c h)) (go (emptyAt m c) f)
-  where
-    t : Tick
-    t = tickAt p m c
-
-    mem : List ℕ
-    mem = memoryOf x c m
-
-    go : (b : Bool) → cond b (at n) (fateOf t mem (live c) n (voiceAt c n)) ≡ at k
-        → getElem? (cond b (live c) (leftOf t mem (live c))) k ≡ some (cond b v (turnedOf t mem v))
-    go true f = rw (← at-same n k f) s
-    go false f = left-look t mem (live c) n k v s (subst (λ (o : Option Voice). fateOf t mem (live c) n o ≡ at k) s f)
+tracks (sounds p x m) c h n k v s f =
+    let turns = turnsIn p x m c in
+    subst (λ (l : List Voice). getElem? l k ≡ some (turns .turn v)) (sym (live-sounded p x m c h))
+    (left-look turns (live c) n k v s (subst (λ (o : Option Voice). fateOf turns (live c) n o ≡ at k) s f))

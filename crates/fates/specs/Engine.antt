@@ -4,12 +4,9 @@
 -- the promises (must-fail/). Definitions only. Assumes nothing.
 use Prim.Native.Nat.{ℕ}
 use mathlib.Core.Bool.{Bool, _&&_, _||_, cond}
-use mathlib.Core.List.{List, map}
+use mathlib.Core.List.{List}
 use lib.Dec.{eqb}
-use lib.ListN.{length}
-use lib.Seq.{sets}
 use lib.Ieee.{Float, binary32, add, mul}
-use Rattle.walks.specs.Walks.{without, behind, fold}
 use Rattle.common_types.specs.declared.Params.{Params}
 use Rattle.common_types.specs.declared.Note.{Note}
 use Rattle.common_types.specs.declared.NoteOffBehaviour.{NoteOffBehaviour}
@@ -17,19 +14,21 @@ use Rattle.common_types.specs.declared.NoteOffBehaviour.the-variants as off
 use Rattle.volume.specs.Levels.{isStaticAndMuteOf, levelOf}
 use Rattle.binary32.specs.Leaves.{zero32}
 use Rattle.voice.specs.declared.Voice.{Voice}
+use Rattle.voice.specs.declared.Moment.{Moment}
 use Rattle.voice.specs.declared.Tick.{Tick}
-use Rattle.voice.specs.Voices.{tickOf, lateOf, shouldRemoveOf, productOf, soundedOf, endedOf, volumeStepped, freshOf}
+use Rattle.voice.specs.Voices.{lateOf, shouldRemoveOf, productOf, soundedOf, endedOf, volumeStepped, freshOf}
 use Rattle.channel.specs.declared.Channel.{Channel}
 use Rattle.channel.specs.declared.Played.{Played}
 use Rattle.channel.specs.Heads.{closedOf, momentOf}
 use Rattle.channel.specs.Channels.{
-  live,
   withHead,
-  withVoices,
   anyUnfinishedOf,
   handledOf,
   pushedOf,
+  Turning,
+  playedOf,
   addedOf,
+  turningOf,
   takenOf,
   memoryOf,
 }
@@ -51,9 +50,6 @@ begunOf p position note velocity c = cond (eqb (c .head .«data_len») 0) c
 unfoldable pub passesOver : Tick → Voice → Bool
 passesOver t v = shouldRemoveOf t v
 
-unfoldable pub heardBy : Tick → List ℕ → List Voice → Float
-heardBy t m vs = fold (λ (out : Float) (v : Voice). addedOf (passesOver t v) out (productOf t m v)) zero32 vs
-
 -- a voice after its turn
 unfoldable pub turnedOf : Tick → List ℕ → Voice → Voice
 turnedOf t m v = volumeStepped (t .now) (cond (passesOver t v) v (endedOf t (soundedOf t m v)))
@@ -68,26 +64,31 @@ letsGo off.DecayAndZeroCrossing t u = isStaticAndMuteOf (u .volume) || lateOf t 
 unfoldable pub leavesOf : Tick → Voice → Bool
 leavesOf t u = u .finished && letsGo (t .«note_off_behavior») t u
 
-unfoldable pub leftOf : Tick → List ℕ → List Voice → List Voice
-leftOf t m vs = without (leavesOf t) (map (turnedOf t m) vs)
-
--- how many move up (request 12/12): those that are left behind the first that leaves
-unfoldable pub movedUp : Tick → List ℕ → List Voice → ℕ
-movedUp t m vs = length (behind (leavesOf t) (map (turnedOf t m) vs))
-
-unfoldable pub turnsOf : Tick → List ℕ → Channel → Played
-turnsOf t m c = record {
-  channel = withVoices (sets (c .voices) 0 (leftOf t m (live c))) (length (leftOf t m (live c))) c;
-  output = heardBy t m (live c);
-  moved = movedUp t m (live c);
+-- what a sample does with the voices of one recording, by these parts
+unfoldable pub turnsBy : Tick → List ℕ → Turning
+turnsBy t m = record {
+  turn = turnedOf t m;
+  leaves = leavesOf t;
+  adds = λ (out : Float) (v : Voice). addedOf (passesOver t v) out (productOf t m v);
 }
+
+-- what a voice finds once the sample x has been recorded: its moment and its recording, for now those of its channel
+unfoldable pub momentAt : List ℕ → Channel → Voice → Moment
+momentAt m c v = momentOf (takenOf m c .head)
+
+unfoldable pub heldAt : Float → List ℕ → Channel → Voice → List ℕ
+heldAt x m c v = memoryOf x c m
+
+-- what the sample does with each voice
+abbrev pub turnsIn : Params → Float → List ℕ → Channel → Turning
+turnsIn p x m c = turningOf turnsBy p (momentAt m c) (heldAt x m c)
 
 -- records first, then its voices take their turns if the recording isn't empty, then the input is added
 unfoldable pub stepOf : Params → Float → Channel → List ℕ → Played
 stepOf p x c m =
     let d = takenOf m c in
     let r = cond {A = Played} (eqb (d .head .«data_len») 0) (record { channel = d; output = zero32; moved = 0 })
-    (turnsOf (tickOf p (momentOf (d .head))) (memoryOf x c m) d) in
+    (playedOf (turnsIn p x m c) d) in
     record {
       channel = withHead (closedOf p (anyUnfinishedOf (r .channel)) (d .head)) (r .channel);
       output = add binary32 (add binary32 zero32 (r .output))

@@ -8,14 +8,15 @@ use mathlib.Core.List.{List, [], _∷_}
 use lib.Dec.{eqb}
 use lib.Ieee.{Float}
 use Rattle.common_types.specs.declared.Params.{Params}
+use Rattle.voice.specs.declared.Voice.{Voice}
 use Rattle.voice.specs.declared.Tick.{Tick}
 use Rattle.voice.specs.Voices.{tickOf}
 use Rattle.channel.specs.declared.Channel.{Channel}
 use Rattle.channel.specs.declared.Change.{Change}
 use Rattle.channel.specs.declared.Change.the-variants as change
-use Rattle.channel.specs.Heads.{headChangedOf, interpolatesAfter, momentOf}
-use Rattle.channel.specs.Channels.{withHead, resetOf, stopPlayingOf, setNoteSpeedOf, takenOf}
-use Rattle.fates.specs.Engine.{begunOf, stepOf}
+use Rattle.channel.specs.Heads.{headChangedOf, interpolatesAfter}
+use Rattle.channel.specs.Channels.{withHead, resetOf, stopPlayingOf, setNoteSpeedOf}
+use Rattle.fates.specs.Engine.{begunOf, momentAt, stepOf}
 
 pub data Event : Type 0 where
   idle : Event
@@ -45,26 +46,26 @@ settingAfter (changes (change.Head d)) on = interpolatesAfter d on
 settingAfter (changes change.Reset) on = on
 settingAfter (sounds p x m) on = on
 
--- ---- what a sample finds
+-- ---- what a voice finds in a sample
 
--- how many samples are recorded, once this one has been
-abbrev pub lengthAt : List ℕ → Channel → ℕ
-lengthAt m c = takenOf m c .head .«data_len»
+-- how many samples its recording has, once this one has been recorded
+abbrev pub lengthAt : List ℕ → Channel → Voice → ℕ
+lengthAt m c v = momentAt m c v .«data_len»
 
--- the recording is then still empty
-abbrev pub emptyAt : List ℕ → Channel → Bool
-emptyAt m c = eqb (lengthAt m c) 0
+-- its recording is then still empty
+abbrev pub emptyAt : List ℕ → Channel → Voice → Bool
+emptyAt m c v = eqb (lengthAt m c v) 0
 
--- what its voices share
-abbrev pub tickAt : Params → List ℕ → Channel → Tick
-tickAt p m c = tickOf p (momentOf (takenOf m c .head))
+-- what it shares with the other voices of its recording
+abbrev pub tickAt : Params → List ℕ → Channel → Voice → Tick
+tickAt p m c v = tickOf p (momentAt m c v)
 
--- the event is a sample with these parameters, and finds the recording not empty
-pub record Sampled (e : Event) (c : Channel) (p : Params) : Type 0 where
+-- the event is a sample with these parameters, and the voice v finds its recording not empty
+pub record Sampled (e : Event) (c : Channel) (p : Params) (v : Voice) : Type 0 where
   pub input : Float
   pub memory : List ℕ
   pub sample : e ≡ sounds p input memory
-  pub finds : emptyAt memory c ≡ false
+  pub finds : emptyAt memory c v ≡ false
 
 -- ---- kinds of events
 unfoldable pub isReset : Event → Bool

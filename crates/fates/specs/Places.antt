@@ -7,15 +7,16 @@ use mathlib.Core.List.{List, [], _∷_}
 use mathlib.Core.Option.{Option, none, some}
 use lib.Dec.{eqb, ltb}
 use lib.ListN.{length, take, getElem?}
+use lib.Ieee.{Float}
+use Rattle.common_types.specs.declared.Params.{Params}
 use Rattle.voice.specs.declared.Voice.{Voice}
-use Rattle.voice.specs.declared.Tick.{Tick}
 use Rattle.voice.specs.Voices.{soundedOf, playedOutOf, finishOf}
 use Rattle.channel.specs.declared.Channel.{Channel}
 use Rattle.channel.specs.declared.Change.the-variants as change
 use Rattle.channel.specs.declared.Found.{Found}
 use Rattle.channel.specs.declared.Found.the-variants.{At, Nothing}
-use Rattle.channel.specs.Channels.{live, findOf, spedOf, memoryOf}
-use Rattle.fates.specs.Engine.{bornOf, turnedOf, leavesOf, leftOf}
+use Rattle.channel.specs.Channels.{live, findOf, spedOf, Turning, keptOf}
+use Rattle.fates.specs.Engine.{bornOf, heldAt, turnsIn}
 use Rattle.fates.specs.Events.{Event, idle, changes, sounds, act, isReset, emptyAt, tickAt}
 
 -- a channel as the engine has it: 32 places, and no more voices than those
@@ -33,15 +34,14 @@ pub data Place : Type 0 where
 
 -- ---- where it is afterwards
 
--- after a sample in which the voices play: one that leaves after its turn is gone, and any other stands behind those
--- that are left before it
-unfoldable pub fateOf : Tick → List ℕ → List Voice → ℕ → Option Voice → Place
-fateOf t m vs n none = gone
-fateOf t m vs n (some v) = cond (leavesOf t (turnedOf t m v)) gone (at (length (leftOf t m (take n vs))))
+-- after a sample: one that leaves after its turn is gone, and any other stands behind those that are left before it
+unfoldable pub fateOf : Turning → List Voice → ℕ → Option Voice → Place
+fateOf s vs n none = gone
+fateOf s vs n (some v) = cond (s .leaves (s .turn v)) gone (at (length (keptOf s (take n vs))))
 
--- an empty recording moves nothing; a reset takes all
+-- on an empty recording nothing moves; a reset takes all
 unfoldable pub follow : Event → Channel → ℕ → Place
-follow (sounds p x m) c n = cond (emptyAt m c) (at n) (fateOf (tickAt p m c) (memoryOf x c m) (live c) n (voiceAt c n))
+follow (sounds p x m) c n = fateOf (turnsIn p x m c) (live c) n (voiceAt c n)
 follow (changes change) c n = cond (isReset (changes change)) gone (at n)
 follow idle c n = at n
 
@@ -69,7 +69,7 @@ becomes (changes (change.Stop p note)) c n v = cond (findsAt (findOf note c) n)
 becomes (changes (change.Speed note speed)) c n v = spedOf note speed v
 becomes (changes (change.Head d)) c n v = v
 becomes (changes change.Reset) c n v = v
-becomes (sounds p x m) c n v = cond (emptyAt m c) v (turnedOf (tickAt p m c) (memoryOf x c m) v)
+becomes (sounds p x m) c n v = turnsIn p x m c .turn v
 
 -- the voice that the event adds, at the end: a start's own, unless the recording is empty
 unfoldable pub addedBy : Event → Channel → List Voice
@@ -85,12 +85,13 @@ addedBy (sounds p x m) c = []
 -- ---- whether the event finishes it
 
 -- play-once has played it out; of a voice that is finished already this is false
-unfoldable pub outOf : Tick → List ℕ → Option Voice → Bool
-outOf t m none = false
-outOf t m (some v) = playedOutOf t (soundedOf t m v)
+unfoldable pub outOf : Params → Float → List ℕ → Channel → Option Voice → Bool
+outOf p x m c none = false
+outOf p x m c (some v) = not (emptyAt m c v)
+    && playedOutOf (tickAt p m c v) (soundedOf (tickAt p m c v) (heldAt x m c v) v)
 
 unfoldable pub playsOut : Event → Channel → ℕ → Bool
-playsOut (sounds p x m) c n = not (emptyAt m c) && outOf (tickAt p m c) (memoryOf x c m) (voiceAt c n)
+playsOut (sounds p x m) c n = outOf p x m c (voiceAt c n)
 playsOut (changes change) c n = false
 playsOut idle c n = false
 

@@ -20,19 +20,19 @@ use Rattle.voice.specs.declared.Tick.{Tick}
 use Rattle.voice.specs.declared.Moment.{Moment}
 use Rattle.voice.specs.declared.Quick.{Quick}
 use Rattle.voice.specs.Voices.{tickOf, turnOf, shouldRemoveOf}
-use Rattle.voice.specs.Plain.{Quickly}
-use Rattle.voice.proofs.Plain.{glides}
+use Rattle.voice.specs.Gliding.{Quickly}
+use Rattle.voice.proofs.Gliding.{glides}
 use Rattle.channel.specs.declared.Head.{Head}
 use Rattle.channel.specs.declared.Channel.{Channel}
 use Rattle.channel.specs.declared.Played.{Played}
 use Rattle.channel.specs.Heads.{momentOf, mixedOf, closedOf}
-use Rattle.channel.specs.Channels.{withHead, withVoices, anyUnfinishedOf, keptOf, tidiedOf, addedOf, heardOf as heard-of, playedOf, playedIfOf}
+use Rattle.channel.specs.Channels.{withHead, withVoices, anyUnfinishedOf, Turning, keptOf, tidiedOf, addedOf, heardOf as heard-of, playedOf, turningBy, playedIfOf}
 use Rattle.channel.proofs.Samples.{played-if-head}
-use Rattle.channel.proofs.Turns.{Walked, restOf, rest-start, rest-end, rest-keep, rest-gone, tidiedFrom, tidied-end, tidied-same, tidied-keep, tidied-gone, step-up}
+use Rattle.channel.proofs.Turns.{sounds-by, plays-by, Walked, restOf, rest-start, rest-end, rest-keep, rest-gone, tidiedFrom, tidied-end, tidied-same, tidied-keep, tidied-gone, step-up}
 use Rattle.lent_channel.specs.declared.Glided.{Glided}
 use Rattle.lent_channel.specs.declared.Going.{Going}
 use Rattle.lent_channel.specs.declared.Turn.{Turn}
-use Rattle.lent_channel.specs.Turns.{unusedTick, silent, turnCountOf, sharedOf, voicesLeftOf, restFrom, Glides, afterPlain, turnedOf, heardOf}
+use Rattle.lent_channel.specs.Turns.{unusedTick, silent, turnCountOf, sharedOf, voicesLeftOf, restFrom, Glides, afterGliding, turnedOf, heardOf}
 
 -- what a walk leaves and what is heard of it, with how many have moved up
 abbrev counting : Walked → ℕ → Played
@@ -41,34 +41,38 @@ counting r n = record { channel = r .channel; output = r .output; moved = n }
 with-count : {r r′ : Walked} {n n′ : ℕ} → r ≡ r′ → n ≡ n′ → counting r n ≡ counting r′ n′
 with-count e f = λ i. counting (e i) (f i)
 
--- a plain turn: the voice stays in its place, and is heard
-pub rest-glide : (t : Tick) (m : List ℕ) (c : Channel) (k : ℕ) (out out′ : Float) (v : Voice) (r : Quick) → Quickly t m v r → r .plain ≡ true → out′ ≡ add binary32 out (r .voice .«last_sample_value»)
-    → (vs : List Voice) → restFrom t m c k out (v ∷ vs) ≡ restFrom t m (withVoices (set (c .voices) k (r .voice)) (c .count) c) (k + 1) out′ vs
-unfolding addedOf
+-- a gliding turn: the voice stays in its place, and is heard
+pub rest-glide : (t : Tick) (m : List ℕ) (c : Channel) (k : ℕ) (out out′ : Float) (v : Voice) (r : Quick) → Quickly t m v r → r .glides ≡ true → out′ ≡ add binary32 out (r .voice .«last_sample_value»)
+    → (vs : List Voice) → restFrom (turningBy t m) c k out (v ∷ vs) ≡ restFrom (turningBy t m) (withVoices (set (c .voices) k (r .voice)) (c .count) c) (k + 1) out′ vs
+unfolding turningBy addedOf
 rest-glide t m c k out out′ v r quickly plain adds vs =
+    let s = turningBy t m in
     let turned = quickly plain in
     let stays = glides t m v (turned .0) in
-    let sounds : out′ ≡ addedOf (shouldRemoveOf t v) out (r .voice .«last_sample_value») = adds ∙ ap (λ (b : Bool). addedOf b out (r .voice .«last_sample_value»)) (sym (stays .stays)) in
-    let is : false ≡ shouldRemoveOf t (r .voice) = sym (ap (shouldRemoveOf t) (turned .1) ∙ stays .stays-after) in
-    with-count (rest-keep t m c k out out′ v (r .voice) false (turned .1) sounds is vs refl) (tidied-same t m c k out out′ v (r .voice) false (turned .1) sounds is vs refl)
+    let sounds : out′ ≡ s .adds out v = sounds-by t m out out′ v (r .voice) (turned .1) (adds ∙ ap (λ (b : Bool). addedOf b out (r .voice .«last_sample_value»)) (sym (stays .stays))) in
+    let is : false ≡ s .leaves (r .voice) = sym (ap (shouldRemoveOf t) (turned .1) ∙ stays .stays-after) in
+    with-count (rest-keep s c k out out′ v (r .voice) false (turned .1) sounds is vs refl) (tidied-same s c k out out′ v (r .voice) false (turned .1) sounds is vs refl)
 
 -- what the turns of the voices vs give where the turns stand at g: some voices may have left
-abbrev pub restBy : Tick → List ℕ → Channel → Going → List Voice → Played
-restBy t m c g vs = counting (restOf t m c (g .kept) (g .output) vs) (tidiedFrom t m (g .moved) (g .kept) (g .place) vs)
+abbrev pub restBy : Turning → Channel → Going → List Voice → Played
+restBy s c g vs = counting (restOf s c (g .kept) (g .output) vs) (tidiedFrom s (g .moved) (g .kept) (g .place) vs)
 
--- after the plain turns none has
-rest-plain : (t : Tick) (m : List ℕ) (c : Channel) (g : Glided) (vs : List Voice) → restBy t m c (afterPlain g) vs ≡ restFrom t m c (g .upto) (g .output) vs
-unfolding afterPlain
-rest-plain t m c g vs =
+-- after the gliding turns none has
+rest-gliding : (s : Turning) (c : Channel) (g : Glided) (vs : List Voice) → restBy s c (afterGliding g) vs ≡ restFrom s c (g .upto) (g .output) vs
+unfolding afterGliding
+rest-gliding s c g vs =
     let level = le-ltb (g .upto) (g .upto) (le-refl (g .upto)) in
-    with-count refl (zero-add _ ∙ ap (λ (b : Bool). cond b (length (keptOf t m vs)) (tidiedOf t m vs)) level)
+    with-count refl (zero-add _ ∙ ap (λ (b : Bool). cond b (length (keptOf s vs)) (tidiedOf s vs)) level)
 
 -- where no turn is left
-rest-none : (t : Tick) (m : List ℕ) (c : Channel) (g : Going) → restBy t m c g [] ≡ record { channel = withVoices (c .voices) (g .kept) c; output = g .output; moved = g .moved }
-rest-none t m c g = with-count (rest-end t m c (g .kept) (g .output)) (tidied-end t m (g .moved) (g .kept) (g .place))
+rest-none : (s : Turning) (c : Channel) (g : Going) → restBy s c g [] ≡ record { channel = withVoices (c .voices) (g .kept) c; output = g .output; moved = g .moved }
+rest-none s c g = with-count (rest-end s c (g .kept) (g .output)) (tidied-end s (g .moved) (g .kept) (g .place))
 
 -- a turn of the voice v
 module _ (t : Tick) (m : List ℕ) (c : Channel) (g : Going) (v : Voice) (less : g .kept ≤ g .place) where
+  abbrev by : Turning
+  by = turningBy t m
+
   abbrev w : Voice
   w = turnOf t m v
 
@@ -84,24 +88,29 @@ module _ (t : Tick) (m : List ℕ) (c : Channel) (g : Going) (v : Voice) (less :
     moved = cond b (g .moved) (cond (ltb (g .kept) (g .place)) (g .moved + 1) (g .moved));
   }
 
-  stays-so : (vs : List Voice) → not gone ≡ true → restBy t m c g (v ∷ vs) ≡ restBy t m (withVoices (set (c .voices) (g .kept) w) (c .count) c) (on gone) vs
-  stays-so vs h =
-      with-count (rest-keep t m c (g .kept) (g .output) _ v w gone refl refl refl vs h) (tidied-keep t m c (g .kept) (g .output) _ v w gone refl refl refl vs (g .moved) (g .place) less _ refl h)
-      ∙ ap (λ (b : Bool). restBy t m (withVoices (set (c .voices) (g .kept) w) (c .count) c) (on b) vs) (sym (not-true gone h))
+  heard : on gone .output ≡ by .adds (g .output) v
+  heard = sounds-by t m (g .output) _ v w refl refl
 
-  leaves-so : (vs : List Voice) → not gone ≡ false → restBy t m c g (v ∷ vs) ≡ restBy t m c (on gone) vs
+  stays-so : (vs : List Voice) → not gone ≡ true → restBy by c g (v ∷ vs) ≡ restBy by (withVoices (set (c .voices) (g .kept) w) (c .count) c) (on gone) vs
+  unfolding turningBy
+  stays-so vs h =
+      with-count (rest-keep by c (g .kept) (g .output) _ v w gone refl heard refl vs h) (tidied-keep by c (g .kept) (g .output) _ v w gone refl heard refl vs (g .moved) (g .place) less _ refl h)
+      ∙ ap (λ (b : Bool). restBy by (withVoices (set (c .voices) (g .kept) w) (c .count) c) (on b) vs) (sym (not-true gone h))
+
+  leaves-so : (vs : List Voice) → not gone ≡ false → restBy by c g (v ∷ vs) ≡ restBy by c (on gone) vs
+  unfolding turningBy
   leaves-so vs h =
-      with-count (rest-gone t m c (g .kept) (g .output) _ v w gone refl refl refl vs h) (tidied-gone t m c (g .kept) (g .output) _ v w gone refl refl refl vs (g .moved) (g .place) less h)
-      ∙ ap (λ (b : Bool). restBy t m c (on b) vs) (sym (not-false gone h))
+      with-count (rest-gone by c (g .kept) (g .output) _ v w gone refl heard refl vs h) (tidied-gone by c (g .kept) (g .output) _ v w gone refl heard refl vs (g .moved) (g .place) less h)
+      ∙ ap (λ (b : Bool). restBy by c (on b) vs) (sym (not-false gone h))
 
   module _ (r : Turn) (e : r ≡ turnedOf t m g v) where
-    pub rest-stays : r .stays ≡ true → (vs : List Voice) → restBy t m c g (v ∷ vs) ≡ restBy t m (withVoices (set (c .voices) (g .kept) (r .voice)) (c .count) c) (r .next) vs
+    pub rest-stays : r .stays ≡ true → (vs : List Voice) → restBy by c g (v ∷ vs) ≡ restBy by (withVoices (set (c .voices) (g .kept) (r .voice)) (c .count) c) (r .next) vs
     unfolding turnedOf
-    rest-stays h vs = subst (λ (x : Turn). x .stays ≡ true → restBy t m c g (v ∷ vs) ≡ restBy t m (withVoices (set (c .voices) (g .kept) (x .voice)) (c .count) c) (x .next) vs) (sym e) (stays-so vs) h
+    rest-stays h vs = subst (λ (x : Turn). x .stays ≡ true → restBy by c g (v ∷ vs) ≡ restBy by (withVoices (set (c .voices) (g .kept) (x .voice)) (c .count) c) (x .next) vs) (sym e) (stays-so vs) h
 
-    pub rest-leaves : r .stays ≡ false → (vs : List Voice) → restBy t m c g (v ∷ vs) ≡ restBy t m c (r .next) vs
+    pub rest-leaves : r .stays ≡ false → (vs : List Voice) → restBy by c g (v ∷ vs) ≡ restBy by c (r .next) vs
     unfolding turnedOf
-    rest-leaves h vs = subst (λ (x : Turn). x .stays ≡ false → restBy t m c g (v ∷ vs) ≡ restBy t m c (x .next) vs) (sym e) (leaves-so vs) h
+    rest-leaves h vs = subst (λ (x : Turn). x .stays ≡ false → restBy by c g (v ∷ vs) ≡ restBy by c (x .next) vs) (sym e) (leaves-so vs) h
 
     pub next-place : r .next .place ≡ g .place + 1
     unfolding turnedOf
@@ -133,24 +142,24 @@ turns-few p at count = go (eqb (at .«data_len») 0)
     go false = omega arith
 
 module _ (p : Params) (at : Moment) (ms : List ℕ) (h : Channel) (all : length (h .voices) ≡ 32) where
-  abbrev t : Tick
-  t = sharedOf p at (h .count) .tick
+  abbrev shared : Turning
+  shared = turningBy (sharedOf p at (h .count) .tick) ms
 
   abbrev n : ℕ
   n = sharedOf p at (h .count) .turns
 
   abbrev goal : Played
-  goal = restFrom t ms h 0 zero32 (take n (h .voices))
+  goal = restFrom shared h 0 zero32 (take n (h .voices))
 
   all-few : min n 32 ≡ n
   all-few = omega (arith, turns-few p at (h .count))
 
-  -- the loop begins where the plain turns end
-  pub begins-there : (d : Channel) (g : Glided) → Glides (sharedOf p at (h .count)) ms h d g → length (d .voices) ≡ 32 → Walk goal (restBy t ms (withVoices (d .voices) (d .count) d) (afterPlain g)) (d .voices) n (g .upto)
+  -- the loop begins where the gliding turns end
+  pub begins-there : (d : Channel) (g : Glided) → Glides (sharedOf p at (h .count)) ms h d g → length (d .voices) ≡ 32 → Walk goal (restBy shared (withVoices (d .voices) (d .count) d) (afterGliding g)) (d .voices) n (g .upto)
   begins-there d g e long = record {
     upto = subst (λ (j : ℕ). g .upto ≤ j) all-few (e .few);
     within = omega (arith, turns-few p at (h .count), long);
-    same = rest-plain t ms d g _ ∙ subst (λ (j : ℕ). restFrom t ms d (g .upto) (g .output) (slice (g .upto) j (d .voices)) ≡ restFrom t ms h 0 zero32 (take j (h .voices))) all-few (e .same);
+    same = rest-gliding shared d g _ ∙ subst (λ (j : ℕ). restFrom shared d (g .upto) (g .output) (slice (g .upto) j (d .voices)) ≡ restFrom shared h 0 zero32 (take j (h .voices))) all-few (e .same);
   }
 
   -- what the loop leaves, where the turns stand at g
@@ -162,11 +171,11 @@ module _ (p : Params) (at : Moment) (ms : List ℕ) (h : Channel) (all : length 
     nothing-taken = record { channel = withVoices (h .voices) 0 h; output = zero32; moved = 0 }
 
     -- no turn
-    rest-of-none : (u : Tick) → restFrom u ms h 0 zero32 [] ≡ nothing-taken
+    rest-of-none : (u : Turning) → restFrom u h 0 zero32 [] ≡ nothing-taken
     unfolding tidiedOf behind
-    rest-of-none u = with-count (rest-end u ms h 0 zero32) refl
+    rest-of-none u = with-count (rest-end u h 0 zero32) refl
 
-    count-stays : (u : Tick) → left (g .kept) ≡ restFrom u ms h 0 zero32 (take (min (h .count) 32) (h .voices)) → voicesLeftOf (min (h .count) 32) (g .kept) (h .count) ≡ g .kept
+    count-stays : (u : Turning) → left (g .kept) ≡ restFrom u h 0 zero32 (take (min (h .count) 32) (h .voices)) → voicesLeftOf (min (h .count) 32) (g .kept) (h .count) ≡ g .kept
     unfolding voicesLeftOf
     count-stays u e = go (eqb (min (h .count) 32) 0) refl
       where
@@ -175,31 +184,31 @@ module _ (p : Params) (at : Moment) (ms : List ℕ) (h : Channel) (all : length 
         go true f =
             let m : min (h .count) 32 ≡ 0 = eqb-true (min (h .count) 32) 0 f in
             let c : h .count ≡ 0 = omega (arith, m) in
-            c ∙ sym (ap (λ (r : Played). r .channel .count) (e ∙ ap (λ (j : ℕ). restFrom u ms h 0 zero32 (take j (h .voices))) m ∙ rest-of-none u))
+            c ∙ sym (ap (λ (r : Played). r .channel .count) (e ∙ ap (λ (j : ℕ). restFrom u h 0 zero32 (take j (h .voices))) m ∙ rest-of-none u))
 
-    ended-at : (u : Tick) (z : Bool) → left (g .kept) ≡ restFrom u ms h 0 zero32 (take (cond z 0 (min (h .count) 32)) (h .voices))
-        → left (voicesLeftOf (cond z 0 (min (h .count) 32)) (g .kept) (h .count)) ≡ cond z (record { channel = h; output = zero32; moved = 0 }) (playedOf u ms h)
+    ended-at : (u : Turning) (z : Bool) → left (g .kept) ≡ restFrom u h 0 zero32 (take (cond z 0 (min (h .count) 32)) (h .voices))
+        → left (voicesLeftOf (cond z 0 (min (h .count) 32)) (g .kept) (h .count)) ≡ cond z (record { channel = h; output = zero32; moved = 0 }) (playedOf u h)
     unfolding voicesLeftOf playedOf
     ended-at u true e = ap (λ (r : Played). record { channel = withVoices (r .channel .voices) (h .count) h; output = r .output; moved = r .moved }) (e ∙ rest-of-none u)
-    ended-at u false e = ap left (count-stays u e) ∙ e ∙ ap (restFrom u ms h 0 zero32) (take-most (h .voices) (h .count) 32 all) ∙ with-count (rest-start u ms h) refl
+    ended-at u false e = ap left (count-stays u e) ∙ e ∙ ap (restFrom u h 0 zero32) (take-most (h .voices) (h .count) 32 all) ∙ with-count (rest-start u h) refl
 
     -- what no turn sees doesn't matter
-    rest-same : (u v : Tick) (m : ℕ) → m ≡ 0 → restFrom u ms h 0 zero32 (take m (h .voices)) ≡ restFrom v ms h 0 zero32 (take m (h .voices))
-    rest-same u v m e = ap (λ (j : ℕ). restFrom u ms h 0 zero32 (take j (h .voices))) e ∙ rest-of-none u ∙ sym (rest-of-none v) ∙ ap (λ (j : ℕ). restFrom v ms h 0 zero32 (take j (h .voices))) (sym e)
+    rest-same : (u v : Turning) (m : ℕ) → m ≡ 0 → restFrom u h 0 zero32 (take m (h .voices)) ≡ restFrom v h 0 zero32 (take m (h .voices))
+    rest-same u v m e = ap (λ (j : ℕ). restFrom u h 0 zero32 (take j (h .voices))) e ∙ rest-of-none u ∙ sym (rest-of-none v) ∙ ap (λ (j : ℕ). restFrom v h 0 zero32 (take j (h .voices))) (sym e)
 
-    by-tick : (u v : Tick) (m : ℕ) (z : Bool) → eqb m 0 ≡ z → restFrom (cond z u v) ms h 0 zero32 (take m (h .voices)) ≡ restFrom v ms h 0 zero32 (take m (h .voices))
-    by-tick u v m true f = rest-same u v m (eqb-true m 0 f)
+    by-tick : (u v : Tick) (m : ℕ) (z : Bool) → eqb m 0 ≡ z → restFrom (turningBy (cond z u v) ms) h 0 zero32 (take m (h .voices)) ≡ restFrom (turningBy v ms) h 0 zero32 (take m (h .voices))
+    by-tick u v m true f = rest-same (turningBy u ms) (turningBy v ms) m (eqb-true m 0 f)
     by-tick u v m false f = refl
 
-    module _ (e : restBy t ms (withVoices l (h .count) h) g [] ≡ goal) where
+    module _ (e : restBy shared (withVoices l (h .count) h) g [] ≡ goal) where
       ended : left (voicesLeftOf n (g .kept) (h .count)) ≡ playedIfOf p at ms h
-      unfolding playedIfOf sharedOf turnCountOf
+      unfolding sharedOf turnCountOf
       ended =
           let v = tickOf p at in
-          ended-at v (eqb (at .«data_len») 0) (sym (rest-none t ms (withVoices l (h .count) h) g) ∙ e ∙ by-tick unusedTick v n (eqb n 0) refl)
+          ended-at (turningBy v ms) (eqb (at .«data_len») 0) (sym (rest-none shared (withVoices l (h .count) h) g) ∙ e ∙ by-tick unusedTick v n (eqb n 0) refl) ∙ sym (plays-by p at ms h)
 
-    -- the same of the channel that the plain turns left
-    module _ (d : Channel) (count : d .count ≡ h .count) (e : restBy t ms (withVoices l (d .count) d) g [] ≡ goal) where
+    -- the same of the channel that the gliding turns left
+    module _ (d : Channel) (count : d .count ≡ h .count) (e : restBy shared (withVoices l (d .count) d) g [] ≡ goal) where
       head : d .head ≡ h .head
       head = ap (λ (r : Played). r .channel .head) e
 
@@ -207,7 +216,7 @@ module _ (p : Params) (at : Moment) (ms : List ℕ) (h : Channel) (all : length 
       back = ap (λ (c : ℕ). record { voices = l; count = c; head = d .head }) count ∙ ap (λ (t : Head). record { voices = l; count = h .count; head = t }) head
 
       ends-so : left (voicesLeftOf n (g .kept) (h .count)) ≡ playedIfOf p at ms h
-      ends-so = ended (ap (λ (c : Channel). restBy t ms c g []) (sym back) ∙ e)
+      ends-so = ended (ap (λ (c : Channel). restBy shared c g []) (sym back) ∙ e)
 
       pub ended-heard : record { output = g .output; moved = g .moved } ≡ heardOf (playedIfOf p at ms h)
       ended-heard = ap heardOf ends-so
@@ -234,9 +243,9 @@ module _ (p : Params) (at : Moment) (m : List ℕ) (c : Channel) (none : c .coun
   abbrev of-count : ℕ → Channel
   of-count n = withVoices (c .voices) n c
 
-  played-none : (u : Tick) → playedOf u m c ≡ with-none c
+  played-none : (u : Turning) → playedOf u c ≡ with-none c
   unfolding playedOf keptOf tidiedOf heard-of without behind fold
-  played-none u = subst (λ (n : ℕ). playedOf u m (of-count n) ≡ with-none (of-count n)) (sym none) refl
+  played-none u = subst (λ (n : ℕ). playedOf u (of-count n) ≡ with-none (of-count n)) (sym none) refl
 
   plays-none : playedIfOf p at m c ≡ with-none c
   unfolding playedIfOf

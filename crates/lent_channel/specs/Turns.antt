@@ -15,14 +15,14 @@ use Rattle.walks.specs.Walks.{fold}
 use Rattle.voice.specs.declared.Voice.{Voice}
 use Rattle.voice.specs.declared.Moment.{Moment}
 use Rattle.voice.specs.declared.Tick.{Tick}
-use Rattle.voice.specs.Voices.{tickOf, turnOf, shouldRemoveOf, productOf}
+use Rattle.voice.specs.Voices.{tickOf, turnOf, shouldRemoveOf}
 use Rattle.channel.specs.declared.Head.{Head}
 use Rattle.channel.specs.declared.Channel.{Channel}
 use Rattle.channel.specs.declared.Played.{Played}
 use Rattle.channel.specs.Heads.{goodHead, mixedOf}
-use Rattle.channel.specs.Channels.{withVoices, keptOf, tidiedOf, addedOf, fullOf, goodChannel}
+use Rattle.channel.specs.Channels.{withVoices, Turning, keptOf, tidiedOf, addedOf, turningBy, fullOf, goodChannel}
 use Rattle.recorder.specs.Recording.{isRecordingOf}
-use Rattle.lent_channel.specs.declared.Start.{Start}
+use Rattle.lent_channel.specs.declared.Shared.{Shared}
 use Rattle.lent_channel.specs.declared.Heard.{Heard}
 use Rattle.lent_channel.specs.declared.Glided.{Glided}
 use Rattle.lent_channel.specs.declared.Going.{Going}
@@ -51,7 +51,7 @@ unusedTick = record {
   interpolates = false;
 }
 
-unfoldable pub sharedOf : Params → Moment → ℕ → Start
+unfoldable pub sharedOf : Params → Moment → ℕ → Shared
 sharedOf p at count =
     let n = turnCountOf (at .«data_len») count in
     record { tick = cond (eqb n 0) unusedTick (tickOf p at); turns = n }
@@ -62,25 +62,25 @@ voicesLeftOf turns kept count = cond (eqb turns 0) count kept
 
 -- what the turns of the voices vs give, where k voices before them took theirs and all stayed, and `out` was heard of
 -- them: those that stay stand behind the k, what is heard is added, and none of the k moved up
-abbrev pub restFrom : Tick → List ℕ → Channel → ℕ → Float → List Voice → Played
-restFrom t m c k out vs = record {
-  channel = withVoices (sets (c .voices) k (keptOf t m vs)) (k + length (keptOf t m vs)) c;
-  output = fold (λ (out : Float) (v : Voice). addedOf (shouldRemoveOf t v) out (productOf t m v)) out vs;
-  moved = tidiedOf t m vs;
+abbrev pub restFrom : Turning → Channel → ℕ → Float → List Voice → Played
+restFrom s c k out vs = record {
+  channel = withVoices (sets (c .voices) k (keptOf s vs)) (k + length (keptOf s vs)) c;
+  output = fold (s .adds) out vs;
+  moved = tidiedOf s vs;
 }
 
--- What plain turns promise, from channel c to d: what the turns of the voices from `upto` on give on d, with the output
+-- What gliding turns promise, from channel c to d: what the turns of the voices from `upto` on give on d, with the output
 -- so far, is what all of them give on c, and so none of them moved up; and the count is as it was. How far they go is
 -- left open.
-pub record Glides (s : Start) (m : List ℕ) (c d : Channel) (g : Glided) : Type 0 where
+pub record Glides (s : Shared) (m : List ℕ) (c d : Channel) (g : Glided) : Type 0 where
   pub few : g .upto ≤ min (s .turns) 32
   pub count : d .count ≡ c .count
-  pub same : restFrom (s .tick) m d (g .upto) (g .output) (slice (g .upto) (min (s .turns) 32) (d .voices))
-      ≡ restFrom (s .tick) m c 0 zero32 (take (min (s .turns) 32) (c .voices))
+  pub same : restFrom (turningBy (s .tick) m) d (g .upto) (g .output) (slice (g .upto) (min (s .turns) 32) (d .voices))
+      ≡ restFrom (turningBy (s .tick) m) c 0 zero32 (take (min (s .turns) 32) (c .voices))
 
--- where the turns stand after the plain ones: each of those voices stayed in its place
-unfoldable pub afterPlain : Glided → Going
-afterPlain g = record { place = g .upto; kept = g .upto; output = g .output; moved = 0 }
+-- where the turns stand after those that glide: each of these voices stayed in its place
+unfoldable pub afterGliding : Glided → Going
+afterGliding g = record { place = g .upto; kept = g .upto; output = g .output; moved = 0 }
 
 -- the turn of the voice at the next place: one that stays moves up where one before it has left
 unfoldable pub turnedOf : Tick → List ℕ → Going → Voice → Turn

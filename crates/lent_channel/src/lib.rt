@@ -24,7 +24,7 @@ ghost use Rattle.lent_channel.specs.Turns.{
   sharedOf,
   voicesLeftOf,
   Glides,
-  afterPlain,
+  afterGliding,
   turnedOf,
   headGoodOf,
   heardOf,
@@ -43,7 +43,7 @@ use voice::Tick;
 use voice::Voice;
 
 // How many voices take a turn, and what they share.
-pub struct Start {
+pub struct Shared {
     pub tick: Tick,
     pub turns: usize,
 }
@@ -94,17 +94,17 @@ fn turns_of(data_len: usize, count: usize) -> usize
     channel::places(count)
 }
 
-fn begun(at: Moment, count: usize, params: Params) -> Start
+fn shared_of(at: Moment, count: usize, params: Params) -> Shared
     ensures { λ r. ⌜ r ≡ sharedOf params at count ⌝ }
 {
     let turns = turns_of(at.data_len, count);
     if turns == 0 {
-        return Start {
+        return Shared {
             tick: unused(),
             turns,
         };
     }
-    Start {
+    Shared {
         tick: Tick::new(params, at),
         turns,
     }
@@ -200,7 +200,7 @@ pub fn judged(c: &Channel, capacity: usize) -> Condition
     condition_of(c.head, c.count, good)
 }
 
-// How many voices took a plain turn, from the first on, and what was heard of them.
+// How many voices took a gliding turn, from the first on, and what was heard of them.
 pub struct Glided {
     pub upto: usize,
     pub output: f32,
@@ -212,8 +212,8 @@ fn added(output: f32, w: Voice) -> f32
     output + w.last_sample_value
 }
 
-// Voices take their turns in place, up to the first whose turn isn't plain.
-fn glide(c: &mut Channel, b: Start, data: &[u32]) -> Glided
+// Voices take their turns in place, up to the first that does not glide.
+fn glide(c: &mut Channel, b: Shared, data: &[u32]) -> Glided
     ensures { λ r. ⌜ Glides b (now («data» .entry)) (now (c .entry)) (now (c .exit)) r ⌝ }
 {
     let t = b.tick;
@@ -223,7 +223,7 @@ fn glide(c: &mut Channel, b: Start, data: &[u32]) -> Glided
     while i < n {
         let v = c.voices[i];
         let q = v.quick(t, data);
-        if !q.plain {
+        if !q.glides {
             return Glided { upto: i, output };
         }
         let w = q.voice;
@@ -250,8 +250,8 @@ pub struct Turn {
     pub next: Going,
 }
 
-fn after_plain(g: Glided) -> Going
-    ensures { λ r. ⌜ r ≡ afterPlain g ⌝ }
+fn after_gliding(g: Glided) -> Going
+    ensures { λ r. ⌜ r ≡ afterGliding g ⌝ }
 {
     Going {
         place: g.upto,
@@ -299,15 +299,15 @@ fn turned(g: Going, v: Voice, t: Tick, data: &[u32]) -> Turn
 }
 
 // Each voice takes its turn if the recording isn't empty; those that are then to be removed leave, and the others move
-// up in order. Plain turns go first, as far as they go. The clock and the recording's length are the head's.
+// up in order. Gliding turns go first, as far as they go. The clock and the recording's length are the head's.
 fn play(c: &mut Channel, at: Moment, params: Params, data: &[u32]) -> Heard
     ensures { λ r. ⌜ (r ≡ heardOf (playedIfOf params at (now («data» .entry)) (now (c .entry))))
         × (now (c .exit) ≡ playedIfOf params at (now («data» .entry)) (now (c .entry)) .channel) ⌝ }
 {
-    let b = begun(at, c.count, params);
+    let b = shared_of(at, c.count, params);
     let t = b.tick;
     let n = b.turns;
-    let mut g = after_plain(glide(c, b, data));
+    let mut g = after_gliding(glide(c, b, data));
     while g.place < n {
         let r = turned(g, c.voices[g.place], t, data);
         if r.stays {

@@ -7,7 +7,8 @@ use native.Mathlib.Omega.{arith}
 use borrow.Author.Tests.{ltb-true, ltb-false, eqb-true, eqb-false, eq-eqb, ne-eqb, not-true, not-false}
 use lib.Dec.{eqb, leb, ltb, lit≤}
 use lib.ListN.{length, getD, List·getD-eq-default}
-use Rattle.listing.specs.Records.{byteAt, halfAt, kindOf, lengths, lengthOf, lastLengthKind, channelCount, goodHeader, goodSettings, goodRecord}
+use Rattle.octets.specs.Octets.{byteAt}
+use Rattle.listing.specs.Records.{halfAt, kindOf, lengths, lengthOf, lastLengthKind, channelCount, goodHeader, goodSettings, goodRecord}
 use Rattle.listing.specs.Faults.{headerFaultOf, headerFaultless, settingsFaultOf, kindFaultOf, recordFaultOf, recordFaultless}
 use Rattle.listing.specs.declared.records.Header.{Header}
 use Rattle.listing.specs.declared.faults.RecordFault.the-variants as fault

@@ -13,7 +13,8 @@ use lib.Ieee.{Float}
 use Rattle.walks.specs.Walks.{any}
 use Rattle.walks.proofs.Tests.{neither}
 use Rattle.decimal.specs.Lines.{textOf}
-use Rattle.listing.specs.Records.{byteAt, floatAt, kindOf, lengthOf, goodHeader, headerOf, goodSettings, goodRecord, loopLengthOf, paramsOf, frameCallOf, callOf, recordOf}
+use Rattle.octets.specs.Octets.{byteAt}
+use Rattle.listing.specs.Records.{floatAt, kindOf, lengthOf, goodHeader, headerOf, goodSettings, goodRecord, loopLengthOf, paramsOf, frameCallOf, callOf, recordOf}
 use Rattle.listing.specs.Steps.{playerOf, openedOf, openOf, stepOf, stepMemory}
 use Rattle.listing.specs.Whole.{nextOf, printedFrom, printed}
 use Rattle.listing.specs.Versions.{goodFirstHeader, firstHeaderOf, goodFirstSettings, goodFirstRecord, firstLengthOf, firstParamsOf, firstRecordOf, stepBy, memoryBy, printedFromBy, printedBy, recordsFrom, recordsOf, inWholeBars, Versions}

@@ -5,7 +5,8 @@ use mathlib.Core.Bool.{Bool, true, false, not, cond, _||_}
 use mathlib.Core.List.{List}
 use lib.Dec.{eqb, leb, ltb}
 use lib.ListN.{length}
-use Rattle.listing.specs.Records.{byteAt, halfAt, kindOf, lengthOf, lastLengthKind}
+use Rattle.octets.specs.Octets.{byteAt}
+use Rattle.listing.specs.Records.{halfAt, kindOf, lengthOf, lastLengthKind}
 use Rattle.listing.specs.declared.records.Header.{Header}
 use Rattle.listing.specs.declared.faults.HeaderFault.{HeaderFault}
 use Rattle.listing.specs.declared.faults.HeaderFault.the-variants as header

@@ -8,6 +8,7 @@ use lib.Dec.{eqb, leb}
 use lib.ListN.{length, getD}
 use lib.Ieee.{Float}
 use Rattle.binary32.specs.Leaves.{floatOf}
+use Rattle.octets.specs.Octets.{byteAt}
 use Rattle.common_types.specs.Modes.{loopModeFromIndexOf, noteOffFromIndexOf}
 use Rattle.common_types.specs.Notes.{noteOf}
 use Rattle.common_types.specs.declared.Note.{Note}
@@ -41,9 +42,6 @@ use Rattle.listing.specs.declared.records.Reading.{Reading}
 use Rattle.listing.specs.declared.records.Reading.the-variants as reading
 
 -- ---- fields: numbers big-endian, floats by their bits; a byte that isn't there is 0
-abbrev pub byteAt : List ℕ → ℕ → ℕ
-byteAt r i = getD r i 0
-
 unfoldable pub halfAt : List ℕ → ℕ → ℕ
 halfAt r i = byteAt r i * 256 + byteAt r (i + 1)
 

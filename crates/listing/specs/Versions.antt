@@ -16,8 +16,8 @@ use Rattle.common_types.specs.declared.time_value.TimeOrRatio.{TimeOrRatio}
 use Rattle.common_types.specs.declared.time_value.TimeOrRatio.the-variants.{Time, Ratio}
 use Rattle.decimal.specs.Lines.{lineOf, textOf}
 use Rattle.listing.specs.Lines.{badLine}
+use Rattle.octets.specs.Octets.{byteAt}
 use Rattle.listing.specs.Records.{
-  byteAt,
   halfAt,
   wordAt,
   floatAt,

@@ -3,11 +3,11 @@ ghost use mathlib.Core.Path.{_≡_};
 ghost use Prim.Native.Nat.{_≤_};
 ghost use lib.ListN.{length};
 ghost use Rattle.listing.specs.Faults.{headerFaultOf, settingsFaultOf, kindFaultOf, recordFaultOf};
-use crate::fields::byte_at;
 use crate::fields::half_at;
 use crate::records::Header;
 use crate::records::last_length_kind;
 use crate::records::length_of;
+use octets::byte_at;
 
 pub enum HeaderFault {
     None,

@@ -20,7 +20,6 @@ ghost use Rattle.listing.specs.Records.{
   callOf,
   recordOf,
 };
-use crate::fields::byte_at;
 use crate::fields::float_at;
 use crate::fields::half_at;
 use crate::fields::word_at;
@@ -33,6 +32,7 @@ use common_types::Params;
 use common_types::Transport;
 use common_types::time_value::TimeOrRatio;
 use common_types::time_value::TimeValue;
+use octets::byte_at;
 
 // A listing is of the first version or the second, and has one channel or two.
 pub struct Header {

@@ -116,7 +116,7 @@ module _ (w : World) (st : Standing w) (j : ℕ) (k : j < w .sampler .count) whe
           ∙ ap (acts es) made
 
       first : (p : Params) (x : Float) (m : List ℕ) → chan w j .head .now < lastTime → acts (b ∷ es) (chan w j) .head .now ≡ chan w j .head .now
-          → stoppedIn es (act b (chan w j)) (length (live (chan w j))) ≡ false → emptyAt m (acts (b ∷ es) (chan w j)) ≡ false
+          → stoppedIn es (act b (chan w j)) (length (live (chan w j))) ≡ false → emptyAt m (acts (b ∷ es) (chan w j)) (bornOf p₀ position note velocity (chan w j)) ≡ false
           → First p x m (acts (b ∷ es) (chan w j)) (length (live (chan w j))) (bornOf p₀ position note velocity (chan w j))
       unfolding b any isReset isSample es
       first p x m early same free full =
@@ -126,7 +126,7 @@ module _ (w : World) (st : Standing w) (j : ℕ) (k : j < w .sampler .count) whe
       sooner : (s : Call) (p : Params) (x : Float) (m : List ℕ) → event (run w (start position note velocity p₀ ∷ cs)) s j ≡ sounds p x m
           → chan (run w (start position note velocity p₀ ∷ cs)) j .head .now ≡ chan w j .head .now
           → stoppedIn (events (after w (start position note velocity p₀)) cs j) (chan (after w (start position note velocity p₀)) j) (length (live (chan w j))) ≡ false
-          → emptyAt m (chan (run w (start position note velocity p₀ ∷ cs)) j) ≡ false
+          → emptyAt m (chan (run w (start position note velocity p₀ ∷ cs)) j) (bornOf p₀ position note velocity (chan w j)) ≡ false
           → FirstIn (run w (start position note velocity p₀ ∷ cs)) s j p x m (length (live (chan w j)))
           (freshOf p₀ position note velocity (chan w j .head .now) (chan w j .head .«data_len»))
       unfolding es
@@ -140,7 +140,7 @@ module _ (w : World) (st : Standing w) (j : ℕ) (k : j < w .sampler .count) whe
           let f : First p x m (chan v j) n (bornOf p₀ position note velocity (chan w j))
           = subst (λ (c : Channel). First p x m c n (bornOf p₀ position note velocity (chan w j))) (sym ran)
           (first p x m (omega arith) (ap (λ (c : Channel). c .head .now) (sym ran) ∙ same) (subst (λ (c : Channel). stoppedIn es c n ≡ false) made free)
-          (subst (λ (c : Channel). emptyAt m c ≡ false) ran full)) in
+          (subst (λ (c : Channel). emptyAt m c (bornOf p₀ position note velocity (chan w j)) ≡ false) ran full)) in
           record { voice = f .voice; as-started = f .as-started; since = f .since; sounds = sounds-in v st' j k' s p x m h n (f .voice) (f .sounds) }
 
   -- ---- a voice that leaves
@@ -173,14 +173,14 @@ last-channel w st c (d ∷ ds) j k =
     ∙ ap (beforeLast (event (after w c) d j) (events (after (after w c) d) ds j)) (chan-after w (st .two) (st .few) j k c)
 
 ends : (w : World) → Standing w → (j : ℕ) → j < w .sampler .count → (c : Call) (n : ℕ) (v : Voice) → voiceAt (chan w j) n ≡ some v → finishes (event w c j) (chan w j) n ≡ true
-    → (cs : List Call) (p : Params) (x : Float) (m : List ℕ) → event (before w c cs) (final c cs) j ≡ sounds p x m → emptyAt m (chan (before w c cs) j) ≡ false
+    → (cs : List Call) (p : Params) (x : Float) (m : List ℕ) → event (before w c cs) (final c cs) j ≡ sounds p x m → emptyAt m (chan (before w c cs) j) v ≡ false
     → chan w j .head .now + max (decayOf (event w c j)) (p .«decay_samples») ≤ chan (before w c cs) j .head .now
     → followAll (events w (c ∷ cs) j) (chan w j) n ≡ gone
 unfolding events
 ends w st j k c n v s f cs p x m h e l =
     let q = last-channel w st c cs j k in
     goes (event w c j) (events (after w c) cs j) (chan w j) (st .housing j k) n v s f p
-    (record { input = x; memory = m; sample = last-event w c cs j ∙ h; finds = subst (λ (d : Channel). emptyAt m d ≡ false) q e })
+    (record { input = x; memory = m; sample = last-event w c cs j ∙ h; finds = subst (λ (d : Channel). emptyAt m d v ≡ false) q e })
     (subst (λ (d : Channel). chan w j .head .now + max (decayOf (event w c j)) (p .«decay_samples») ≤ d .head .now) q l)
 
 -- ---- the call in which a voice leaves: the first, or one of those after it
@@ -230,7 +230,7 @@ standing-demand3 w st j k = record {
   on-time = λ position note velocity p₀ ok data₀ cs r s p x m h same free full. sooner w st j k position note velocity p₀ ok data₀ cs r s p x m h same free full;
   sounds-on = λ n v a u cs r f s p x m h e.
       let q = chan-run w st j k cs in
-      let l = sounds-later (events w cs j) (chan w j) (house w st j k) (events-reset w cs j r) n v a u f p x m (subst (λ (d : Channel). emptyAt m d ≡ false) q e) in (
+      let l = sounds-later (events w cs j) (chan w j) (house w st j k) (events-reset w cs j r) n v a u f p x m (subst (λ (d : Channel). emptyAt m d v ≡ false) q e) in (
         l .place,
         l .voice,
         l .follows,

@@ -80,8 +80,8 @@ use Rattle.promises.specs.Runs.{
 }
 use Rattle.promises.specs.Outcomes.{on, Outcome, Allows, Untouched}
 use Rattle.promises.specs.Demands.{waveform, Demand1, Demand2, Demands}
-use Rattle.promises.proofs.Memory.{part-unwritten, part-written}
-use Rattle.promises.proofs.Outcomes.{settled, one-outcome, number-code, left-after, output-answered, chain-makes, makes-chain}
+use Rattle.promises.proofs.Memory.{part-unwritten, part-written, parts-unwritten}
+use Rattle.promises.proofs.Outcomes.{settled, one-outcome, number-code, left-after, left-along, output-answered, chain-makes, makes-chain}
 use Rattle.promises.proofs.Infos.{infos-given, infos-counted, infos-listed}
 use Rattle.promises.proofs.Extremes.{smaller-of-both, larger-of-both}
 use Rattle.promises.proofs.Table.{table-holds}
@@ -89,9 +89,9 @@ use Rattle.promises.proofs.Broken.{row-nine}
 use Rattle.promises.proofs.Rows.{row-tests}
 use Rattle.promises.proofs.SmallParts.{row-seven}
 use Rattle.promises.proofs.Recordings.{recordings}
-use Rattle.promises.proofs.Whole.{memory-after}
+use Rattle.promises.proofs.Whole.{memory-after, memory-run}
 use Rattle.promises.proofs.Turns.{in-turn}
-use Rattle.promises.proofs.Makes.{no-panic, third, true-positions, spreads, count-makes, capacity-makes, whole}
+use Rattle.promises.proofs.Makes.{no-panic, third, old-removal, true-positions, spreads, count-makes, capacity-makes, whole}
 use Rattle.promises.proofs.RunEnds.{run-held, run-done, run-ends}
 use Rattle.promises.proofs.Settings.{one-setting}
 use Rattle.promises.proofs.Tidying.{tidying}
@@ -186,6 +186,11 @@ unmade count p m h c =
     ap (λ (s : Sampler). code (record { sampler = s; memory = m }) c) (other (setUpNumber count (length m)) (samplerOf count p (capacityOf count (length m))) (samplerOf 0 p 0) h)
     ∙ empty-record p m c
 
+unmade-run : (count : ℕ) (p : InitParams) (m : List ℕ) → setUpNumber count (length m) ≢ 0 → (xs : List Float) (q : Params) → runNumber (setUp count p m .sampler) (length xs) q (length m) ≡ 9
+unfolding setUp setUpOf runNumber goodWith goodSampler goodSizes
+unmade-run count p m h xs q =
+    ap (λ (s : Sampler). runNumber s (length xs) q (length m)) (other (setUpNumber count (length m)) (samplerOf count p (capacityOf count (length m))) (samplerOf 0 p 0) h)
+
 -- ---- rows
 query-rows : (w : World) (j : ℕ) (q : Question) → (q ≡ getFramesProcessed j) ⊎ ((q ≡ getDataLen j) ⊎ ((q ≡ isRecording j) ⊎ (q ≡ getLastRecordedOffset j)))
     → code w (asks q) ≡ row (not (goodSampler (w .sampler))) 9 (row (noChannel (w .sampler) j) 1 0)
@@ -217,10 +222,13 @@ demand1 = record {
   one = one-outcome;
   unwritten = λ w c r h j n e. ap (λ (v : World). ownPart v j) (left-after w c r h) ∙ part-unwritten w j c n e;
   written = λ w c r h j p x m e. ap (λ (v : World). ownPart v j) (left-after w c r h) ∙ part-written w j c p x m e;
+  unwritten-run = parts-unwritten;
+  run-sized = λ w f xs p g r h. ap (λ (v : World). length (v .memory)) (left-along w xs p r h ∙ in-turn w f xs p g .leaves) ∙ memory-run w _;
   filled = λ w j p list r h n q. (h .0 ∙ infos-counted w j p (length list) n q, h .1 ∙ infos-listed w j p (length list) n q list);
   informed = λ w j p room r h n q. infos-given w j p room n q r h;
   summarized = λ w columns list r h n. (h .0 ∙ summary-given w columns list n .0, h .1 ∙ summary-given w columns list n .1);
   unmade = unmade;
+  unmade-run = unmade-run;
   sized = λ w c r h. ap (λ (v : World). length (v .memory)) (left-after w c r h) ∙ memory-after w c;
   numbered = number-code;
   start-rows = λ w position note velocity p. refl;
@@ -315,6 +323,7 @@ demands = record {
   true-positions = true-positions;
   one-setting = one-setting;
   tidying = tidying;
+  old-removal = old-removal;
   recordings = recordings;
   in-turn = in-turn;
   spreads = spreads;

@@ -1,26 +1,26 @@
 -- The parts put together are what the contracts cite. Assumes nothing.
 use mathlib.Core.Path.{_≡_, refl, sym, ap}
 use mathlib.Core.Bool.{cond}
-use mathlib.Core.List.{List, [], _∷_, map}
-use lib.ListN.{length}
+use mathlib.Core.List.{List}
+use lib.Dec.{eqb}
 use Prim.Native.Nat.{ℕ}
 use lib.Ieee.{Float, add}
 use Rattle.common_types.specs.declared.Params.{Params}
 use Rattle.common_types.specs.declared.NoteOffBehaviour.{NoteOffBehaviour}
 use Rattle.common_types.specs.declared.NoteOffBehaviour.the-variants as off
 use Rattle.volume.specs.Levels.{isStaticAndMuteOf}
+use Rattle.binary32.specs.Leaves.{zero32}
 use Rattle.voice.specs.declared.Voice.{Voice}
 use Rattle.voice.specs.declared.Tick.{Tick}
-use Rattle.voice.specs.Voices.{lateOf, overOf, shouldRemoveOf, turnOf}
+use Rattle.voice.specs.Voices.{lateOf, overOf, shouldRemoveOf, productOf, turnOf}
 use Rattle.channel.specs.declared.Channel.{Channel}
 use Rattle.channel.specs.declared.Played.{Played}
 use Rattle.channel.specs.declared.Change.{Change}
 use Rattle.channel.specs.declared.Change.the-variants as change
-use Rattle.channel.specs.Heads.{closedOf}
-use Rattle.channel.specs.Channels.{live, startPlayingOf, keptOf, tidiedOf, heardOf, playedOf, playedIfOf, takenOf, memoryOf, processSampleOf, changedOf}
-use Rattle.walks.specs.Walks.{without, behind}
-use Rattle.fates.specs.Engine.{begunOf, passesOver, heardBy, turnedOf, letsGo, leavesOf, leftOf, movedUp, turnsOf, stepOf}
-use Rattle.fates.specs.Events.{changes, sounds, act, tickAt}
+use Rattle.channel.specs.Heads.{momentOf, closedOf, mixedOf}
+use Rattle.channel.specs.Channels.{withHead, anyUnfinishedOf, startPlayingOf, Turning, playedOf, addedOf, turningBy, turningOf, playedIfOf, takenOf, memoryOf, processSampleOf, changedOf}
+use Rattle.fates.specs.Engine.{begunOf, passesOver, turnedOf, letsGo, leavesOf, turnsBy, momentAt, heldAt, stepOf}
+use Rattle.fates.specs.Events.{changes, sounds, act}
 
 pub changes-same : (d : Change) (c : Channel) → act (changes d) c ≡ changedOf d c
 unfolding act changedOf begunOf startPlayingOf
@@ -40,26 +40,22 @@ leaves-same : (t : Tick) (u : Voice) → leavesOf t u ≡ shouldRemoveOf t u
 unfolding leavesOf shouldRemoveOf
 leaves-same t u = rw (lets-same (t .«note_off_behavior») t u)
 
-left-same : (t : Tick) (m : List ℕ) (vs : List Voice) → leftOf t m vs ≡ keptOf t m vs
-unfolding leftOf keptOf turnedOf turnOf passesOver without
-left-same t m [] = refl
-left-same t m (v ∷ vs) = rw (leaves-same t (turnOf t m v)) (ap (λ (l : List Voice). cond (shouldRemoveOf t (turnOf t m v)) l (turnOf t m v ∷ l)) (left-same t m vs))
-
-up-same : (t : Tick) (m : List ℕ) (vs : List Voice) → movedUp t m vs ≡ tidiedOf t m vs
-unfolding movedUp tidiedOf turnedOf turnOf passesOver behind leftOf keptOf
-up-same t m vs = ap length (go vs)
-  where
-    go : (vs : List Voice) → behind (leavesOf t) (map (turnOf t m) vs) ≡ behind (shouldRemoveOf t) (map (turnOf t m) vs)
-    go [] = refl
-    go (v ∷ vs) = λ i. cond (leaves-same t (turnOf t m v) i) (left-same t m vs i) (go vs i)
-
-turns-same : (t : Tick) (m : List ℕ) (c : Channel) → turnsOf t m c ≡ playedOf t m c
-unfolding turnsOf playedOf heardBy heardOf passesOver
-turns-same t m c = rw (left-same t m (live c), up-same t m (live c))
+turns-same : (t : Tick) (m : List ℕ) → turnsBy t m ≡ turningBy t m
+unfolding turnsBy turningBy turnedOf turnOf passesOver
+turns-same t m = λ i. record { turn = turnOf t m; leaves = λ (u : Voice). leaves-same t u i; adds = λ (out : Float) (v : Voice). addedOf (shouldRemoveOf t v) out (productOf t m v) }
 
 pub step-same : (p : Params) (x : Float) (c : Channel) (m : List ℕ) → stepOf p x c m ≡ processSampleOf p x c m
-unfolding stepOf processSampleOf playedIfOf takenOf closedOf add
-step-same p x c m = rw (turns-same (tickAt p m c) (memoryOf x c m) (takenOf m c))
+unfolding stepOf momentAt heldAt processSampleOf playedIfOf takenOf closedOf add
+step-same p x c m = ap (λ (by : Tick → List ℕ → Turning). by-parts by) (λ i t m. turns-same t m i)
+  where
+    d : Channel
+    d = takenOf m c
+
+    by-parts : (Tick → List ℕ → Turning) → Played
+    by-parts by =
+        let r = cond {A = Played} (eqb (d .head .«data_len») 0) (record { channel = d; output = zero32; moved = 0 })
+        (playedOf (turningOf by p (λ (v : Voice). momentOf (d .head)) (λ (v : Voice). memoryOf x c m)) d) in
+        record { channel = withHead (closedOf p (anyUnfinishedOf (r .channel)) (d .head)) (r .channel); output = mixedOf x (r .output) (d .head); moved = r .moved }
 
 pub sounds-same : (p : Params) (x : Float) (c : Channel) (m : List ℕ) → processSampleOf p x c m .channel ≡ act (sounds p x m) c
 unfolding act

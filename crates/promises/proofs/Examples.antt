@@ -36,7 +36,7 @@ use Rattle.voice.specs.Agreeing.{agreesOf}
 use Rattle.channel.specs.declared.Head.{Head}
 use Rattle.channel.specs.Soundness.{FittingChange}
 use Rattle.channel.specs.Heads.{headChangedOf, nextTime, headOf, rampOf, passthruOf, closedOf, goodHead}
-use Rattle.channel.specs.Channels.{live, withHead, withVoices, channelOf, resetOf, anyUnfinishedOf, handledOf, pushedOf, startPlayingOf, wantedOf, findOf, finishedAtOf, stopPlayingOf, spedOf, setNoteSpeedOf, keptOf, tidiedOf, addedOf, heardOf, playedOf, playedIfOf, takenOf, memoryOf, processSampleOf, changedOf, fullOf, goodVoicesOf, goodChannel, recordingOf}
+use Rattle.channel.specs.Channels.{live, withHead, withVoices, channelOf, resetOf, anyUnfinishedOf, handledOf, pushedOf, startPlayingOf, wantedOf, findOf, finishedAtOf, stopPlayingOf, spedOf, setNoteSpeedOf, keptOf, tidiedOf, addedOf, heardOf, playedOf, turningBy, resting, turningAt, turningOf, playedIfOf, takenOf, memoryOf, processSampleOf, changedOf, fullOf, goodVoicesOf, goodChannel, recordingOf}
 use Rattle.sampler.specs.Refusals.{goodSizes, goodSampler, capacityOf, goodWith, setUpNumber, startRows, stopRows, speedRows, sampleNumber, frameNumber, latestOf, roomOf, runNumber, doneOf, channelNumber}
 use Rattle.sampler.specs.declared.Sampler.{Sampler}
 use Rattle.sampler.specs.declared.Ran.{Ran}
@@ -45,9 +45,9 @@ use Rattle.questions.specs.declared.Counted.the-variants as counted
 use Rattle.questions.specs.Questions.{notesOf, listNumber, voiceInfoOf, infoNumber}
 use Rattle.questions.specs.Waveforms.{cutOf, columnOf, columnAt, columnsFrom, waveformNumber}
 use Rattle.sampler.specs.Samplers.{withChannels, setUpOf, eachOf, answerOf, partOf, playedAt, channelSteppedOf as sampledOf, outputOf, movedAt, memoryAt, processSampleOf as sampleOf, sampleMemory, entryOf, entriesOf, entriesMoved, framedOf, frameMoved, framesOf, ranOf, runAnswer}
-use Rattle.fates.specs.Engine.{begunOf, passesOver, heardBy, turnedOf, letsGo, leavesOf, leftOf, movedUp, turnsOf, stepOf}
+use Rattle.fates.specs.Engine.{begunOf, passesOver, turnedOf, letsGo, leavesOf, turnsBy, momentAt, heldAt, stepOf}
 use Rattle.fates.specs.Events.{tickAt, act, isReset, isSample, decayOf}
-use Rattle.fates.specs.Sounding.{termsOf}
+use Rattle.fates.specs.Sounding.{termOf, termsOf}
 use Rattle.fates.specs.Steady.{disagrees, alters, alteredIn}
 use Rattle.fates.specs.Places.{voiceAt, at, gone, fateOf, follow, stops, becomes, addedBy, outOf, playsOut, followAll, stoppedIn, finishedIn}
 use Rattle.promises.specs.Runs.{World, Call, start, stop, speed, startRecording, stopRecording, sample, frame, getDataLen, iterActiveNotes, fillVoiceInfo, getWaveformSummary, asks, FittingCall, chan, ownPart, setUp, questionNumber, code, after, run, doneTo, event, events, isResetCall, isRead, output, before, one, makes}
@@ -62,7 +62,7 @@ use Rattle.promises.proofs.TruePositions.{true-positions}
 
 -- whatever a run computes by
 unfoldable pub computing : Unit {0}
-unfolding floorOf minOf maxOf crossingOf any every without behind fold seek speedOf timeLengthOf lengthOf loopLengthOf lengthBeyond beyondLimits progressOf levelOf towardOf steppedOf goodRamp goodVolume raised inState misusedOf skippedOf startOf stopOf recordedOf dataAfter goodRecorder leadOf travelAt loopedOf roundTripOf mirroredOf bouncedOf wrappedOf placedOf clipOffsetAt clipToDataOf offsetAt indexAt madeOf backOf foundAt reversingAt shiftFor settledOf withSpeed withMode withLength withDataLength goodLength goodClip spanOf tickOf lateOf overOf shouldRemoveOf movedOf positionOf aheadOf nextAt betweenOf valueOf productOf soundedOf finishOf playedOutOf endedOf volumeStepped turnOf freshOf blankVoice atSpeedOf goodVoice nextTime headOf rampOf passthruOf closedOf goodHead channelOf resetOf anyUnfinishedOf handledOf pushedOf startPlayingOf wantedOf findOf finishedAtOf stopPlayingOf spedOf setNoteSpeedOf headChangedOf keptOf tidiedOf addedOf heardOf playedOf playedIfOf takenOf begunOf passesOver heardBy turnedOf letsGo leavesOf leftOf movedUp turnsOf stepOf memoryOf processSampleOf changedOf fullOf goodVoicesOf goodChannel goodSizes goodSampler capacityOf goodWith setUpNumber startRows stopRows speedRows sampleNumber frameNumber channelNumber notesOf listNumber setUpOf eachOf answerOf partOf playedAt sampledOf outputOf movedAt memoryAt sampleOf sampleMemory entryOf entriesOf entriesMoved framedOf frameMoved act isReset isSample decayOf fateOf follow stops becomes addedBy outOf playsOut followAll stoppedIn finishedIn agreesOf disagrees alters alteredIn setUp questionNumber code after run doneTo event events isResetCall isRead output before add sub mul div rem neg lt le eq ofInt toUnsigned isNan ofBits toBits nanBits ofFields latestOf roomOf runNumber doneOf framesOf ranOf runAnswer
+unfolding floorOf minOf maxOf crossingOf any every without behind fold seek speedOf timeLengthOf lengthOf loopLengthOf lengthBeyond beyondLimits progressOf levelOf towardOf steppedOf goodRamp goodVolume raised inState misusedOf skippedOf startOf stopOf recordedOf dataAfter goodRecorder leadOf travelAt loopedOf roundTripOf mirroredOf bouncedOf wrappedOf placedOf clipOffsetAt clipToDataOf offsetAt indexAt madeOf backOf foundAt reversingAt shiftFor settledOf withSpeed withMode withLength withDataLength goodLength goodClip spanOf tickOf lateOf overOf shouldRemoveOf movedOf positionOf aheadOf nextAt betweenOf valueOf productOf soundedOf finishOf playedOutOf endedOf volumeStepped turnOf freshOf blankVoice atSpeedOf goodVoice nextTime headOf rampOf passthruOf closedOf goodHead channelOf resetOf anyUnfinishedOf handledOf pushedOf startPlayingOf wantedOf findOf finishedAtOf stopPlayingOf spedOf setNoteSpeedOf headChangedOf keptOf tidiedOf addedOf heardOf playedOf turningBy resting turningAt turningOf playedIfOf takenOf begunOf passesOver turnedOf letsGo leavesOf turnsBy momentAt heldAt stepOf memoryOf processSampleOf changedOf fullOf goodVoicesOf goodChannel goodSizes goodSampler capacityOf goodWith setUpNumber startRows stopRows speedRows sampleNumber frameNumber channelNumber notesOf listNumber setUpOf eachOf answerOf partOf playedAt sampledOf outputOf movedAt memoryAt sampleOf sampleMemory entryOf entriesOf entriesMoved framedOf frameMoved act isReset isSample decayOf fateOf follow stops becomes addedBy outOf playsOut followAll stoppedIn finishedIn agreesOf disagrees alters alteredIn setUp questionNumber code after run doneTo event events isResetCall isRead output before add sub mul div rem neg lt le eq ofInt toUnsigned isNan ofBits toBits nanBits ofFields latestOf roomOf runNumber doneOf framesOf ranOf runAnswer
 computing = tt
 
 -- ---- parameters, keys, calls
@@ -338,7 +338,7 @@ half-clip : PlainClip (freshOf plain half (key 61) one32 2 2 .clip2) 1 2 2
 unfolding computing isPlain wholeIn
 half-clip = tested (freshOf plain half (key 61) one32 2 2 .clip2) refl .plain
 
-undisturbed : Undisturbed older 1 (press 61) steadily (quiet plain) plain zero32 part 3
+undisturbed : Undisturbed older 1 (press 61) steadily (quiet plain) plain zero32 part (freshOf plain zero32 (key 61) one32 2 2) 3
 unfolding computing
 undisturbed = record { accepted = refl; recorded = refl; no-reset = refl; unfinished = refl; unaltered = refl; sample = refl; finds = refl; later = refl; within = lit≤ tt }
 
@@ -350,7 +350,7 @@ on-the-beat-met = true-promised .on-the-beat zero32 (key 61) one32 plain 0 2 2 w
 abbrev beaten : World
 beaten = run older (press 61 ∷ steadily)
 
-pub on-the-beat-term : productOf (tickAt plain part (chan beaten 1)) (memoryOf zero32 (chan beaten 1) part) (voice beaten 0) ≡ half
+pub on-the-beat-term : termOf plain zero32 part (chan beaten 1) (voice beaten 0) ≡ half
 unfolding computing
 on-the-beat-term = refl
 
@@ -426,7 +426,7 @@ fitting-older : Each FittingCall (recorded ++ (press 60 ∷ []))
 unfolding Each
 fitting-older = fitting-joined recorded (press 60 ∷ []) fitting-recorded (fitting-presses 1)
 
-pub asked-met : Asked (tickAt plain part (chan older 1)) (freshOf plain zero32 (key 60) one32 2 2)
+pub asked-met : Asked (tickAt plain part (chan older 1) (freshOf plain zero32 (key 60) one32 2 2)) (freshOf plain zero32 (key 60) one32 2 2)
 unfolding computing
 asked-met = no-panic 2 init cells refl (recorded ++ (press 60 ∷ [])) fitting-older .asked 1 0 _ (quiet plain) plain zero32 part plays
 
@@ -445,11 +445,11 @@ fitting-astray : Each FittingCall (recorded ++ (press 60 ∷ speed (key 60) nan 
 unfolding Each FittingCall FittingChange fits
 fitting-astray = fitting-joined recorded (press 60 ∷ speed (key 60) nan ∷ []) fitting-recorded ((tt, tt, tt), (tt, tt))
 
-pub placed-met : AllPlaced (tickAt plain part (chan astray 1)) strayed
+pub placed-met : AllPlaced (tickAt plain part (chan astray 1) strayed) strayed
 unfolding computing
 placed-met = no-panic 2 init cells refl (recorded ++ (press 60 ∷ speed (key 60) nan ∷ [])) fitting-astray .placed 1 0 strayed (quiet plain) plain zero32 part strays
 
-pub placed-at : clipOffsetAt (movedOf (tickAt plain part (chan astray 1)) strayed) (chan astray 1 .head .now) ≡ one32
+pub placed-at : clipOffsetAt (movedOf (tickAt plain part (chan astray 1) strayed) strayed) (chan astray 1 .head .now) ≡ one32
 unfolding computing
 placed-at = refl
 

@@ -9,6 +9,7 @@ pub mod Settings
 pub mod Recordings
 pub mod Whole
 pub mod Turns
+pub mod Tidying
 pub mod Makes
 pub mod RunEnds
 pub mod Outcomes
@@ -18,7 +19,6 @@ pub mod Table
 pub mod Broken
 pub mod Rows
 pub mod SmallParts
-pub mod Tidying
 pub mod Demands
 pub mod Examples
 pub mod WaveExamples

@@ -22,9 +22,10 @@ use Rattle.wave.specs.Reader.{judgedOf}
 use Rattle.recordings.specs.Waves.{heldIn}
 use Rattle.recordings.proofs.Numbers.{read-sampler}
 use Rattle.promises.specs.Runs.{World, setUp, Call, change, sample, frame, readWave, asks, after, run, FittingCall, Made, one, frames, framesDone, frameCalls, spread, made, makes, spreadAll, FittingMade}
-use Rattle.promises.specs.Demands.{NoPanic, Demand3, TruePositions, Whole}
+use Rattle.promises.specs.Demands.{NoPanic, Demand3, TruePositions, OldRemoval, Whole}
 use Rattle.promises.proofs.Calls.{count-kept, capacity-kept, standing-new}
 use Rattle.promises.proofs.Demand3.{standing-demand3}
+use Rattle.promises.proofs.Tidying.{standing-old}
 use Rattle.promises.proofs.TruePositions.{standing-true}
 use Rattle.promises.proofs.Turns.{in-turn, kept-makes, standing-makes}
 use Rattle.promises.proofs.Whole as calls
@@ -121,3 +122,6 @@ module _ (count : ℕ) (q : InitParams) (m : List ℕ) (ok : setUpNumber count (
 
   pub true-positions : (hs : List Made) (j : ℕ) → j < count → TruePositions (makes (setUp count q m) hs) j
   true-positions hs j k = standing-true (makes (setUp count q m) hs) (standing-makes (setUp count q m) hs (standing-new count q m)) j (omega (arith, count-makes hs))
+
+  pub old-removal : (hs : List Made) (j : ℕ) → j < count → OldRemoval (makes (setUp count q m) hs) j
+  old-removal hs j k = standing-old (makes (setUp count q m) hs) (standing-makes (setUp count q m) hs (standing-new count q m)) j (omega (arith, count-makes hs))

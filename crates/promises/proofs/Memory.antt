@@ -1,7 +1,7 @@
 -- What a call leaves of channel j's part of the memory: as it was, but where the call is a sample of the channel. Assumes nothing.
 use mathlib.Core.Path.{_≡_, refl, sym, ap, _∙_, subst}
 use mathlib.Core.Bool.{Bool, true, false, cond, true≢false}
-use mathlib.Core.List.{List}
+use mathlib.Core.List.{List, [], _∷_}
 use Prim.Native.Nat.{ℕ, _*_}
 use borrow.Author.Tests.{eqb-true, eqb-false}
 use lib.Dec.{eqb, ltb}
@@ -9,6 +9,8 @@ use lib.ListN.{length, take, drop, getD}
 use lib.Ieee.{Float}
 use Rattle.common_types.specs.declared.Params.{Params}
 use Rattle.binary32.specs.Leaves.{zero32}
+use Rattle.walks.specs.Walks.{any}
+use Rattle.walks.proofs.Tests.{neither}
 use Rattle.channel.specs.declared.Channel.{Channel}
 use Rattle.channel.specs.Channels.{memoryOf}
 use Rattle.sampler.specs.declared.Sampler.{Sampler}
@@ -16,7 +18,7 @@ use Rattle.sampler.specs.Refusals.{channelAt, sampleNumber, frameNumber}
 use Rattle.sampler.specs.Samplers.{partOf, memoryAt, sampleMemory, Framed, framed, entriesOf, framedOf}
 use Rattle.sampler.proofs.Rows.{sample-ready, frame-steps}
 use Rattle.fates.specs.Events.{Event, idle, changes, sounds, isSample}
-use Rattle.promises.specs.Runs.{World, Call, change, sample, frame, readWave, asks, code, after, chan, ownPart, doneTo, event, isRead}
+use Rattle.promises.specs.Runs.{World, Call, change, sample, frame, readWave, asks, code, after, chan, ownPart, doneTo, event, events, run, isRead}
 use Rattle.promises.proofs.Apart.{part-apart, part-own, frame-part}
 use Rattle.promises.proofs.Calls.{kept}
 
@@ -105,3 +107,12 @@ module _ (w : World) (j : ℕ) where
 
   pub part-written : (c : Call) (p : Params) (x : Float) (k : List ℕ) → event w c j ≡ sounds p x k → ownPart (after w c) j ≡ memoryOf x (chan w j) k
   part-written c p x k h = part-after c (no-read c p x k h) ∙ ap (λ (e : Event). partBy e (chan w j) (ownPart w j)) h
+
+-- several calls
+pub parts-unwritten : (w : World) (cs : List Call) (j : ℕ) → any isSample (events w cs j) ≡ false → any isRead cs ≡ false → ownPart (run w cs) j ≡ ownPart w j
+unfolding run events any
+parts-unwritten w [] j h r = refl
+parts-unwritten w (c ∷ cs) j h r =
+    let a = neither (isSample (event w c j)) _ h in
+    let b = neither (isRead c) _ r in
+    parts-unwritten (after w c) cs j (a .1) (b .1) ∙ part-unwritten w j c (a .0) (b .0)

@@ -11,7 +11,7 @@ use borrow.Author.Tests.{lt-ltb, le-ltb, ltb-true, ltb-false, eq-eqb, ne-eqb, eq
 use lib.Dec.{eqb, ltb, leb}
 use lib.ListN.{length, take, getD, getElem?, length-map}
 use lib.Seq.{length-take-le, take-all}
-use lib.Ieee.{Float}
+use lib.Ieee.{Float, binary32, mul}
 use Rattle.binary32.specs.Leaves.{zero32}
 use Rattle.common_types.specs.declared.Params.{Params}
 use Rattle.walks.specs.Walks.{without, behind}
@@ -19,11 +19,10 @@ use Rattle.walks.proofs.Lists.Each.{fewer}
 use Rattle.walks.proofs.Lists.Every.{both}
 use Rattle.walks.proofs.Lists.Looks.{never, look-below, look-some, look-map, look-unmap, without-fewer}
 use Rattle.voice.specs.declared.Voice.{Voice}
-use Rattle.voice.specs.declared.Tick.{Tick}
 use Rattle.voice.specs.Voices.{blankVoice}
 use Rattle.channel.specs.declared.Channel.{Channel}
 use Rattle.channel.specs.declared.Played.{Played}
-use Rattle.channel.specs.Channels.{live, memoryOf, takenOf}
+use Rattle.channel.specs.Channels.{live, Turning, keptOf, tidiedOf}
 use Rattle.channel.specs.Channels.{processSampleOf as channelSampleOf}
 use Rattle.channel.proofs.Samples.{moved-few}
 use Rattle.sampler.specs.declared.Sampler.{Sampler}
@@ -32,13 +31,17 @@ use Rattle.sampler.specs.Refusals.{channelAt, goodSampler, goodWith, sampleNumb
 use Rattle.sampler.specs.Samplers.{partOf, playedAt, movedAt, processSampleOf, framed, entriesMoved, frameMoved}
 use Rattle.sampler.proofs.Rows.{passed, is-true, frame-steps}
 use Rattle.sampler.proofs.Entries.{sample-reaches, frame-reaches}
-use Rattle.fates.specs.Engine.{turnedOf, leavesOf, leftOf, movedUp, turnsOf, stepOf}
-use Rattle.fates.specs.Events.{Event, idle, changes, sounds, isReset, emptyAt, tickAt}
+use Rattle.fates.specs.Engine.{turnsIn}
+use Rattle.fates.specs.Events.{Event, idle, changes, sounds, act, isReset, emptyAt}
 use Rattle.fates.specs.Places.{Place, at, gone, voiceAt, fateOf, follow}
+use Rattle.fates.proofs.Own.{own-leaves, step-moved, step-output}
+use Rattle.fates.proofs.Lives.{live-sounded}
 use Rattle.fates.proofs.Tracks.{at-same, gone-never}
 use Rattle.promises.specs.Runs.{World, Call, sample, frame, code, chan, ownPart, doneTo, event}
 use Rattle.promises.specs.Tidies.{movesUp, upOf, upIn, sumFrom, removeAt, placesOf, takenAway}
-use Rattle.promises.specs.Demands.{Tidying}
+use Rattle.promises.specs.Demands.{Tidying, turnedIn, OldRemoval}
+use Rattle.promises.proofs.Calls.{Standing}
+use Rattle.promises.proofs.Demand3.{next, standing-demand3}
 use Rattle.promises.proofs.Engine.{step-same}
 use Rattle.promises.proofs.Apart.{frame-moved}
 use Rattle.sampler.proofs.Channels.{few-live}
@@ -167,55 +170,55 @@ idle-up : (c : Channel) (n : ℕ) → upOf (follow idle c) n ≡ 0
 unfolding follow
 idle-up c n = stays-put n
 
-module _ (t : Tick) (m : List ℕ) (vs : List Voice) where
+module _ (turns : Turning) (vs : List Voice) where
   abbrev to : ℕ → Place
-  to n = fateOf t m vs n (getElem? vs n)
+  to n = fateOf turns vs n (getElem? vs n)
 
   -- the voices before place n after their turns, and the one at it
   abbrev front : ℕ → List Voice
-  front n = map (turnedOf t m) (take n vs)
+  front n = map (turns .turn) (take n vs)
 
   abbrev here : ℕ → Voice
-  here n = turnedOf t m (getD vs n blankVoice)
+  here n = turns .turn (getD vs n blankVoice)
 
   front-on : (n : ℕ) → n < length vs → front (suc n) ≡ front n ++ (here n ∷ [])
-  front-on n h = ap (map (turnedOf t m)) (take-one-more vs n blankVoice h) ∙ map-last (turnedOf t m) (take n vs) (getD vs n blankVoice)
+  front-on n h = ap (map (turns .turn)) (take-one-more vs n blankVoice h) ∙ map-last (turns .turn) (take n vs) (getD vs n blankVoice)
 
   -- a voice moves up where it stays and one before it leaves
   up-here : (n : ℕ) → n < length vs
-      → cond {A = ℕ} (movesUp (to n) n) 1 0 ≡ cond (leavesOf t (here n)) 0 (cond (ltb (length (without (leavesOf t) (front n))) (length (front n))) 1 0)
-  unfolding fateOf movesUp leftOf
-  up-here n h = ap (λ (o : Option Voice). cond (movesUp (fateOf t m vs n o) n) 1 0) (look-some vs n blankVoice h) ∙ go (leavesOf t (here n))
+      → cond {A = ℕ} (movesUp (to n) n) 1 0 ≡ cond (turns .leaves (here n)) 0 (cond (ltb (length (without (turns .leaves) (front n))) (length (front n))) 1 0)
+  unfolding fateOf movesUp keptOf
+  up-here n h = ap (λ (o : Option Voice). cond (movesUp (fateOf turns vs n o) n) 1 0) (look-some vs n blankVoice h) ∙ go (turns .leaves (here n))
     where
       long : length (front n) ≡ n
-      long = length-map (take n vs) (turnedOf t m) ∙ length-take-le n vs (omega arith)
+      long = length-map (take n vs) (turns .turn) ∙ length-take-le n vs (omega arith)
 
-      go : (b : Bool) → cond {A = ℕ} (movesUp (cond b gone (at (length (without (leavesOf t) (front n))))) n) 1 0
-          ≡ cond b 0 (cond (ltb (length (without (leavesOf t) (front n))) (length (front n))) 1 0)
+      go : (b : Bool) → cond {A = ℕ} (movesUp (cond b gone (at (length (without (turns .leaves) (front n))))) n) 1 0
+          ≡ cond b 0 (cond (ltb (length (without (turns .leaves) (front n))) (length (front n))) 1 0)
       go true = refl
-      go false = ap (λ (k : ℕ). cond (ltb (length (without (leavesOf t) (front n))) k) 1 0) (sym long)
+      go false = ap (λ (k : ℕ). cond (ltb (length (without (turns .leaves) (front n))) k) 1 0) (sym long)
 
-  fates-up : (n : ℕ) → n ≤ length vs → upOf to n ≡ length (behind (leavesOf t) (front n))
+  fates-up : (n : ℕ) → n ≤ length vs → upOf to n ≡ length (behind (turns .leaves) (front n))
   unfolding upOf behind
   fates-up zero h = refl
   fates-up (suc n) h =
       ap (λ (k : ℕ). k + cond (movesUp (to n) n) 1 0) (fates-up n (omega arith))
-      ∙ ap (λ (k : ℕ). length (behind (leavesOf t) (front n)) + k) (up-here n h)
-      ∙ sym (behind-last (leavesOf t) (front n) (here n))
-      ∙ sym (ap (λ (l : List Voice). length (behind (leavesOf t) l)) (front-on n h))
+      ∙ ap (λ (k : ℕ). length (behind (turns .leaves) (front n)) + k) (up-here n h)
+      ∙ sym (behind-last (turns .leaves) (front n) (here n))
+      ∙ sym (ap (λ (l : List Voice). length (behind (turns .leaves) l)) (front-on n h))
 
-  all-up : upOf to (length vs) ≡ movedUp t m vs
-  unfolding movedUp
-  all-up = fates-up (length vs) (le-refl (length vs)) ∙ ap (λ (l : List Voice). length (behind (leavesOf t) (map (turnedOf t m) l))) (take-all (length vs) vs (le-refl (length vs)))
+  all-up : upOf to (length vs) ≡ tidiedOf turns vs
+  unfolding tidiedOf
+  all-up = fates-up (length vs) (le-refl (length vs)) ∙ ap (λ (l : List Voice). length (behind (turns .leaves) (map (turns .turn) l))) (take-all (length vs) vs (le-refl (length vs)))
 
 -- a voice that stays stands before its own place exactly where one before it leaves
-module _ (t : Tick) (m : List ℕ) (vs : List Voice) where
-  fate-is : (n : ℕ) (v : Voice) → getElem? vs n ≡ some v → fateOf t m vs n (getElem? vs n) ≡ cond (leavesOf t (turnedOf t m v)) gone (at (length (without (leavesOf t) (front t m vs n))))
-  unfolding fateOf leftOf
-  fate-is n v e = ap (fateOf t m vs n) e
+module _ (turns : Turning) (vs : List Voice) where
+  fate-is : (n : ℕ) (v : Voice) → getElem? vs n ≡ some v → fateOf turns vs n (getElem? vs n) ≡ cond (turns .leaves (turns .turn v)) gone (at (length (without (turns .leaves) (front turns vs n))))
+  unfolding fateOf keptOf
+  fate-is n v e = ap (fateOf turns vs n) e
 
-  front-long : (n : ℕ) → n ≤ length vs → length (front t m vs n) ≡ n
-  front-long n h = length-map (take n vs) (turnedOf t m) ∙ length-take-le n vs h
+  front-long : (n : ℕ) → n ≤ length vs → length (front turns vs n) ≡ n
+  front-long n h = length-map (take n vs) (turns .turn) ∙ length-take-le n vs h
 
   stays-at : (b : Bool) (a k : ℕ) → cond b gone (at a) ≡ at k → a ≡ k
   stays-at true a k h = absurd (gone-never k h)
@@ -225,70 +228,62 @@ module _ (t : Tick) (m : List ℕ) (vs : List Voice) where
   leaves-so true a h = refl
   leaves-so false a h = absurd (gone-never a (sym h))
 
-  fate-first : (n k : ℕ) (v : Voice) → getElem? vs n ≡ some v → fateOf t m vs n (getElem? vs n) ≡ at k
-      → (k < n) ↔ ((i : ℕ) × (i < n) × (fateOf t m vs i (getElem? vs i) ≡ gone))
+  fate-first : (n k : ℕ) (v : Voice) → getElem? vs n ≡ some v → fateOf turns vs n (getElem? vs n) ≡ at k
+      → (k < n) ↔ ((i : ℕ) × (i < n) × (fateOf turns vs i (getElem? vs i) ≡ gone))
   fate-first n k v e h = (to-gone, from-gone)
     where
-      long : length (front t m vs n) ≡ n
+      long : length (front turns vs n) ≡ n
       long = front-long n (omega (arith, look-below vs n v e))
 
-      place : length (without (leavesOf t) (front t m vs n)) ≡ k
-      place = stays-at (leavesOf t (turnedOf t m v)) _ k (sym (fate-is n v e) ∙ h)
+      place : length (without (turns .leaves) (front turns vs n)) ≡ k
+      place = stays-at (turns .leaves (turns .turn v)) _ k (sym (fate-is n v e) ∙ h)
 
-      to-gone : k < n → (i : ℕ) × (i < n) × (fateOf t m vs i (getElem? vs i) ≡ gone)
+      to-gone : k < n → (i : ℕ) × (i < n) × (fateOf turns vs i (getElem? vs i) ≡ gone)
       to-gone o =
-          let r = one-gone (leavesOf t) (front t m vs n) (omega (arith, o, place, long)) in
-          let u = look-unmap (turnedOf t m) (take n vs) (r .0) (r .1) (r .2) in
+          let r = one-gone (turns .leaves) (front turns vs n) (omega (arith, o, place, long)) in
+          let u = look-unmap (turns .turn) (take n vs) (r .0) (r .1) (r .2) in
           let s = look-take vs n (r .0) (u .0) (u .1) in
-          (r .0, s .0, fate-is (r .0) (u .0) (s .1) ∙ ap (λ (b : Bool). cond b gone (at (length (without (leavesOf t) (front t m vs (r .0)))))) (sym (ap (leavesOf t) (u .2)) ∙ r .3))
+          (r .0, s .0, fate-is (r .0) (u .0) (s .1) ∙ ap (λ (b : Bool). cond b gone (at (length (without (turns .leaves) (front turns vs (r .0)))))) (sym (ap (turns .leaves) (u .2)) ∙ r .3))
 
-      from-gone : (i : ℕ) × (i < n) × (fateOf t m vs i (getElem? vs i) ≡ gone) → k < n
+      from-gone : (i : ℕ) × (i < n) × (fateOf turns vs i (getElem? vs i) ≡ gone) → k < n
       from-gone (i, o, g) =
           let s = look-some vs i blankVoice (omega (arith, o, look-below vs n v e)) in
-          let q = leaves-so (leavesOf t (turnedOf t m (getD vs i blankVoice))) _ (sym (fate-is i (getD vs i blankVoice) s) ∙ g) in
-          let f = without-fewer (leavesOf t) (front t m vs n) i (turnedOf t m (getD vs i blankVoice)) (look-map (turnedOf t m) (take n vs) i (getD vs i blankVoice) (look-before vs n i (getD vs i blankVoice) o s)) q in
+          let q = leaves-so (turns .leaves (turns .turn (getD vs i blankVoice))) _ (sym (fate-is i (getD vs i blankVoice) s) ∙ g) in
+          let f = without-fewer (turns .leaves) (front turns vs n) i (turns .turn (getD vs i blankVoice)) (look-map (turns .turn) (take n vs) i (getD vs i blankVoice) (look-before vs n i (getD vs i blankVoice) o s)) q in
           omega (arith, f, place, long)
 
-each-stays : (t : Tick) (m : List ℕ) (vs : List Voice) → ((n : ℕ) (v : Voice) → getElem? vs n ≡ some v → fateOf t m vs n (getElem? vs n) ≢ gone)
-    → (n : ℕ) (u : Voice) → getElem? (map (turnedOf t m) vs) n ≡ some u → leavesOf t u ≡ false
+each-stays : (turns : Turning) (vs : List Voice) → ((n : ℕ) (v : Voice) → getElem? vs n ≡ some v → fateOf turns vs n (getElem? vs n) ≢ gone)
+    → (n : ℕ) (u : Voice) → getElem? (map (turns .turn) vs) n ≡ some u → turns .leaves u ≡ false
 unfolding fateOf
-each-stays t m vs h n u e =
-    let v = look-unmap (turnedOf t m) vs n u e in
-    ap (leavesOf t) (v .2) ∙ go (leavesOf t (turnedOf t m (v .0))) refl (subst (λ (o : Option Voice). fateOf t m vs n o ≢ gone) (v .1) (h n (v .0) (v .1)))
+each-stays turns vs h n u e =
+    let v = look-unmap (turns .turn) vs n u e in
+    ap (turns .leaves) (v .2) ∙ go (turns .leaves (turns .turn (v .0))) refl (subst (λ (o : Option Voice). fateOf turns vs n o ≢ gone) (v .1) (h n (v .0) (v .1)))
   where
-    go : (b : Bool) → leavesOf t (turnedOf t m (look-unmap (turnedOf t m) vs n u e .0)) ≡ b
-        → cond (leavesOf t (turnedOf t m (look-unmap (turnedOf t m) vs n u e .0))) gone (at (length (leftOf t m (take n vs)))) ≢ gone → leavesOf t (turnedOf t m (look-unmap (turnedOf t m) vs n u e .0)) ≡ false
+    go : (b : Bool) → turns .leaves (turns .turn (look-unmap (turns .turn) vs n u e .0)) ≡ b
+        → cond (turns .leaves (turns .turn (look-unmap (turns .turn) vs n u e .0))) gone (at (length (keptOf turns (take n vs)))) ≢ gone → turns .leaves (turns .turn (look-unmap (turns .turn) vs n u e .0)) ≡ false
     go false e' k = e'
-    go true e' k = absurd (k (ap (λ (b : Bool). cond b gone (at (length (leftOf t m (take n vs))))) e'))
+    go true e' k = absurd (k (ap (λ (b : Bool). cond b gone (at (length (keptOf turns (take n vs))))) e'))
 
 -- ---- a sample of a channel
 module _ (p : Params) (x : Float) (m : List ℕ) (c : Channel) where
   sounds-up : upOf (follow (sounds p x m) c) (length (live c)) ≡ channelSampleOf p x c m .moved
-  unfolding follow stepOf turnsOf takenOf
-  sounds-up = go (emptyAt m c) ∙ ap (λ (r : Played). r .moved) (step-same p x c m)
-    where
-      go : (b : Bool) → upOf (λ (n : ℕ). cond b (at n) (fateOf (tickAt p m c) (memoryOf x c m) (live c) n (voiceAt c n))) (length (live c))
-          ≡ cond {A = Played} b (record { channel = takenOf m c; output = zero32; moved = 0 }) (turnsOf (tickAt p m c) (memoryOf x c m) (takenOf m c)) .moved
-      go true = stays-put (length (live c))
-      go false = all-up (tickAt p m c) (memoryOf x c m) (live c)
-
-  silent : emptyAt m c ≡ true → upOf (follow (sounds p x m) c) (length (live c)) ≡ 0
   unfolding follow
-  silent e =
-      ap (λ (b : Bool). upOf (λ (n : ℕ). cond b (at n) (fateOf (tickAt p m c) (memoryOf x c m) (live c) n (voiceAt c n))) (length (live c))) e
-      ∙ stays-put (length (live c))
+  sounds-up = all-up (turnsIn p x m c) (live c) ∙ sym (step-moved p x m c) ∙ ap (λ (r : Played). r .moved) (step-same p x c m)
 
   -- where none leaves
   sounds-none : ((n : ℕ) (v : Voice) → voiceAt c n ≡ some v → follow (sounds p x m) c n ≢ gone) → upOf (follow (sounds p x m) c) (length (live c)) ≡ 0
-  unfolding follow movedUp
-  sounds-none h = go (emptyAt m c) h
-    where
-      go : (b : Bool) → ((n : ℕ) (v : Voice) → voiceAt c n ≡ some v → cond b (at n) (fateOf (tickAt p m c) (memoryOf x c m) (live c) n (voiceAt c n)) ≢ gone)
-          → upOf (λ (n : ℕ). cond b (at n) (fateOf (tickAt p m c) (memoryOf x c m) (live c) n (voiceAt c n))) (length (live c)) ≡ 0
-      go true h = stays-put (length (live c))
-      go false h =
-          all-up (tickAt p m c) (memoryOf x c m) (live c)
-          ∙ ap length (behind-none (leavesOf (tickAt p m c)) (map (turnedOf (tickAt p m c) (memoryOf x c m)) (live c)) (each-stays (tickAt p m c) (memoryOf x c m) (live c) h))
+  unfolding follow tidiedOf
+  sounds-none h =
+      let turns = turnsIn p x m c in
+      all-up turns (live c) ∙ ap length (behind-none (turns .leaves) (map (turns .turn) (live c)) (each-stays turns (live c) h))
+
+  -- and on an empty recording none does
+  silent : ((n : ℕ) (v : Voice) → voiceAt c n ≡ some v → emptyAt m c v ≡ true) → upOf (follow (sounds p x m) c) (length (live c)) ≡ 0
+  unfolding follow fateOf
+  silent empty =
+      sounds-none (λ n v s g.
+      let stays : follow (sounds p x m) c n ≡ at (length (keptOf (turnsIn p x m c) (take n (live c)))) = rw (s, own-leaves p x m c v, empty n v s) in
+      gone-never _ (sym g ∙ stays))
 
 -- ---- calls
 event-none : (e : Event) (c : Channel) → ((n : ℕ) (v : Voice) → voiceAt c n ≡ some v → follow e c n ≢ gone) → upOf (follow e c) (length (live c)) ≡ 0
@@ -313,12 +308,7 @@ event-first (changes d) c n k v e h = go (isReset (changes d)) h
     go : (b : Bool) → cond b gone (at n) ≡ at k → (k < n) ↔ ((i : ℕ) × (i < n) × (cond b gone (at i) ≡ gone))
     go true h = absurd (gone-never k h)
     go false h = put-first n k h
-event-first (sounds p x m) c n k v e h = go (emptyAt m c) h
-  where
-    go : (b : Bool) → cond b (at n) (fateOf (tickAt p m c) (memoryOf x c m) (live c) n (voiceAt c n)) ≡ at k
-        → (k < n) ↔ ((i : ℕ) × (i < n) × (cond b (at i) (fateOf (tickAt p m c) (memoryOf x c m) (live c) i (voiceAt c i)) ≡ gone))
-    go true h = put-first n k h
-    go false h = fate-first (tickAt p m c) (memoryOf x c m) (live c) n k v e h
+event-first (sounds p x m) c n k v e h = fate-first (turnsIn p x m c) (live c) n k v e h
 
 -- ---- sums
 module _ (f g : ℕ → ℕ) where
@@ -423,7 +413,7 @@ module _ (w : World) where
   unfolding event
   refused-none c n j = ap (λ (b : Bool). upOf (follow (cond b (doneTo w c j) idle) (chan w j)) (length (live (chan w j)))) (ne-eqb (code w c) 0 n) ∙ idle-up (chan w j) (length (live (chan w j)))
 
-  empty-none : (j : ℕ) (x : Float) (p : Params) → emptyAt (ownPart w j) (chan w j) ≡ true → upIn w (sample j x p) j ≡ 0
+  empty-none : (j : ℕ) (x : Float) (p : Params) → ((n : ℕ) (v : Voice) → voiceAt (chan w j) n ≡ some v → emptyAt (ownPart w j) (chan w j) v ≡ true) → upIn w (sample j x p) j ≡ 0
   unfolding event doneTo
   empty-none j x p e = go (eqb (code w (sample j x p)) 0) (eqb j j)
     where
@@ -444,5 +434,14 @@ tidying w = record {
   none = λ c j h. event-none (event w c j) (chan w j) h;
   refused = λ c n j. refused-none w c n j;
   empty = λ j x p h. empty-none w j x p h;
-  old-removal = old-removal;
+}
+
+-- ---- the old removal, of an accepted sample
+pub standing-old : (w : World) → Standing w → (j : ℕ) → j < w .sampler .count → OldRemoval w j
+unfolding act keptOf
+standing-old w st j k = record {
+  lists = λ s p x m e.
+      ap live (next w st j k s ∙ ap (λ (d : Event). act d (chan w j)) e) ∙ live-sounded p x m (chan w j) (st .housing j k)
+      ∙ sym (old-removal (turnsIn p x m (chan w j) .leaves) (turnedIn p x m (chan w j)));
+  outputs = λ s p x m e. standing-demand3 w st j k .hears s p x m e ∙ ap (mul binary32 (p .volume)) (step-output p x m (chan w j));
 }

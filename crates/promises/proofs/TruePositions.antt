@@ -20,13 +20,14 @@ use Rattle.voice.specs.declared.Tick.{Tick}
 use Rattle.voice.specs.Voices.{tickOf, recordedValueOf, valueOf, freshOf}
 use Rattle.voice.proofs.Values.{value-off, value-whole}
 use Rattle.channel.specs.declared.Channel.{Channel}
-use Rattle.channel.specs.Channels.{live, takenOf, memoryOf}
+use Rattle.channel.specs.Channels.{live, takenOf}
 use Rattle.sampler.specs.Refusals.{setUpNumber}
 use Rattle.questions.specs.Questions.{voiceInfoOf}
-use Rattle.fates.specs.Engine.{bornOf}
+use Rattle.fates.specs.Engine.{bornOf, momentAt, heldAt}
 use Rattle.fates.specs.Events.{Event, sounds, act, acts, emptyAt, tickAt}
 use Rattle.fates.specs.Places.{voiceAt, at, follow, followAll}
 use Rattle.fates.specs.Steady.{alteredIn}
+use Rattle.fates.proofs.Own.{finds-kept}
 use Rattle.fates.proofs.Steady.{Beats, BeatsAt, beats-at, shown}
 use Rattle.fates.proofs.Tracks.{at-same}
 use Rattle.walks.proofs.Lists.Looks.{look-last}
@@ -48,7 +49,7 @@ module _ (w : World) (st : Standing w) (j : ℕ) (present : j < w .sampler .coun
   abbrev fresh : Voice
   fresh = bornOf p₀ position note velocity (chan w j)
 
-  module _ (cs : List Call) (s : Call) (p : Params) (x : Float) (m : List ℕ) (k : ℕ) (U : Undisturbed w j b cs s p x m k) where
+  module _ (cs : List Call) (s : Call) (p : Params) (x : Float) (m : List ℕ) (k : ℕ) (U : Undisturbed w j b cs s p x m fresh k) where
     abbrev v : World
     v = run w (b ∷ cs)
 
@@ -82,7 +83,7 @@ module _ (w : World) (st : Standing w) (j : ℕ) (present : j < w .sampler .coun
     unfolding freshOf
     beating =
         beats-at p x m es (chan (after w b) j) (house (after w b) (standing-after w b st) j (still w st j present b)) (events-reset (after w b) cs j (U .no-reset)) first fresh begun refl (U .unfinished)
-        (subst (λ (c : Channel). emptyAt m c ≡ false) ran (U .finds)) unaltered
+        (subst (λ (c : Channel). emptyAt m c fresh ≡ false) ran (U .finds)) unaltered
 
     beats : Beats p x m (chan v j) (beating .place) (fresh .clip2)
     beats = subst (λ (c : Channel). Beats p x m c (beating .place) (fresh .clip2)) (sym ran) (beating .beats)
@@ -96,18 +97,18 @@ module _ (w : World) (st : Standing w) (j : ℕ) (present : j < w .sampler .coun
       index = index-is (fresh .clip2) (chan v j .head .now) a l d P (subst (λ (n : ℕ). n ≤ 2 ^ 24) (sym elapsed) (U .within)) ∙ ap (plainIndex a l d) elapsed
 
       abbrev t : Tick
-      t = tickAt p m (chan v j)
+      t = tickAt p m (chan v j) (beats .voice)
 
       abbrev held : List ℕ
-      held = memoryOf x (chan v j) m
+      held = heldAt x m (chan v j) (beats .voice)
 
       off : chan v j .head .interpolates ≡ false → valueOf t held (fresh .clip2) ≡ recordedValueOf held (plainIndex a l d k)
-      unfolding tickOf takenOf
+      unfolding tickOf momentAt takenOf
       off e = value-off t held (fresh .clip2) e ∙ ap (recordedValueOf held) index
 
       -- positions are whole there
       alike : Tame (recordedValueOf held (plainIndex a l d k)) (recordedValueOf held (nextAt (fresh .clip2) (chan v j .head .now))) → eq (valueOf t held (fresh .clip2)) (recordedValueOf held (plainIndex a l d k)) ≡ true
-      unfolding tickOf takenOf eq
+      unfolding tickOf momentAt takenOf eq
       alike =
           let within : elapsedAt (fresh .clip2) (chan v j .head .now) ≤ 2 ^ 24 = subst (λ (n : ℕ). n ≤ 2 ^ 24) (sym elapsed) (U .within) in
           let none : positionAt (fresh .clip2) (chan v j .head .now) .fraction ≡ zero32 = fraction-is (fresh .clip2) (chan v j .head .now) a l d P within in
@@ -135,7 +136,7 @@ module _ (w : World) (st : Standing w) (j : ℕ) (present : j < w .sampler .coun
           let here : beating .place ≡ n = at-same (beating .place) n (sym (beating .follows) ∙ f) in
           let step : follow (sounds p x m) (chan v j) (beating .place) ≡ at i
           = subst (λ (y : ℕ). follow (sounds p x m) (chan v j) y ≡ at i) (sym here) (subst (λ (e : Event). follow e (chan v j) n ≡ at i) (U .sample) g) in
-          let q = shown p x m (chan v j) (house v stand j there) (beating .place) i (fresh .clip2) (U .finds) beats step in
+          let q = shown p x m (chan v j) (house v stand j there) (beating .place) i (fresh .clip2) beats (finds-kept m (chan v j) fresh (beats .voice) (U .finds)) step in
           let last : q .0 .«last_sample_index» ≡ plainIndex a l d k = q .2 ∙ index in
           record {
             voice = q .0;

@@ -32,7 +32,7 @@ use Rattle.voice.specs.Soundness.{SoundParams, SoundVoice}
 use Rattle.voice.proofs.Moves.{loop-length-good, moved-sound}
 use Rattle.voice.proofs.Kept.{next-recorded, clip-sound}
 use Rattle.channel.specs.Heads.{momentOf}
-use Rattle.channel.specs.Channels.{live, takenOf, memoryOf}
+use Rattle.channel.specs.Channels.{live, takenOf}
 use Rattle.channel.specs.Soundness.{FittingChange, SoundChannel}
 use Rattle.channel.proofs.Parts.{data-within, voice-at}
 use Rattle.channel.proofs.Samples.{taken-sound, memory-kept, voice-recorded}
@@ -42,6 +42,7 @@ use Rattle.sampler.specs.Soundness.{SoundSampler, Reached, Unbroken}
 use Rattle.sampler.proofs.Entries.{part-length, sample-memory-length, frame-memory-length}
 use Rattle.sampler.proofs.Kept.{small, channel-sound}
 use Rattle.sampler.proofs.Reach.{passes, another, none, reached-sound, reached-unbroken}
+use Rattle.fates.specs.Engine.{momentAt, heldAt}
 use Rattle.fates.specs.Events.{lengthAt, tickAt}
 use Rattle.questions.specs.Questions.{recorderAt, notesOf, listNumber, infoNumber}
 use Rattle.questions.specs.Waveforms.{waveformNumber}
@@ -151,55 +152,57 @@ module _ (w : World) (st : Standing w) (h : SoundSampler (w .sampler)) (j n : �
   itself : getD (chan w j .voices) n blankVoice ≡ v
   itself = sym (getD-take (chan w j .count) (chan w j .voices) n blankVoice place) ∙ look-value (live (chan w j)) n v blankVoice (y .stands)
 
-  some-data : 1 ≤ lengthAt m (chan w j)
-  some-data = go (lengthAt m (chan w j)) (eqb-false (lengthAt m (chan w j)) 0 (y .finds))
+  some-data : 1 ≤ lengthAt m (chan w j) v
+  some-data = go (lengthAt m (chan w j) v) (eqb-false (lengthAt m (chan w j) v) 0 (y .finds))
     where
       go : (l : ℕ) → (l ≡ 0 → ⊥) → 1 ≤ l
       go l q = omega arith
 
-  index-inside : indexAt (movedOf (tickAt p m (chan w j)) v) (chan w j .head .now) < lengthAt m (chan w j)
-  unfolding takenOf
+  index-inside : indexAt (movedOf (tickAt p m (chan w j) v) v) (chan w j .head .now) < lengthAt m (chan w j) v
+  unfolding momentAt takenOf
   index-inside =
-      subst (λ (u : Voice). indexAt (movedOf (tickAt p m (chan w j)) u) (chan w j .head .now) < lengthAt m (chan w j)) itself
+      subst (λ (u : Voice). indexAt (movedOf (tickAt p m (chan w j) v) u) (chan w j .head .now) < lengthAt m (chan w j) v) itself
       (voice-recorded (w .sampler .capacity) (takenOf m (chan w j)) taken p sound-params (small (w .sampler) h) n blankVoice place some-data)
 
-  data-inside : lengthAt m (chan w j) ≤ length (memoryOf x (chan w j) m)
+  data-inside : lengthAt m (chan w j) v ≤ length (heldAt x m (chan w j) v)
+  unfolding momentAt heldAt
   data-inside = le-trans (data-within (w .sampler .capacity) (takenOf m (chan w j)) taken) (le-of-eq (sym (memory-kept x (chan w j) m ∙ size)))
 
-  short : lengthAt m (chan w j) ≤ 2 ^ 22
+  short : lengthAt m (chan w j) v ≤ 2 ^ 22
+  unfolding momentAt
   short = le-trans (data-within (w .sampler .capacity) (takenOf m (chan w j)) taken) (small (w .sampler) h)
 
   voice-sound : Sound (v .clip2)
   unfolding takenOf
   voice-sound = clip-sound (chan w j .head .now) v (subst (SoundVoice (chan w j .head .now)) itself (voice-at (w .sampler .capacity) (takenOf m (chan w j)) taken n blankVoice place))
 
-  next-inside : nextAt (movedOf (tickAt p m (chan w j)) v) (chan w j .head .now) < lengthAt m (chan w j)
-  unfolding takenOf
+  next-inside : nextAt (movedOf (tickAt p m (chan w j) v) v) (chan w j .head .now) < lengthAt m (chan w j) v
+  unfolding momentAt takenOf
   next-inside =
       next-recorded p (momentOf (takenOf m (chan w j) .head)) sound-params some-data short v
       (subst (SoundVoice (chan w j .head .now)) itself (voice-at (w .sampler .capacity) (takenOf m (chan w j)) taken n blankVoice place))
 
-  lengthened-sound : Sound (lengthened (tickAt p m (chan w j)) v)
-  unfolding tickOf spanOf takenOf
+  lengthened-sound : Sound (lengthened (tickAt p m (chan w j) v) v)
+  unfolding tickOf spanOf momentAt takenOf
   lengthened-sound =
-      let l = lengthAt m (chan w j) in
+      let l = lengthAt m (chan w j) v in
       with-length-sound (v .clip2) (chan w j .head .now) (loopLengthOf p l) (loop-length-fits p l (sound-params .fitting)) (loop-length-good p l sound-params short) voice-sound
 
-  sped-sound : Sound (sped (tickAt p m (chan w j)) v)
-  unfolding tickOf spanOf takenOf
+  sped-sound : Sound (sped (tickAt p m (chan w j) v) v)
+  unfolding tickOf spanOf momentAt takenOf
   sped-sound =
-      with-speed-sound (lengthened (tickAt p m (chan w j)) v) (chan w j .head .now) (mul binary32 (v .speed) (speedOf p)) (mul-fits binary32 (v .speed) (speedOf p)) lengthened-sound
+      with-speed-sound (lengthened (tickAt p m (chan w j) v) v) (chan w j .head .now) (mul binary32 (v .speed) (speedOf p)) (mul-fits binary32 (v .speed) (speedOf p)) lengthened-sound
 
-  told-sound : Sound (toldLength (tickAt p m (chan w j)) v)
-  unfolding tickOf spanOf takenOf
+  told-sound : Sound (toldLength (tickAt p m (chan w j) v) v)
+  unfolding tickOf spanOf momentAt takenOf
   told-sound =
-      let l = lengthAt m (chan w j) in
-      with-data-length-sound (sped (tickAt p m (chan w j)) v) (chan w j .head .now) (asFloat l) (ofInt-fits binary32 (pos l)) (float-length l some-data short) sped-sound
+      let l = lengthAt m (chan w j) v in
+      with-data-length-sound (sped (tickAt p m (chan w j) v) v) (chan w j .head .now) (asFloat l) (ofInt-fits binary32 (pos l)) (float-length l some-data short) sped-sound
 
-  all-placed : AllPlaced (tickAt p m (chan w j)) v
-  unfolding tickOf spanOf takenOf
+  all-placed : AllPlaced (tickAt p m (chan w j) v) v
+  unfolding tickOf spanOf momentAt takenOf
   all-placed =
-      let t = tickAt p m (chan w j) in
+      let t = tickAt p m (chan w j) v in
       let now = chan w j .head .now in
       record {
         before-length = clip-offset-inside (v .clip2) now voice-sound;
@@ -209,15 +212,15 @@ module _ (w : World) (st : Standing w) (h : SoundSampler (w .sampler)) (j n : �
         sounding = clip-offset-inside (movedOf t v) now (moved-sound p (momentOf (takenOf m (chan w j) .head)) sound-params some-data short v voice-sound);
       }
 
-  updates-asked : Asked (tickAt p m (chan w j)) v
-  unfolding tickOf spanOf takenOf
+  updates-asked : Asked (tickAt p m (chan w j) v) v
+  unfolding tickOf spanOf momentAt takenOf
   updates-asked =
       let now = chan w j .head .now in
-      let l = lengthAt m (chan w j) in
+      let l = lengthAt m (chan w j) v in
       record {
         length = length-asked (v .clip2) now voice-sound (loopLengthOf p l) (loop-length-good p l sound-params short);
-        speed = speed-found (lengthened (tickAt p m (chan w j)) v) now lengthened-sound (mul binary32 (v .speed) (speedOf p));
-        mode = mode-found (toldLength (tickAt p m (chan w j)) v) now told-sound (clipModeOf (p .«loop_mode»));
+        speed = speed-found (lengthened (tickAt p m (chan w j) v) v) now lengthened-sound (mul binary32 (v .speed) (speedOf p));
+        mode = mode-found (toldLength (tickAt p m (chan w j) v) v) now told-sound (clipModeOf (p .«loop_mode»));
       }
 
 pub no-panic : (count : ℕ) (q : InitParams) (m : List ℕ) → setUpNumber count (length m) ≡ 0 → (cs : List Call) → Each FittingCall cs → NoPanic (run (setUp count q m) cs)
@@ -244,5 +247,6 @@ whole count q m z cs f =
     record {
       unbroken = no-nine w h u;
       unbroken-run = λ xs p. run-nine w u xs p;
+      fitting = h .fitting;
       opens = λ position note velocity p a b d u. start-opens w st position note velocity p (h .good) a b d u;
     }

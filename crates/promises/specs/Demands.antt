@@ -42,6 +42,11 @@ pub record Demand1 : Type 0 where
   pub written : (w : World) (c : Call) (r : Outcome (on w c)) → Allows (on w c) r
       → (j : ℕ) (p : Params) (x : Float) (m : List ℕ) → event w c j ≡ sounds p x m
       → ownPart (leftBy w c r) j ≡ memoryOf x (chan w j) m
+  -- So it is of several calls, and of a run of frames, which is its frame calls (`in-turn`).
+  pub unwritten-run : (w : World) (cs : List Call) (j : ℕ) → any isSample (events w cs j) ≡ false
+      → any isRead cs ≡ false → ownPart (run w cs) j ≡ ownPart w j
+  pub run-sized : (w : World) → FittingSampler (w .sampler) → (xs : List Float) (p : Params) → FittingParams p
+      → (r : RunOutcome) → Allows (along w xs p) r → length (leftAlong r .memory) ≡ length (w .memory)
   -- "voice info fills a lent list of `VoiceInfo` records", and "a lent list longer than the answer keeps its rest." The
   -- answer is how many voices there are of the 32 places that a channel has by its type. By value the figures stand in
   -- front of 32.
@@ -121,6 +126,8 @@ pub record Demand1 : Type 0 where
   -- A set-up that is refused leaves a record that every call answers with 9.
   pub unmade : (count : ℕ) (p : InitParams) (m : List ℕ) → setUpNumber count (length m) ≢ 0 → (c : Call)
       → code (setUp count p m) c ≡ 9
+  pub unmade-run : (count : ℕ) (p : InitParams) (m : List ℕ) → setUpNumber count (length m) ≢ 0
+      → (xs : List Float) (q : Params) → runNumber (setUp count p m .sampler) (length xs) q (length m) ≡ 9
   -- "and state, sample memory and frame hold what they held." So do lent lists.
   pub held : (w : World) (c : Call) (r : Outcome (on w c)) → Allows (on w c) r → code w c ≢ 0
       → (leftBy w c r ≡ w) × Untouched w c r
@@ -181,30 +188,30 @@ pub record AllPlaced (t : Tick) (v : Voice) : Type 0 where
   pub before-mode : Placed (toldLength t v) (t .now)
   pub sounding : Placed (movedOf t v) (t .now)
 
--- a voice of channel j that has its turn in the sample s: at place n it is v, and the recording isn't empty
+-- a voice of channel j that has its turn in the sample s: at place n it is v, and its recording isn't empty
 pub record Plays (w : World) (j n : ℕ) (v : Voice) (s : Call) (p : Params) (x : Float) (m : List ℕ) : Type 0 where
   pub present : j < w .sampler .count
   pub stands : voiceAt (chan w j) n ≡ some v
   pub floats : FittingCall s
   pub sample : event w s j ≡ sounds p x m
-  pub finds : emptyAt m (chan w j) ≡ false
+  pub finds : emptyAt m (chan w j) v ≡ false
 
 pub record NoPanic (w : World) : Type 0 where
   -- The record is good by row 9's own tests: no time lies after the clock, no write place past the data, no ramp is
   -- empty, and no clip is bad.
   pub good : goodSampler (w .sampler) ≡ true
   pub asked : (j n : ℕ) (v : Voice) (s : Call) (p : Params) (x : Float) (m : List ℕ) → Plays w j n v s p x m
-      → Asked (tickAt p m (chan w j)) v
+      → Asked (tickAt p m (chan w j) v) v
   -- "Bit-exact f32 loop position, with bound 0 to below length proved for every shift and speed". A place that is NaN
   -- is not inside.
   pub placed : (j n : ℕ) (v : Voice) (s : Call) (p : Params) (x : Float) (m : List ℕ) → Plays w j n v s p x m
-      → AllPlaced (tickAt p m (chan w j)) v
+      → AllPlaced (tickAt p m (chan w j) v) v
   -- The index that a voice sounds by lies inside the recording, the next one too, and the recording inside the
   -- channel's memory: so "its recorded value", in demand 3, is no default.
   pub inside : (j n : ℕ) (v : Voice) (s : Call) (p : Params) (x : Float) (m : List ℕ) → Plays w j n v s p x m
-      → (indexAt (movedOf (tickAt p m (chan w j)) v) (chan w j .head .now) < lengthAt m (chan w j))
-      × (nextAt (movedOf (tickAt p m (chan w j)) v) (chan w j .head .now) < lengthAt m (chan w j))
-      × (lengthAt m (chan w j) ≤ length (memoryOf x (chan w j) m))
+      → (indexAt (movedOf (tickAt p m (chan w j) v) v) (chan w j .head .now) < lengthAt m (chan w j) v)
+      × (nextAt (movedOf (tickAt p m (chan w j) v) v) (chan w j .head .now) < lengthAt m (chan w j) v)
+      × (lengthAt m (chan w j) v ≤ length (heldAt x m (chan w j) v))
 
 -- ==== Demand 2
 
@@ -324,9 +331,7 @@ pub record Leaves (w : World) (j n : ℕ) (cs : List Call) : Type 0 where
 -- removed has none
 abbrev pub termsWith : Params → Float → List ℕ → Channel → ℕ → Voice → List Float
 termsWith p x m c n v =
-    let t = tickAt p m c in
-    let r = memoryOf x c m in
-    termsOf t r (take n (live c)) ++ (productOf t r v ∷ termsOf t r (drop (suc n) (live c)))
+    termsOf p x m c (take n (live c)) ++ (termOf p x m c v ∷ termsOf p x m c (drop (suc n) (live c)))
 
 -- The voice v, at place n of channel j and unfinished, sounds in the sample s: the call's output for the channel is
 -- `volume` times the sum of those terms, from the left, and of the input at the pass-through's level. That the term can
@@ -390,7 +395,8 @@ pub record Demand3 (w : World) (j : ℕ) : Type 0 where
       → chan (run w (start position note velocity p₀ ∷ cs)) j .head .now ≡ chan w j .head .now
       → stoppedIn (events (after w (start position note velocity p₀)) cs j)
       (chan (after w (start position note velocity p₀)) j) (length (live (chan w j))) ≡ false
-      → emptyAt m (chan (run w (start position note velocity p₀ ∷ cs)) j) ≡ false
+      → emptyAt m (chan (run w (start position note velocity p₀ ∷ cs)) j) (bornOf p₀ position note velocity (chan w j))
+      ≡ false
       → FirstIn (run w (start position note velocity p₀ ∷ cs)) s j p x m (length (live (chan w j)))
       (freshOf p₀ position note velocity (chan w j .head .now) (chan w j .head .«data_len»))
   -- And until it is finished a voice sounds, where it then stands, in every accepted sample that finds the recording
@@ -398,7 +404,7 @@ pub record Demand3 (w : World) (j : ℕ) : Type 0 where
   pub sounds-on : (n : ℕ) (v : Voice) → voiceAt (chan w j) n ≡ some v → v .finished ≡ false
       → (cs : List Call) → any isResetCall cs ≡ false → finishedIn (events w cs j) (chan w j) n ≡ false
       → (s : Call) (p : Params) (x : Float) (m : List ℕ) → event (run w cs) s j ≡ sounds p x m
-      → emptyAt m (chan (run w cs) j) ≡ false
+      → emptyAt m (chan (run w cs) j) v ≡ false
       → (k : ℕ) × (u : Voice) × (followAll (events w cs j) (chan w j) n ≡ at k) × SoundsIn (run w cs) s j p x m k u
   -- STAYS. "No voice leaves before a stop or play-once has finished it." The call that it leaves in may be the one that
   -- finishes it.
@@ -423,7 +429,7 @@ pub record Demand3 (w : World) (j : ℕ) : Type 0 where
   -- between modes and decays may be anything.
   pub goes : (c : Call) (n : ℕ) (v : Voice) → voiceAt (chan w j) n ≡ some v → finishes (event w c j) (chan w j) n ≡ true
       → (cs : List Call) (p : Params) (x : Float) (m : List ℕ) → event (before w c cs) (final c cs) j ≡ sounds p x m
-      → emptyAt m (chan (before w c cs) j) ≡ false
+      → emptyAt m (chan (before w c cs) j) v ≡ false
       → chan w j .head .now + max (decayOf (event w c j)) (p .«decay_samples») ≤ chan (before w c cs) j .head .now
       → followAll (events w (c ∷ cs) j) (chan w j) n ≡ gone
   -- One that is gone left in one of the calls, where `free` holds:
@@ -443,12 +449,12 @@ pub record Demand3 (w : World) (j : ℕ) : Type 0 where
 
 -- ==== Request 8/12, after demand 3: "True positions at normal speed. Our lag measurement relies on this."
 
--- b is an accepted start on a recording that isn't empty, and s an accepted sample, k later by the channel's count, that
--- finds the recording not empty. Between them come the calls cs, without a reset, in which neither a stop nor play-once
--- finishes that voice. "with no update in between that changes a field": no sample of all these, s included, asks for
--- another length, speed, data length or mode than the voice's clip has.
+-- b is an accepted start, of the voice `born`, on a recording that isn't empty, and s an accepted sample, k later by the
+-- channel's count, that finds the recording not empty. Between them come the calls cs, without a reset, in which neither
+-- a stop nor play-once finishes that voice. "with no update in between that changes a field": no sample of all these, s
+-- included, asks for another length, speed, data length or mode than the voice's clip has.
 pub record Undisturbed (w : World) (j : ℕ) (b : Call) (cs : List Call) (s : Call) (p : Params) (x : Float) (m : List ℕ)
-    (k : ℕ) : Type 0 where
+    (born : Voice) (k : ℕ) : Type 0 where
   pub accepted : code w b ≡ 0
   pub recorded : isEmpty (chan w j) ≡ false
   pub no-reset : any isResetCall cs ≡ false
@@ -456,7 +462,7 @@ pub record Undisturbed (w : World) (j : ℕ) (b : Call) (cs : List Call) (s : Ca
   pub unaltered : alteredIn (events (after w b) (cs ++ (s ∷ [])) j) (chan (after w b) j) (length (live (chan w j)))
       ≡ false
   pub sample : event (run w (b ∷ cs)) s j ≡ sounds p x m
-  pub finds : emptyAt m (chan (run w (b ∷ cs)) j) ≡ false
+  pub finds : emptyAt m (chan (run w (b ∷ cs)) j) born ≡ false
   pub later : chan (run w (b ∷ cs)) j .head .now ≡ chan w j .head .now + k
   pub within : k ≤ 2 ^ 24
 
@@ -470,18 +476,19 @@ pub record OnTheBeat (w : World) (j : ℕ) (b : Call) (cs : List Call) (s : Call
   pub follows : followAll (events (after w b) cs j) (chan (after w b) j) (length (live (chan w j))) ≡ at place
   pub sounds : SoundsIn (run w (b ∷ cs)) s j p x m place voice
   pub clip : voice .clip2 ≡ born .clip2
-  pub term : productOf (tickAt p m (chan (run w (b ∷ cs)) j)) (memoryOf x (chan (run w (b ∷ cs)) j) m) voice
+  pub term : termOf p x m (chan (run w (b ∷ cs)) j) voice
       ≡ mul binary32
-      (valueOf (tickAt p m (chan (run w (b ∷ cs)) j)) (memoryOf x (chan (run w (b ∷ cs)) j) m) (born .clip2))
+      (valueOf (tickAt p m (chan (run w (b ∷ cs)) j) voice) (heldAt x m (chan (run w (b ∷ cs)) j) voice) (born .clip2))
       (levelOf (voice .volume) (chan (run w (b ∷ cs)) j .head .now))
   pub off : chan (run w (b ∷ cs)) j .head .interpolates ≡ false
-      → valueOf (tickAt p m (chan (run w (b ∷ cs)) j)) (memoryOf x (chan (run w (b ∷ cs)) j) m) (born .clip2)
-      ≡ recordedValueOf (memoryOf x (chan (run w (b ∷ cs)) j) m) index
-  pub alike : Tame (recordedValueOf (memoryOf x (chan (run w (b ∷ cs)) j) m) index)
-      (recordedValueOf (memoryOf x (chan (run w (b ∷ cs)) j) m)
+      → valueOf (tickAt p m (chan (run w (b ∷ cs)) j) voice) (heldAt x m (chan (run w (b ∷ cs)) j) voice) (born .clip2)
+      ≡ recordedValueOf (heldAt x m (chan (run w (b ∷ cs)) j) voice) index
+  pub alike : Tame (recordedValueOf (heldAt x m (chan (run w (b ∷ cs)) j) voice) index)
+      (recordedValueOf (heldAt x m (chan (run w (b ∷ cs)) j) voice)
       (nextAt (born .clip2) (chan (run w (b ∷ cs)) j .head .now)))
-      → eq (valueOf (tickAt p m (chan (run w (b ∷ cs)) j)) (memoryOf x (chan (run w (b ∷ cs)) j) m) (born .clip2))
-      (recordedValueOf (memoryOf x (chan (run w (b ∷ cs)) j) m) index) ≡ true
+      → eq
+      (valueOf (tickAt p m (chan (run w (b ∷ cs)) j) voice) (heldAt x m (chan (run w (b ∷ cs)) j) voice) (born .clip2))
+      (recordedValueOf (heldAt x m (chan (run w (b ∷ cs)) j) voice) index) ≡ true
 
 -- After s that voice, where it is still there, has `index` for its last index, and voice info shows it as a part of
 -- the recording.
@@ -507,20 +514,20 @@ pub record TruePositions (w : World) (j : ℕ) : Type 0 where
   pub on-the-beat : (position : Float) (note : Note) (velocity : Float) (p₀ : Params) (a l d : ℕ)
       → PlainClip (bornOf p₀ position note velocity (chan w j) .clip2) a l d
       → (cs : List Call) (s : Call) (p : Params) (x : Float) (m : List ℕ) (k : ℕ)
-      → Undisturbed w j (start position note velocity p₀) cs s p x m k
+      → Undisturbed w j (start position note velocity p₀) cs s p x m (bornOf p₀ position note velocity (chan w j)) k
       → OnTheBeat w j (start position note velocity p₀) cs s p x m (bornOf p₀ position note velocity (chan w j))
       ((a + k % l) % d)
   -- and in the sample of its own count the one at its start: THE LAG IS 0.
   pub no-lag : (position : Float) (note : Note) (velocity : Float) (p₀ : Params) (a l d : ℕ)
       → PlainClip (bornOf p₀ position note velocity (chan w j) .clip2) a l d
       → (cs : List Call) (s : Call) (p : Params) (x : Float) (m : List ℕ)
-      → Undisturbed w j (start position note velocity p₀) cs s p x m 0
+      → Undisturbed w j (start position note velocity p₀) cs s p x m (bornOf p₀ position note velocity (chan w j)) 0
       → OnTheBeat w j (start position note velocity p₀) cs s p x m (bornOf p₀ position note velocity (chan w j)) (a % d)
   -- SEEN. Where that voice is at a place i after the sample, its last index is that index.
   pub seen : (position : Float) (note : Note) (velocity : Float) (p₀ : Params) (a l d : ℕ)
       → PlainClip (bornOf p₀ position note velocity (chan w j) .clip2) a l d
       → (cs : List Call) (s : Call) (p : Params) (x : Float) (m : List ℕ) (k : ℕ)
-      → Undisturbed w j (start position note velocity p₀) cs s p x m k
+      → Undisturbed w j (start position note velocity p₀) cs s p x m (bornOf p₀ position note velocity (chan w j)) k
       → (n i : ℕ)
       → followAll (events (after w (start position note velocity p₀)) cs j)
       (chan (after w (start position note velocity p₀)) j) (length (live (chan w j))) ≡ at n
@@ -553,17 +560,35 @@ pub record Tidying (w : World) : Type 0 where
       → ((n : ℕ) (v : Voice) → voiceAt (chan w j) n ≡ some v → follow (event w c j) (chan w j) n ≢ gone)
       → upIn w c j ≡ 0
   pub refused : (c : Call) → code w c ≢ 0 → (j : ℕ) → upIn w c j ≡ 0
-  pub empty : (j : ℕ) (x : Float) (p : Params) → emptyAt (ownPart w j) (chan w j) ≡ true → upIn w (sample j x p) j ≡ 0
-  -- "Outputs and lists are those of the old removal": what one walk keeps is what is left where the places are noted
-  -- first and then taken away one at a time, the last first. An output is the sum before anything leaves.
-  pub old-removal : (leaves : Voice → Bool) (vs : List Voice)
-      → takenAway (placesOf leaves 0 vs) vs ≡ without leaves vs
+  pub empty : (j : ℕ) (x : Float) (p : Params)
+      → ((n : ℕ) (v : Voice) → voiceAt (chan w j) n ≡ some v → emptyAt (ownPart w j) (chan w j) v ≡ true)
+      → upIn w (sample j x p) j ≡ 0
+
+-- the voices once all have taken their turns in the sample, in their order
+abbrev pub turnedIn : Params → Float → List ℕ → Channel → List Voice
+turnedIn p x m c = map (turnsIn p x m c .turn) (live c)
+
+-- "Outputs and lists are those of the old removal", of every accepted sample of channel j
+pub record OldRemoval (w : World) (j : ℕ) : Type 0 where
+  -- once all voices have taken their turns the places of those that leave are noted, and then taken away one at a time,
+  -- the last first
+  pub lists : (s : Call) (p : Params) (x : Float) (m : List ℕ) → event w s j ≡ sounds p x m
+      → live (chan (after w s) j)
+      ≡ takenAway (placesOf (turnsIn p x m (chan w j) .leaves) 0 (turnedIn p x m (chan w j))) (turnedIn p x m (chan w j))
+  -- an output is the sum over all voices, before any of them leaves
+  pub outputs : (s : Call) (p : Params) (x : Float) (m : List ℕ) → event w s j ≡ sounds p x m
+      → output w s j
+      ≡ mul binary32 (p .volume)
+      (add binary32 (add binary32 zero32 (heardOf (turnsIn p x m (chan w j)) (live (chan w j))))
+      (mul binary32 x (levelOf (chan w j .head .«passthru_volume») (chan w j .head .now))))
 
 -- What holds beside it
 pub record Whole (w : World) : Type 0 where
   -- Row 9 answers no call.
   pub unbroken : (c : Call) → code w c ≢ 9
   pub unbroken-run : (xs : List Float) (p : Params) → runNumber (w .sampler) (length xs) p (length (w .memory)) ≢ 9
+  -- Its floats are of binary32, and it has its channels and places: what `in-turn` asks of a record.
+  pub fitting : FittingSampler (w .sampler)
   -- "an accepted start can take the place": a start that rows 2 to 4 let through is accepted where no channel in use is
   -- full.
   pub opens : (position : Float) (note : Note) (velocity : Float) (p : Params) → badNote note ≡ false
@@ -591,6 +616,9 @@ pub record Demands : Type 0 where
       → chan (run (setUp count p m) cs) j .head .interpolates ≡ settingIn (setUp count p m) false cs
   -- of every record and memory
   pub tidying : (w : World) → Tidying w
+  -- of those that set-up and calls leave
+  pub old-removal : (count : ℕ) (p : InitParams) (m : List ℕ) → setUpNumber count (length m) ≡ 0
+      → (hs : List Made) (j : ℕ) → j < count → OldRemoval (makes (setUp count p m) hs) j
   -- 10/12: `Recordings.antt`
   pub recordings : (w : World) → Recordings w
   -- "Demand 3 counts each frame of a run as a sample." What demand 3 says of calls it says of a run's frames: the run

@@ -15,6 +15,7 @@ use Rattle.common_types.specs.Notes.{fromU64Of}
 use Rattle.voice.specs.Soundness.{FittingParams}
 use Rattle.voice.specs.Voices.{freshOf}
 use Rattle.channel.specs.Channels.{live}
+use Rattle.fates.specs.Engine.{bornOf}
 use Rattle.fates.specs.Events.{sounds, emptyAt}
 use Rattle.sampler.specs.Soundness.{FittingSampler}
 use Rattle.common_types.specs.declared.InitParams.{InitParams}
@@ -148,7 +149,7 @@ module _ (count : ℕ) (q : InitParams) (m : List ℕ) (good : setUpNumber count
         count = standing h i ∙ ap (λ (n : ℕ). chan w j .head .now + n) is;
         sounds = λ earlier later due u then accepted filled free s sp x part.
             subst
-            (λ (n : ℕ). event (played (h .world) list (h .next) n p) s j ≡ sounds sp x part → emptyAt part (chan (played (h .world) list (h .next) n p) j) ≡ false
+            (λ (n : ℕ). event (played (h .world) list (h .next) n p) s j ≡ sounds sp x part → emptyAt part (chan (played (h .world) list (h .next) n p) j) (bornOf p (asFloat 0) (fromU64Of (c .note)) (c .velocity) (chan u j)) ≡ false
             → FirstIn (played (h .world) list (h .next) n p) s j sp x part (length (live (chan u j)))
             (freshOf p (asFloat 0) (fromU64Of (c .note)) (c .velocity) (chan u j .head .now) (chan u j .head .«data_len»)))
             (sym is)

@@ -28,6 +28,7 @@ use Rattle.smf.specs.declared.Cue.{Cue}
 use Rattle.smf.proofs.Promised.{promised}
 use Rattle.songs.specs.Plays.{callOf, cuesOf, dueOf, playOf}
 use Rattle.songs.proofs.Hands.{by-hand}
+use Rattle.fates.specs.Engine.{bornOf}
 use Rattle.fates.specs.Events.{idle, changes, sounds, isReset, isSample, emptyAt}
 use Rattle.fates.specs.Places.{stoppedIn}
 use Rattle.promises.specs.Runs.{World, setUp, Call, stop, frame, code, withSampler, after, run, chan, doneTo, event, events, isResetCall, Made, one, made as made-by, makes}
@@ -209,12 +210,12 @@ module _ (count : ℕ) (q : InitParams) (m : List ℕ) (good : setUpNumber count
     in-time : code u (startOf p c) ≡ 0 → isEmpty (chan u j) ≡ false
         → stoppedIn (events (after u (startOf p c)) (hands p later) j) (chan (after u (startOf p c)) j) (length (live (chan u j))) ≡ false
         → (s : Call) (sp : Params) (x : Float) (part : List ℕ) → event (played w list next (c .frame) p) s j ≡ sounds sp x part
-        → emptyAt part (chan (played w list next (c .frame) p) j) ≡ false
+        → emptyAt part (chan (played w list next (c .frame) p) j) (bornOf p (asFloat 0) (fromU64Of (c .note)) (c .velocity) (chan u j)) ≡ false
         → FirstIn (played w list next (c .frame) p) s j sp x part (length (live (chan u j)))
         (freshOf p (asFloat 0) (fromU64Of (c .note)) (c .velocity) (chan u j .head .now) (chan u j .head .«data_len»))
     in-time accepted filled free s sp x part =
         subst
-        (λ (v : World). event v s j ≡ sounds sp x part → emptyAt part (chan v j) ≡ false
+        (λ (v : World). event v s j ≡ sounds sp x part → emptyAt part (chan v j) (bornOf p (asFloat 0) (fromU64Of (c .note)) (c .velocity) (chan u j)) ≡ false
         → FirstIn v s j sp x part (length (live (chan u j)))
         (freshOf p (asFloat 0) (fromU64Of (c .note)) (c .velocity) (chan u j .head .now) (chan u j .head .«data_len»)))
         reached

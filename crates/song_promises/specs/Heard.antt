@@ -20,6 +20,7 @@ use Rattle.smf.specs.Cues.{Entry, songOf, countedOf, listOf, cueOf}
 use Rattle.smf.specs.declared.Counted.the-variants.{Done}
 use Rattle.smf.specs.declared.Cue.{Cue}
 use Rattle.songs.specs.Plays.{playOf}
+use Rattle.fates.specs.Engine.{bornOf}
 use Rattle.fates.specs.Events.{sounds, emptyAt}
 use Rattle.fates.specs.Places.{stoppedIn}
 use Rattle.promises.specs.Runs.{
@@ -94,7 +95,9 @@ pub record Heard (w : World) (j : ℕ) (list : List ℕ) (p : Params) (h : Host)
       → stoppedIn (events (after u (startOf p c)) (hands p later) j) (chan (after u (startOf p c)) j)
       (length (live (chan u j))) ≡ false
       → (s : Call) (sp : Params) (x : Float) (part : List ℕ)
-      → event (called list p h) s j ≡ sounds sp x part → emptyAt part (chan (called list p h) j) ≡ false
+      → event (called list p h) s j ≡ sounds sp x part
+      → emptyAt part (chan (called list p h) j) (bornOf p (asFloat 0) (fromU64Of (c .note)) (c .velocity) (chan u j))
+      ≡ false
       → FirstIn (called list p h) s j sp x part (length (live (chan u j)))
       (freshOf p (asFloat 0) (fromU64Of (c .note)) (c .velocity) (chan u j .head .now) (chan u j .head .«data_len»))
 

@@ -18,6 +18,7 @@ use Rattle.sampler.specs.Refusals.{setUpNumber}
 use Rattle.smf.specs.Cues.{songOf, numbersOf}
 use Rattle.smf.specs.declared.Cue.{Cue}
 use Rattle.songs.specs.Plays.{cuesOf, dueOf, playOf}
+use Rattle.fates.specs.Engine.{bornOf}
 use Rattle.fates.specs.Events.{sounds, emptyAt}
 use Rattle.fates.specs.Places.{stoppedIn}
 use Rattle.promises.specs.Runs.{
@@ -109,7 +110,8 @@ pub record SongOnTime : Type 0 where
       (length (live (chan u j))) ≡ false
       → (s : Call) (sp : Params) (x : Float) (part : List ℕ)
       → event (played w list next (c .frame) p) s j ≡ sounds sp x part
-      → emptyAt part (chan (played w list next (c .frame) p) j) ≡ false
+      → emptyAt part (chan (played w list next (c .frame) p) j)
+      (bornOf p (asFloat 0) (fromU64Of (c .note)) (c .velocity) (chan u j)) ≡ false
       → FirstIn (played w list next (c .frame) p) s j sp x part (length (live (chan u j)))
       (freshOf p (asFloat 0) (fromU64Of (c .note)) (c .velocity) (chan u j .head .now) (chan u j .head .«data_len»))
 

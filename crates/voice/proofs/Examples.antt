@@ -1,4 +1,4 @@
--- Turns on either side of each condition of a plain one, and values between samples, computed. Assumes nothing.
+-- Turns on either side of each condition of one that glides, and values between samples, computed. Assumes nothing.
 use mathlib.Core.Path.{_≡_, refl}
 use Prim.Native.Nat.{ℕ}
 use mathlib.Core.Bool.{Bool, true, false}
@@ -18,13 +18,13 @@ use Rattle.clip.specs.Positions.{positionOf, leadOf, travelAt, loopedOf, wrappe
 use Rattle.clip.specs.Updates.{madeOf, withLength, withSpeed, withDataLength, withMode}
 use Rattle.voice.specs.Voices.{lateOf, overOf, shouldRemoveOf, movedOf, betweenOf, valueOf, productOf, soundedOf, playedOutOf, endedOf, volumeStepped, turnOf}
 use Rattle.voice.specs.Agreeing.{agreesOf}
-use Rattle.voice.specs.Plain.{plainOf, soundedAt}
+use Rattle.voice.specs.Gliding.{glidesOf, glidedAt}
 use Rattle.voice.specs.declared.Voice.{Voice}
 use Rattle.voice.specs.declared.Tick.{Tick}
 
 -- whatever a turn computes by
 unfoldable computing : Unit {0}
-unfolding plainOf soundedAt agreesOf keepsOf turnOf volumeStepped endedOf playedOutOf shouldRemoveOf overOf lateOf soundedOf productOf valueOf betweenOf positionOf movedOf withLength withSpeed withDataLength withMode madeOf indexAt nextAt aheadOf offsetAt clipToDataOf clipOffsetAt placedOf wrappedOf loopedOf travelAt leadOf levelOf steppedOf floorOf minOf crossingOf ofInt ofBits neg add sub mul div rem lt le eq isNan toUnsigned
+unfolding glidesOf glidedAt agreesOf keepsOf turnOf volumeStepped endedOf playedOutOf shouldRemoveOf overOf lateOf soundedOf productOf valueOf betweenOf positionOf movedOf withLength withSpeed withDataLength withMode madeOf indexAt nextAt aheadOf offsetAt clipToDataOf clipOffsetAt placedOf wrappedOf loopedOf travelAt leadOf levelOf steppedOf floorOf minOf crossingOf ofInt ofBits neg add sub mul div rem lt le eq isNan toUnsigned
 computing = tt
 
 -- a tick at a time, on either setting, with a decay of 3
@@ -77,39 +77,39 @@ abbrev finished : Volume → ℕ → Bool → Voice
 finished volume time crossing = voiceWith volume one32 one32 true time crossing
 
 -- a ramp that isn't over after the step, and one that is
-pub ramps : (plainOf (tick off.Decay false) ones (sounding (Static one32)) ≡ true)
-    × (plainOf (tick off.Decay false) ones (sounding (Linear 0 5 one32 zero32)) ≡ true)
-    × (plainOf (tick off.Decay false) ones (sounding (Linear 0 4 one32 zero32)) ≡ false)
+pub ramps : (glidesOf (tick off.Decay false) ones (sounding (Static one32)) ≡ true)
+    × (glidesOf (tick off.Decay false) ones (sounding (Linear 0 5 one32 zero32)) ≡ true)
+    × (glidesOf (tick off.Decay false) ones (sounding (Linear 0 4 one32 zero32)) ≡ false)
 unfolding computing
 ramps = (refl, refl, refl)
 
 -- each of the four updates, and a speed that is not a number
-pub updates : (plainOf (tickWith off.Decay false (asFloat 5) (asFloat 10) Loop) ones (sounding (Static one32)) ≡ false)
-    × (plainOf (tickWith off.Decay false (asFloat 4) (asFloat 9) Loop) ones (sounding (Static one32)) ≡ false)
-    × (plainOf (tickWith off.Decay false (asFloat 4) (asFloat 10) PingPong) ones (sounding (Static one32)) ≡ false)
-    × (plainOf (tick off.Decay false) ones (voiceWith (Static one32) one32 zero32 false 0 false) ≡ false)
-    × (plainOf (tick off.Decay false) ones (voiceWith (Static one32) one32 nan false 0 false) ≡ false)
+pub updates : (glidesOf (tickWith off.Decay false (asFloat 5) (asFloat 10) Loop) ones (sounding (Static one32)) ≡ false)
+    × (glidesOf (tickWith off.Decay false (asFloat 4) (asFloat 9) Loop) ones (sounding (Static one32)) ≡ false)
+    × (glidesOf (tickWith off.Decay false (asFloat 4) (asFloat 10) PingPong) ones (sounding (Static one32)) ≡ false)
+    × (glidesOf (tick off.Decay false) ones (voiceWith (Static one32) one32 zero32 false 0 false) ≡ false)
+    × (glidesOf (tick off.Decay false) ones (voiceWith (Static one32) one32 nan false 0 false) ≡ false)
 unfolding computing
 updates = (refl, refl, refl, refl, refl)
 
 -- play-once: a whole loop length is played after the turn, or not; a voice that is finished already isn't finished by it
-pub once : (plainOf (tick off.Decay true) ones (voiceWith (Static one32) (asFloat 2) one32 false 0 false) ≡ true)
-    × (plainOf (tick off.Decay true) ones (voiceWith (Static one32) (asFloat 3) one32 false 0 false) ≡ false)
-    × (plainOf (tick off.Decay true) ones (voiceWith (Static one32) (asFloat 3) one32 true 0 false) ≡ true)
+pub once : (glidesOf (tick off.Decay true) ones (voiceWith (Static one32) (asFloat 2) one32 false 0 false) ≡ true)
+    × (glidesOf (tick off.Decay true) ones (voiceWith (Static one32) (asFloat 3) one32 false 0 false) ≡ false)
+    × (glidesOf (tick off.Decay true) ones (voiceWith (Static one32) (asFloat 3) one32 true 0 false) ≡ true)
 unfolding computing
 once = (refl, refl, refl)
 
--- a finished voice that waits for its level: plain until it is mute, whatever the clock and crossings say
-pub in-decay : (plainOf (tick off.Decay false) ones (finished (Linear 3 6 one32 zero32) 0 true) ≡ true) × (plainOf (tick off.Decay false) ones (finished (Static zero32) 0 true) ≡ false)
+-- a finished voice that waits for its level: it glides until it is mute, whatever the clock and crossings say
+pub in-decay : (glidesOf (tick off.Decay false) ones (finished (Linear 3 6 one32 zero32) 0 true) ≡ true) × (glidesOf (tick off.Decay false) ones (finished (Static zero32) 0 true) ≡ false)
 unfolding computing
 in-decay = (refl, refl)
 
--- one that waits for a crossing: plain until its decay is over by the clock, or it stands at one before its turn or after it
-pub to-a-crossing : (plainOf (tick off.ZeroCrossing false) ones (finished (Static one32) 2 false) ≡ true)
-    × (plainOf (tick off.ZeroCrossing false) ones (finished (Static one32) 1 false) ≡ false)
-    × (plainOf (tick off.ZeroCrossing false) ones (finished (Static one32) 2 true) ≡ false)
-    × (plainOf (tick off.ZeroCrossing false) [] (finished (Static one32) 2 false) ≡ false)
-    × (plainOf (tick off.Decay false) [] (finished (Static one32) 2 false) ≡ true)
+-- one that waits for a crossing: it glides until its decay is over by the clock, or it stands at one before its turn or after it
+pub to-a-crossing : (glidesOf (tick off.ZeroCrossing false) ones (finished (Static one32) 2 false) ≡ true)
+    × (glidesOf (tick off.ZeroCrossing false) ones (finished (Static one32) 1 false) ≡ false)
+    × (glidesOf (tick off.ZeroCrossing false) ones (finished (Static one32) 2 true) ≡ false)
+    × (glidesOf (tick off.ZeroCrossing false) [] (finished (Static one32) 2 false) ≡ false)
+    × (glidesOf (tick off.Decay false) [] (finished (Static one32) 2 false) ≡ true)
 unfolding computing
 to-a-crossing = (refl, refl, refl, refl, refl)
 

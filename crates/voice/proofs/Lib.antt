@@ -4,5 +4,5 @@ pub mod Moves
 pub mod Kept
 pub mod Unmoved
 pub mod Values
-pub mod Plain
+pub mod Gliding
 pub mod Examples

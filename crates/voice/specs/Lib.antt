@@ -1,4 +1,4 @@
 pub mod Voices
 pub mod Soundness
 pub mod Agreeing
-pub mod Plain
+pub mod Gliding

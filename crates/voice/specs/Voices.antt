@@ -102,24 +102,33 @@ valueAt t m at next =
 unfoldable pub valueOf : Tick → List ℕ → Clip → Float
 valueOf t m c = valueAt t m (positionAt c (t .now)) (nextAt c (t .now))
 
+-- a sample's value at the voice's level now
+abbrev pub atLevelOf : Tick → Voice → Float → Float
+atLevelOf t v sample = mul binary32 sample (levelOf (v .volume) (t .now))
+
 -- the value where the clip is times the level now: the voice's term of the output
 unfoldable pub productOf : Tick → List ℕ → Voice → Float
-productOf t m v = mul binary32 (valueOf t m (movedOf t v)) (levelOf (v .volume) (t .now))
+productOf t m v = atLevelOf t v (valueOf t m (movedOf t v))
 
-unfoldable pub soundedOf : Tick → List ℕ → Voice → Voice
-soundedOf t m v = record {
+-- the voice as it has sounded by that clip, at that index, with that value heard: every other field but how far it has
+-- played is what it was
+abbrev pub soundedAt : Tick → Voice → Clip → ℕ → Float → Voice
+soundedAt t v clip index value = record {
   «finished_at» = v .«finished_at»;
-  «last_sample_index» = indexAt (movedOf t v) (t .now);
-  clip2 = movedOf t v;
+  «last_sample_index» = index;
+  clip2 = clip;
   volume = v .volume;
   «loop_start_percent» = v .«loop_start_percent»;
   played = add binary32 (v .played) (mul binary32 (v .speed) (t .speed));
-  «last_sample_value» = productOf t m v;
+  «last_sample_value» = value;
   speed = v .speed;
   note = v .note;
   finished = v .finished;
-  «is_at_zero_crossing» = crossingOf (productOf t m v) (v .«last_sample_value»);
+  «is_at_zero_crossing» = crossingOf value (v .«last_sample_value»);
 }
+
+unfoldable pub soundedOf : Tick → List ℕ → Voice → Voice
+soundedOf t m v = soundedAt t v (movedOf t v) (indexAt (movedOf t v) (t .now)) (productOf t m v)
 
 -- ---- how a voice ends
 

@@ -1,7 +1,6 @@
 // One voice, and what it does in one sample. Each function takes every value of its arguments, and equals a definition
 // in specs/Voices.antt.
 ghost use mathlib.Core.Path.{_≡_};
-ghost use Prim.Native.Nat.{_-_};
 ghost use mathlib.Core.Bool.{cond};
 ghost use Rattle.clip.specs.Positions.{soundingOf};
 ghost use Rattle.voice.specs.Voices.{
@@ -28,7 +27,7 @@ ghost use Rattle.voice.specs.Voices.{
   atSpeedOf,
   goodVoice,
 };
-ghost use Rattle.voice.specs.Plain.{goesOnOf, QuickBeside, QuickValue, Quickly};
+ghost use Rattle.voice.specs.Gliding.{goesOnOf, QuickBeside, QuickValue, Quickly};
 use clip::Clip;
 use clip::Mode;
 use clip::Near;
@@ -39,6 +38,7 @@ use common_types::Note;
 use common_types::NoteOffBehaviour;
 use common_types::Params;
 use volume::Volume;
+use volume::since;
 
 // The fields stand in an order that leaves no gaps between them.
 pub struct Voice {
@@ -81,10 +81,10 @@ pub struct Tick {
     pub interpolates: bool,
 }
 
-// A turn taken the quick way, where it is plain; elsewhere `voice` is not to be looked at.
+// A turn taken the quick way, where the voice glides; elsewhere `voice` is not to be looked at.
 pub struct Quick {
     pub voice: Voice,
-    pub plain: bool,
+    pub glides: bool,
 }
 
 impl Span {
@@ -207,15 +207,14 @@ impl Voice {
     {
         let data_length = binary32::usize_to_f32(data_len);
         let loop_mode = params.loop_mode;
-        let clip2 = Clip {
-            since: now,
-            start: position * data_length,
-            speed: params.speed(),
-            length: params.loop_length(data_len),
+        let clip2 = Clip::made(
+            now,
+            position * data_length,
+            params.speed(),
+            params.loop_length(data_len),
             data_length,
-            shift: 0.0,
-            mode: clip_mode(loop_mode),
-        };
+            clip_mode(loop_mode),
+        );
         Self {
             finished_at: 0,
             last_sample_index: 0,
@@ -435,14 +434,14 @@ impl Voice {
         !next.should_remove(t)
     }
 
-    // Its whole sample, where that is plain: `turn`, quickly. The voice is made here and not by a call, which would copy
+    // Its whole sample, where it glides: `turn`, quickly. The voice is made here and not by a call, which would copy
     // all of it.
     pub fn quick(self, t: Tick, data: &[u32]) -> Quick
         ensures { λ r. ⌜ Quickly t (now («data» .entry)) self r ⌝ }
     {
         let otherwise = Quick {
             voice: self,
-            plain: false,
+            glides: false,
         };
         let volume = self.volume;
         if !volume.keeps(t.now) {
@@ -479,7 +478,7 @@ impl Voice {
         };
         Quick {
             voice: sounded,
-            plain: self.goes_on(t, sounded),
+            glides: self.goes_on(t, sounded),
         }
     }
 
@@ -528,10 +527,4 @@ fn over(behavior: NoteOffBehaviour, mute: bool, late: bool) -> bool
         NoteOffBehaviour::ZeroCrossing => late,
         NoteOffBehaviour::DecayAndZeroCrossing => mute | late,
     }
-}
-
-fn since(start: usize, now: usize) -> usize
-    ensures { λ r. ⌜ r ≡ now - start ⌝ }
-{
-    if now < start { 0 } else { now - start }
 }

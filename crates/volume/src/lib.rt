@@ -242,7 +242,7 @@ fn progress(start: usize, end: usize, now: usize) -> f32
 }
 
 // How much later `now` is than `start`, and 0 where it is not.
-fn since(start: usize, now: usize) -> usize
+pub fn since(start: usize, now: usize) -> usize
     ensures { λ r. ⌜ r ≡ now - start ⌝ }
 {
     if now < start { 0 } else { now - start }

@@ -55,7 +55,7 @@ use Rattle.binary32.specs.Leaves.{zero32}
 use Rattle.voice.specs.declared.Voice.{Voice}
 use Rattle.voice.specs.declared.Tick.{Tick}
 use Rattle.voice.specs.declared.Quick.{Quick}
-use Rattle.voice.specs.Plain.{Quickly}
+use Rattle.voice.specs.Gliding.{Quickly}
 use Rattle.voice.proofs.Tick as K
 use Rattle.voice.proofs.Tick.Laws as K′
 use Rattle.voice.proofs.Voice as R
@@ -68,14 +68,14 @@ use Rattle.voice.proofs.Voice.quick.Symbol.{name as #voice·Voice·quick}
 use Rattle.voice.proofs.Voice.quick.Met as quick-thm
 use Rattle.channel.specs.declared.Channel.{Channel}
 use Rattle.channel.specs.declared.Played.{Played}
-use Rattle.channel.specs.Channels.{withVoices}
+use Rattle.channel.specs.Channels.{withVoices, turningBy}
 use Rattle.channel.proofs.Slots.{none}
 use Rattle.channel.proofs.Channel as C
 use Rattle.channel.proofs.Channel.Laws as C′
 use Rattle.channel.proofs.places.Symbol as places-def
 use Rattle.channel.proofs.places.Symbol.{name as #channel·places}
 use Rattle.channel.proofs.places.Met as places-thm
-use Rattle.lent_channel.specs.declared.Start.{Start}
+use Rattle.lent_channel.specs.declared.Shared.{Shared}
 use Rattle.lent_channel.specs.declared.Glided.{Glided}
 use Rattle.lent_channel.specs.Turns.{restFrom, Glides}
 use Rattle.lent_channel.proofs.Bytes.{voice-bytes}
@@ -87,8 +87,8 @@ use Rattle.walks.proofs.Steps.Calls.{Callee, Says, asks}
 use Rattle.lent_channel.proofs.Sharing.{places as counting}
 use Rattle.walks.proofs.Steps.Locals.{less, no-less, over, its, held, fills, refills, puts, puts-as, puts-last, arrives, field-of, beyond, gives, gives-within, leaves-only, all-freed, Addresses, env, allocated, passed}
 use Rattle.lent_channel.proofs.Holding.{voice, points, visits, copies-voice}
-use Rattle.lent_channel.proofs.Start as S
-use Rattle.lent_channel.proofs.Start.Laws as S′
+use Rattle.lent_channel.proofs.Shared as S
+use Rattle.lent_channel.proofs.Shared.Laws as S′
 use Rattle.lent_channel.proofs.Glided as G
 use Rattle.lent_channel.proofs.Glided.Laws as G′
 use Rattle.lent_channel.proofs.added.Symbol as added-def
@@ -100,8 +100,8 @@ use Rattle.lent_channel.proofs.glide.Statement as stated
 use Rattle.lent_channel.proofs.glide.Code as code
 
 -- plain data
-abbrev start : Datum
-start = struct S.the-type S′.the-laws S′.the-plain
+abbrev sharing : Datum
+sharing = struct S.the-type S′.the-laws S′.the-plain
 
 abbrev glided : Datum
 glided = struct G.the-type G′.the-laws G′.the-plain
@@ -137,7 +137,7 @@ is-given : (s : State) → s .i < 2 ^ 64 → fitsF binary32 (s .out) ≡ true �
 is-given s small fits = LL.owes G.the-type G′.the-laws (given s) ((refl, small), ((refl, fits), tt))
 
 module _ {M : Type 1} (𝓤 : URA M) (H : Heap 𝓤) (A : Atoms 𝓤) (W : Given 𝓤 H A) (at-mem : Memory → SProp 𝓤) (run : Routine → Fun 𝓤) (κ κ₁ : Lft) (q q₁ : Share)
-    (b o : ℕ) (γ : GName) (h : Channel) (s₀ : Start) (b₁ o₁ : ℕ) (γ₁ : GName) (ms : List ℕ) (iss : Is S.the-row s₀ (start .val s₀ ∷ [])) (room : Room u32 (length ms)) where
+    (b o : ℕ) (γ : GName) (h : Channel) (s₀ : Shared) (b₁ o₁ : ℕ) (γ₁ : GName) (ms : List ℕ) (iss : Is S.the-row s₀ (sharing .val s₀ ∷ [])) (room : Room u32 (length ms)) where
   abbrev x : RefT Channel
   x = record { ptr = (b, o); name = γ; now = h }
 
@@ -154,13 +154,13 @@ module _ {M : Type 1} (𝓤 : URA M) (H : Heap 𝓤) (A : Atoms 𝓤) (W : Given
   Tok = ‵ (flft κ₁ q₁) ⊛ ‵ ftrue
 
   abbrev Arg : Type 0
-  Arg = RefT Channel × (Start × (RefT (List ℕ) × Unit {0}))
+  Arg = RefT Channel × (Shared × (RefT (List ℕ) × Unit {0}))
 
   abbrev a : Arg
   a = (x, (s₀, (x₁, tt)))
 
   abbrev vals : List Val × (List Val × (List Val × Unit {0}))
-  vals = (vptr b o ∷ [], (start .val s₀ ∷ [], (sl ∷ [], tt)))
+  vals = (vptr b o ∷ [], (sharing .val s₀ ∷ [], (sl ∷ [], tt)))
 
   abbrev Post : Val → SProp 𝓤
   Post = walkOf 𝓤 H A glide.ended stayed (glide.clauses 𝓤 H A at-mem run) .post (((κ, (κ₁, tt)), (q, (q₁, tt)), tt, a, vals), tt)
@@ -185,12 +185,12 @@ module _ {M : Type 1} (𝓤 : URA M) (H : Heap 𝓤) (A : Atoms 𝓤) (W : Given
   turned l = withVoices l (h .count) h
 
   abbrev goal : Played
-  goal = restFrom t ms h 0 zero32 (take n (h .voices))
+  goal = restFrom (turningBy t ms) h 0 zero32 (take n (h .voices))
 
   -- where r turns are left
   record Going (s : State) (r : ℕ) : Type 0 where
     left : s .i + r ≡ n
-    walk : Walk goal (restFrom t ms (turned (s .voices)) (s .i) (s .out)) (s .voices) n (s .i)
+    walk : Walk goal (restFrom (turningBy t ms) (turned (s .voices)) (s .i) (s .out)) (s .voices) n (s .i)
     fits : fitsF binary32 (s .out) ≡ true
 
   small-at : (s : State) (r : ℕ) → Going s r → s .i < 2 ^ 64
@@ -236,7 +236,7 @@ module _ {M : Type 1} (𝓤 : URA M) (H : Heap 𝓤) (A : Atoms 𝓤) (W : Given
     -- where a turn begins
     abbrev At : State → List (Item 𝓤)
     At s = over (‵ (partAt C.the-row fullShare (turned (s .voices)) b o) ∷ ‵ (fobor κ q (Body (mem C.the-row) b o γ)) ∷ ‵ (fobs γ (C.the-row .coded .code h)) ∷ ‵ (fauth γ (C.the-row .coded .code h)) ∷ Tok ∷ ‵ Sl ∷ [])
-        En (empty ∷ some (vptr b o) ∷ some (start .val s₀) ∷ some sl ∷ some (tick .val t) ∷ some (vint w64 n) ∷ some (vfloat binary32 (s .out)) ∷ some (vint w64 (s .i)) ∷ [])
+        En (empty ∷ some (vptr b o) ∷ some (sharing .val s₀) ∷ some sl ∷ some (tick .val t) ∷ some (vint w64 n) ∷ some (vfloat binary32 (s .out)) ∷ some (vint w64 (s .i)) ∷ [])
 
     abbrev Left : Out → SProp 𝓤
     Left = afterBlock 𝓤 H (afterSeq 𝓤 H (Wp 𝓤 H Cs Λ En code.Mir.t-6 (atReturn 𝓤 H En Post)) (atReturn 𝓤 H En Post))
@@ -271,10 +271,10 @@ module _ {M : Type 1} (𝓤 : URA M) (H : Heap 𝓤) (A : Atoms 𝓤) (W : Given
         abbrev next : State
         next = record { i = i + 1; voices = set l i (x .voice); out = add binary32 out (x .voice .«last_sample_value») }
 
-        goes-on : T (not (not (x .plain))) → Going next r
+        goes-on : T (not (not (x .glides))) → Going next r
         goes-on y = record {
           left = omega (arith, g .left);
-          walk = stores none i (x .voice) (g .walk) small (le-refl i) (rest-glide t ms (turned l) i out (next .out) v x quickly (not-false (x .plain) (denied (not (x .plain)) y)) refl);
+          walk = stores none i (x .voice) (g .walk) small (le-refl i) (rest-glide t ms (turned l) i out (next .out) v x quickly (not-false (x .glides) (denied (not (x .glides)) y)) refl);
           fits = fits;
         }
 
@@ -341,11 +341,11 @@ module _ {M : Type 1} (𝓤 : URA M) (H : Heap 𝓤) (A : Atoms 𝓤) (W : Given
   nil-is = refl
 
   module _ (𝓣 : Tables 𝓤 H) (known-Places : Says 𝓤 H A 𝓣 #channel·places counting) (known-Turn : Triple 𝓤 (𝓣 .C #voice·Voice·quick) (Turn 𝓤 H A at-mem run)) (known-Added : Says 𝓤 H A 𝓣 #lent-channel·added adding) where
-    walk : ent 𝓤 (onEntry 𝓤 H A glide.signature (κ, (κ₁, tt)) (q, (q₁, tt)) a vals) (WpFn 𝓤 H (𝓣 .C) (𝓣 .Λ) code.function (vptr b o ∷ start .val s₀ ∷ sl ∷ []) Post)
+    walk : ent 𝓤 (onEntry 𝓤 H A glide.signature (κ, (κ₁, tt)) (q, (q₁, tt)) a vals) (WpFn 𝓤 H (𝓣 .C) (𝓣 .Λ) code.function (vptr b o ∷ sharing .val s₀ ∷ sl ∷ []) Post)
     walk =
-        qed W ((‵ (flft κ q) ⊛ ‵ (flft κ₁ q₁) ⊛ ‵ ftrue) ∷ ‵ (owns (MutRef (named 0) κ C.the-row ∷ S.the-row ∷ ShrSlice (named 1) κ₁ u32 ∷ []) a vals) ∷ []) ∵ enter ! (𝓣 .C) (𝓣 .Λ) code.function (vptr b o ∷ start .val s₀ ∷ sl ∷ []) _ $
+        qed W ((‵ (flft κ q) ⊛ ‵ (flft κ₁ q₁) ⊛ ‵ ftrue) ∷ ‵ (owns (MutRef (named 0) κ C.the-row ∷ S.the-row ∷ ShrSlice (named 1) κ₁ u32 ∷ []) a vals) ∷ []) ∵ enter ! (𝓣 .C) (𝓣 .Λ) code.function (vptr b o ∷ sharing .val s₀ ∷ sl ∷ []) _ $
         allocated ! (λ at. params1 ! $
-        passed ! 1 refl (tt, tt) $ passed ! 2 refl (start .typed 𝓤 H A W s₀ _ iss) $ passed ! 3 refl (tt, (tt, (record { fits = room .0 }, tt))) $ pass0 ! $ move ! (1 ∷ []) $
+        passed ! 1 refl (tt, tt) $ passed ! 2 refl (sharing .typed 𝓤 H A W s₀ _ iss) $ passed ! 3 refl (tt, (tt, (record { fits = room .0 }, tt))) $ pass0 ! $ move ! (1 ∷ []) $
         fsplit ! $ fsplit3 ! $ drop ! $ move ! (2 ∷ []) $ fsplit ! $ drop ! $ fsplit ! $ move ! (1 ∷ []) $ drop ! $ move ! (3 ∷ []) $ split ! $ move ! (3 ∷ 4 ∷ 0 ∷ []) $ opens ! tt C.the-row {h = h} b o (λ vs.
         spelt ! C.the-row (Is C.the-row) (shows 𝓤 H A C.the-row) (LL.vals C.the-type C′.the-laws) (LL.tells C.the-type C′.the-laws) fullShare h vs b o $
         use1 W (‵ (fat fullShare C′.mir b o (cv h))) (W .laws .raw-at fullShare C′.mir b o (cv h)) $ move ! (1 ∷ []) $ peeks ! C.the-row (Is C.the-row) (shows 𝓤 H A C.the-row) h (cv h ∷ []) (λ g.

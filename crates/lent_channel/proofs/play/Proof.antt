@@ -67,16 +67,16 @@ use Rattle.voice.proofs.Voice as R
 use Rattle.voice.proofs.Voice.Laws as R′
 use Rattle.channel.specs.declared.Channel.{Channel}
 use Rattle.channel.specs.declared.Played.{Played}
-use Rattle.channel.specs.Channels.{withVoices, playedIfOf}
+use Rattle.channel.specs.Channels.{withVoices, turningBy, playedIfOf}
 use Rattle.channel.proofs.Slots.{none}
 use Rattle.channel.proofs.Channel as C
 use Rattle.channel.proofs.Channel.Laws as C′
-use Rattle.lent_channel.specs.declared.Start.{Start}
+use Rattle.lent_channel.specs.declared.Shared.{Shared}
 use Rattle.lent_channel.specs.declared.Glided.{Glided}
 use Rattle.lent_channel.specs.declared.Going.{Going}
 use Rattle.lent_channel.specs.declared.Turn.{Turn}
 use Rattle.lent_channel.specs.declared.Heard.{Heard}
-use Rattle.lent_channel.specs.Turns.{sharedOf, voicesLeftOf, restFrom, Glides, afterPlain, turnedOf, heardOf}
+use Rattle.lent_channel.specs.Turns.{sharedOf, voicesLeftOf, restFrom, Glides, afterGliding, turnedOf, heardOf}
 use Rattle.lent_channel.proofs.Bytes.{voice-bytes, count-at}
 use Rattle.walks.proofs.Tests.{holds, denied}
 use Rattle.walks.proofs.Steps.Tails.{after}
@@ -86,8 +86,8 @@ use Rattle.walks.proofs.Steps.Data.{Datum, struct, word}
 use Rattle.walks.proofs.Steps.Calls.{Says, asks}
 use Rattle.walks.proofs.Steps.Locals.{less, no-less, over, its, held, fills, refills, puts, puts-last, arrives, field-of, beyond, gives, leaves-only, all-freed, Addresses, env, allocated, passed}
 use Rattle.lent_channel.proofs.Holding.{voice, points, visits, copies-voice}
-use Rattle.lent_channel.proofs.Start as S
-use Rattle.lent_channel.proofs.Start.Laws as S′
+use Rattle.lent_channel.proofs.Shared as S
+use Rattle.lent_channel.proofs.Shared.Laws as S′
 use Rattle.lent_channel.proofs.Glided as G
 use Rattle.lent_channel.proofs.Glided.Laws as G′
 use Rattle.lent_channel.proofs.Going as N
@@ -96,16 +96,16 @@ use Rattle.lent_channel.proofs.Turn as Z
 use Rattle.lent_channel.proofs.Turn.Laws as Z′
 use Rattle.lent_channel.proofs.Heard as Y
 use Rattle.lent_channel.proofs.Heard.Laws as Y′
-use Rattle.lent_channel.proofs.begun.Symbol as begun-def
-use Rattle.lent_channel.proofs.begun.Symbol.{name as #lent-channel·begun}
-use Rattle.lent_channel.proofs.begun.Met as begun-thm
+use Rattle.lent_channel.proofs.shared_of.Symbol as shared-def
+use Rattle.lent_channel.proofs.shared_of.Symbol.{name as #lent-channel·shared-of}
+use Rattle.lent_channel.proofs.shared_of.Met as shared-thm
 use Rattle.lent_channel.proofs.glide as glide
 use Rattle.lent_channel.proofs.glide.Symbol as glide-def
 use Rattle.lent_channel.proofs.glide.Symbol.{name as #lent-channel·glide}
 use Rattle.lent_channel.proofs.glide.Met as glide-thm
-use Rattle.lent_channel.proofs.after_plain.Symbol as plain-def
-use Rattle.lent_channel.proofs.after_plain.Symbol.{name as #lent-channel·after-plain}
-use Rattle.lent_channel.proofs.after_plain.Met as plain-thm
+use Rattle.lent_channel.proofs.after_gliding.Symbol as gliding-def
+use Rattle.lent_channel.proofs.after_gliding.Symbol.{name as #lent-channel·after-gliding}
+use Rattle.lent_channel.proofs.after_gliding.Met as gliding-thm
 use Rattle.lent_channel.proofs.turned as turn
 use Rattle.lent_channel.proofs.turned.Symbol as turn-def
 use Rattle.lent_channel.proofs.turned.Symbol.{name as #lent-channel·turned}
@@ -125,8 +125,8 @@ params = struct P.the-type P′.the-laws P′.the-plain
 abbrev moment : Datum
 moment = struct O.the-type O′.the-laws O′.the-plain
 
-abbrev start : Datum
-start = struct S.the-type S′.the-laws S′.the-plain
+abbrev sharing : Datum
+sharing = struct S.the-type S′.the-laws S′.the-plain
 
 abbrev glided : Datum
 glided = struct G.the-type G′.the-laws G′.the-plain
@@ -155,9 +155,9 @@ module _ {M : Type 1} (𝓤 : URA M) (H : Heap 𝓤) (A : Atoms 𝓤) (mem : Mem
 
   -- the calls
   record Known (𝓣 : Tables 𝓤 H) : Type 2 where
-    begins : Says 𝓤 H A 𝓣 #lent-channel·begun (record { takes = moment ∷ word w64 ∷ params ∷ []; gives = start; says = λ a. sharedOf (a .1 .1 .0) (a .0) (a .1 .0) })
+    begins : Says 𝓤 H A 𝓣 #lent-channel·shared-of (record { takes = moment ∷ word w64 ∷ params ∷ []; gives = sharing; says = λ a. sharedOf (a .1 .1 .0) (a .0) (a .1 .0) })
     glides : Triple 𝓤 (𝓣 .C #lent-channel·glide) Glide
-    goes-on : Says 𝓤 H A 𝓣 #lent-channel·after-plain (record { takes = glided ∷ []; gives = going; says = λ a. afterPlain (a .0) })
+    goes-on : Says 𝓤 H A 𝓣 #lent-channel·after-gliding (record { takes = glided ∷ []; gives = going; says = λ a. afterGliding (a .0) })
     turns : Triple 𝓤 (𝓣 .C #lent-channel·turned) Turned
     counts : Says 𝓤 H A 𝓣 #lent-channel·counted (record { takes = word w64 ∷ word w64 ∷ word w64 ∷ []; gives = word w64; says = λ a. voicesLeftOf (a .0) (a .1 .0) (a .1 .1 .0) })
 
@@ -206,7 +206,7 @@ module _ {M : Type 1} (𝓤 : URA M) (H : Heap 𝓤) (A : Atoms 𝓤) (W : Given
   Post = walkOf 𝓤 H A play.ended stayed (play.clauses 𝓤 H A at-mem run) .post (((κ, (κ₁, tt)), (q, (q₁, tt)), tt, a, vals), tt)
 
   -- what the turns share; how many there are; the channel with other voices
-  abbrev s₀ : Start
+  abbrev s₀ : Shared
   s₀ = sharedOf p here (h .count)
 
   abbrev t : Tick
@@ -217,9 +217,9 @@ module _ {M : Type 1} (𝓤 : URA M) (H : Heap 𝓤) (A : Atoms 𝓤) (W : Given
 
   -- ---- the call that is lent the channel
   abbrev to-glide : ℕ → GName → Glide 𝓤 H A at-mem run .Ghost
-  to-glide α δ = (((α ∷ [], (κ₁, tt)), (fullShare, (q₁, tt)), tt, (at-channel δ, (s₀, (x₁, tt))), (vptr b o ∷ [], (start .val s₀ ∷ [], (sl ∷ [], tt)))), tt)
+  to-glide α δ = (((α ∷ [], (κ₁, tt)), (fullShare, (q₁, tt)), tt, (at-channel δ, (s₀, (x₁, tt))), (vptr b o ∷ [], (sharing .val s₀ ∷ [], (sl ∷ [], tt)))), tt)
 
-  goes-glide : (α : ℕ) (δ : GName) → Is S.the-row s₀ (start .val s₀ ∷ [])
+  goes-glide : (α : ℕ) (δ : GName) → Is S.the-row s₀ (sharing .val s₀ ∷ [])
       → ent 𝓤 (sep 𝓤 (sep 𝓤 (A .lft (α ∷ []) fullShare) (sep 𝓤 (A .lft κ₁ q₁) (sem 𝓤 H A ftrue))) (sep 𝓤 (sem 𝓤 H A (MutRef (named 0) (α ∷ []) C.the-row .own (at-channel δ) (vptr b o ∷ []))) (sem 𝓤 H A Sl)))
       (Glide 𝓤 H A at-mem run .pre (to-glide α δ))
   goes-glide α δ iss =
@@ -245,18 +245,18 @@ module _ {M : Type 1} (𝓤 : URA M) (H : Heap 𝓤) (A : Atoms 𝓤) (W : Given
       few : n ≤ 32
       few = turns-few p here (h .count)
 
-      -- d is the channel that the plain turns left
+      -- d is the channel that the gliding turns left
       module _ (ist : Is K.the-row t (tick .val t ∷ [])) (all : length (h .voices) ≡ 32) (d : Channel) (g₀ : Glided) (e₀ : Glides s₀ ms h d g₀) (long : length (d .voices) ≡ 32) where
         abbrev with-voices : List Voice → Channel
         with-voices l = withVoices l (d .count) d
 
         abbrev goal : Played
-        goal = restFrom t ms h 0 zero32 (take n (h .voices))
+        goal = restFrom (turningBy t ms) h 0 zero32 (take n (h .voices))
 
         -- where r turns are left
         record Still (s : State) (r : ℕ) : Type 0 where
           left : s .at .place + r ≡ n
-          walk : Walk goal (restBy t ms (with-voices (s .voices)) (s .at)) (s .voices) n (s .at .place)
+          walk : Walk goal (restBy (turningBy t ms) (with-voices (s .voices)) (s .at)) (s .voices) n (s .at .place)
           less : s .at .kept ≤ s .at .place
           few : s .at .moved ≤ s .at .place
           is : Is N.the-row (s .at) (going .val (s .at) ∷ [])
@@ -280,9 +280,9 @@ module _ {M : Type 1} (𝓤 : URA M) (H : Heap 𝓤) (A : Atoms 𝓤) (W : Given
 
         -- behind the loop, once the count is stored
         hands-up : (s : State) → Is N.the-row (s .at) (going .val (s .at) ∷ []) → Done s
-            → ent 𝓤 (⋆ 𝓤 H A (Has (last s) (some (start .val s₀) ∷ some (tick .val t) ∷ some (vint w64 n) ∷ some (going .val (s .at)) ∷ []))) (Wp 𝓤 H Cs Λ En code.Mir.t-12 (atReturn 𝓤 H En Post))
+            → ent 𝓤 (⋆ 𝓤 H A (Has (last s) (some (sharing .val s₀) ∷ some (tick .val t) ∷ some (vint w64 n) ∷ some (going .val (s .at)) ∷ []))) (Wp 𝓤 H Cs Λ En code.Mir.t-12 (atReturn 𝓤 H En Post))
         hands-up s is said =
-            qed W (Has (last s) (some (start .val s₀) ∷ some (tick .val t) ∷ some (vint w64 n) ∷ some (going .val (s .at)) ∷ [])) ∵ exec ! Cs Λ En code.Mir.t-12 (atRet En Post) $
+            qed W (Has (last s) (some (sharing .val s₀) ∷ some (tick .val t) ∷ some (vint w64 n) ∷ some (going .val (s .at)) ∷ [])) ∵ exec ! Cs Λ En code.Mir.t-12 (atRet En Post) $
             puts ! (agg ! (and-then ! (field-of ! refl refl) (and-then ! (field-of ! refl refl) (no-more !)))) (fills ! refl (sounded .typed 𝓤 H A W (given s) _ (is-given s is))) $
             move ! (5 ∷ []) $ drop ! $ close-ref ! tt (mem C.the-row) (last s) {b = b} {o = o} $ gives ! refl $
             all-freed ! refl $ by ! (exits s (is-given s is) said)
@@ -300,7 +300,7 @@ module _ {M : Type 1} (𝓤 : URA M) (H : Heap 𝓤) (A : Atoms 𝓤) (W : Given
 
         -- where a turn begins
         abbrev At : State → List (Item 𝓤)
-        At s = Has (with-voices (s .voices)) (some (start .val s₀) ∷ some (tick .val t) ∷ some (vint w64 n) ∷ some (going .val (s .at)) ∷ [])
+        At s = Has (with-voices (s .voices)) (some (sharing .val s₀) ∷ some (tick .val t) ∷ some (vint w64 n) ∷ some (going .val (s .at)) ∷ [])
 
         abbrev Left : Out → SProp 𝓤
         Left = afterBlock 𝓤 H (afterSeq 𝓤 H (Wp 𝓤 H Cs Λ En code.Mir.t-9 (atReturn 𝓤 H En Post)) (atReturn 𝓤 H En Post))
@@ -348,12 +348,12 @@ module _ {M : Type 1} (𝓤 : URA M) (H : Heap 𝓤) (A : Atoms 𝓤) (W : Given
             abbrev left-out : State
             left-out = record { at = x .next; voices = l }
 
-            still : (l′ : List Voice) → Walk goal (restBy t ms (with-voices l′) (x .next)) l′ n (i + 1) → Still (record { at = x .next; voices = l′ }) r
+            still : (l′ : List Voice) → Walk goal (restBy (turningBy t ms) (with-voices l′) (x .next)) l′ n (i + 1) → Still (record { at = x .next; voices = l′ }) r
             still l′ walk =
                 let place = next-place t ms (with-voices l) (s .at) v (g .less) x e in
                 record {
                   left = omega (arith, g .left, place);
-                  walk = subst (λ (j : ℕ). Walk goal (restBy t ms (with-voices l′) (x .next)) l′ n j) (sym place) walk;
+                  walk = subst (λ (j : ℕ). Walk goal (restBy (turningBy t ms) (with-voices l′) (x .next)) l′ n j) (sym place) walk;
                   less = next-less t ms (with-voices l) (s .at) v (g .less) x e;
                   few = next-few t ms (with-voices l) (s .at) v (g .less) x e (g .few);
                   is = is;
@@ -424,25 +424,25 @@ module _ {M : Type 1} (𝓤 : URA M) (H : Heap 𝓤) (A : Atoms 𝓤) (W : Given
               move ! (1 ∷ []) $ drop ! $ owned ! C.the-row (Is C.the-row) (LL.makes C.the-type C′.the-plain 𝓤 H A) (last s) _ (counted-is (is-m .1) is) $ move ! (1 ∷ 0 ∷ []) $ use2 W (‵ (partAt C.the-row fullShare (last s) b o)) (part-in 𝓤 H A W C.the-row refl fullShare (last s) b o (cv (last s))) $
               leaves-only ! En 9 refl $ by ! (hands-up s (g .is) done-so)))
 
-        -- the loop begins where the plain turns end
+        -- the loop begins where the gliding turns end
         abbrev first-state : State
-        first-state = record { at = afterPlain g₀; voices = d .voices }
+        first-state = record { at = afterGliding g₀; voices = d .voices }
 
-        begins : Is N.the-row (afterPlain g₀) (going .val (afterPlain g₀) ∷ []) → Still first-state (n - g₀ .upto)
-        unfolding afterPlain
+        begins : Is N.the-row (afterGliding g₀) (going .val (afterGliding g₀) ∷ []) → Still first-state (n - g₀ .upto)
+        unfolding afterGliding
         begins is =
             let from-there = begins-there p here ms h all d g₀ e₀ long in
             record { left = omega (arith, from-there .upto); walk = from-there; less = le-refl (g₀ .upto); few = zero-le; is = is }
 
-        loops : Is N.the-row (afterPlain g₀) (going .val (afterPlain g₀) ∷ []) → ent 𝓤 (⋆ 𝓤 H A (At first-state)) (Wp 𝓤 H Cs Λ En (loop code.Mir.turn-1) Left)
+        loops : Is N.the-row (afterGliding g₀) (going .val (afterGliding g₀) ∷ []) → ent 𝓤 (⋆ 𝓤 H A (At first-state)) (Wp 𝓤 H Cs Λ En (loop code.Mir.turn-1) Left)
         loops is = rounds 𝓤 H A W 𝓣 En code.Mir.turn-1 Left Still At ends more (n - g₀ .upto) first-state (begins is)
 
-      abbrev Shared : List (Item 𝓤)
-      Shared = Has h (some (start .val s₀) ∷ some (tick .val t) ∷ some (vint w64 n) ∷ [])
+      abbrev Borrowed : List (Item 𝓤)
+      Borrowed = Has h (some (sharing .val s₀) ∷ some (tick .val t) ∷ some (vint w64 n) ∷ [])
 
-      lends-on : Is S.the-row s₀ (start .val s₀ ∷ []) → length (h .voices) ≡ 32 → ent 𝓤 (⋆ 𝓤 H A Shared) (Wp 𝓤 H Cs Λ En code.Mir.t-5 (atReturn 𝓤 H En Post))
+      lends-on : Is S.the-row s₀ (sharing .val s₀ ∷ []) → length (h .voices) ≡ 32 → ent 𝓤 (⋆ 𝓤 H A Borrowed) (Wp 𝓤 H Cs Λ En code.Mir.t-5 (atReturn 𝓤 H En Post))
       lends-on iss all =
-          qed W Shared ∵ exec ! Cs Λ En code.Mir.t-5 (atRet En Post) $
+          qed W Borrowed ∵ exec ! Cs Λ En code.Mir.t-5 (atRet En Post) $
           -- the channel is lent on
           puts ! (addr ! (beyond ! (held ! refl) (stop !))) (fills ! refl (tt, tt)) $ lft-new ! tt (λ α. move ! (1 ∷ []) $
           use1 W (later (any (λ (δ : GName). ‵ (MutRef (named 0) (α ∷ []) C.the-row .own (at-channel δ) (vptr b o ∷ [])) ⊛ ‵ (flent (α ∷ []) (Body (mem C.the-row) b o δ))))) (lends-ref 𝓤 H A W C.the-row (named 0) (α ∷ []) h b o) $ await ! tt $
@@ -457,7 +457,7 @@ module _ {M : Type 1} (𝓤 : URA M) (H : Heap 𝓤) (A : Atoms 𝓤) (W : Given
           use3 W (later (‵ (partAt C.the-row fullShare d b o))) (ref-back 𝓤 H A W C.the-row (α ∷ []) δ d b o) $ await ! tt $
           opened ! fullShare C.the-row (Is C.the-row) (shows 𝓤 H A C.the-row) (LL.vals C.the-type C′.the-laws) (LL.tells C.the-type C′.the-laws) d b o (λ is-d.
           use1 W (‵ (fat fullShare C′.mir b o (cv d))) (W .laws .raw-at fullShare C′.mir b o (cv d)) $ use2 W (‵ (partAt C.the-row fullShare d b o)) (part-in 𝓤 H A W C.the-row refl fullShare d b o (cv d)) $ move ! (0 ∷ 3 ∷ 4 ∷ 5 ∷ []) $
-          -- the loop begins where the plain turns end
+          -- the loop begins where the gliding turns end
           asks ! (known .goes-on) (g₀, tt) (isg, tt) (and-then ! (its ! refl) (no-more !)) (fills ! refl) (λ isn. leaves-only ! En 9 refl $ by ! (loops (LL.owed S.the-type S′.the-laws s₀ _ iss .0) all d g₀ e₀ (places-are d is-d) isn))))))))))
 
       -- what the turns share, once the count is read
@@ -521,9 +521,9 @@ play-spec 𝓤 H 𝓜 𝓖 𝓡 =
     entered 𝓤 H (tripleOf 𝓤 H (𝓖 .A) play.signature (play.spec 𝓤 H (𝓖 .A) (𝓜 .mem) (𝓡 .run)))
     (tables 𝓤 H 𝓜 𝓡 code.env .C) (tables 𝓤 H 𝓜 𝓡 code.env .Λ) #lent-channel·play code.function (code.unfolded 𝓤 H 𝓜 𝓡)
     (play-meets 𝓤 H (𝓖 .A) (givenOf 𝓤 H 𝓜 𝓖) (𝓜 .mem) (𝓡 .run) (tablesOf 𝓤 H 𝓜 (tables 𝓤 H 𝓜 𝓡 code.env)) (record {
-      begins = record { met = cited 𝓤 H _ 𝓜 𝓡 code.env #lent-channel·begun begun-def.routine code.calls-lent-channel·begun (begun-thm.met 𝓤 H 𝓜 𝓖 𝓡) };
+      begins = record { met = cited 𝓤 H _ 𝓜 𝓡 code.env #lent-channel·shared-of shared-def.routine code.calls-lent-channel·shared-of (shared-thm.met 𝓤 H 𝓜 𝓖 𝓡) };
       glides = cited 𝓤 H _ 𝓜 𝓡 code.env #lent-channel·glide glide-def.routine code.calls-lent-channel·glide (glide-thm.met 𝓤 H 𝓜 𝓖 𝓡);
-      goes-on = record { met = cited 𝓤 H _ 𝓜 𝓡 code.env #lent-channel·after-plain plain-def.routine code.calls-lent-channel·after-plain (plain-thm.met 𝓤 H 𝓜 𝓖 𝓡) };
+      goes-on = record { met = cited 𝓤 H _ 𝓜 𝓡 code.env #lent-channel·after-gliding gliding-def.routine code.calls-lent-channel·after-gliding (gliding-thm.met 𝓤 H 𝓜 𝓖 𝓡) };
       turns = cited 𝓤 H _ 𝓜 𝓡 code.env #lent-channel·turned turn-def.routine code.calls-lent-channel·turned (turn-thm.met 𝓤 H 𝓜 𝓖 𝓡);
       counts = record { met = cited 𝓤 H _ 𝓜 𝓡 code.env #lent-channel·counted counted-def.routine code.calls-lent-channel·counted (counted-thm.met 𝓤 H 𝓜 𝓖 𝓡) };
     }))

@@ -12,7 +12,7 @@ pub use lib.Ieee.{Float, nan, fin, binary32, up, down, add, sub, mul, div, eq, l
 pub use lib.Ieee.Exact.{HasValue}
 pub use lib.Ieee.Scale.{finite}
 pub use lib.Ieee.Positive.{positive}
-pub use Rattle.walks.specs.Walks.{any, without}
+pub use Rattle.walks.specs.Walks.{any}
 pub use Rattle.walks.specs.Each.{Each}
 pub use Rattle.binary32.specs.Leaves.{asFloat, asWhole, floorOf, minOf, maxOf, bitsOf, floatOf, rootOf, zero32}
 pub use Rattle.binary32.specs.Roots.{NearestRoot}
@@ -49,9 +49,9 @@ pub use Rattle.clip.specs.Bounds.{Sound, Inside, Within, AddsUp}
 pub use Rattle.clip.specs.Plain.{PlainClip, plainIndex, plainAt}
 pub use Rattle.voice.specs.declared.Voice.{Voice}
 pub use Rattle.voice.specs.declared.Tick.{Tick}
-pub use Rattle.voice.specs.Voices.{movedOf, recordedValueOf, valueOf, productOf, freshOf, atSpeedOf}
+pub use Rattle.voice.specs.Voices.{movedOf, recordedValueOf, valueOf, freshOf, atSpeedOf}
 pub use Rattle.channel.specs.declared.Channel.{Channel}
-pub use Rattle.channel.specs.Channels.{live, fullOf, memoryOf, recordingOf}
+pub use Rattle.channel.specs.Channels.{live, fullOf, memoryOf, recordingOf, heardOf}
 pub use Rattle.sampler.specs.declared.Answer.{Answer}
 pub use Rattle.sampler.specs.Samplers.{ranOf}
 pub use Rattle.sampler.specs.Soundness.{FittingSampler}
@@ -77,10 +77,10 @@ pub use Rattle.questions.specs.declared.VoiceInfos.{VoiceInfos}
 pub use Rattle.questions.specs.declared.Counted.the-variants as Counted
 pub use Rattle.questions.specs.Questions.{recorderAt, notesOf, voiceInfoOf}
 pub use Rattle.questions.specs.Waveforms.{cutOf, columnOf, columnsOf, smallestOf, largestOf, summaryWith}
-pub use Rattle.fates.specs.Engine.{bornOf, stepOf}
+pub use Rattle.fates.specs.Engine.{bornOf, heldAt, turnsIn, stepOf}
 pub use Rattle.fates.specs.Events.{act, sounds, lengthAt, isSample, emptyAt, tickAt, decayOf}
 pub use Rattle.fates.specs.Places.{voiceAt, at, gone, follow, becomes, followAll, addedBy, finishes, stoppedIn, finishedIn}
-pub use Rattle.fates.specs.Sounding.{termsOf, totalOf}
+pub use Rattle.fates.specs.Sounding.{termOf, termsOf, totalOf}
 pub use Rattle.fates.specs.Steady.{alteredIn}
 pub use Rattle.promises.specs.Runs.{
   World,

@@ -4,9 +4,9 @@ use mathlib.Core.Logic.{⊎-elim}
 use Prim.Native.Nat.{_≤_, _-_}
 use lib.Ieee.{ofBits}
 use Rattle.walks.proofs.Lists.Loops.{Walk, turns, stores, ends, long, begins}
-use Rattle.channel.specs.Channels.{live}
+use Rattle.channel.specs.Channels.{live, turningBy}
 use Rattle.channel.proofs.Slots.{none}
-use Rattle.channel.proofs.Turns.{restOf, rest-start, rest-end, rest-keep, rest-gone, tidiedFrom, tidied-start, tidied-end, tidied-keep, tidied-gone, step-up}
+use Rattle.channel.proofs.Turns.{sounds-by, restOf, rest-start, rest-end, rest-keep, rest-gone, tidiedFrom, tidied-start, tidied-end, tidied-keep, tidied-gone, step-up}
 use borrow.Author.Needs.{needs}
 use native.Mathlib.Omega.{arith}
 use Rattle.channel.proofs.Channel.play.Statement.{statement}
@@ -14,8 +14,8 @@ use Rattle.channel.proofs.Channel.play.Tie as tie
 
 abbrev Inv-loop : tie.InvT-loop
 Inv-loop t «data» self₀ n output₀ moved₀ k₀ i₀ self output moved k i =
-    Walk (restOf t «data» self₀ 0 output₀ (live self₀)) (restOf t «data» self k output) (self .voices) n i
-    × (k ≤ i) × Walk (tidiedFrom t «data» 0 0 0 (live self₀)) (tidiedFrom t «data» moved k i) (self .voices) n i × (moved ≤ i) × (n ≤ 32)
+    Walk (restOf (turningBy t «data») self₀ 0 output₀ (live self₀)) (restOf (turningBy t «data») self k output) (self .voices) n i
+    × (k ≤ i) × Walk (tidiedFrom (turningBy t «data») 0 0 0 (live self₀)) (tidiedFrom (turningBy t «data») moved k i) (self .voices) n i × (moved ≤ i) × (n ≤ 32)
 
 abbrev μ-loop : tie.MeasureT-loop
 μ-loop t «data» self₀ n output₀ moved₀ k₀ i₀ self output moved k i = n - i
@@ -28,9 +28,9 @@ unfolding ofBits
 loop-holds c =
     let b = c .before .before in
     let all = long _ (b .args .t1 .voices) 32 (b .good .0 .1 .1 .0 .1 .0 .1) in (
-      begins (restOf (b .args .t) (b .args .«data» .now) (b .args .t1) 0 _) (b .args .t1 .voices) (b .args .t1 .count) _ 32 all (c .places .ensures),
+      begins (restOf (turningBy (b .args .t) (b .args .«data» .now)) (b .args .t1) 0 _) (b .args .t1 .voices) (b .args .t1 .count) _ 32 all (c .places .ensures),
       search needs,
-      begins (tidiedFrom (b .args .t) (b .args .«data» .now) 0 0 0) (b .args .t1 .voices) (b .args .t1 .count) _ 32 all (c .places .ensures),
+      begins (tidiedFrom (turningBy (b .args .t) (b .args .«data» .now)) 0 0 0) (b .args .t1 .voices) (b .args .t1 .count) _ 32 all (c .places .ensures),
       search needs,
       omega (arith, c .places .ensures),
     )
@@ -69,24 +69,25 @@ loop-less : tie.Need-loop-less Inv-loop μ-loop
 loop-less c = search needs
 
 loop-again : tie.Need-loop-again Inv-loop μ-loop
+unfolding turningBy
 loop-again c =
     let h = c .before .before .before .before .before .before .loop in
     let turned = c .before .before .before .turn .ensures in
-    let sounds = c .before .before .sound .ensures in
+    let sounds = sounds-by _ _ _ _ _ _ turned (c .before .before .sound .ensures) in
     let is = c .before .should-remove .ensures in
     ⊎-elim
     (λ w. rw (w .2, w .3, w .4) (
-      stores none (h .k) _ (h .inv .0) (search needs) (h .inv .1) (λ vs. rest-keep _ _ (h .self) _ _ _ _ _ _ turned sounds is vs (w .0 .taken)),
+      stores none (h .k) _ (h .inv .0) (search needs) (h .inv .1) (λ vs. rest-keep _ (h .self) _ _ _ _ _ _ turned sounds is vs (w .0 .taken)),
       omega arith,
       stores none (h .k) _ (h .inv .2) (search needs) (h .inv .1)
-          (λ vs. tidied-keep _ _ (h .self) (h .k) _ _ _ _ _ turned sounds is vs (h .moved) (h .i) (h .inv .1) _ (w .1 .ensures) (w .0 .taken)),
+          (λ vs. tidied-keep _ (h .self) (h .k) _ _ _ _ _ turned sounds is vs (h .moved) (h .i) (h .inv .1) _ (w .1 .ensures) (w .0 .taken)),
       step-up (h .moved) (h .k) (h .i) _ (h .inv .3) (w .1 .ensures),
       h .inv .4,
     ))
     (λ w. rw (w .1, w .2, w .3) (
-      turns none (h .inv .0) (search needs) (λ vs. rest-gone _ _ (h .self) _ _ _ _ _ _ turned sounds is vs (w .0 .left)),
+      turns none (h .inv .0) (search needs) (λ vs. rest-gone _ (h .self) _ _ _ _ _ _ turned sounds is vs (w .0 .left)),
       omega arith,
-      turns none (h .inv .2) (search needs) (λ vs. tidied-gone _ _ (h .self) (h .k) _ _ _ _ _ turned sounds is vs (h .moved) (h .i) (h .inv .1) (w .0 .left)),
+      turns none (h .inv .2) (search needs) (λ vs. tidied-gone _ (h .self) (h .k) _ _ _ _ _ turned sounds is vs (h .moved) (h .i) (h .inv .1) (w .0 .left)),
       omega arith,
       h .inv .4,
     ))
@@ -97,8 +98,8 @@ unfolding ofBits
 returns c =
     let l = c .before .loop in
     let b = c .before .before .before .before .args in
-    let sounds = sym (rest-end (b .t) (b .«data» .now) (l .self) _ _) ∙ ends (l .inv .0) (c .loop-test .left) ∙ rest-start _ _ (b .t1) in
-    let counts = sym (tidied-end (b .t) (b .«data» .now) _ (l .k) (l .i)) ∙ ends (l .inv .2) (c .loop-test .left) ∙ tidied-start _ _ (b .t1) in
+    let sounds = sym (rest-end (turningBy (b .t) (b .«data» .now)) (l .self) _ _) ∙ ends (l .inv .0) (c .loop-test .left) ∙ rest-start _ (b .t1) in
+    let counts = sym (tidied-end (turningBy (b .t) (b .«data» .now)) _ (l .k) (l .i)) ∙ ends (l .inv .2) (c .loop-test .left) ∙ tidied-start _ (b .t1) in
     (λ i. record { channel = sounds i .channel; output = sounds i .output; moved = counts i }, omega (arith, l .inv .0 .upto, l .inv .3, l .inv .4))
 
 pub play-spec : {M : Type 1} → statement M

@@ -6,7 +6,7 @@ use Prim.Native.Nat.{ℕ}
 use lib.Dec.{eqb}
 use lib.ListN.{length}
 use borrow.Author.Tests.{lt-leb, le-leb, ne-eqb, not-true}
-use Rattle.listing.specs.Records.{byteAt}
+use Rattle.octets.specs.Octets.{byteAt}
 use Rattle.listing.specs.declared.faults.HeaderFault.the-variants as header
 use Rattle.listing.specs.Faults.{headerFaultOf}
 use borrow.Author.Needs.{needs}

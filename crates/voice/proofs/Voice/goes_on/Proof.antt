@@ -1,5 +1,5 @@
 -- `Voice::goes_on` meets its contract: its tests are those of `goesOnOf`. Assumes nothing.
-use Rattle.voice.specs.Plain.{goesOnOf}
+use Rattle.voice.specs.Gliding.{goesOnOf}
 use borrow.Author.Needs.{needs}
 use Rattle.voice.proofs.Voice.goes_on.Statement.{statement}
 use Rattle.voice.proofs.Voice.goes_on.Tie as tie

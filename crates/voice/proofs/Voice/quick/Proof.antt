@@ -1,10 +1,10 @@
--- `Voice::quick` meets its contract: its tests are those that a plain turn is known by, and where one fails it doesn't answer. Assumes nothing.
+-- `Voice::quick` meets its contract: its tests are those that a voice that glides is known by, and where one fails it doesn't answer. Assumes nothing.
 use mathlib.Core.Path.{sym}
 use mathlib.Core.Bool.{true≢false}
 use borrow.Author.Needs.{needs}
 use borrow.Author.Tests.{not-false}
-use Rattle.voice.specs.Plain.{soundedAt}
-use Rattle.voice.proofs.Plain.{answered}
+use Rattle.voice.specs.Gliding.{glidedAt}
+use Rattle.voice.proofs.Gliding.{answered}
 use Rattle.voice.proofs.Voice.quick.Statement.{statement}
 use Rattle.voice.proofs.Voice.quick.Tie as tie
 
@@ -12,13 +12,13 @@ keeps-requires : tie.Need-keeps-requires
 keeps-requires c κs = search needs
 
 returns : tie.Need-returns
-returns c plain = absurd (true≢false (sym plain))
+returns c glides = absurd (true≢false (sym glides))
 
 quick-index-requires : tie.Need-quick-index-requires
 quick-index-requires c κs = search needs
 
 returns-2 : tie.Need-returns-2
-returns-2 c plain = absurd (true≢false (sym plain))
+returns-2 c glides = absurd (true≢false (sym glides))
 
 level-requires : tie.Need-level-requires
 level-requires c κs = search needs
@@ -27,7 +27,7 @@ quick-beside-requires : tie.Need-quick-beside-requires
 quick-beside-requires c κs = search needs
 
 returns-3 : tie.Need-returns-3
-returns-3 c plain = absurd (true≢false (sym plain))
+returns-3 c glides = absurd (true≢false (sym glides))
 
 near-valued-requires : tie.Need-near-valued-requires
 near-valued-requires c κs = search needs
@@ -39,7 +39,7 @@ goes-on-requires : tie.Need-goes-on-requires
 goes-on-requires c κs = search needs
 
 returns-4 : tie.Need-returns-4
-unfolding soundedAt
+unfolding glidedAt
 returns-4 c =
     let a = c .before .before .before .before .before .before .before .before .before .before .before .before .before .before .before .before .before .args in
     let found = c .before .before .before .before .before .before .before .before .before .quick-index in

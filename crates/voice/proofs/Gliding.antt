@@ -1,4 +1,4 @@
--- A plain turn changes four fields of a voice, and the voice stays. Assumes nothing.
+-- A turn in which a voice glides changes four of its fields, and the voice stays. Assumes nothing.
 use mathlib.Core.Path.{_≡_, refl, sym, ap, _∙_, subst}
 use Prim.Native.Nat.{ℕ, _<_}
 use mathlib.Core.Bool.{Bool, true, false, not, _&&_, cond}
@@ -16,7 +16,7 @@ use Rattle.clip.specs.Quick.{noIndex, QuickIndex}
 use Rattle.clip.specs.declared.Near.{Near}
 use Rattle.voice.specs.Voices.{recordedValueOf, betweenOf, valueAt, valueOf, productOf, soundedOf, playedOutOf, endedOf, shouldRemoveOf, volumeStepped, turnOf}
 use Rattle.voice.specs.Agreeing.{agreesOf}
-use Rattle.voice.specs.Plain.{plainOf, soundedAt, glidedOf, goesOnOf, QuickBeside, QuickValue, Quickly}
+use Rattle.voice.specs.Gliding.{glidesOf, glidedAt, glidedOf, goesOnOf, QuickBeside, QuickValue, Quickly}
 use Rattle.voice.specs.declared.Voice.{Voice}
 use Rattle.voice.specs.declared.Tick.{Tick}
 use Rattle.voice.proofs.Unmoved.{unmoved, agrees}
@@ -24,19 +24,19 @@ use Rattle.voice.proofs.Unmoved.{unmoved, agrees}
 module _ (t : Tick) (m : List ℕ) (v : Voice) where
   -- its clip stays, so it sounds at the index that it had
   sounded-glides : agreesOf t v ≡ true → soundedOf t m v ≡ glidedOf t m v
-  unfolding soundedOf productOf soundedAt
+  unfolding soundedOf productOf glidedAt
   sounded-glides h = simp (unmoved t v h)
 
   -- whether play-once is over hangs neither on the index nor on the value
-  out-at : (index : ℕ) (sample : Float) → playedOutOf t (soundedOf t m v) ≡ playedOutOf t (soundedAt t v index sample)
-  unfolding playedOutOf soundedOf soundedAt
+  out-at : (index : ℕ) (sample : Float) → playedOutOf t (soundedOf t m v) ≡ playedOutOf t (glidedAt t v index sample)
+  unfolding playedOutOf soundedOf glidedAt
   out-at index sample = refl
 
-  stepped-glided : (index : ℕ) (sample : Float) → keepsOf (v .volume) (t .now) ≡ true → volumeStepped (t .now) (soundedAt t v index sample) ≡ soundedAt t v index sample
-  unfolding volumeStepped soundedAt
+  stepped-glided : (index : ℕ) (sample : Float) → keepsOf (v .volume) (t .now) ≡ true → volumeStepped (t .now) (glidedAt t v index sample) ≡ glidedAt t v index sample
+  unfolding volumeStepped glidedAt
   stepped-glided index sample h = simp (stepped-keeps (v .volume) (t .now) h)
 
-  -- the first four parts of `plainOf` are enough for what the turn comes to
+  -- the first four parts of `glidesOf` are enough for what the turn comes to
   turn-glides : agreesOf t v ≡ true → keepsOf (v .volume) (t .now) ≡ true → playedOutOf t (soundedOf t m v) ≡ false → shouldRemoveOf t v ≡ false → turnOf t m v ≡ glidedOf t m v
   unfolding turnOf endedOf
   turn-glides a k o r =
@@ -44,7 +44,7 @@ module _ (t : Tick) (m : List ℕ) (v : Voice) where
       let sample : Float = valueOf t m (v .clip2) in
       simp (r, sounded-glides a, sym (out-at index sample) ∙ o) (stepped-glided index sample k)
 
-  -- ---- the parts of a plain turn
+  -- ---- the parts of it
   record Parts : Type 0 where
     agrees : agreesOf t v ≡ true
     keeps : keepsOf (v .volume) (t .now) ≡ true
@@ -52,8 +52,8 @@ module _ (t : Tick) (m : List ℕ) (v : Voice) where
     stays : shouldRemoveOf t v ≡ false
     stays-after : shouldRemoveOf t (turnOf t m v) ≡ false
 
-  parts : plainOf t m v ≡ true → Parts
-  unfolding plainOf
+  parts : glidesOf t m v ≡ true → Parts
+  unfolding glidesOf
   parts h =
       let a : Bool = agreesOf t v in
       let k : Bool = keepsOf (v .volume) (t .now) in
@@ -72,13 +72,13 @@ module _ (t : Tick) (m : List ℕ) (v : Voice) where
         stays-after = not-true _ (is-true s (and-r r s h₄));
       }
 
-  -- ---- what a plain turn does
-  pub record Glides : Type 0 where
+  -- ---- what such a turn does
+  pub record GlidedTurn : Type 0 where
     pub turn : turnOf t m v ≡ glidedOf t m v
     pub stays : shouldRemoveOf t v ≡ false
     pub stays-after : shouldRemoveOf t (turnOf t m v) ≡ false
 
-  pub glides : plainOf t m v ≡ true → Glides
+  pub glides : glidesOf t m v ≡ true → GlidedTurn
   glides h =
       let p = parts h in
       record { turn = turn-glides (p .agrees) (p .keeps) (p .plays-on) (p .stays); stays = p .stays; stays-after = p .stays-after }
@@ -94,15 +94,15 @@ module _ (t : Tick) (m : List ℕ) (v : Voice) where
     pub finished : w .finished ≡ v .finished
 
   glided-holds : Held (glidedOf t m v)
-  unfolding soundedAt
+  unfolding glidedAt
   glided-holds = record { finished-at = refl; clip = refl; volume = refl; start = refl; speed = refl; note = refl; finished = refl }
 
-  pub holds : plainOf t m v ≡ true → Held (turnOf t m v)
+  pub holds : glidesOf t m v ≡ true → Held (turnOf t m v)
   holds h = subst Held (sym (glides h .turn)) glided-holds
 
   -- ---- the tests of a quick turn are enough
-  going : (w : Voice) → agreesOf t v ≡ true → w ≡ glidedOf t m v → keepsOf (v .volume) (t .now) ≡ true → goesOnOf t v w ≡ true → (plainOf t m v ≡ true) × (w ≡ turnOf t m v)
-  unfolding goesOnOf plainOf
+  going : (w : Voice) → agreesOf t v ≡ true → w ≡ glidedOf t m v → keepsOf (v .volume) (t .now) ≡ true → goesOnOf t v w ≡ true → (glidesOf t m v ≡ true) × (w ≡ turnOf t m v)
+  unfolding goesOnOf glidesOf
   going w a e k g =
       let o : Bool = not (playedOutOf t w) in
       let r : Bool = not (shouldRemoveOf t v) in
@@ -136,8 +136,8 @@ module _ (t : Tick) (m : List ℕ) (v : Voice) where
         go true e = ap (λ (i : ℕ). betweenOf (recordedValueOf m (p .index)) (recordedValueOf m i) (p .fraction)) e
         go false e = refl
 
-    pub answered : (w : Voice) (keeps goes : Bool) → w ≡ soundedAt t v (near .index) sample → keeps ≡ keepsOf (v .volume) (t .now) → goes ≡ goesOnOf t v w → keeps ≡ true → Quickly t m v (record { voice = w; plain = goes })
-    answered w keeps goes is k g kept plain =
+    pub answered : (w : Voice) (keeps goes : Bool) → w ≡ glidedAt t v (near .index) sample → keeps ≡ keepsOf (v .volume) (t .now) → goes ≡ goesOnOf t v w → keeps ≡ true → Quickly t m v (record { voice = w; glides = goes })
+    answered w keeps goes is k g kept so =
         let at = found some in
-        let same : w ≡ glidedOf t m v = is ∙ ap (λ (i : ℕ). soundedAt t v i sample) (at .1) ∙ ap (soundedAt t v (indexAt (v .clip2) (t .now))) valued in
-        going w (agrees t v (at .0)) same (sym k ∙ kept) (sym g ∙ plain)
+        let same : w ≡ glidedOf t m v = is ∙ ap (λ (i : ℕ). glidedAt t v i sample) (at .1) ∙ ap (glidedAt t v (indexAt (v .clip2) (t .now))) valued in
+        going w (agrees t v (at .0)) same (sym k ∙ kept) (sym g ∙ so)
