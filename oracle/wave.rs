@@ -1,7 +1,7 @@
 //! Compares the port's WAVE files with a reader and a writer written here from request 10/12, through the program of wave.rt.txt (README.md beside this file).
 //!
 //!     wave SEED COUNT COMMAND [WORD..]    COMMAND with its words runs the port; it is asked about COUNT files, and writes COUNT
-//!     wave tools COMMAND [WORD..]         a file that it writes is opened by the tools that are installed, and one that sox makes of it is read
+//!     wave tools COMMAND [WORD..]         a file that it writes is opened by the tools that are installed, and those that sox and scipy make of it are read
 
 #[path = "shared/random.rs"]
 mod random;
@@ -182,13 +182,22 @@ fn tools(mut port: Port) -> Result<String, String> {
             Some(text) => return Err(format!("{tool} says: {text}")),
         }
     }
-    if said("sox", &[file, "-b", "32", "-e", "floating-point", back]).is_some() {
-        let q = Question { file: std::fs::read(back).map_err(|e| e.to_string())?, capacity: 3, size: 6 };
+    let again = format!("import scipy.io.wavfile as w; w.write('{back}', *w.read('{file}'))");
+    let makers: [(&str, &str, &[&str]); 2] =
+        [("sox", "sox", &[file, "-b", "32", "-e", "floating-point", back]), ("scipy", "/usr/bin/python3", &["-c", &again])];
+    for (maker, tool, words) in makers {
+        let _ = std::fs::remove_file(back);
+        said(tool, words);
+        let Ok(file) = std::fs::read(back) else {
+            tally.push(format!("no file of {maker}"));
+            continue;
+        };
+        let q = Question { file, capacity: 3, size: 6 };
         let wanted = q.answer();
         if wanted[0] != 0 || wanted[20] != 1 || !port.reads(&q, &wanted)? {
-            return Err("the file of sox is read otherwise".into());
+            return Err(format!("the file of {maker} is read otherwise"));
         }
-        tally.push("the file of sox is loaded".into());
+        tally.push(format!("the file of {maker} is loaded"));
     }
     Ok(tally.join(", "))
 }
