@@ -2,11 +2,11 @@
 use mathlib.Core.Path.{_≡_, refl, sym, ap, _∙_, subst}
 use mathlib.Core.Bool.{Bool, true, false, not, cond}
 use mathlib.Core.List.{List, [], _∷_, map}
-use Prim.Native.Nat.{ℕ, zero, suc, _+_, _≤_, _<_}
+use Prim.Native.Nat.{ℕ, zero, suc, _≤_, _<_}
 use native.Mathlib.Omega.{arith}
 use borrow.Author.Tests.{eqb-true, eqb-false, eq-eqb}
 use lib.Dec.{eqb, ltb}
-use lib.ListN.{length, drop, getD, length-set, length-map, List·getD-append, List·getD-map}
+use lib.ListN.{length, drop, getD, length-map, List·getD-append, List·getD-map}
 use lib.Seq.{length-sets, length-take-le, getD-take}
 use lib.Ieee.{Float}
 use Rattle.walks.proofs.Lists.Loops.{getD-any}
@@ -20,7 +20,7 @@ use Rattle.channel.specs.Channels.{channelOf, changedOf}
 use Rattle.channel.specs.Channels.{processSampleOf as channelSampleOf}
 use Rattle.sampler.specs.declared.Sampler.{Sampler}
 use Rattle.sampler.specs.Refusals.{present, channelAt, goodSizes, capacityOf, setUpNumber, sampleNumber, frameNumber}
-use Rattle.sampler.specs.Samplers.{samplerOf, setUpOf, eachOf, answerOf, partOf, playedAt, channelSteppedOf, processSampleOf, Framed, framed, entryOf, entriesOf, framedOf}
+use Rattle.sampler.specs.Samplers.{samplerOf, setUpOf, eachOf, answerOf, partOf, channelSteppedOf, processSampleOf, Framed, framed, entriesOf, framedOf}
 use Rattle.sampler.proofs.Rows.{sizes-count, frame-steps}
 use Rattle.sampler.proofs.Entries.{Kept, kept-refl, kept-trans, kept-step, kept-entries}
 use Rattle.fates.specs.Events.{idle, changes, sounds, act, acts}

@@ -1,21 +1,18 @@
 -- What accepted voice info answers: the count of the channel's voices, and their figures in front. Assumes nothing.
-use mathlib.Core.Path.{_≡_, refl, sym, ap, _∙_, subst}
-use mathlib.Core.List.{List, _++_, map}
+use mathlib.Core.Path.{_≡_, ap, _∙_, subst}
+use mathlib.Core.List.{List, _++_}
 use Prim.Native.Nat.{ℕ, _≤_}
 use native.Mathlib.Omega.{arith}
 use borrow.Author.Tests.{eq-eqb}
 use lib.ListN.{length, take, drop, length-map}
 use lib.Seq.{length-take-le, take-at}
-use Rattle.binary32.specs.Leaves.{asFloat}
 use Rattle.common_types.specs.declared.Params.{Params}
 use Rattle.common_types.specs.Settings.{loopLengthOf}
 use Rattle.channel.specs.Channels.{live}
-use Rattle.sampler.specs.declared.Sampler.{Sampler}
 use Rattle.questions.specs.declared.VoiceInfo.{VoiceInfo}
 use Rattle.questions.specs.declared.VoiceInfos.{VoiceInfos}
-use Rattle.questions.specs.declared.Counted.{Counted}
 use Rattle.questions.specs.declared.Counted.the-variants as counted
-use Rattle.questions.specs.Questions.{noInfos, inFront, answered, voiceInfoOf, voiceInfosOf, infoNumber, getVoiceInfoOf}
+use Rattle.questions.specs.Questions.{noInfos, inFront, answered, voiceInfosOf, infoNumber, getVoiceInfoOf}
 use Rattle.questions.proofs.Room.{infos-fit}
 use Rattle.questions.specs.Lists.{countedOf, listedOf}
 use Rattle.promises.specs.Runs.{World, chan}

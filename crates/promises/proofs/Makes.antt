@@ -1,17 +1,15 @@
 -- A host's calls, runs of frames among them, are the calls that they are spread into: so what holds of runs of calls holds of them. Assumes nothing.
 use mathlib.Core.Path.{_≡_, refl, sym, ap, _∙_, subst}
-use mathlib.Core.Logic.{_≢_}
 use mathlib.Core.List.{List, [], _∷_, _++_}
 use Prim.Native.Nat.{ℕ, zero, suc, _<_}
 use native.Mathlib.Omega.{arith}
-use lib.ListN.{length, take, drop}
+use lib.ListN.{length, drop}
 use lib.Ieee.{Float}
 use Rattle.walks.specs.Each.{Each}
 use Rattle.common_types.specs.declared.InitParams.{InitParams}
 use Rattle.common_types.specs.declared.Params.{Params}
 use Rattle.voice.specs.Soundness.{FittingParams}
 use Rattle.channel.specs.Soundness.{FittingChange}
-use Rattle.sampler.specs.declared.Sampler.{Sampler}
 use Rattle.sampler.specs.Refusals.{capacityOf, setUpNumber}
 use Rattle.sampler.specs.Soundness.{SoundSampler}
 use Rattle.sampler.proofs.Kept.{set-up-sound, change-kept, sample-kept, frame-kept}

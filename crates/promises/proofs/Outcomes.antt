@@ -5,16 +5,15 @@ use mathlib.Core.List.{List, [], _∷_}
 use Prim.Native.Nat.{ℕ}
 use borrow.Author.Tests.{eqb-true}
 use lib.Dec.{eqb}
-use lib.ListN.{length, getD}
+use lib.ListN.{length}
 use lib.Ieee.{Float}
-use Rattle.binary32.specs.Leaves.{zero32}
 use Rattle.recorder.specs.ErrorText.{errorText}
 use Rattle.channel.specs.Channels.{live}
 use Rattle.sampler.specs.declared.Answer.{Answer}
 use Rattle.sampler.specs.declared.SampleAnswer.{SampleAnswer}
 use Rattle.sampler.specs.Refusals.{channelAt, frameNumber}
 use Rattle.common_types.specs.declared.Params.{Params}
-use Rattle.sampler.specs.Samplers.{answerOf, processSampleOf, sampleMemory, framedOf, frameMoved, ranOf, runAnswer}
+use Rattle.sampler.specs.Samplers.{answerOf, processSampleOf, framedOf, frameMoved, ranOf, runAnswer}
 use Rattle.questions.specs.declared.VoiceInfos.{VoiceInfos}
 use Rattle.questions.specs.declared.Counted.the-variants as counted
 use Rattle.questions.specs.Lists.{countedOf, voiceInfoCounted, voiceInfoAfter}
