@@ -15,7 +15,6 @@ use Rattle.wave.specs.declared.Judged.{Judged}
 use Rattle.wave.specs.declared.Wave.{Wave}
 use Rattle.wave.specs.Reader.{judgedOf}
 use Rattle.wave.specs.Memory.{fitsMemory, fitsFile, writes, bytesOf, writtenOf, outputOf, loadedOf}
-use Rattle.wave.proofs.Layouts.{fits-made}
 use Rattle.wave.proofs.Calls.{length-loaded}
 use Rattle.channel.specs.declared.Change.the-variants.{Head}
 use Rattle.channel.specs.declared.HeadChange.the-variants.{Load}
@@ -29,13 +28,14 @@ use Rattle.questions.specs.declared.Counted.the-variants as counted
 use Rattle.questions.specs.Questions.{countedNumber, answered}
 use Rattle.recordings.specs.Waves.{samplesOf, lengthsDiffer, startsIn, layoutIn, writeNumber, writeWaveOf, waveAfter, badFile, heldIn, readNumber, readWaveOf, readMemory}
 use Rattle.recordings.specs.declared.ReadAnswer.{ReadAnswer}
+use Rattle.recordings.proofs.Parts.{starts-fit}
 
 -- ---- writing
 module _ (s : Sampler) (size : ℕ) (good : goodWith s size ≡ true) where
   g : Fitting s size
   g = fitting s size good
 
-  short : samplesOf s ≤ s .capacity
+  pub short : samplesOf s ≤ s .capacity
   short = short-data s 0 (g .good) (g .some)
 
   -- a channel's words, of one channel or two
@@ -44,23 +44,8 @@ module _ (s : Sampler) (size : ℕ) (good : goodWith s size ≡ true) where
       let a : s .count * samplesOf s ≤ 2 * samplesOf s = mul-le-mul-right (samplesOf s) (g .few) in
       le-trans (le-of-eq (ap (λ (k : Layout). k .channels * k .samples) e)) (omega (arith, a, short, g .small))
 
-  -- recordings that fit their parts fit the memory
-  pub starts-fit : (l : Layout) → l .channels ≡ s .count → l .samples ≤ s .capacity → l .starts ≡ startsIn s → fitsMemory l size ≡ true
-  starts-fit l c n e =
-      let first = ap (λ (x : Starts). x .first) e in
-      let second = ap (λ (x : Starts). x .second) e in
-      let parts : s .count ≡ 2 → 2 * s .capacity ≤ size = λ two. rw two at (g .fits) in
-      let one : 1 * s .capacity ≤ size = le-trans (mul-le-mul-right (s .capacity) (g .some)) (g .fits) in
-      fits-made l size (record {
-        some = omega (arith, c, g .some);
-        few = omega (arith, c, g .few);
-        first-fits = omega (arith, first, n, one);
-        apart = λ two. omega (arith, first, second, n);
-        second-fits = λ two. omega (arith, second, n, parts (sym c ∙ two));
-      })
-
   pub layout-fits : fitsMemory (layoutIn s) size ≡ true
-  layout-fits = starts-fit (layoutIn s) refl short refl
+  layout-fits = starts-fit s size (layoutIn s) g refl short refl
 
   pub file-fits : (room : ℕ) → bytesOf (layoutIn s) ≤ room → fitsFile (layoutIn s) room ≡ true
   unfolding fitsFile

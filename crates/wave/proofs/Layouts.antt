@@ -1,7 +1,7 @@
 -- Where the words of a file stand in a memory, and what has room. Assumes nothing.
 use mathlib.Core.Path.{_≡_, refl, sym, ap, _∙_}
 use mathlib.Core.Bool.{Bool, true, false, _&&_, true≢false}
-use Prim.Native.Nat.{ℕ, zero, suc, _+_, _*_, _/_, _%_, _^_, _≤_, _<_}
+use Prim.Native.Nat.{ℕ, zero, suc, _+_, _-_, _*_, _/_, _%_, _^_, _≤_, _<_}
 use native.Mathlib.Nat.{mul-add-mod-self-right, mul-add-div-right, mod-eq-of-lt, div-eq-of-lt, mul-comm, add-zero, le-trans, add-mul, mul-le-mul-right, mul-le-mul, le-mul-of-pos-right}
 use native.Mathlib.Omega.{arith}
 use lib.Dec.{ltb, leb, eqb}
@@ -102,9 +102,8 @@ pub record Frame (l : Layout) (size i : ℕ) : Type 0 where
 pub framed : (l : Layout) (size i : ℕ) → fitsMemory l size ≡ true → i < l .samples → Frame l size i
 framed l size i e h =
     let f = fits-true l size e in
-    let far : (i + 1) * l .channels ≤ l .samples * l .channels = mul-le-mul-right {m = i + 1} {n = l .samples} (l .channels) (omega arith) in
     record {
-      words-below = omega (arith, add-mul i 1 (l .channels), mul-comm (l .samples) (l .channels));
+      words-below = omega (arith, f .some, frame-below (l .channels) (l .samples) i (l .channels - 1) h (omega (arith, f .some)));
       one-or-two = (f .some, f .few);
       first-inside = omega (arith, f .first-fits);
       second-inside = λ two. omega (arith, f .second-fits two);

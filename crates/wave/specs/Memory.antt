@@ -19,8 +19,8 @@ use Rattle.wave.specs.declared.Judged.the-variants.{Is, Refused}
 abbrev pub startAt : Starts → ℕ → ℕ
 startAt starts j = cond (eqb j 0) (starts .first) (starts .second)
 
--- a recording of one channel ends in the memory; of two, the first ends before the second, and this one in the memory.
--- The sampler has no third
+-- one recording ends in the memory; of two, the first ends where the second begins or before it, and that one in the
+-- memory. The sampler has no third channel
 unfoldable pub fitsMemory : Layout → ℕ → Bool
 fitsMemory l size =
     cond (eqb (l .channels) 1) (leb (l .starts .first + l .samples) size)

@@ -1,10 +1,9 @@
 -- `put_words` meets its contract. The invariant: the frames up to here are written (`Copies: writtenTo`). Assumes nothing.
-use mathlib.Core.Path.{_≡_, refl, sym, ap, _∙_}
+use mathlib.Core.Path.{_≡_, ap, _∙_}
 use Prim.Native.Nat.{_-_, _≤_}
 use native.Mathlib.Omega.{arith}
 use lib.ListN.{length}
 use Rattle.wave.proofs.Copies.{writtenTo, length-written, written-none, written-next, written-all}
-use borrow.Author.Needs.{needs}
 use Rattle.wave.proofs.words.put_words.Statement.{statement}
 use Rattle.wave.proofs.words.put_words.Tie as tie
 
