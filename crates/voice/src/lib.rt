@@ -53,13 +53,16 @@ pub struct Voice {
     pub note: Note,
     pub finished: bool,
     pub is_at_zero_crossing: bool,
+    pub phrase: u8,
 }
 
-// What a channel's voices go by in one sample: its clock, how many samples are recorded, and whether voices interpolate.
+// What the voices of one phrase go by in one sample: the channel's clock, how many samples the phrase has, whether voices
+// interpolate, and the phrase's number.
 pub struct Moment {
     pub now: usize,
     pub data_len: usize,
     pub interpolates: bool,
+    pub phrase: u8,
 }
 
 // What of a sample's settings depends on the recording: the loop length, that rounded down, and the recording's length.
@@ -79,6 +82,7 @@ pub struct Tick {
     pub once: bool,
     pub note_off_behavior: NoteOffBehaviour,
     pub interpolates: bool,
+    pub phrase: u8,
 }
 
 // A turn taken the quick way, where the voice glides; elsewhere `voice` is not to be looked at.
@@ -115,6 +119,7 @@ impl Tick {
             once: plays_once(loop_mode),
             note_off_behavior,
             interpolates: at.interpolates,
+            phrase: at.phrase,
         }
     }
 }
@@ -200,18 +205,17 @@ impl Voice {
         position: f32,
         note: Note,
         velocity: f32,
-        now: usize,
-        data_len: usize,
+        at: Moment,
     ) -> Self
-        ensures { λ r. ⌜ r ≡ freshOf params position note velocity now «data_len» ⌝ }
+        ensures { λ r. ⌜ r ≡ freshOf params position note velocity at ⌝ }
     {
-        let data_length = binary32::usize_to_f32(data_len);
+        let data_length = binary32::usize_to_f32(at.data_len);
         let loop_mode = params.loop_mode;
         let clip2 = Clip::made(
-            now,
+            at.now,
             position * data_length,
             params.speed(),
-            params.loop_length(data_len),
+            params.loop_length(at.data_len),
             data_length,
             clip_mode(loop_mode),
         );
@@ -219,7 +223,7 @@ impl Voice {
             finished_at: 0,
             last_sample_index: 0,
             clip2,
-            volume: Volume::new(0.0).toward(now, params.attack_samples, velocity),
+            volume: Volume::new(0.0).toward(at.now, params.attack_samples, velocity),
             loop_start_percent: position,
             played: 0.0,
             last_sample_value: 0.0,
@@ -227,6 +231,7 @@ impl Voice {
             note,
             finished: false,
             is_at_zero_crossing: false,
+            phrase: at.phrase,
         }
     }
 
@@ -258,6 +263,7 @@ impl Voice {
             },
             finished: true,
             is_at_zero_crossing: false,
+            phrase: 0,
         }
     }
 
@@ -327,6 +333,7 @@ impl Voice {
             note,
             finished: self.finished,
             is_at_zero_crossing: binary32::crossing(value, self.last_sample_value),
+            phrase: self.phrase,
         }
     }
 
@@ -349,6 +356,7 @@ impl Voice {
             note,
             finished: true,
             is_at_zero_crossing: self.is_at_zero_crossing,
+            phrase: self.phrase,
         }
     }
 
@@ -387,6 +395,7 @@ impl Voice {
             note,
             finished: out | self.finished,
             is_at_zero_crossing: self.is_at_zero_crossing,
+            phrase: self.phrase,
         }
     }
 
@@ -408,6 +417,7 @@ impl Voice {
             note,
             finished: self.finished,
             is_at_zero_crossing: self.is_at_zero_crossing,
+            phrase: self.phrase,
         }
     }
 
@@ -444,7 +454,7 @@ impl Voice {
             glides: false,
         };
         let volume = self.volume;
-        if !volume.keeps(t.now) {
+        if (self.phrase != t.phrase) | !volume.keeps(t.now) {
             return otherwise;
         }
         let clip2 = self.clip2;
@@ -475,6 +485,7 @@ impl Voice {
             note,
             finished: self.finished,
             is_at_zero_crossing: binary32::crossing(value, self.last_sample_value),
+            phrase: self.phrase,
         };
         Quick {
             voice: sounded,
@@ -486,6 +497,9 @@ impl Voice {
     pub fn good(self, now: usize) -> bool
         ensures { λ r. ⌜ r ≡ goodVoice now self ⌝ }
     {
+        if 8 <= self.phrase {
+            return false;
+        }
         let clip2 = self.clip2;
         if now < clip2.since {
             return false;
