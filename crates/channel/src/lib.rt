@@ -14,7 +14,11 @@ ghost use Rattle.voice.specs.Voices.{shouldRemoveOf};
 ghost use Rattle.channel.specs.declared.HeadChange.the-variants.{StartRecording, StopRecording, Interpolate, Load};
 ghost use Rattle.channel.specs.Heads.{
   nextTime,
+  recordingIn,
+  phraseIn,
+  writtenIn,
   headOf,
+  momentOn,
   momentOf,
   headChangedOf,
   clockedOf,
@@ -48,7 +52,9 @@ ghost use Rattle.channel.specs.Channels.{
   addedOf,
   playedOf,
   turningBy,
-  playedIfOf,
+  turningAt,
+  turnedOf,
+  turningIn,
   takenOf,
   memoryOf,
   processSampleOf,
@@ -391,7 +397,8 @@ impl Head {
     pub fn good(self, capacity: usize) -> bool
         ensures { λ r. ⌜ r ≡ goodHead capacity self ⌝ }
     {
-        if LAST_TIME < self.now {
+        let recording = self.recording();
+        if (LAST_TIME < self.now) | (8 <= self.chosen) | !recording.ends_by(capacity) {
             return false;
         }
         let volume = self.passthru_volume;
@@ -399,10 +406,7 @@ impl Head {
             return false;
         }
         let recorder = self.recorder;
-        if !recorder.good(self.data_len, capacity) {
-            return false;
-        }
-        (self.chosen < 8) & self.recording().ends_by(capacity)
+        recorder.good(self.data_len, capacity)
     }
 }
 
@@ -619,7 +623,7 @@ impl Channel {
 
     // Each voice takes its turn on its phrase; those that are then to be removed leave, and the others move up in order.
     fn play(mut self, params: Params, data: &[u32]) -> Played
-        ensures { λ r. ⌜ r ≡ playedOf (turningIn params (self .head) (now («data» .entry))) self ⌝ }
+        ensures { λ r. ⌜ r ≡ playedOf (turningIn params self (now («data» .entry))) self ⌝ }
         ensures { λ r. ⌜ r .moved ≤ 32 ⌝ }
     {
         let head = self.head;
@@ -629,7 +633,11 @@ impl Channel {
         let mut k = 0;
         let mut i = 0;
         while i < n {
-            let r = took(head, self.voices[i], output, params, data);
+            let v = self.voices[i];
+            let phrase = head.phrase_at(v.phrase);
+            let room = phrase.room(data.len());
+            let at = head.moment_on(v.phrase, phrase.length);
+            let r = take_turn(v, output, at, params, &data[room.from..room.to]);
             output = r.output;
             if r.stays {
                 moved = moved_up(moved, k, i);
@@ -736,26 +744,26 @@ pub fn sped(v: Voice, note: Note, speed: f32) -> Voice
 }
 
 // What a voice's turn gives: the voice after it, whether it stays, and the output with what it adds.
-struct Took {
-    voice: Voice,
-    stays: bool,
-    output: f32,
+pub struct Turned {
+    pub voice: Voice,
+    pub stays: bool,
+    pub output: f32,
 }
 
 // The turn of a voice on its phrase; on an empty one it takes none.
-fn took(head: Head, v: Voice, output: f32, params: Params, data: &[u32]) -> Took {
-    let phrase = head.phrase_at(v.phrase);
-    if phrase.length == 0 {
-        return Took {
+fn take_turn(v: Voice, output: f32, at: Moment, params: Params, data: &[u32]) -> Turned
+    ensures { λ r. ⌜ r ≡ turnedOf (turningAt turningBy params at (now («data» .entry))) output v ⌝ }
+{
+    if at.data_len == 0 {
+        return Turned {
             voice: v,
             stays: true,
             output,
         };
     }
-    let t = Tick::new(params, head.moment_on(v.phrase, phrase.length));
-    let room = phrase.room(data.len());
-    let voice = v.turn(t, &data[room.from..room.to]);
-    Took {
+    let t = Tick::new(params, at);
+    let voice = v.turn(t, data);
+    Turned {
         voice,
         stays: !voice.should_remove(t),
         output: sound(output, v, voice, t),
