@@ -2,7 +2,7 @@
 // copied. Each function equals the same definition as that of crate `channel` by value. Those that take a channel lent
 // are proved by hand.
 ghost use mathlib.Core.Path.{_≡_};
-ghost use Prim.Native.Nat.{_≤_, _<_};
+ghost use Prim.Native.Nat.{ℕ, _≤_, _<_};
 ghost use mathlib.Core.Bool.{_&&_};
 ghost use lib.Ieee.{binary32, add};
 ghost use Rattle.voice.specs.Voices.{goodVoice};
@@ -10,7 +10,8 @@ ghost use Rattle.channel.specs.Heads.{closedOf};
 ghost use Rattle.channel.specs.Channels.{
   anyUnfinishedOf,
   withHead,
-  playedIfOf,
+  playedOf,
+  turningIn,
   takenOf,
   memoryOf,
   processSampleOf,
@@ -18,14 +19,18 @@ ghost use Rattle.channel.specs.Channels.{
   goodChannel,
 };
 ghost use Rattle.lent_channel.specs.Turns.{
-  unusedTick,
   silent,
-  turnCountOf,
-  sharedOf,
-  voicesLeftOf,
+  begun,
+  glidedTo,
+  nextTurn,
+  restedOf,
+  restedIn,
+  movedBy,
+  Stands,
+  Next,
+  Onward,
+  Goes,
   Glides,
-  afterGliding,
-  turnedOf,
   headGoodOf,
   heardOf,
   mixedWith,
@@ -143,13 +148,13 @@ fn added(output: f32, w: Voice) -> f32
     output + w.last_sample_value
 }
 
-// Where the voices' turns stand: the place of the next, how many have stayed, what was heard of them, how many of those
-// that stayed moved up, and whether each of them glided.
+// Where the voices' turns stand: the place of the next, how many have stayed, what was heard of them, the place of the
+// first that left, if one did, and whether each of them glided.
 pub struct Going {
     pub place: usize,
     pub kept: usize,
     pub output: f32,
-    pub moved: u8,
+    pub first: usize,
     pub glides: bool,
 }
 
@@ -160,42 +165,60 @@ pub struct Turn {
     pub next: Going,
 }
 
-fn beginning() -> Going {
+// Before the first turn.
+fn beginning() -> Going
+    ensures { λ r. ⌜ r ≡ begun ⌝ }
+{
     Going {
         place: 0,
         kept: 0,
         output: 0.0,
-        moved: 0,
+        first: 0,
         glides: true,
     }
 }
 
-// Voices of the tick's phrase take their turns in place, from the next on, up to the first that does not glide.
-fn glide(c: &mut Channel, t: Tick, g: Going, n: usize, data: &[u32]) -> Going {
+// Voices up to that place have glided: each stayed where it was.
+fn glided(upto: usize, output: f32) -> Going
+    ensures { λ r. ⌜ r ≡ glidedTo upto output ⌝ }
+{
+    Going {
+        place: upto,
+        kept: upto,
+        output,
+        first: 0,
+        glides: true,
+    }
+}
+
+// Voices of the tick's phrase take their turns in place, from the next on and before the n-th, up to the first that does
+// not glide.
+fn glide(c: &mut Channel, t: Tick, g: Going, n: usize, data: &[u32]) -> Going
+    requires { ⌜ Stands n g × (g .kept ≡ g .place) ⌝ }
+    ensures { λ r. ⌜ Glides t (now («data» .entry)) n (now (c .entry)) g (now (c .exit)) r ⌝ }
+{
     let mut output = g.output;
     let mut i = g.place;
     while i < n {
         let v = c.voices[i];
         let q = v.quick(t, data);
         if !q.glides {
-            return Going { place: i, kept: i, output, moved: 0, glides: true };
+            return glided(i, output);
         }
         let w = q.voice;
         c.voices[i] = w;
         output = added(output, w);
         i = i + 1;
     }
-    Going { place: i, kept: i, output, moved: 0, glides: true }
+    glided(i, output)
 }
 
-// The turn of the voice at the next place. One that stays moves up where one before it has left.
-fn turned(g: Going, v: Voice, t: Tick, data: &[u32]) -> Turn {
+// The turn of the voice at the next place.
+fn turned(g: Going, v: Voice, t: Tick, data: &[u32]) -> Turn
+    requires { ⌜ (g .place < 32) × (g .kept ≤ g .place) ⌝ }
+    ensures { λ r. ⌜ r ≡ nextTurn t (now («data» .entry)) g v ⌝ }
+{
     let place = g.place + 1;
-    let moved = if g.kept < g.place {
-        g.moved + 1
-    } else {
-        g.moved
-    };
     let voice = v.turn(t, data);
     let output = channel::sound(g.output, v, voice, t);
     if voice.should_remove(t) {
@@ -206,7 +229,7 @@ fn turned(g: Going, v: Voice, t: Tick, data: &[u32]) -> Turn {
                 place,
                 kept: g.kept,
                 output,
-                moved: g.moved,
+                first: if g.kept < g.place { g.first } else { g.place },
                 glides: false,
             },
         };
@@ -218,62 +241,100 @@ fn turned(g: Going, v: Voice, t: Tick, data: &[u32]) -> Turn {
             place,
             kept: g.kept + 1,
             output,
-            moved,
+            first: g.first,
             glides: false,
         },
     }
 }
 
-fn kept(g: Going) -> Going {
-    let moved = if g.kept < g.place {
-        g.moved + 1
+// How many voices moved up: those that stayed behind the first that left.
+fn moved_of(g: Going) -> u8
+    requires { ⌜ (g .kept ≤ 32) × (g .first ≤ g .kept) ⌝ }
+    ensures { λ r. ⌜ r ≡ movedBy g ⌝ }
+{
+    if g.kept < g.place {
+        (g.kept - g.first) as u8
     } else {
-        g.moved
-    };
-    Going { place: g.place + 1, kept: g.kept + 1, output: g.output, moved, glides: g.glides }
+        0
+    }
 }
 
-fn stretch(c: &mut Channel, t: Tick, g: Going, n: usize, data: &[u32]) -> Going {
-    let mut h = g;
-    if g.glides {
-        h = glide(c, t, g, n, data);
+// The next voice takes its turn. One that stays moves up where one before it has left.
+fn turn_next(c: &mut Channel, t: Tick, g: Going, data: &[u32]) -> Going
+    ghost { ℕ }
+    requires { λ n. ⌜ Next n (now c) t g ⌝ }
+    ensures { λ n r. ⌜ (g .place < r .place) × Goes t (now («data» .entry)) n (now (c .entry)) g (now (c .exit)) r ⌝ }
+{
+    let r = turned(g, c.voices[g.place], t, data);
+    if r.stays {
+        c.voices[g.kept] = r.voice;
     }
-    if h.place < n {
-        let v = c.voices[h.place];
-        if v.phrase == t.phrase {
-            let r = turned(h, v, t, data);
-            if r.stays {
-                c.voices[h.kept] = r.voice;
-            }
-            return r.next;
+    r.next
+}
+
+// Turns of voices of the tick's phrase, of which the next is one: those that glide, if all before them did and the next
+// does; else that of the next.
+fn stretch(c: &mut Channel, t: Tick, g: Going, n: usize, data: &[u32]) -> Going
+    requires { ⌜ Next n (now c) t g ⌝ }
+    ensures { λ r. ⌜ (g .place < r .place) × Goes t (now («data» .entry)) n (now (c .entry)) g (now (c .exit)) r ⌝ }
+{
+    if g.glides {
+        let h = glide(c, t, g, n, data);
+        if g.place < h.place {
+            return h;
         }
     }
-    h
+    turn_next(c, t, g, data)
+}
+
+// The next voice takes no turn, and stays.
+fn rest_next(c: &mut Channel, g: Going) -> Going
+    requires { ⌜ (g .place < 32) × (g .kept ≤ g .place) ⌝ }
+    ensures { λ r. ⌜ (r ≡ restedOf g) × (now (c .exit) ≡ restedIn g (now (c .entry))) ⌝ }
+{
+    c.voices[g.kept] = c.voices[g.place];
+    Going {
+        place: g.place + 1,
+        kept: g.kept + 1,
+        output: g.output,
+        first: g.first,
+        glides: g.glides,
+    }
+}
+
+// The next turns, before the n-th voice: none of a voice whose phrase is empty. What voices share is worked out once for a
+// stretch of them.
+fn go_on(c: &mut Channel, g: Going, n: usize, params: Params, data: &[u32]) -> Going
+    requires { ⌜ Stands n g × (g .place < n) ⌝ }
+    ensures { λ r. ⌜ (g .place < r .place)
+        × Onward (turningIn params (now (c .entry)) (now («data» .entry))) n (now (c .entry)) g (now (c .exit)) r ⌝ }
+{
+    let k = c.voices[g.place].phrase;
+    let phrase = c.head.phrase_at(k);
+    if phrase.length == 0 {
+        return rest_next(c, g);
+    }
+    let t = Tick::new(params, c.head.moment_on(k, phrase.length));
+    let room = phrase.room(data.len());
+    stretch(c, t, g, n, &data[room.from..room.to])
 }
 
 // Each voice takes its turn if its phrase isn't empty; those that are then to be removed leave, and the others move up in
-// order. What voices share is worked out once for each stretch of voices with one phrase; in a stretch gliding turns go
-// first, as far as they go.
-fn play(c: &mut Channel, params: Params, data: &[u32]) -> Heard {
+// order.
+fn play(c: &mut Channel, params: Params, data: &[u32]) -> Heard
+    ensures { λ r. ⌜ (r ≡ heardOf (playedOf (turningIn params (now (c .entry)) (now («data» .entry))) (now (c .entry))))
+        × (now (c .exit)
+        ≡ playedOf (turningIn params (now (c .entry)) (now («data» .entry))) (now (c .entry)) .channel) ⌝ }
+{
     let n = channel::places(c.count);
     let mut g = beginning();
     while g.place < n {
-        let k = c.voices[g.place].phrase;
-        let phrase = c.head.phrase_at(k);
-        if phrase.length == 0 {
-            c.voices[g.kept] = c.voices[g.place];
-            g = kept(g);
-        } else {
-            let t = Tick::new(params, c.head.moment_on(k, phrase.length));
-            let room = phrase.room(data.len());
-            let own = &data[room.from..room.to];
-            g = stretch(c, t, g, n, own);
-        }
+        g = go_on(c, g, n, params, data);
     }
     c.count = g.kept;
     Heard {
         output: g.output,
-        moved: g.moved,
+        moved: moved_of(g),
     }
 }
 
