@@ -13,7 +13,6 @@ use Rattle.wave.specs.Grammar.{IsWave}
 use Rattle.wave.specs.Promised.{channelOf}
 use Rattle.recorder.specs.declared.State.the-variants.{Triggered, Idle}
 use Rattle.channel.specs.declared.Head.{Head}
-use Rattle.channel.specs.Heads.{withRecorded}
 use Rattle.channel.specs.Channels.{withHead, recordingOf}
 use Rattle.sampler.specs.Refusals.{row, goodWith, anyRecording}
 use Rattle.questions.specs.declared.Counted.the-variants.{Done}
