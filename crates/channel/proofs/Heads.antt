@@ -1,9 +1,10 @@
 -- A sound head stays sound through a recording, a change of pass-through and the end of a sample, and a new one is sound. Assumes nothing.
-use mathlib.Core.Path.{_≡_, refl}
-use Prim.Native.Nat.{ℕ, _+_, _^_, _≤_, _<_, zero-le}
+use mathlib.Core.Path.{_≡_, refl, ap}
+use Prim.Native.Nat.{ℕ, _+_, _-_, _^_, _≤_, _<_, zero-le}
+use native.Mathlib.Nat.{min-eq-left}
 use native.Mathlib.Omega.{arith}
 use mathlib.Core.Bool.{Bool, true, false, _&&_, Bool·beq, cond}
-use lib.Dec.{T, leb, ltb, leb→le, le→leb}
+use lib.Dec.{T, leb, ltb, eqb, leb→le, le→leb, ltb→lt, lt→ltb}
 use lib.Ieee.{Float, fits}
 use lib.Ieee.Bits.{is-true}
 use lib.Ieee.Fits.{and-i, and-l, and-r}
@@ -15,10 +16,12 @@ use Rattle.volume.specs.Levels.{steppedOf, goodVolume}
 use Rattle.binary32.specs.Leaves.{zero32, one32}
 use Rattle.recorder.specs.declared.Recorded.{Recorded}
 use Rattle.recorder.specs.Recording.{goodRecorder, goodRecorded}
-use Rattle.recorder.proofs.Good.{new-good}
+use Rattle.phrases.specs.Phrases.{noPhrase, endsBy}
+use Rattle.phrases.specs.declared.Phrase.{Phrase}
+use Rattle.recorder.proofs.Good.{new-good, good-length, good-within}
 use Rattle.voice.specs.Soundness.{Fits, SoundParams, FittingVolume, SoundVolume}
 use Rattle.voice.proofs.Volumes.{static-sound, volume-later, volume-stepped, volume-toward}
-use Rattle.channel.specs.Heads.{withRecorded, withPassthru, lastTime, nextTime, headOf, headChangedOf, interpolatesAfter, passesOf, rampOf, passthruOf, closedOf, goodHead}
+use Rattle.channel.specs.Heads.{withRecorded, withPassthru, recordingIn, phraseIn, writtenIn, lastTime, nextTime, headOf, headChangedOf, interpolatesAfter, passesOf, rampOf, passthruOf, closedOf, goodHead}
 use Rattle.volume.specs.declared.Volume.{Volume}
 use Rattle.channel.specs.declared.Head.{Head}
 use Rattle.channel.specs.declared.HeadChange.{HeadChange}
@@ -26,6 +29,8 @@ use Rattle.channel.specs.declared.HeadChange.the-variants.{StartRecordin
 
 pub record SoundHead (capacity : ℕ) (h : Head) : Type 0 where
   pub time : h .now ≤ 2 ^ 48
+  pub numbered : h .chosen < 8
+  pub inside : h .start + h .«data_len» ≤ capacity
   pub volume : SoundVolume (h .now) (h .«passthru_volume»)
   pub recorder : goodRecorder (h .recorder) (h .«data_len») capacity ≡ true
 
@@ -35,22 +40,30 @@ module _ (capacity : ℕ) (h : Head) where
   unfolding goodHead
   head-parts good fit =
       let a : Bool = leb (h .now) lastTime in
+      let k : Bool = ltb (h .chosen) 8 in
+      let e : Bool = endsBy capacity (recordingIn h) in
       let b : Bool = goodVolume (h .now) (h .«passthru_volume») in
       let c : Bool = goodRecorder (h .recorder) (h .«data_len») capacity in
-      let t : T (a && b && c) = yes good in
+      let t : T ((a && (k && e)) && b && c) = yes good in
+      let u : T (a && (k && e)) = and-l (a && (k && e)) b (and-l ((a && (k && e)) && b) c t) in
       record {
-        time = leb→le (h .now) lastTime (and-l a b (and-l (a && b) c t));
-        volume = record { good = and-r a b (and-l (a && b) c t); fitting = fit };
-        recorder = is-true c (and-r (a && b) c t);
+        time = leb→le (h .now) lastTime (and-l a (k && e) u);
+        numbered = ltb→lt (h .chosen) 8 (and-l k e (and-r a (k && e) u));
+        inside = ends-inside (recordingIn h) capacity (is-true e (and-r k e (and-r a (k && e) u)));
+        volume = record { good = and-r (a && (k && e)) b (and-l ((a && (k && e)) && b) c t); fitting = fit };
+        recorder = is-true c (and-r ((a && (k && e)) && b) c t);
       }
 
   pub head-good : SoundHead capacity h → goodHead capacity h ≡ true
   unfolding goodHead
   head-good s =
       let a : Bool = leb (h .now) lastTime in
+      let k : Bool = ltb (h .chosen) 8 in
+      let e : Bool = endsBy capacity (recordingIn h) in
       let b : Bool = goodVolume (h .now) (h .«passthru_volume») in
       let c : Bool = goodRecorder (h .recorder) (h .«data_len») capacity in
-      is-true (a && b && c) (and-i (a && b) c (and-i a b (le→leb (h .now) lastTime (s .time)) (s .volume .good)) (yes (s .recorder)))
+      let u : T (a && (k && e)) = and-i a (k && e) (le→leb (h .now) lastTime (s .time)) (and-i k e (lt→ltb (h .chosen) 8 (s .numbered)) (yes (inside-ends (recordingIn h) capacity (s .inside)))) in
+      is-true ((a && (k && e)) && b && c) (and-i ((a && (k && e)) && b) c (and-i (a && (k && e)) b u (s .volume .good)) (yes (s .recorder)))
 
 pub new-sound : (capacity : ℕ) (level : Float) (interpolates : Bool) → Fits level → SoundHead capacity (headOf level interpolates)
 unfolding headOf
