@@ -38,6 +38,7 @@ tickAt now interpolates behaviour once length total mode = record {
   once = once;
   «note_off_behavior» = behaviour;
   interpolates = interpolates;
+  phrase = 0;
 }
 
 -- at the clock 4, with the setting off, a loop length of 4 and 10 samples recorded, each of them 1
@@ -64,6 +65,7 @@ voiceOn clip volume played speed finished time crossing = record {
   note = record { note = 60; channel = 0 };
   finished = finished;
   «is_at_zero_crossing» = crossing;
+  phrase = 0;
 }
 
 -- in a loop of 4

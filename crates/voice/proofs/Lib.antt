@@ -1,6 +1,7 @@
 pub mod Volumes
 pub mod Starts
 pub mod Moves
+pub mod PhraseKept
 pub mod Kept
 pub mod Unmoved
 pub mod Values

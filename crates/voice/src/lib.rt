@@ -200,13 +200,7 @@ fn quick_beside(clip2: Clip, index: usize, t: Tick) -> usize
 
 impl Voice {
     // A voice that starts now, on a recording of `data_len` samples.
-    pub fn new(
-        params: Params,
-        position: f32,
-        note: Note,
-        velocity: f32,
-        at: Moment,
-    ) -> Self
+    pub fn new(params: Params, position: f32, note: Note, velocity: f32, at: Moment) -> Self
         ensures { λ r. ⌜ r ≡ freshOf params position note velocity at ⌝ }
     {
         let data_length = binary32::usize_to_f32(at.data_len);

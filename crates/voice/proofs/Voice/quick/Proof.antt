@@ -1,8 +1,9 @@
 -- `Voice::quick` meets its contract: its tests are those that a voice that glides is known by, and where one fails it doesn't answer. Assumes nothing.
-use mathlib.Core.Path.{sym}
-use mathlib.Core.Bool.{true≢false}
+use mathlib.Core.Path.{_≡_, refl, sym}
+use mathlib.Core.Bool.{Bool, true, false, not, _||_, true≢false}
+use lib.Dec.{eqb}
 use borrow.Author.Needs.{needs}
-use borrow.Author.Tests.{not-false}
+use borrow.Author.Tests.{eqb-true}
 use Rattle.voice.specs.Gliding.{glidedAt}
 use Rattle.voice.proofs.Gliding.{answered}
 use Rattle.voice.proofs.Voice.quick.Statement.{statement}
@@ -38,16 +39,23 @@ crossing-requires c κs = search needs
 goes-on-requires : tie.Need-goes-on-requires
 goes-on-requires c κs = search needs
 
+-- its first test is that of two things at once
+both : (a b : Bool) → (not a || not b) ≡ false → (a ≡ true) × (b ≡ true)
+both true true h = (refl, refl)
+both true false h = absurd (true≢false h)
+both false b h = absurd (true≢false h)
+
 returns-4 : tie.Need-returns-4
 unfolding glidedAt
 returns-4 c =
-    let a = c .before .before .before .before .before .before .before .before .before .before .before .before .before .before .before .before .before .args in
+    let a = c .before .before .before .before .before .before .before .before .before .before .before .before .before .before .before .before .before .before .before .args in
     let found = c .before .before .before .before .before .before .before .before .before .quick-index in
     let keeps = c .before .before .before .before .before .before .before .before .before .before .before .before .before .before .before .keeps in
+    let first = both (eqb (a .self .phrase) (a .t .phrase)) (keeps .result) (c .before .before .before .before .before .before .before .before .before .before .before .before .before .before .if1 .left) in
     let valued = c .before .before .before .near-valued in
     answered (a .t) (a .«data» .now) (a .self) (found .result) (c .before .before .before .before .before .before .quick-beside .result) (valued .result) (found .ensures) (c .before .before .before .before .before .before .quick-beside .ensures) (valued .ensures)
     (c .before .before .before .before .before .before .before .before .if2 .left) (c .before .before .before .before .before .if3 .left) _ (keeps .result) (c .goes-on .result) (simp (c .before .crossing .ensures, c .before .before .before .before .before .before .before .level .ensures)) (keeps .ensures) (c .goes-on .ensures)
-    (not-false (keeps .result) (c .before .before .before .before .before .before .before .before .before .before .before .before .before .before .if1 .left))
+    (eqb-true (a .self .phrase) (a .t .phrase) (first .0)) (first .1)
 
 pub quick-spec : {M : Type 1} → statement M
 quick-spec =

@@ -31,6 +31,7 @@ settledBy t v out = record {
   note = v .note;
   finished = out || v .finished;
   «is_at_zero_crossing» = v .«is_at_zero_crossing»;
+  phrase = v .phrase;
 }
 
 by-case : (t : Tick) (v : Voice) (out : Bool) → playedOutOf t v ≡ out → settledBy t v out ≡ volumeStepped (t .now) (endedOf t v)
