@@ -4,4 +4,5 @@ pub mod Holding
 pub mod Sharing
 pub mod Asking
 pub mod Taking
+pub mod Goings
 pub mod Turns

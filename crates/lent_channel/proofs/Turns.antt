@@ -68,16 +68,19 @@ module _ (s : Turning) (c : Channel) (g : Going) (up : g .kept ≤ g .place) (v 
       on : T.restOf s c k (g .output) (v ∷ vs) ≡ T.restOf s (withVoices (set (c .voices) k w) (c .count) c) (k + 1) out vs
       on = T.rest-keep s c k (g .output) out v w false turned sounds (sym stays) vs refl
 
-      moved : Bool → ℕ → List Voice → ℕ
-      moved z n us = cond z (n - g .first) (tidiedOf s us)
+      before : Bool → ℕ
+      before z = cond z (k + length (keptOf s (v ∷ vs)) - g .first) (tidiedOf s (v ∷ vs))
 
-      go : (z : Bool) → ltb k i ≡ z → moved (ltb k i) (k + length (keptOf s (v ∷ vs))) (v ∷ vs) ≡ moved (ltb (k + 1) (i + 1)) (k + 1 + length (keptOf s vs)) vs
+      behind-it : Bool → ℕ
+      behind-it z = cond z (k + 1 + length (keptOf s vs) - g .first) (tidiedOf s vs)
+
+      go : (z : Bool) → ltb k i ≡ z → before (ltb k i) ≡ behind-it (ltb (k + 1) (i + 1))
       go true f =
           let g′ : ltb (k + 1) (i + 1) ≡ true = lt-ltb (k + 1) (i + 1) (let u = ltb-true k i f in omega (arith, u)) in
-          ap (λ (z : Bool). moved z _ (v ∷ vs)) f ∙ ap (λ (r : T.Walked). r .channel .count - g .first) on ∙ sym (ap (λ (z : Bool). moved z _ vs) g′)
+          ap before f ∙ ap (λ (r : T.Walked). r .channel .count - g .first) on ∙ sym (ap behind-it g′)
       go false f =
           let g′ : ltb (k + 1) (i + 1) ≡ false = le-ltb (k + 1) (i + 1) (let u = ltb-false k i f in omega (arith, u)) in
-          ap (λ (z : Bool). moved z _ (v ∷ vs)) f ∙ T.tidied-same s c k (g .output) out v w false turned sounds (sym stays) vs refl ∙ sym (ap (λ (z : Bool). moved z _ vs) g′)
+          ap before f ∙ T.tidied-same s c k (g .output) out v w false turned sounds (sym stays) vs refl ∙ sym (ap behind-it g′)
 
   rest-leaves : s .leaves w ≡ true → (vs : List Voice) → restBy s c g (v ∷ vs) ≡ restBy s c leaving vs
   unfolding restBy
@@ -85,9 +88,6 @@ module _ (s : Turning) (c : Channel) (g : Going) (up : g .kept ≤ g .place) (v 
     where
       on : T.restOf s c k (g .output) (v ∷ vs) ≡ T.restOf s c k out vs
       on = T.rest-gone s c k (g .output) out v w true turned sounds (sym gone) vs refl
-
-      n : ℕ
-      n = length (keptOf s vs)
 
       later : ltb k (i + 1) ≡ true
       later = lt-ltb k (i + 1) (omega (arith, up))
@@ -181,7 +181,8 @@ pub glides-from : (t : Tick) (m : List ℕ) (n : ℕ) (c : Channel) (g : Going) 
 unfolding glidedTo restBy
 glides-from t m n c g stands level s follows = record {
   stands = record { few = stands .few; inside = stands .inside; up = le-refl (g .place); first = zero-le; all = λ e. refl };
-  same = with-count (ap (λ (k : ℕ). T.restOf s c k (g .output) vs) (sym level)) (ap (λ (z : Bool). cond z _ (tidiedOf s vs)) (le-ltb (g .place) (g .place) (le-refl (g .place))) ∙ sym (ap (λ (z : Bool). cond z _ (tidiedOf s vs)) (le-ltb (g .kept) (g .place) (omega (arith, level)))));
+  same = with-count (ap (λ (k : ℕ). T.restOf s c k (g .output) vs) (sym level)) (ap (λ (z : Bool). cond z (g .place + length (keptOf s vs) - 0) (tidiedOf s vs)) (le-ltb (g .place) (g .place) (le-refl (g .place)))
+      ∙ sym (ap (λ (z : Bool). cond z (g .kept + length (keptOf s vs) - g .first) (tidiedOf s vs)) (le-ltb (g .kept) (g .place) (omega (arith, level)))));
 }
   where
     vs : List Voice
@@ -242,7 +243,7 @@ module _ (s : Turning) (c : Channel) (all : length (c .voices) ≡ 32) where
     rest-none = with-count (T.rest-end s d (g .kept) (g .output)) (ap (λ (n : ℕ). cond (ltb (g .kept) (g .place)) (n - g .first) 0) (add-zero (g .kept)))
 
     ended : left ≡ playedOf s c
-    ended = sym rest-none ∙ ap (restBy s d g) (sym (ap (λ (j : ℕ). slice j (min (c .count) 32) (d .voices)) end ∙ slice-empty _ (d .voices))) ∙ on .same ∙ rest-start
+    ended = sym rest-none ∙ ap (restBy s d g) (sym (ap (λ (j : ℕ). slice j (min (c .count) 32) (d .voices)) end ∙ slice-empty (min (c .count) 32) (d .voices))) ∙ on .same ∙ rest-start
 
     pub ended-heard : record { output = g .output; moved = movedBy g } ≡ heardOf (playedOf s c)
     ended-heard = ap heardOf ended
