@@ -168,6 +168,13 @@ module _ (t : Tick) (m : List ℕ) (n : ℕ) (c : Channel) (g : Going) (stands :
       go true e = leaves-on s c g (stands .up) next (turnOf t m next) out turned sounds n (stands .few) below all refl (stands .first) (gone ∙ e)
       go false e = stays-on s c g (stands .up) next (turnOf t m next) out turned sounds n (stands .few) below all refl (stands .first) (gone ∙ e) false (λ f. absurd (true≢false (sym f)))
 
+  -- as `turn_next` has it
+  pub turn-goes : (r : Going) (d : Channel) → (r ≡ nextTurn t m g next .next) × (d ≡ turnedIn g (nextTurn t m g next) c) → (g .place < r .place) × Goes t m n c g d r
+  unfolding nextTurn
+  turn-goes r d is =
+      let further : r .place ≡ g .place + 1 = ap (λ (z : Going). z .place) (is .0) in
+      (omega (arith, further), subst (λ (e : Channel). Goes t m n c g e r) (sym (is .1)) (subst (λ (z : Going). Goes t m n c g (turnedIn g (nextTurn t m g next) c) z) (sym (is .0)) turn-on))
+
 -- ---- a voice that rests
 pub rest-on : (s : Turning) (n : ℕ) (c : Channel) (g : Going) → Stands n g → g .place < n → length (c .voices) ≡ 32 → T.Rests s (nextVoice g c) → Onward s n c g (restedIn g c) (restedOf g)
 unfolding restedIn restedOf

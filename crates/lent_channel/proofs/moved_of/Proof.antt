@@ -13,11 +13,11 @@ cast-result c = search needs
 
 returns : tie.Need-returns
 unfolding movedBy
-returns c = ?
+returns c = simp (lt-ltb _ _ (c .before .if1 .taken))
 
 returns-2 : tie.Need-returns-2
 unfolding movedBy
-returns-2 c = ?
+returns-2 c = simp (le-ltb _ _ (c .if1 .left))
 
 pub moved-of-spec : {M : Type 1} → statement M
 moved-of-spec = tie.close (tie.spec sub-result cast-result returns returns-2)
