@@ -7,3 +7,4 @@ pub mod Unmoved
 pub mod Values
 pub mod Gliding
 pub mod Examples
+pub mod Measured

@@ -14,7 +14,8 @@ use Rattle.common_types.specs.declared.NoteOffBehaviour.{NoteOffBehaviour}
 use Rattle.common_types.specs.declared.NoteOffBehaviour.the-variants as off
 use Rattle.common_types.specs.declared.Note.{Note}
 use Rattle.common_types.specs.declared.Params.{Params}
-use Rattle.common_types.specs.Settings.{speedOf, loopLengthOf}
+use Rattle.common_types.specs.declared.Measure.{Measure}
+use Rattle.common_types.specs.Settings.{speedOf, loopLengthOf, measuredOf}
 use Rattle.volume.specs.declared.Volume.{Volume}
 use Rattle.volume.specs.declared.Volume.the-variants.{Static}
 use Rattle.volume.specs.Levels.{isStaticAndMuteOf, levelOf, towardOf, steppedOf, goodVolume}
@@ -51,11 +52,19 @@ spanOf p n = record {
   «data_length» = asFloat n;
 }
 
-unfoldable pub tickOf : Params → Moment → Tick
-tickOf p at = record {
+-- the same, by the measure of a loop length (the code's way: one measure serves every recording)
+unfoldable pub spanBy : Measure → ℕ → Span
+spanBy m n = record {
+  length = measuredOf m (asFloat n);
+  «whole_length» = floorOf (measuredOf m (asFloat n));
+  «data_length» = asFloat n;
+}
+
+abbrev pub tickWith : Span → Params → Moment → Tick
+tickWith span p at = record {
   now = at .now;
   «decay_samples» = p .«decay_samples»;
-  span = spanOf p (at .«data_len»);
+  span = span;
   speed = speedOf p;
   mode = clipModeOf (p .«loop_mode»);
   once = playsOnceOf (p .«loop_mode»);
@@ -63,6 +72,9 @@ tickOf p at = record {
   interpolates = at .interpolates;
   phrase = at .phrase;
 }
+
+unfoldable pub tickOf : Params → Moment → Tick
+tickOf p at = tickWith (spanOf p (at .«data_len»)) p at
 
 -- ---- when a voice goes
 

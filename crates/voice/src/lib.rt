@@ -4,7 +4,8 @@ ghost use mathlib.Core.Path.{_≡_};
 ghost use mathlib.Core.Bool.{cond};
 ghost use Rattle.clip.specs.Positions.{soundingOf};
 ghost use Rattle.voice.specs.Voices.{
-  spanOf,
+  spanBy,
+  tickWith,
   tickOf,
   clipModeOf,
   playsOnceOf,
@@ -34,6 +35,7 @@ use clip::Near;
 use clip::Position;
 use clip::Sounding;
 use common_types::LoopMode;
+use common_types::Measure;
 use common_types::Note;
 use common_types::NoteOffBehaviour;
 use common_types::Params;
@@ -92,14 +94,15 @@ pub struct Quick {
 }
 
 impl Span {
-    fn new(params: Params, data_len: usize) -> Self
-        ensures { λ r. ⌜ r ≡ spanOf params «data_len» ⌝ }
+    fn new(m: Measure, data_len: usize) -> Self
+        ensures { λ r. ⌜ r ≡ spanBy m «data_len» ⌝ }
     {
-        let length = params.loop_length(data_len);
+        let data_length = binary32::usize_to_f32(data_len);
+        let length = m.length(data_length);
         Self {
             length,
             whole_length: binary32::floor(length),
-            data_length: binary32::usize_to_f32(data_len),
+            data_length,
         }
     }
 }
@@ -108,12 +111,20 @@ impl Tick {
     pub fn new(params: Params, at: Moment) -> Self
         ensures { λ r. ⌜ r ≡ tickOf params at ⌝ }
     {
+        let m = params.measure();
+        Self::measured(params, m, at)
+    }
+
+    // By a measure of the loop length, which is the parameters' for every phrase: worked out once, it serves them all.
+    pub fn measured(params: Params, m: Measure, at: Moment) -> Self
+        ensures { λ r. ⌜ r ≡ tickWith (spanBy m (at .«data_len»)) params at ⌝ }
+    {
         let loop_mode = params.loop_mode;
         let note_off_behavior = params.note_off_behavior;
         Self {
             now: at.now,
             decay_samples: params.decay_samples,
-            span: Span::new(params, at.data_len),
+            span: Span::new(m, at.data_len),
             speed: params.speed(),
             mode: clip_mode(loop_mode),
             once: plays_once(loop_mode),
