@@ -8,7 +8,7 @@ use mathlib.Core.List.{List}
 use lib.Dec.{leb}
 use lib.ListN.{length, take, drop, length-drop, drop-of-length-le}
 use lib.Seq.{length-take-le, take-all}
-use borrow.Author.Tests.{leb-true, leb-false}
+use borrow.Author.Tests.{le-leb, leb-true, leb-false}
 use Rattle.phrases.specs.Phrases.{endsBy, storedIn, roomOf}
 use Rattle.phrases.specs.declared.Phrase.{Phrase}
 
@@ -62,6 +62,11 @@ module _ (p : Phrase) where
     room-to =
         let from : min (p .start) size ≡ p .start = room-from in
         ap (λ (k : ℕ). k + min (p .length) (size - k)) from ∙ ap (λ (k : ℕ). p .start + k) (min-eq-left (omega (arith, ends-inside)))
+
+  -- and one that lies inside ends by it
+  pub inside-ends : (size : ℕ) → p .start + p .length ≤ size → endsBy size p ≡ true
+  unfolding endsBy
+  inside-ends size h = le-leb (p .start + p .length) size h
 
   pub stored-length : (m : List ℕ) → endsBy (length m) p ≡ true → length (storedIn p m) ≡ p .length
   unfolding storedIn

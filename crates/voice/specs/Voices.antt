@@ -30,7 +30,7 @@ use Rattle.voice.specs.declared.Moment.{Moment}
 use Rattle.voice.specs.declared.Span.{Span}
 use Rattle.voice.specs.declared.Tick.{Tick}
 
--- ---- what the voices of a channel share in one sample
+-- ---- what the voices of one phrase share in one sample
 
 -- play-once moves as a loop does
 abbrev pub clipModeOf : LoopMode → Mode
@@ -85,7 +85,7 @@ unfoldable pub movedOf : Tick → Voice → Clip
 movedOf t v =
     withAll (v .clip2) (t .now) (t .span .length) (mul binary32 (v .speed) (t .speed)) (t .span .«data_length») (t .mode)
 
--- the value recorded at a place of the channel's memory
+-- the value recorded at a place of the phrase
 abbrev pub recordedValueOf : List ℕ → ℕ → Float
 recordedValueOf m i = floatOf (getD m i 0)
 

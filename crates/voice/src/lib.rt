@@ -72,7 +72,7 @@ pub struct Span {
     pub data_length: f32,
 }
 
-// What all voices of a channel share in one sample, worked out once.
+// What all voices of one phrase share in one sample, worked out once.
 pub struct Tick {
     pub now: usize,
     pub decay_samples: usize,
@@ -145,7 +145,7 @@ fn plays_once(mode: LoopMode) -> bool
     }
 }
 
-// The value recorded at a place of the channel's memory.
+// The value recorded at a place of the phrase.
 fn recorded(data: &[u32], index: usize) -> f32
     ensures { λ r. ⌜ r ≡ recordedValueOf (now («data» .entry)) index ⌝ }
 {
@@ -199,7 +199,7 @@ fn quick_beside(clip2: Clip, index: usize, t: Tick) -> usize
 }
 
 impl Voice {
-    // A voice that starts now, on a recording of `data_len` samples.
+    // A voice that starts at that moment, of its phrase.
     pub fn new(params: Params, position: f32, note: Note, velocity: f32, at: Moment) -> Self
         ensures { λ r. ⌜ r ≡ freshOf params position note velocity at ⌝ }
     {

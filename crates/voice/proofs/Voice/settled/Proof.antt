@@ -1,5 +1,5 @@
 -- `Voice::settled` meets its contract: played out or not, its fields are those of the voice ended and stepped. Assumes nothing.
-use mathlib.Core.Path.{_≡_, refl, sym}
+use mathlib.Core.Path.{_≡_, sym}
 use mathlib.Core.Bool.{Bool, true, false, cond, _||_}
 use borrow.Author.Needs.{needs}
 use Rattle.voice.specs.declared.Voice.{Voice}
