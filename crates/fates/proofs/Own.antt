@@ -1,14 +1,17 @@
 -- What a voice finds goes by its phrase, which no event changes; what a sample does with a voice, by what that voice finds; and what it gives of all voices. Assumes nothing.
-use mathlib.Core.Path.{_≡_, refl, ap, _∙_}
+use mathlib.Core.Path.{_≡_, refl, sym, ap, _∙_, subst}
 use mathlib.Core.Bool.{Bool, true, false, _||_, cond}
 use mathlib.Core.List.{List}
 use Prim.Native.Nat.{ℕ}
 use lib.Dec.{eqb}
+use lib.ListN.{length}
 use lib.Ieee.{Float, binary32, add, mul}
 use Rattle.common_types.specs.declared.Params.{Params}
 use Rattle.volume.specs.Levels.{levelOf}
 use Rattle.binary32.specs.Leaves.{zero32}
-use Rattle.phrases.specs.Phrases.{storedIn}
+use Rattle.phrases.specs.declared.Phrase.{Phrase}
+use Rattle.phrases.specs.Phrases.{endsBy, storedIn}
+use Rattle.phrases.proofs.Rooms.{stored-length}
 use Rattle.voice.specs.declared.Voice.{Voice}
 use Rattle.voice.specs.declared.Moment.{Moment}
 use Rattle.voice.specs.declared.Tick.{Tick}
@@ -17,8 +20,9 @@ use Rattle.voice.proofs.PhraseKept.{finish-phrase, at-speed-phrase, stepped-phr
 use Rattle.channel.specs.declared.Channel.{Channel}
 use Rattle.channel.specs.declared.Change.the-variants as change
 use Rattle.channel.specs.Channels.{live, sameNote, findOf, spedOf, tidiedOf, heardOf, playedOf, addedOf, resting, turningAt, turningOf, phraseAt, momentFor, takenOf, memoryOf}
+use Rattle.channel.proofs.Samples.{memory-kept}
 use Rattle.fates.specs.Engine.{passesOver, turnedOf, leavesOf, turnsBy, momentAt, heldAt, turnsIn, stepOf}
-use Rattle.fates.specs.Events.{Event, idle, changes, sounds, emptyAt, tickAt, Sampled}
+use Rattle.fates.specs.Events.{Event, idle, changes, sounds, lengthAt, emptyAt, tickAt, Sampled}
 use Rattle.fates.specs.Places.{findsAt, becomes}
 use Rattle.fates.specs.Sounding.{termOf}
 use Rattle.walks.proofs.Tests.{either}
@@ -37,6 +41,19 @@ finds-kept m c v w k e = ap (λ (at : Moment). eqb (at .«data_len») 0) (moment
 
 pub sampled-kept : {e : Event} {c : Channel} {p : Params} (v w : Voice) → w .phrase ≡ v .phrase → Sampled e c p v → Sampled e c p w
 sampled-kept {e} {c} {p} v w k s = record { input = s .input; memory = s .memory; sample = s .sample; finds = finds-kept (s .memory) c v w k (s .finds) }
+
+-- ---- it is its own phrase that a voice goes by
+pub moment-own : (m : List ℕ) (c : Channel) (v : Voice) → momentAt m c v .phrase ≡ v .phrase
+unfolding momentAt
+moment-own m c v = refl
+
+-- and where that lies within the memory, the voice has as many samples as its moment says
+pub held-length : (x : Float) (m : List ℕ) (c : Channel) (v : Voice) → endsBy (length m) (phraseAt (takenOf m c) (v .phrase)) ≡ true
+    → length (heldAt x m c v) ≡ lengthAt m c v
+unfolding momentAt heldAt
+held-length x m c v ends =
+    let own : Phrase = phraseAt (takenOf m c) (v .phrase) in
+    stored-length own (memoryOf x c m) (subst (λ (n : ℕ). endsBy n own ≡ true) (sym (memory-kept x c m)) ends)
 
 -- ---- its turn leaves a voice its phrase
 turned-phrase : (t : Tick) (m : List ℕ) (v : Voice) → turnedOf t m v .phrase ≡ v .phrase

@@ -31,8 +31,9 @@ clipWith since start length data-length = record { since = since; start = start;
 abbrev clip : Clip
 clip = clipWith 0 zero32 one32 one32
 
-abbrev pub voiceWith : ℕ → Volume → Clip → Voice
-voiceWith finished-at volume c = record {
+-- a voice of that phrase
+abbrev voiceOf : ℕ → ℕ → Volume → Clip → Voice
+voiceOf phrase finished-at volume c = record {
   «finished_at» = finished-at;
   «last_sample_index» = 0;
   clip2 = c;
@@ -44,20 +45,30 @@ voiceWith finished-at volume c = record {
   note = key 60;
   finished = false;
   «is_at_zero_crossing» = false;
+  phrase = phrase;
 }
+
+abbrev pub voiceWith : ℕ → Volume → Clip → Voice
+voiceWith finished-at volume c = voiceOf 0 finished-at volume c
 
 abbrev voice : Voice
 voice = voiceWith 0 (Static one32) clip
 
-abbrev headWith : ℕ → ℕ → Volume → State → Head
-headWith now len volume state = record {
+-- the phrase with the number `chosen` is the recording: so many samples from `start` on
+abbrev headOn : ℕ → ℕ → ℕ → ℕ → Volume → State → Head
+headOn chosen start len now volume state = record {
   now = now;
   «data_len» = len;
+  start = start;
   «passthru_volume» = volume;
   recorder = record { state = state; «skipped_samples» = 0; «incorrect_state» = 0 };
   «passthru_on» = false;
   interpolates = false;
+  chosen = chosen;
 }
+
+abbrev headWith : ℕ → ℕ → Volume → State → Head
+headWith now len volume state = headOn 0 0 len now volume state
 
 -- 10 samples in, with 1 recorded
 abbrev head : Head
@@ -107,6 +118,30 @@ voice-counts-judged = refl
 pub data-lengths-judged : numbers (heads (headWith 10 4 (Static one32) Idle) ∷ heads (headWith 10 5 (Static one32) Idle) ∷ []) ≡ 0 ∷ 9 ∷ []
 unfolding computing
 data-lengths-judged = refl
+
+-- 11/12: the phrase that is chosen is one of eight,
+abbrev chooses : ℕ → Sampler
+chooses k = heads (headOn k 0 1 10 (Static one32) Idle)
+
+pub chosen-judged : numbers (map chooses (0 ∷ 7 ∷ 8 ∷ [])) ≡ 0 ∷ 0 ∷ 9 ∷ []
+unfolding computing
+chosen-judged = refl
+
+-- and it lies "within the channel's capacity", of 4 samples: its end there and one past it, with samples and with none
+abbrev lies : ℕ → ℕ → Sampler
+lies start len = heads (headOn 7 start len 10 (Static one32) Idle)
+
+pub ends-of-phrases-judged : numbers (lies 1 3 ∷ lies 2 3 ∷ lies 4 0 ∷ lies 5 0 ∷ []) ≡ 0 ∷ 9 ∷ 0 ∷ 9 ∷ []
+unfolding computing
+ends-of-phrases-judged = refl
+
+-- the number of a voice's phrase "is below eight"
+abbrev ofPhrase : ℕ → Sampler
+ofPhrase k = voices (voiceOf k 0 (Static one32) clip)
+
+pub phrases-judged : numbers (map ofPhrase (0 ∷ 7 ∷ 8 ∷ [])) ≡ 0 ∷ 0 ∷ 9 ∷ []
+unfolding computing
+phrases-judged = refl
 
 -- "a write place exceeds the data length"
 pub write-places-judged : numbers (heads (headWith 10 3 (Static one32) (Triggered 3)) ∷ heads (headWith 10 3 (Static one32) (Triggered 4)) ∷ []) ≡ 0 ∷ 9 ∷ []
