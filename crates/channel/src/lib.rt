@@ -617,7 +617,9 @@ impl Channel {
     {
         let head = self.head;
         let room = head.room(data.len());
-        self.head = head.recorded(input, &mut data[room.from..room.to]);
+        let from = room.from;
+        let to = room.to;
+        self.head = head.recorded(input, &mut data[from..to]);
         self
     }
 
@@ -637,11 +639,14 @@ impl Channel {
             let phrase = head.phrase_at(v.phrase);
             let room = phrase.room(data.len());
             let at = head.moment_on(v.phrase, phrase.length);
-            let r = take_turn(v, output, at, params, &data[room.from..room.to]);
+            let from = room.from;
+            let to = room.to;
+            let r = take_turn(v, output, at, params, &data[from..to]);
             output = r.output;
             if r.stays {
                 moved = moved_up(moved, k, i);
-                self.voices[k] = r.voice;
+                let w = r.voice;
+                self.voices[k] = w;
                 k += 1;
             }
             i += 1;
