@@ -151,7 +151,7 @@ soft = record {
 }
 
 -- what a voice goes by that starts at count 2, with 2 samples recorded
-abbrev then : Moment
+abbrev pub then : Moment
 then = record { now = 2; «data_len» = 2; interpolates = false; phrase = 0 }
 
 promised : Demand3 older 1
