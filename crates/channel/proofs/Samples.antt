@@ -6,7 +6,7 @@ use native.Mathlib.Omega.{arith}
 use mathlib.Core.Bool.{true}
 use mathlib.Core.List.{List, map}
 use lib.Dec.{eqb}
-use lib.ListN.{length, getD, length-map}
+use lib.ListN.{length, take, drop, getD, length-map}
 use lib.Seq.{sets, length-sets}
 use lib.Ieee.{Float}
 use Rattle.binary32.specs.Leaves.{bitsOf}
@@ -17,7 +17,7 @@ use Rattle.walks.proofs.Lists.Each.{each-without, each-map, front-sets, fewer, 
 use Rattle.common_types.specs.declared.Params.{Params}
 use Rattle.phrases.specs.Phrases.{storedIn}
 use Rattle.clip.specs.Positions.{indexAt}
-use Rattle.recorder.specs.Recording.{recordedOf, goodRecorded}
+use Rattle.recorder.specs.Recording.{recordedOf, dataAfter, goodRecorded}
 use Rattle.recorder.proofs.Good.{sample-good}
 use Rattle.recorder.proofs.Memory.{memory-length}
 use Rattle.voice.specs.declared.Voice.{Voice}
@@ -47,7 +47,10 @@ taken-sound capacity c s m size =
 
 pub memory-kept : (x : Float) (c : Channel) (m : List ℕ) → length (memoryOf x c m) ≡ length m
 unfolding memoryOf
-memory-kept x c m = written-length (c .head) m _ (memory-length (c .head .recorder) (bitsOf x) _)
+memory-kept x c m =
+    let r = writtenIn (c .head) (length m) in
+    let part = take (r .to - r .from) (drop (r .from) m) in
+    written-length (c .head) m (dataAfter (c .head .recorder) (bitsOf x) part) (memory-length (c .head .recorder) (bitsOf x) part)
 
 -- ---- then played
 pub played-head : (s : Turning) (c : Channel) → playedOf s c .channel .head ≡ c .head

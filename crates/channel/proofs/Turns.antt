@@ -2,27 +2,32 @@
 use mathlib.Core.Path.{_≡_, refl, sym, ap, _∙_, subst}
 use mathlib.Core.Bool.{Bool, true, false, not, cond}
 use mathlib.Core.List.{List, [], _∷_, map}
-use Prim.Native.Nat.{ℕ, suc, _+_, _≤_}
+use Prim.Native.Nat.{ℕ, suc, _+_, _-_, _≤_}
 use native.Mathlib.Nat.{le-trans, le-of-eq, add-zero, zero-add, add-suc, suc-add}
 use native.Mathlib.Omega.{arith}
 use native.Mathlib.Numerals.{add-one}
 use borrow.Author.Tests.{not-true, not-false, lt-ltb, le-ltb, ltb-true, ltb-false}
 use lib.Dec.{eqb, ltb}
-use lib.ListN.{length, set}
+use lib.ListN.{length, take, drop, set}
 use lib.Seq.{sets}
 use lib.Ieee.{Float}
 use Rattle.walks.specs.Walks.{without, behind, fold}
 use Rattle.common_types.specs.declared.Params.{Params}
 use Rattle.binary32.specs.Leaves.{zero32}
-use Rattle.phrases.specs.Phrases.{storedIn}
+use Rattle.phrases.specs.declared.Phrase.{Phrase}
+use Rattle.phrases.specs.declared.Room.{Room}
+use Rattle.phrases.specs.Phrases.{storedIn, roomOf}
+use Rattle.phrases.proofs.Rooms.{room-stored}
 use Rattle.voice.specs.declared.Voice.{Voice}
 use Rattle.voice.specs.declared.Moment.{Moment}
 use Rattle.voice.specs.declared.Tick.{Tick}
 use Rattle.voice.specs.Voices.{tickOf, shouldRemoveOf, productOf, turnOf, soundedOf, endedOf, finishOf, volumeStepped, playedOutOf}
 use Rattle.voice.proofs.PhraseKept.{turn-phrase}
+use Rattle.channel.specs.Heads.{momentOn}
 use Rattle.channel.specs.Channels.{live, withVoices, Turning, keptOf, tidiedOf, heardOf, playedOf, addedOf, turningBy, resting, turningAt, turningOf, turnedOf, phraseAt, momentFor, turningIn}
 use Rattle.channel.specs.declared.Channel.{Channel}
 use Rattle.channel.specs.declared.Played.{Played}
+use Rattle.channel.specs.declared.Turned.{Turned}
 
 -- what a walk leaves and what is heard of it
 pub record Walked : Type 0 where
@@ -138,6 +143,16 @@ module _ (p : Params) (c : Channel) (m : List ℕ) where
         let gone : turningOn (v .phrase) .leaves (turningOn (v .phrase) .turn v) ≡ turningIn p c m .leaves w =
             ap (turningOn (v .phrase) .leaves) (sym (own .turns)) ∙ ap (λ (k : ℕ). turningOn k .leaves w) (sym turning-phrase) ∙ sym (turning-own w .leaves) in
         λ i. record { voice = sym (own .turns) i; stays = not (gone i); output = sym (own .adds out) i }
+
+    -- as its parts are worked out
+    module _ (q : Phrase) (is : q ≡ phraseAt c (v .phrase)) where
+      pub turned-there : (out : Float) (room : Room) (at : Moment) (r : Turned) → room ≡ roomOf q (length m) → at ≡ momentOn (c .head) (v .phrase) (q .length)
+          → r ≡ turnedOf (turningAt turningBy p at (take (room .to - room .from) (drop (room .from) m))) out v → r ≡ turnedOf (turningIn p c m) out v
+      turned-there out room at r lies moment gives =
+          let own : take (room .to - room .from) (drop (room .from) m) ≡ storedIn (phraseAt c (v .phrase)) m =
+              ap (λ (z : Room). take (z .to - z .from) (drop (z .from) m)) lies ∙ room-stored q m ∙ ap (λ (z : Phrase). storedIn z m) is in
+          let then : at ≡ momentFor c (v .phrase) = moment ∙ ap (λ (z : Phrase). momentOn (c .head) (v .phrase) (z .length)) is in
+          gives ∙ (λ i. turnedOf (turningAt turningBy p (then i) (own i)) out v) ∙ turning-turned out
 
 -- ---- a walk over the voices, whatever a sample does with each
 module _ (s : Turning) where

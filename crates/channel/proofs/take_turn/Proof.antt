@@ -1,6 +1,5 @@
 -- `take_turn` meets its contract: its test is that of `turningAt`. Assumes nothing.
 use mathlib.Core.Path.{sym, ap, _∙_}
-use mathlib.Core.Bool.{not}
 use borrow.Author.Tests.{eq-eqb, ne-eqb}
 use Rattle.voice.specs.declared.Tick.{Tick}
 use Rattle.channel.specs.Channels.{Turning, turningBy, resting, turnedOf}
@@ -11,7 +10,9 @@ use Rattle.channel.proofs.take_turn.Tie as tie
 
 returns : tie.Need-returns
 unfolding resting
-returns c = simp (turning-none turningBy _ _ _ (eq-eqb _ _ (c .if1 .taken)))
+returns c =
+    let a = c .before .before .before .args in
+    simp (turning-none turningBy (a .params) (a .at) (a .«data» .now) (eq-eqb (a .at .«data_len») 0 (c .if1 .taken)))
 
 new-requires : tie.Need-new-requires
 new-requires c κs = search needs
@@ -27,9 +28,12 @@ sound-requires c κs = search needs
 
 returns-2 : tie.Need-returns-2
 returns-2 c =
-    turned-by _ _ _ _ _ _ _ (c .before .before .turn .ensures) (c .before .should-remove .ensures) (c .sound .ensures)
-    ∙ ap (λ (s : Turning). turnedOf s _ _)
-    (ap (λ (t : Tick). turningBy t _) (c .before .before .before .new .ensures) ∙ sym (turning-some turningBy _ _ _ (ne-eqb _ _ (c .before .before .before .before .if1 .left))))
+    let a = c .before .before .before .before .before .before .before .args in
+    let m = a .«data» .now in
+    turned-by (c .before .before .before .new .result) m (a .output) (c .sound .result) (a .v) (c .before .before .turn .result) (c .before .should-remove .result)
+    (c .before .before .turn .ensures) (c .before .should-remove .ensures) (c .sound .ensures)
+    ∙ ap (λ (s : Turning). turnedOf s (a .output) (a .v))
+    (ap (λ (t : Tick). turningBy t m) (c .before .before .before .new .ensures) ∙ sym (turning-some turningBy (a .params) (a .at) m (ne-eqb (a .at .«data_len») 0 (c .before .before .before .before .if1 .left))))
 
 pub take-turn-spec : {M : Type 1} → statement M
 take-turn-spec =
