@@ -13,29 +13,39 @@ use std::io::{BufReader, BufWriter, Read, Write};
 use std::process::{ChildStdin, ChildStdout, Command, ExitCode, Stdio};
 use wave::{four, made, read, words, written};
 
-/// The most words of a memory, and what it and an output hold beforehand.
-const MOST: usize = 4096;
+/// What a memory and an output hold beforehand.
 const BEFORE: u32 = 7;
+
+/// Where the recordings of channels 0 and 1 begin in a memory.
+type Starts = [usize; 2];
+
+/// Whether so many samples from each start on lie one behind the other in a memory of this size. There are one or two channels.
+fn lie(starts: Starts, channels: usize, samples: usize, size: usize) -> bool {
+    match channels {
+        1 => starts[0] + samples <= size,
+        2 => starts[0] + samples <= starts[1] && starts[1] + samples <= size,
+        _ => false,
+    }
+}
 
 // ---- what is written
 
 struct Take {
     rate: u32,
     channels: usize,
-    capacity: usize,
     samples: usize,
+    starts: Starts,
     memory: Vec<u32>,
     room: usize,
 }
 
 impl Take {
     fn file(&self) -> Vec<u8> {
-        written(self.rate, self.channels, self.samples, |j, i| self.memory[j * self.capacity + i])
+        written(self.rate, self.channels, self.samples, |j, i| self.memory[self.starts[j] + i])
     }
 
     fn fits(&self) -> bool {
-        let parts = self.channels * self.capacity <= self.memory.len() && self.samples <= self.capacity;
-        self.channels > 0 && self.channels < 16384 && parts && 58 + 4 * self.channels * self.samples <= self.room
+        lie(self.starts, self.channels, self.samples, self.memory.len()) && 58 + 4 * self.channels * self.samples <= self.room
     }
 
     /// How many bytes are written, and the output.
@@ -52,7 +62,7 @@ impl Take {
 
 struct Question {
     file: Vec<u8>,
-    capacity: usize,
+    starts: Starts,
     size: usize,
 }
 
@@ -62,10 +72,10 @@ impl Question {
         let (mut head, mut loaded) = ([17, 0, 0, 0, 0], 0);
         if let Some(w) = read(&self.file) {
             head = [0, w.rate, w.channels as u32, w.samples as u32, w.first as u32];
-            if w.samples <= self.capacity && w.channels * self.capacity <= self.size {
+            if lie(self.starts, w.channels, w.samples, self.size) {
                 loaded = 1;
                 for (k, word) in self.file[w.first..].chunks(4).take(w.channels * w.samples).enumerate() {
-                    memory[k % w.channels * self.capacity + k / w.channels] = four(word, 0);
+                    memory[self.starts[k % w.channels] + k / w.channels] = four(word, 0);
                 }
             }
         }
@@ -78,24 +88,31 @@ fn few(r: &mut Random) -> usize {
     r.below(bound) as usize
 }
 
+/// Starts and a size that fit so many samples, with nothing between them or a little, or are one short.
+fn places(r: &mut Random, channels: usize, samples: usize) -> (Starts, usize) {
+    let near = |n: usize, r: &mut Random| (n + r.below(4) as usize).max(1) - 1;
+    let first = r.pick(&[0, 0, 1, 5]);
+    let second = near(first + samples, r);
+    let size = near(if channels == 1 { first } else { second } + samples, r);
+    ([first, second], size)
+}
+
 fn question(r: &mut Random) -> Question {
     let channels = r.pick(&[1, 1, 1, 2, 2, 2, 2, 3, 5, 16_383, 16_384]);
     let samples = if channels > 5 { 0 } else { few(r) };
     let hurt = r.below(3) > 0;
     let file = made(r, channels, samples, hurt);
-    let capacity = (samples + r.below(4) as usize).max(1) - 1;
-    let size = (channels * capacity + r.below(4) as usize).max(1) - 1;
-    Question { file, capacity, size: size.min(MOST) }
+    let (starts, size) = places(r, channels, samples);
+    Question { file, starts, size }
 }
 
 fn take(r: &mut Random) -> Take {
-    let channels = r.pick(&[0, 1, 1, 2, 2, 2, 3, 7, 16_383, 16_384]);
-    let samples = if channels > 7 { 0 } else { few(r) };
-    let capacity = if channels > 7 { 0 } else { (samples + r.below(4) as usize).max(1) - 1 };
-    let size = (channels * capacity + r.below(4) as usize).max(1) - 1;
+    let channels = r.pick(&[0, 1, 1, 1, 2, 2, 2, 2, 3, 16_384]);
+    let samples = if channels > 3 { 0 } else { few(r) };
+    let (starts, size) = places(r, channels, samples);
     let room = 58 + 4 * channels * samples + r.below(4) as usize - 1;
     let rate = r.pick(&[0, 44_100, 1 << 29, (1 << 29) + 1, u32::MAX]);
-    Take { rate, channels, capacity, samples, memory: words(r, size), room: room.min(4 * MOST) }
+    Take { rate, channels, samples, starts, memory: words(r, size), room }
 }
 
 // ---- the comparison
@@ -113,15 +130,15 @@ impl Port {
     }
 
     fn reads(&mut self, q: &Question, wanted: &[u8]) -> Result<bool, String> {
-        self.same([0, q.file.len(), q.capacity, q.size, 0, 0, 0], &q.file, wanted)
+        self.same([0, q.file.len(), q.starts[0], q.starts[1], q.size, 0, 0, 0], &q.file, wanted)
     }
 
     fn writes(&mut self, t: &Take, wanted: &[u8]) -> Result<bool, String> {
         let memory: Vec<u8> = t.memory.iter().flat_map(|w| w.to_le_bytes()).collect();
-        self.same([1, t.rate as usize, t.channels, t.capacity, t.samples, t.memory.len(), t.room], &memory, wanted)
+        self.same([1, t.rate as usize, t.channels, t.samples, t.starts[0], t.starts[1], t.memory.len(), t.room], &memory, wanted)
     }
 
-    fn same(&mut self, head: [usize; 7], rest: &[u8], wanted: &[u8]) -> Result<bool, String> {
+    fn same(&mut self, head: [usize; 8], rest: &[u8], wanted: &[u8]) -> Result<bool, String> {
         let words: Vec<u8> = head.iter().flat_map(|&n| (n as u32).to_le_bytes()).collect();
         let asked = self.input.write_all(&words).and_then(|()| self.input.write_all(rest)).and_then(|()| self.input.flush());
         asked.map_err(|e| e.to_string())?;
@@ -141,13 +158,13 @@ fn compare(seed: u64, count: u64, mut port: Port) -> Result<String, String> {
         loaded += u64::from(wanted[20]);
         if !port.reads(&q, &wanted)? {
             std::fs::write("target/oracle/wave-input", &q.file).map_err(|e| e.to_string())?;
-            return Err(format!("file {i}, capacity {}, memory {}: the answers differ; it is target/oracle/wave-input", q.capacity, q.size));
+            return Err(format!("file {i}, starts {:?}, memory {}: the answers differ; it is target/oracle/wave-input", q.starts, q.size));
         }
         let t = take(&mut r);
         let wanted = t.answer();
         written += u64::from(wanted[..4] != [0; 4]);
         if !port.writes(&t, &wanted)? {
-            return Err(format!("{} samples of {} channels, capacity {}, room {}: what is written differs", t.samples, t.channels, t.capacity, t.room));
+            return Err(format!("{} samples of {} channels, starts {:?}, room {}: what is written differs", t.samples, t.channels, t.starts, t.room));
         }
     }
     Ok(format!("{count} files asked about, {accepted} accepted, {loaded} loaded; {count} asked for, {written} written; every field equal"))
@@ -163,7 +180,7 @@ fn said(tool: &str, words: &[&str]) -> Option<String> {
 
 fn tools(mut port: Port) -> Result<String, String> {
     let memory = [0.5f32, -0.25, 1.0 / 3.0, 0.75, -0.125, 0.0].map(f32::to_bits).to_vec();
-    let t = Take { rate: 48_000, channels: 2, capacity: 3, samples: 3, memory, room: 58 + 24 };
+    let t = Take { rate: 48_000, channels: 2, samples: 3, starts: [0, 3], memory, room: 58 + 24 };
     if !port.writes(&t, &t.answer())? {
         return Err("what is written differs".into());
     }
@@ -192,7 +209,7 @@ fn tools(mut port: Port) -> Result<String, String> {
             tally.push(format!("no file of {maker}"));
             continue;
         };
-        let q = Question { file, capacity: 3, size: 6 };
+        let q = Question { file, starts: [0, 3], size: 6 };
         let wanted = q.answer();
         if wanted[0] != 0 || wanted[20] != 1 || !port.reads(&q, &wanted)? {
             return Err(format!("the file of {maker} is read otherwise"));

@@ -2,12 +2,13 @@
 use mathlib.Core.Path.{_≡_, refl, sym, ap, _∙_, subst}
 use mathlib.Core.Bool.{true, false, not}
 use mathlib.Core.List.{List, _++_}
+use mathlib.Core.Logic.{_⊎_}
 use Prim.Native.Nat.{ℕ, _+_, _*_, _^_, _≤_, _<_}
 use native.Mathlib.Nat.{le-refl}
 use native.Mathlib.Omega.{arith}
-use borrow.Author.Tests.{eqb-true, le-leb}
+use borrow.Author.Tests.{eqb-true}
 use lib.Dec.{eqb, ltb}
-use lib.ListN.{length, take, drop}
+use lib.ListN.{length, take, drop, getD}
 use lib.Seq.{take-at, drop-at}
 use Rattle.octets.specs.Octets.{Bytes}
 use Rattle.wave.specs.declared.Wave.{Wave}
@@ -16,13 +17,12 @@ use Rattle.wave.specs.declared.Judged.the-variants.{Is, Refused}
 use Rattle.wave.specs.Files.{fileOf}
 use Rattle.wave.specs.Reader.{judgedOf}
 use Rattle.wave.specs.Grammar.{IsWave}
-use Rattle.wave.specs.Memory.{fitsMemory, framesOf, bytesOf, layoutOf, loadedOf}
-use Rattle.wave.specs.Promised.{Sized, channelOf}
+use Rattle.wave.specs.Memory.{startAt, fitsMemory, framesOf, channelOf, bytesOf, layoutOf, loadedOf}
+use Rattle.wave.specs.Promised.{Sized}
 use Rattle.wave.proofs.Answers.{Known, good-known, answer-good}
 use Rattle.wave.proofs.Layouts.{fits-true}
-use Rattle.wave.proofs.Promised.{promised, file-good, file-samples, frames-part, sized}
-use Rattle.wave.proofs.Calls.{length-frames, length-file}
-use Rattle.wave.proofs.Standing.{length-listed}
+use Rattle.wave.proofs.Promised.{promised, file-good, file-samples, frames-recording, sized}
+use Rattle.wave.proofs.Calls.{length-frames, length-file, length-loaded}
 use Rattle.recorder.specs.declared.State.{State}
 use Rattle.recorder.specs.declared.State.the-variants.{Triggered, Idle}
 use Rattle.recorder.proofs.Cases.{not-recording}
@@ -35,10 +35,11 @@ use Rattle.sampler.specs.Refusals.{row, goodWith, records, anyRecording}
 use Rattle.sampler.specs.Samplers.{partOf}
 use Rattle.sampler.proofs.Rows.{is-true, Fitting, fitting}
 use Rattle.questions.specs.Questions.{answered}
-use Rattle.recordings.specs.Waves.{samplesOf, layoutIn, writeNumber, writeWaveOf, waveAfter, badFile, heldIn, readNumber, readWaveOf, readMemory}
+use Rattle.recordings.specs.Waves.{samplesOf, startsIn, layoutIn, writeNumber, writeWaveOf, waveAfter, badFile, heldIn, readNumber, readWaveOf, readMemory}
 use Rattle.recordings.specs.declared.ReadAnswer.{ReadAnswer}
 use Rattle.recordings.specs.declared.WaveRead.{WaveRead}
-use Rattle.recordings.proofs.Numbers.{layout-fits, file-fits, Writes, write-says, Loads, read-says}
+use Rattle.recordings.proofs.Parts.{starts-fit, part-front, part-rest, parts-rest}
+use Rattle.recordings.proofs.Numbers.{short, layout-fits, file-fits, Writes, write-says, Loads, read-says}
 use Rattle.fates.specs.Events.{act}
 use Rattle.promises.specs.Runs.{World, readWave, asks, writeWave, questionNumber, code, after, chan, ownPart, doneTo, event}
 use Rattle.promises.specs.Outcomes.{on, ListOutcome, ReadOutcome, Allows, leftBy}
@@ -107,8 +108,11 @@ module _ (w : World) where
     in-front : take (bytesIn w) (r .lent) ≡ file
     in-front = ap (take (bytesIn w)) lent ∙ take-at file _ (bytesIn w) long
 
+    at-most : s .count ≤ 2
+    at-most = fitting s size (lets .good) .few
+
     room : s .count ≤ length (s .channels)
-    room = omega (arith, fitting s size (lets .good) .few, two)
+    room = omega (arith, at-most, two)
 
     fits-file : Sized rate (s .count) n frames
     fits-file = sized rate (layoutIn s) (w .memory) small words (layout-fits s size (lets .good)) (file-fits s size (lets .good) (bytesOf (layoutIn s)) (le-refl _))
@@ -125,13 +129,14 @@ module _ (w : World) where
     same-length j k = eqb-true _ _ (is-true _ (any-front (λ (c : Channel). not (eqb (c .head .«data_len») n)) (s .channels) (s .count) j new (lets .alike) k room))
 
     pub written : Written w rate out r
-    unfolding code questionNumber writeWaveOf answered partOf
+    unfolding code questionNumber writeWaveOf answered
     written = record {
       words = frames;
       file = in-front;
       good = good .is;
       samples = good .samples;
-      recordings = λ j k. rw (same-length j k) (sym (frames-part (layoutIn s) (w .memory) (fits-true (layoutIn s) size (layout-fits s size (lets .good))) j k));
+      recordings = λ j k. rw (same-length j k) (part-front s n j (w .memory) (omega (arith, at-most)) (short s size (lets .good))
+          ∙ sym (frames-recording (layoutIn s) (w .memory) (fits-true (layoutIn s) size (layout-fits s size (lets .good))) j k));
       answer = a .0 ∙ rw z refl;
       rest = ap (drop (bytesIn w)) lent ∙ drop-at file _ (bytesIn w) long;
     }
@@ -179,26 +184,33 @@ module _ (w : World) (f : List ℕ) (rate channels : ℕ) (words : List ℕ) (g 
   capacity-same = ap (λ (v : World). v .sampler .capacity) left ∙ kept w (readWave f) .capacity
 
   -- the memory
-  memory-is : u .memory ≡ loadedOf f (w .sampler .capacity) (w .memory)
+  abbrev loaded : List ℕ
+  loaded = loadedOf f (startsIn (w .sampler)) (w .memory)
+
+  memory-is : u .memory ≡ loaded
   unfolding code readMemory
   memory-is = a .1 ∙ rw z refl
 
-  fits : fitsMemory (layoutOf (k .wave) (w .sampler .capacity)) (length (w .memory)) ≡ true
-  unfolding fitsMemory
-  fits =
-      let c : k .wave .channels ≡ w .sampler .count = k .same-channels ∙ counts in
-      let few : k .wave .samples ≤ w .sampler .capacity = subst (λ (v : Wave). v .samples ≤ w .sampler .capacity) held (loads .room) in
-      rw (c, le-leb 1 (w .sampler .count) (fit .some), le-leb (k .wave .samples) (w .sampler .capacity) few, le-leb (w .sampler .count * w .sampler .capacity) (length (w .memory)) (fit .fits)) refl
-
-  part-is : (j : ℕ) → j < channels → ownPart u j ≡ channelOf channels (g .samples) j words ++ drop (g .samples) (ownPart w j)
+  own-part : (j : ℕ) → ownPart u j ≡ partOf (w .sampler) j loaded
   unfolding partOf
-  part-is j h =
-      rw (capacity-same, memory-is)
-      (promised .loaded-part f (k .wave) (w .sampler .capacity) (w .memory) (k .judged) fits j (subst (λ (n : ℕ). j < n) (sym (k .same-channels)) h)
-      ∙ rw (k .same-words, k .same-channels, k .same-samples) refl)
+  own-part j = rw (capacity-same, memory-is) refl
 
-  long-channel : (j : ℕ) → length (channelOf channels (g .samples) j words) ≡ g .samples
-  long-channel j = length-listed _ 0 (g .samples)
+  few : g .samples ≤ w .sampler .capacity
+  few = subst (λ (n : ℕ). n ≤ w .sampler .capacity) same-samples (loads .room)
+
+  fits : fitsMemory (layoutOf (k .wave) (startsIn (w .sampler))) (length (w .memory)) ≡ true
+  fits =
+      starts-fit (w .sampler) (length (w .memory)) (layoutOf (k .wave) (startsIn (w .sampler))) fit (k .same-channels ∙ counts)
+      (subst (λ (n : ℕ). n ≤ w .sampler .capacity) (sym (k .same-samples)) few) refl
+
+  front-is : (j : ℕ) → j < channels → take (g .samples) (ownPart u j) ≡ channelOf channels (g .samples) j words
+  front-is j h =
+      let known = promised .loaded-recording f (k .wave) (startsIn (w .sampler)) (w .memory) (k .judged) fits j (subst (λ (n : ℕ). j < n) (sym (k .same-channels)) h) in
+      rw (own-part j) (part-front (w .sampler) (g .samples) j loaded (omega (arith, counts, fit .few)) few ∙ (rw (k .same-words, k .same-channels, k .same-samples) at known))
+
+  -- every other word
+  else-is : (x : ℕ) → ((j : ℕ) → j < channels → (x < startAt (startsIn (w .sampler)) j) ⊎ (startAt (startsIn (w .sampler)) j + g .samples ≤ x)) → getD loaded x 0 ≡ getD (w .memory) x 0
+  else-is x beside = promised .loaded-else f (k .wave) (startsIn (w .sampler)) (w .memory) (k .judged) x (rw (k .same-channels, k .same-samples) beside)
 
   idle : (j : ℕ) → j < channels → chan w j .head .recorder .state ≡ Idle
   idle j h = not-recording (chan w j .head .recorder) (any-front records (w .sampler .channels) (w .sampler .count) j new (loads .idle) (omega (arith, counts)) (omega (arith, fit .few, two)))
@@ -207,9 +219,9 @@ module _ (w : World) (f : List ℕ) (rate channels : ℕ) (words : List ℕ) (g 
   unfolding code readWaveOf
   read = record {
     rated = ap (λ (b : ReadAnswer). b .read) (a .0) ∙ rw (z, held, k .same-rate) refl;
-    recordings = λ j h. rw (else-kept j h, part-is j h) (take-at (channelOf channels (g .samples) j words) _ (g .samples) (long-channel j));
-    rest = λ j h. rw (part-is j h) (drop-at (channelOf channels (g .samples) j words) _ (g .samples) (long-channel j));
-    behind = rw memory-is (subst (λ (n : ℕ). drop (n * w .sampler .capacity) (loadedOf f (w .sampler .capacity) (w .memory)) ≡ drop (n * w .sampler .capacity) (w .memory)) (k .same-channels) (promised .loaded-rest f (k .wave) (w .sampler .capacity) (w .memory) (k .judged)));
+    recordings = λ j h. rw (else-kept j h) (front-is j h);
+    rest = λ j h. rw (own-part j) (part-rest (w .sampler) channels (g .samples) (omega (arith, counts, fit .few)) few loaded (w .memory) (length-loaded f _ (w .memory)) else-is j h);
+    behind = rw memory-is (parts-rest (w .sampler) channels (g .samples) (omega (arith, counts, fit .few)) few loaded (w .memory) (length-loaded f _ (w .memory)) else-is);
     write-place = λ j h. ap (λ (c : Channel). writePlaceOf (c .head)) (else-kept j h) ∙ at-end (withRecorded (record { recorder = chan w j .head .recorder; «data_len» = g .samples }) (chan w j .head)) (idle j h);
     else-kept = else-kept;
   }

@@ -10,7 +10,7 @@ use Rattle.walks.specs.Each.{Each}
 use Rattle.octets.specs.Octets.{Bytes}
 use Rattle.wave.specs.Files.{fileOf}
 use Rattle.wave.specs.Grammar.{IsWave}
-use Rattle.wave.specs.Promised.{channelOf}
+use Rattle.wave.specs.Memory.{channelOf}
 use Rattle.recorder.specs.declared.State.the-variants.{Triggered, Idle}
 use Rattle.channel.specs.declared.Head.{Head}
 use Rattle.channel.specs.Channels.{withHead, recordingOf}

@@ -9,7 +9,7 @@ use Rattle.octets.proofs.Hex.{digitsOf, pairs, fromHex}
 use Rattle.wave.specs.Fields.{twoAt, fourAt, wordBytes, listed}
 use Rattle.wave.specs.Files.{formatOf, riffRow, formatRow, factRow, dataRow, headerOf, fileOf}
 use Rattle.wave.specs.Reader.{paddedAt, metOf, chunkAt, walkFrom, walkOf, goodRiff, goodFormat, goodFact, countedOf, judgedAt, judgedOf}
-use Rattle.wave.specs.Memory.{fitsMemory, cellAt, framesOf, recorded, numberAt, storedOf, loadedOf}
+use Rattle.wave.specs.Memory.{fitsMemory, framesOf, storedOf, loadedOf}
 use Rattle.common_types.specs.declared.InitParams.{InitParams}
 use Rattle.walks.specs.Walks.{any, every}
 use Rattle.volume.specs.Levels.{goodVolume}
@@ -29,7 +29,7 @@ use Rattle.recordings.specs.declared.ReadAnswer.{ReadAnswer}
 
 -- whatever an answer computes by
 unfoldable pub computing : Unit {0}
-unfolding fromHex pairs digitsOf bytesAt littleOf littleBytes twoAt fourAt wordBytes listed formatOf riffRow formatRow factRow dataRow headerOf paddedAt metOf chunkAt walkFrom walkOf goodRiff goodFormat goodFact countedOf judgedAt judgedOf fitsMemory cellAt framesOf recorded numberAt storedOf loadedOf any every goodVolume inState startOf isRecordingOf goodRecorder headOf headChangedOf goodHead channelOf changedOf goodVoicesOf goodChannel goodSizes goodSampler capacityOf goodWith setUpNumber setUpOf eachOf answerOf answered writeNumber writeWaveOf waveAfter readNumber readWaveOf readMemory
+unfolding fromHex pairs digitsOf bytesAt littleOf littleBytes twoAt fourAt wordBytes listed formatOf riffRow formatRow factRow dataRow headerOf paddedAt metOf chunkAt walkFrom walkOf goodRiff goodFormat goodFact countedOf judgedAt judgedOf fitsMemory framesOf storedOf loadedOf any every goodVolume inState startOf isRecordingOf goodRecorder headOf headChangedOf goodHead channelOf changedOf goodVoicesOf goodChannel goodSizes goodSampler capacityOf goodWith setUpNumber setUpOf eachOf answerOf answered writeNumber writeWaveOf waveAfter readNumber readWaveOf readMemory
 computing = tt
 
 -- ---- records: two channels with parts of three words, in a memory of seven

@@ -9,6 +9,7 @@ use borrow.Author.Tests.{ne-eqb, eqb-true, le-leb, lt-ltb, le-ltb, ltb-false}
 use lib.Dec.{ltb, eqb}
 use lib.ListN.{length}
 use Rattle.binary32.proofs.Truth.{cond-split}
+use Rattle.wave.specs.declared.Starts.{Starts}
 use Rattle.wave.specs.declared.Layout.{Layout}
 use Rattle.wave.specs.declared.Judged.{Judged}
 use Rattle.wave.specs.declared.Wave.{Wave}
@@ -25,15 +26,16 @@ use Rattle.sampler.proofs.Channels.{short-data}
 use Rattle.questions.specs.declared.Counted.{Counted}
 use Rattle.questions.specs.declared.Counted.the-variants as counted
 use Rattle.questions.specs.Questions.{countedNumber, answered}
-use Rattle.recordings.specs.Waves.{samplesOf, lengthsDiffer, layoutIn, writeNumber, writeWaveOf, waveAfter, badFile, heldIn, readNumber, readWaveOf, readMemory}
+use Rattle.recordings.specs.Waves.{samplesOf, lengthsDiffer, startsIn, layoutIn, writeNumber, writeWaveOf, waveAfter, badFile, heldIn, readNumber, readWaveOf, readMemory}
 use Rattle.recordings.specs.declared.ReadAnswer.{ReadAnswer}
+use Rattle.recordings.proofs.Parts.{starts-fit}
 
 -- ---- writing
 module _ (s : Sampler) (size : ℕ) (good : goodWith s size ≡ true) where
   g : Fitting s size
   g = fitting s size good
 
-  short : samplesOf s ≤ s .capacity
+  pub short : samplesOf s ≤ s .capacity
   short = short-data s 0 (g .good) (g .some)
 
   -- a channel's words, of one channel or two
@@ -43,14 +45,13 @@ module _ (s : Sampler) (size : ℕ) (good : goodWith s size ≡ true) where
       le-trans (le-of-eq (ap (λ (k : Layout). k .channels * k .samples) e)) (omega (arith, a, short, g .small))
 
   pub layout-fits : fitsMemory (layoutIn s) size ≡ true
-  unfolding fitsMemory
-  layout-fits = rw (le-leb 1 (s .count) (g .some), le-leb (samplesOf s) (s .capacity) short, le-leb (s .count * s .capacity) size (g .fits)) refl
+  layout-fits = starts-fit s size (layoutIn s) g refl short refl
 
   pub file-fits : (room : ℕ) → bytesOf (layoutIn s) ≤ room → fitsFile (layoutIn s) room ≡ true
   unfolding fitsFile
   file-fits room h =
       let few = words-few (layoutIn s) refl in
-      rw (lt-ltb (4 * s .count) (2 ^ 16) (omega (arith, g .few)), lt-ltb (bytesOf (layoutIn s)) (2 ^ 32 + 8) (omega (arith, few)), le-leb (bytesOf (layoutIn s)) room h) refl
+      rw (lt-ltb (bytesOf (layoutIn s)) (2 ^ 32 + 8) (omega (arith, few)), le-leb (bytesOf (layoutIn s)) room h) refl
 
 -- what a number of 0 says of a write
 pub record Writes (s : Sampler) (room size : ℕ) : Type 0 where
@@ -113,10 +114,10 @@ module _ (s : Sampler) (f m : List ℕ) where
     unfolding readWaveOf readMemory answerOf
     read-refused h = (simp (← is, ← e, ne-eqb number 0 h), simp (← is, ← e, ne-eqb number 0 h))
 
-    pub read-done : number ≡ 0 → (after : List ℕ) → after ≡ loadedOf f (s .capacity) m → (w : Wave) → w ≡ heldIn j → (a : Sampler) → a ≡ eachOf (Head (Load (w .samples))) s
+    pub read-done : number ≡ 0 → (x : Starts) → x ≡ startsIn s → (after : List ℕ) → after ≡ loadedOf f x m → (w : Wave) → w ≡ heldIn j → (a : Sampler) → a ≡ eachOf (Head (Load (w .samples))) s
         → Reads (record { sampler = a; read = record { rate = w .rate; number = 0 } }) after
     unfolding readWaveOf readMemory answerOf
-    read-done z after l w h a g = (rw (← is, ← e, z, g, h) refl, rw (← is, ← e, z) l)
+    read-done z x k after l w h a g = (rw (← is, ← e, z, g, h) refl, rw (← is, ← e, z, ← k) l)
 
 -- what a number of 0 says of a read
 pub record Loads (s : Sampler) (j : Judged) (size : ℕ) : Type 0 where
@@ -149,7 +150,7 @@ loads-change s j size l = rw (fitting s size (l .good) .good, l .idle, le-ltb (s
 module _ (s : Sampler) (f m : List ℕ) where
   pub read-memory-length : length (readMemory s f m) ≡ length m
   unfolding readMemory
-  read-memory-length = cond-split (λ (x : List ℕ). length x ≡ length m) (eqb (readNumber s (judgedOf f) (length m)) 0) _ _ (λ _. length-loaded f (s .capacity) m) (λ _. refl)
+  read-memory-length = cond-split (λ (x : List ℕ). length x ≡ length m) (eqb (readNumber s (judgedOf f) (length m)) 0) _ _ (λ _. length-loaded f (startsIn s) m) (λ _. refl)
 
   -- a read leaves the record as a change does, or as it was
   pub read-sampler : (P : Sampler → Type 0) → P s → (changeNumber s (Head (Load (heldIn (judgedOf f) .samples))) ≡ 0 → P (changeOf s (Head (Load (heldIn (judgedOf f) .samples))) .sampler)) → P (readWaveOf s f (length m) .sampler)

@@ -6,6 +6,7 @@ use mathlib.Core.List.{List, _++_}
 use lib.Dec.{eqb, ltb}
 use lib.ListN.{length, drop}
 use Rattle.walks.specs.Walks.{any}
+use Rattle.wave.specs.declared.Starts.{Starts}
 use Rattle.wave.specs.declared.Layout.{Layout}
 use Rattle.wave.specs.declared.Wave.{Wave}
 use Rattle.wave.specs.declared.Judged.{Judged}
@@ -34,9 +35,13 @@ samplesOf s = channelAt s 0 .head .«data_len»
 abbrev pub lengthsDiffer : Sampler → Bool
 lengthsDiffer s = any (λ (c : Channel). not (eqb (c .head .«data_len») (samplesOf s))) (present s)
 
--- where the recordings stand in the memory
+-- where each channel's recording begins in the memory: in front of its part
+abbrev pub startsIn : Sampler → Starts
+startsIn s = record { first = 0; second = s .capacity }
+
+-- where the recordings stand in it
 abbrev pub layoutIn : Sampler → Layout
-layoutIn s = record { channels = s .count; capacity = s .capacity; samples = samplesOf s }
+layoutIn s = record { channels = s .count; samples = samplesOf s; starts = startsIn s }
 
 -- "8 for a short output buffer"
 unfoldable pub writeNumber : Sampler → ℕ → ℕ → ℕ
@@ -84,4 +89,4 @@ readWaveOf s f size =
 
 -- the memory: the front of each channel's part is the file's channel
 unfoldable pub readMemory : Sampler → List ℕ → List ℕ → List ℕ
-readMemory s f m = cond (eqb (readNumber s (judgedOf f) (length m)) 0) (loadedOf f (s .capacity) m) m
+readMemory s f m = cond (eqb (readNumber s (judgedOf f) (length m)) 0) (loadedOf f (startsIn s) m) m

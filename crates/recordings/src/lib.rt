@@ -9,6 +9,7 @@ ghost use Rattle.walks.specs.Walks.{any};
 ghost use Rattle.channel.specs.declared.Channel.{Channel};
 ghost use Rattle.sampler.specs.Refusals.{present};
 ghost use Rattle.recordings.specs.Waves.{
+  startsIn,
   layoutIn,
   writeNumber,
   writeWaveOf,
@@ -24,6 +25,7 @@ use sampler::Sampler;
 use sampler::first_of;
 use wave::Judged;
 use wave::Layout;
+use wave::Starts;
 use wave::Wave;
 
 // What a read answers: the file's rate, 0 where it is refused, and the number.
@@ -38,6 +40,16 @@ pub struct ReadAnswer {
     pub read: WaveRead,
 }
 
+// Where each channel's recording begins in the memory: in front of its part.
+fn starts(s: Sampler) -> Starts
+    ensures { λ r. ⌜ r ≡ startsIn s ⌝ }
+{
+    Starts {
+        first: 0,
+        second: s.capacity,
+    }
+}
+
 // Where the recordings stand in the memory; they are as long as channel 0's.
 fn layout(s: Sampler) -> Layout
     ensures { λ r. ⌜ r ≡ layoutIn s ⌝ }
@@ -46,8 +58,8 @@ fn layout(s: Sampler) -> Layout
     let head = c.head;
     Layout {
         channels: s.count,
-        capacity: s.capacity,
         samples: head.data_len,
+        starts: starts(s),
     }
 }
 
@@ -140,7 +152,7 @@ pub fn read_wave(s: Sampler, file: &[u8], memory: &mut [u32]) -> ReadAnswer
             read: WaveRead { rate: 0, number },
         };
     }
-    wave::load(file, s.capacity, memory);
+    wave::load(file, starts(s), memory);
     let w = held(judged);
     let sampler = s.loaded(w.samples);
     ReadAnswer {

@@ -447,8 +447,11 @@ impl Voice {
             voice: self,
             glides: false,
         };
+        if self.phrase != t.phrase {
+            return otherwise;
+        }
         let volume = self.volume;
-        if (self.phrase != t.phrase) | !volume.keeps(t.now) {
+        if !volume.keeps(t.now) {
             return otherwise;
         }
         let clip2 = self.clip2;

@@ -3,7 +3,7 @@ use mathlib.Core.Path.{_≡_, refl, sym, ap, _∙_, subst}
 use mathlib.Core.Bool.{Bool, true, _&&_, _||_}
 use mathlib.Core.List.{List, [], _∷_, _++_, append-assoc}
 use mathlib.Core.Logic.{⊎-elim}
-use Prim.Native.Nat.{ℕ, _+_, _-_, _*_, _/_, _%_, _^_, _≤_, _<_}
+use Prim.Native.Nat.{ℕ, _+_, _*_, _/_, _%_, _^_, _≤_, _<_}
 use native.Mathlib.Nat.{mul-assoc, mul-comm, div-add-mod', mul-mod-right, mul-div-right, le-mul-of-pos-right}
 use native.Mathlib.Omega.{arith}
 use lib.Dec.{eqb}
@@ -16,7 +16,7 @@ use Rattle.octets.specs.Octets.{Bytes, littleBytes}
 use Rattle.octets.proofs.Orders.{length-little}
 use Rattle.wave.specs.Fields.{twoAt, fourAt, riffId, waveId, factId, wordBytes, listed}
 use Rattle.wave.specs.Files.{formatOf}
-use Rattle.wave.specs.Reader.{missing, nowhere, walkOf, goodRiff, channelsAt, goodFormat, goodFact, countedOf, judgedAt, judgedIn, judgedOf, wordAt, readIn, readOf}
+use Rattle.wave.specs.Reader.{missing, nowhere, walkOf, goodRiff, channelsAt, goodFormat, goodFact, countedOf, judgedAt, judgedIn, judgedOf, wordsIn, readIn, readOf}
 use Rattle.wave.specs.Reader.Reading.{is}
 use Rattle.wave.specs.Grammar.{Chunk, Chunks, IsWave}
 use Rattle.wave.specs.declared.chunks.Places.{Places}
@@ -219,12 +219,12 @@ module _ (f : List ℕ) (bytes : Bytes f) where
         }
     good (c ∷ d ∷ e ∷ mains) facts t m k = absurd m
 
-  pub answer-good : (w : Wave) → judgedOf f ≡ Is w → IsWave f (w .rate) (w .channels) (listed (wordAt f w) 0 (w .channels * w .samples))
+  pub answer-good : (w : Wave) → judgedOf f ≡ Is w → IsWave f (w .rate) (w .channels) (wordsIn f w)
   unfolding walkOf
   answer-good w e =
       let r = judged-rests f w e in
       let t = walk-tiled (length f) f 12 nowhere (r .places) [] [] bytes (omega arith) (omega arith) (record { mains-held = (refl, refl); facts-held = refl }) (r .met) in
-      subst (λ (v : Wave). IsWave f (v .rate) (v .channels) (listed (wordAt f v) 0 (v .channels * v .samples))) (sym (r .answer))
+      subst (λ (v : Wave). IsWave f (v .rate) (v .channels) (wordsIn f v)) (sym (r .answer))
       (good w r (t .more-mains) (t .more-facts) (t .tiles) (t .held .mains-held) (t .held .facts-held))
 
 -- ---- a good file is answered
@@ -348,7 +348,7 @@ module _ (f : List ℕ) (rate channels : ℕ) (words : List ℕ) (g : IsWave f r
     pub same-rate : wave .rate ≡ rate
     pub same-channels : wave .channels ≡ channels
     pub same-samples : wave .samples ≡ g .samples
-    pub same-words : listed (wordAt f wave) 0 (wave .channels * wave .samples) ≡ words
+    pub same-words : wordsIn f wave ≡ words
 
   pub good-known : Known
   unfolding walkOf
@@ -371,7 +371,7 @@ answered f rate channels words bytes = go (judgedOf f) refl
   where
     go : (j : Judged) → judgedOf f ≡ j → readIn f j ≡ is rate channels words → IsWave f rate channels words
     go (Is w) e h =
-        let l : listed (wordAt f w) 0 (w .channels * w .samples) ≡ words = cc in
+        let l : wordsIn f w ≡ words = cc in
         let c : w .channels ≡ channels = cc in
         let r : w .rate ≡ rate = cc in
         rw (l, c, r) at (answer-good f bytes w e)

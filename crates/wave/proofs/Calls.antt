@@ -10,8 +10,9 @@ use lib.Seq.{sets}
 use Rattle.walks.proofs.Lists.Runs.{run-front}
 use Rattle.wave.specs.Fields.{wordBytes}
 use Rattle.wave.specs.Files.{headerOf, fileOf}
-use Rattle.wave.specs.Reader.{wordAt, judgedOf}
+use Rattle.wave.specs.Reader.{wordsIn, judgedOf}
 use Rattle.wave.specs.Memory.{fitsMemory, framesOf, storedOf, bytesOf, fitsFile, writes, writtenOf, outputOf, layoutOf, loads, loadedIn, loadedOf}
+use Rattle.wave.specs.declared.Starts.{Starts}
 use Rattle.wave.specs.declared.Layout.{Layout}
 use Rattle.wave.specs.declared.Wave.{Wave}
 use Rattle.wave.specs.declared.Judged.{Judged}
@@ -19,6 +20,7 @@ use Rattle.wave.specs.declared.Judged.the-variants.{Is, Refused}
 use Rattle.wave.proofs.Standing.{length-words, length-listed}
 use Rattle.wave.proofs.Judgements.{both}
 use Rattle.wave.proofs.Layouts.{file-true}
+use Rattle.wave.proofs.Copies.{length-stored}
 use Rattle.wave.proofs.Rows.{after, length-header}
 
 -- ---- writing
@@ -49,25 +51,25 @@ module _ (rate : ℕ) (l : Layout) (m out : List ℕ) where
       (rw (e, g), rw (e, g, ← long) (stored ∙ run-front out whole (omega arith)))
 
 -- ---- reading
-module _ (f : List ℕ) (capacity : ℕ) (m : List ℕ) where
-  pub load-refused : judgedOf f ≡ Refused → (false ≡ loads f capacity (length m)) × (m ≡ loadedOf f capacity m)
+module _ (f : List ℕ) (starts : Starts) (m : List ℕ) where
+  pub load-refused : judgedOf f ≡ Refused → (false ≡ loads f starts (length m)) × (m ≡ loadedOf f starts m)
   unfolding loads loadedOf
   load-refused e = (rw e, rw e)
 
-  pub load-short : (w : Wave) → judgedOf f ≡ Is w → fitsMemory (layoutOf w capacity) (length m) ≡ false → (false ≡ loads f capacity (length m)) × (m ≡ loadedOf f capacity m)
+  pub load-short : (w : Wave) → judgedOf f ≡ Is w → fitsMemory (layoutOf w starts) (length m) ≡ false → (false ≡ loads f starts (length m)) × (m ≡ loadedOf f starts m)
   unfolding loads loadedOf
   load-short w e g = (rw (e, g), rw (e, g))
 
-  pub load-done : (w : Wave) → judgedOf f ≡ Is w → fitsMemory (layoutOf w capacity) (length m) ≡ true
-      → (true ≡ loads f capacity (length m)) × (storedOf (layoutOf w capacity) (wordAt f w) m ≡ loadedOf f capacity m)
+  pub load-done : (w : Wave) → judgedOf f ≡ Is w → fitsMemory (layoutOf w starts) (length m) ≡ true
+      → (true ≡ loads f starts (length m)) × (storedOf (layoutOf w starts) (wordsIn f w) m ≡ loadedOf f starts m)
   unfolding loads loadedOf
   load-done w e g = (rw (e, g), rw (e, g))
 
   -- the memory keeps its length
-  pub length-loaded : length (loadedOf f capacity m) ≡ length m
-  unfolding loadedOf storedOf
+  pub length-loaded : length (loadedOf f starts m) ≡ length m
+  unfolding loadedOf
   length-loaded = go (judgedOf f)
     where
-      go : (j : Judged) → length (loadedIn f capacity m j) ≡ length m
-      go (Is w) = both (λ (x : List ℕ). length x ≡ length m) (fitsMemory (layoutOf w capacity) (length m)) _ _ (λ _. length-listed _ 0 (length m)) (λ _. refl)
+      go : (j : Judged) → length (loadedIn f starts m j) ≡ length m
+      go (Is w) = both (λ (x : List ℕ). length x ≡ length m) (fitsMemory (layoutOf w starts) (length m)) _ _ (λ _. length-stored (layoutOf w starts) (wordsIn f w) m) (λ _. refl)
       go Refused = refl

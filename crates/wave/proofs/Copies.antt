@@ -1,76 +1,28 @@
--- The loops that copy words, step by step: what is left of the work gives what the whole does. Assumes nothing.
+-- The words that are copied: lists of them, and what a run of stores leaves. Assumes nothing.
 use mathlib.Core.Path.{_≡_, refl, sym, ap, _∙_}
-use mathlib.Core.Bool.{Bool, true, false, cond, _&&_}
-use mathlib.Core.List.{List, _∷_}
-use Prim.Native.Nat.{ℕ, zero, suc, _+_, _-_, _*_, _≤_, _<_}
-use native.Mathlib.Nat.{add-zero, zero-add}
+use mathlib.Core.Bool.{Bool, true, false, cond}
+use mathlib.Core.List.{List, [], _∷_, _++_, append-assoc, append-nil}
+use mathlib.Core.Logic.{_⊎_, inl, inr}
+use Prim.Native.Nat.{ℕ, zero, suc, _+_, _*_, _≤_, _<_}
+use native.Mathlib.Nat.{add-zero, zero-add, zero-mul, suc-add, add-mul, mul-comm}
 use native.Mathlib.Omega.{arith}
-use lib.Dec.{ltb, eqb}
+use lib.Dec.{eqb}
 use lib.ListN.{length, getD, set, length-set}
-use lib.Seq.{sets, length-sets, ext-getD, getD-set-same, getD-set-other}
-use borrow.Author.Tests.{eqb-true, eqb-false, ltb-true, ltb-false, lt-ltb, le-ltb}
+use lib.Seq.{sets, length-sets, getD-set-same, getD-set-other}
+use borrow.Author.Tests.{ne-eqb}
 use Rattle.walks.proofs.Lists.Runs.{run-append}
 use Rattle.octets.specs.Octets.{littleBytes}
 use Rattle.octets.proofs.Orders.{length-little}
-use Rattle.wave.specs.Fields.{wordBytes, listed}
-use Rattle.wave.specs.Memory.{firstCell, cellAt, framesOf, recorded, numberAt, storedOf}
+use Rattle.wave.specs.Fields.{fourAt, wordBytes, listed}
+use Rattle.wave.specs.Reader.{wordsIn}
+use Rattle.wave.specs.Memory.{startAt, wordOf, framesOf, channelOf, channelStored, storedOf}
 use Rattle.wave.specs.declared.Layout.{Layout}
-use Rattle.wave.specs.declared.words.Cell.{Cell}
-use Rattle.wave.proofs.Standing.{length-listed}
-use Rattle.wave.proofs.Layouts.{off, Fits, cell-begins, number-of-cell, cell-of-number, number-below}
+use Rattle.wave.specs.declared.Wave.{Wave}
+use Rattle.wave.proofs.Standing.{length-words, length-listed}
+use Rattle.wave.proofs.Layouts.{parted}
+use Rattle.wave.proofs.Rows.{after}
 
--- one number less is left
-pub listed-next : (g : ℕ → ℕ) (k n : ℕ) → k < n → listed g k (n - k) ≡ g k ∷ listed g (k + 1) (n - (k + 1))
-unfolding listed
-listed-next g k n h =
-    let more : n - k ≡ suc (n - (k + 1)) = omega arith in
-    rw more
-
-pub listed-same : (g h : ℕ → ℕ) (k n : ℕ) → ((x : ℕ) → x < k + n → g x ≡ h x) → listed g k n ≡ listed h k n
-unfolding listed
-listed-same g h k zero e = refl
-listed-same g h k (suc n) e = rw (e k (omega arith), listed-same g h (k + 1) n (λ x less. e x (omega arith)))
-
--- ---- from a memory to a file
-abbrev pub wordOf : Layout → List ℕ → ℕ → ℕ
-wordOf l m k = getD m (cellAt l k .word) 0
-
-pub record Writing (l : Layout) (m out₀ : List ℕ) (out : List ℕ) (cell : Cell) (k : ℕ) : Type 0 where
-  pub counted : k ≤ l .channels * l .samples
-  pub here : cell ≡ cellAt l k
-  pub kept : length out ≡ length out₀
-  pub left : sets out (58 + 4 * k) (wordBytes (listed (wordOf l m) k (l .channels * l .samples - k))) ≡ sets out₀ 58 (wordBytes (framesOf l m))
-
-pub writing-begins : (l : Layout) (m out : List ℕ) (cell : Cell) → cell ≡ firstCell → Writing l m out out cell 0
-unfolding framesOf
-writing-begins l m out cell e =
-    let all : l .channels * l .samples - 0 ≡ l .channels * l .samples = omega arith in
-    record { counted = omega arith; here = e ∙ cell-begins l; kept = refl; left = rw all }
-
-pub writing-goes : (l : Layout) (m out₀ out : List ℕ) (cell : Cell) (k : ℕ) (new : List ℕ) (next : Cell) → Writing l m out₀ out cell k
-    → k < l .channels * l .samples → new ≡ sets out (58 + 4 * k) (littleBytes 4 (getD m (cell .word) 0)) → next ≡ cellAt l (k + 1) → Writing l m out₀ new next (k + 1)
-unfolding wordBytes
-writing-goes l m out₀ out cell k new next w h e n =
-    let word : getD m (cell .word) 0 ≡ wordOf l m k = ap (λ (p : Cell). getD m (p .word) 0) (w .here) in
-    let rest = wordBytes (listed (wordOf l m) (k + 1) (l .channels * l .samples - (k + 1))) in
-    let at : 58 + 4 * (k + 1) ≡ 58 + 4 * k + length (littleBytes 4 (wordOf l m k)) = omega (arith, length-little 4 (wordOf l m k)) in
-    record {
-      counted = omega arith;
-      here = n;
-      kept = ap length e ∙ length-sets out (58 + 4 * k) (littleBytes 4 (getD m (cell .word) 0)) ∙ w .kept;
-      left = rw (e, word, at) (run-append out (littleBytes 4 (wordOf l m k)) rest (58 + 4 * k)
-          ∙ ap (λ (ws : List ℕ). sets out (58 + 4 * k) (wordBytes ws)) (sym (listed-next (wordOf l m) k (l .channels * l .samples) h)) ∙ w .left);
-    }
-
-pub writing-ends : (l : Layout) (m out₀ out : List ℕ) (cell : Cell) (k : ℕ) → Writing l m out₀ out cell k → l .channels * l .samples ≤ k
-    → out ≡ sets out₀ 58 (wordBytes (framesOf l m))
-unfolding wordBytes listed
-writing-ends l m out₀ out cell k w h =
-    let none : l .channels * l .samples - k ≡ 0 = omega arith in
-    rw none at (w .left)
-
--- ---- from a file to a memory
-
+-- ---- lists of words
 pub getD-listed : (g : ℕ → ℕ) (k n i : ℕ) → i < n → getD (listed g k n) i 0 ≡ g (k + i)
 unfolding listed
 getD-listed g k zero i h = absurd (omega arith)
@@ -79,85 +31,122 @@ getD-listed g k (suc n) (suc i) h =
     let same : k + 1 + i ≡ k + suc i = omega arith in
     getD-listed g (k + 1) n i (omega arith) ∙ ap g same
 
-next-test : (n k : ℕ) → (n ≡ k → ⊥) → ltb n (k + 1) ≡ ltb n k
-next-test n k h = go (ltb n k) refl
+listed-append : (g : ℕ → ℕ) (k a b : ℕ) → listed g k (a + b) ≡ listed g k a ++ listed g (k + a) b
+unfolding listed
+listed-append g k zero b = rw (zero-add b, add-zero k)
+listed-append g k (suc a) b =
+    let same : k + 1 + a ≡ k + suc a = omega arith in
+    rw (suc-add a b, listed-append g (k + 1) a b, same)
+
+words-append : (xs ys : List ℕ) → wordBytes (xs ++ ys) ≡ wordBytes xs ++ wordBytes ys
+unfolding wordBytes
+words-append [] ys = refl
+words-append (x ∷ xs) ys = rw (words-append xs ys) (sym (append-assoc (littleBytes 4 x) (wordBytes xs) (wordBytes ys)))
+
+-- ---- from a memory to a file, frame by frame
+module _ (l : Layout) (m : List ℕ) where
+  -- sample i of channel j
+  pub word-is : (i j : ℕ) → j < l .channels → wordOf l m (i * l .channels + j) ≡ getD m (startAt (l .starts) j + i) 0
+  word-is i j h = let known = parted (l .channels) i j h in rw (known .0, known .1)
+
+  abbrev pub frameBytes : ℕ → List ℕ
+  frameBytes i = wordBytes (listed (wordOf l m) (i * l .channels) (l .channels))
+
+  first-is : (i : ℕ) → 1 ≤ l .channels → wordOf l m (i * l .channels) ≡ getD m (l .starts .first + i) 0
+  first-is i h = ap (wordOf l m) (sym (add-zero (i * l .channels))) ∙ word-is i 0 h
+
+  module _ (out : List ℕ) where
+    pub frame-one : {x : List ℕ} (i : ℕ) → l .channels ≡ 1 → x ≡ sets out (58 + 4 * (i * l .channels)) (littleBytes 4 (getD m (l .starts .first + i) 0))
+        → x ≡ sets out (58 + 4 * (i * l .channels)) (frameBytes i)
+    unfolding wordBytes listed
+    frame-one i one e =
+        e ∙ ap (sets out (58 + 4 * (i * l .channels))) (sym (ap (λ (n : ℕ). wordBytes (listed (wordOf l m) (i * l .channels) n)) one
+        ∙ append-nil (littleBytes 4 (wordOf l m (i * l .channels))) ∙ ap (littleBytes 4) (first-is i (omega arith))))
+
+    pub frame-two : {x y : List ℕ} (i : ℕ) → l .channels ≡ 2 → x ≡ sets out (58 + 4 * (i * l .channels)) (littleBytes 4 (getD m (l .starts .first + i) 0))
+        → y ≡ sets x (58 + 4 * (i * l .channels) + 4) (littleBytes 4 (getD m (l .starts .second + i) 0)) → y ≡ sets out (58 + 4 * (i * l .channels)) (frameBytes i)
+    unfolding wordBytes listed
+    frame-two i two e h =
+        let a = getD m (l .starts .first + i) 0 in
+        let b = getD m (l .starts .second + i) 0 in
+        let both : frameBytes i ≡ littleBytes 4 a ++ littleBytes 4 b =
+        ap (λ (n : ℕ). wordBytes (listed (wordOf l m) (i * l .channels) n)) two ∙ rw (first-is i (omega arith), word-is i 1 (omega arith), append-nil (littleBytes 4 b)) in
+        rw both (after out (58 + 4 * (i * l .channels)) _ (littleBytes 4 a) (littleBytes 4 b) (rw (length-little 4 a)) e h)
+
+    -- with the first i frames
+    unfoldable pub writtenTo : ℕ → List ℕ
+    writtenTo i = sets out 58 (wordBytes (listed (wordOf l m) 0 (i * l .channels)))
+
+    pub length-written : (i : ℕ) → length (writtenTo i) ≡ length out
+    unfolding writtenTo
+    length-written i = length-sets out 58 (wordBytes (listed (wordOf l m) 0 (i * l .channels)))
+
+    pub written-none : out ≡ writtenTo 0
+    unfolding writtenTo wordBytes listed
+    written-none = rw (zero-mul (l .channels))
+
+    pub written-next : (now : List ℕ) (i : ℕ) → now ≡ writtenTo i → sets now (58 + 4 * (i * l .channels)) (frameBytes i) ≡ writtenTo (i + 1)
+    unfolding writtenTo
+    written-next now i e =
+        let n = i * l .channels in
+        let before = listed (wordOf l m) 0 n in
+        let at : 58 + length (wordBytes before) ≡ 58 + 4 * n = omega (arith, length-words before, length-listed (wordOf l m) 0 n) in
+        let more : (i + 1) * l .channels ≡ n + l .channels = omega (arith, add-mul i 1 (l .channels)) in
+        let all : wordBytes before ++ frameBytes i ≡ wordBytes (listed (wordOf l m) 0 ((i + 1) * l .channels)) =
+        sym (words-append before (listed (wordOf l m) n (l .channels)))
+        ∙ ap wordBytes (sym (ap (listed (wordOf l m) 0) more ∙ listed-append (wordOf l m) 0 n (l .channels) ∙ rw (zero-add n))) in
+        rw (e, ← at) (run-append out (wordBytes before) (frameBytes i) 58 ∙ ap (sets out 58) all)
+
+    pub written-all : (i : ℕ) → i ≡ l .samples → writtenTo i ≡ sets out 58 (wordBytes (framesOf l m))
+    unfolding writtenTo framesOf
+    written-all i e = rw (e, mul-comm (l .samples) (l .channels))
+
+-- ---- to a memory, sample by sample
+pub word-at : (f : List ℕ) (w : Wave) (k : ℕ) → k < w .channels * w .samples → getD (wordsIn f w) k 0 ≡ fourAt f (w .first + 4 * k)
+word-at f w k h = getD-listed _ 0 (w .channels * w .samples) k h ∙ ap (λ (n : ℕ). fourAt f (w .first + 4 * n)) (zero-add k)
+
+pub stored-next : (m₀ : List ℕ) (start : ℕ) (g : ℕ → ℕ) (m : List ℕ) (i word : ℕ) → m ≡ sets m₀ start (listed g 0 i) → word ≡ g i
+    → set m (start + i) word ≡ sets m₀ start (listed g 0 (i + 1))
+unfolding listed
+stored-next m₀ start g m i word e h =
+    let more : listed g 0 (i + 1) ≡ listed g 0 i ++ (g i ∷ []) = listed-append g 0 i 1 ∙ rw (zero-add i) in
+    rw (e, h, more) (ap (λ (n : ℕ). set (sets m₀ start (listed g 0 i)) (start + n) (g i)) (sym (length-listed g 0 i)) ∙ run-append m₀ (listed g 0 i) (g i ∷ []) start)
+
+pub stored-length : (m₀ : List ℕ) (start : ℕ) (g : ℕ → ℕ) (m : List ℕ) (i : ℕ) → m ≡ sets m₀ start (listed g 0 i) → length m ≡ length m₀
+stored-length m₀ start g m i e = ap length e ∙ length-sets m₀ start (listed g 0 i)
+
+-- of one channel, and of two
+pub stored-one : (l : Layout) (words m : List ℕ) → (l .channels ≡ 2 → ⊥) → storedOf l words m ≡ channelStored l words 0 m
+unfolding storedOf
+stored-one l words m h = rw (ne-eqb (l .channels) 2 h)
+
+pub stored-two : (l : Layout) (words m : List ℕ) → l .channels ≡ 2 → storedOf l words m ≡ channelStored l words 1 (channelStored l words 0 m)
+unfolding storedOf
+stored-two l words m h = rw h
+
+pub length-stored : (l : Layout) (words m : List ℕ) → length (storedOf l words m) ≡ length m
+unfolding storedOf
+length-stored l words m = go (eqb (l .channels) 2)
   where
-    go : (t : Bool) → ltb n k ≡ t → ltb n (k + 1) ≡ t
-    go true e = lt-ltb n (k + 1) (omega (arith, ltb-true n k e))
-    go false e = le-ltb n (k + 1) (omega (arith, ltb-false n k e))
+    one : length (channelStored l words 0 m) ≡ length m
+    one = length-sets m _ (channelOf (l .channels) (l .samples) 0 words)
 
--- with the words before number k
-abbrev pub elementAt : Layout → (ℕ → ℕ) → List ℕ → ℕ → ℕ → ℕ
-elementAt l g m k x = cond (recorded l x && ltb (numberAt l x) k) (g (numberAt l x)) (getD m x 0)
+    go : (t : Bool) → length (cond t (channelStored l words 1 (channelStored l words 0 m)) (channelStored l words 0 m)) ≡ length m
+    go true = length-sets (channelStored l words 0 m) _ (channelOf (l .channels) (l .samples) 1 words) ∙ one
+    go false = one
 
-module _ (l : Layout) (g : ℕ → ℕ) (m : List ℕ) where
-  unfoldable pub storedTo : ℕ → List ℕ
-  storedTo k = listed (elementAt l g m k) 0 (length m)
+-- ---- what a run of stores leaves
+module _ (d : ℕ) where
+  pub run-else : (vs l : List ℕ) (at x : ℕ) → (x < at) ⊎ (at + length vs ≤ x) → getD (sets l at vs) x d ≡ getD l x d
+  run-else [] l at x h = refl
+  run-else (a ∷ vs) l at x (inl h) = run-else vs (set l at a) (suc at) x (inl (omega arith)) ∙ getD-set-other l at x a d (λ e. omega arith)
+  run-else (a ∷ vs) l at x (inr h) = run-else vs (set l at a) (suc at) x (inr (omega arith)) ∙ getD-set-other l at x a d (λ e. omega arith)
 
-  pub length-stored : (k : ℕ) → length (storedTo k) ≡ length m
-  unfolding storedTo
-  length-stored k = length-listed (elementAt l g m k) 0 (length m)
-
-  stored-at : (k x : ℕ) → x < length m → getD (storedTo k) x 0 ≡ elementAt l g m k x
-  unfolding storedTo
-  stored-at k x h = getD-listed (elementAt l g m k) 0 (length m) x h ∙ ap (elementAt l g m k) (zero-add x)
-
-  pub stored-none : m ≡ storedTo 0
-  stored-none = ext-getD 0 m (storedTo 0) (sym (length-stored 0)) (λ x h. sym (stored-at 0 x h ∙ simp (le-ltb (numberAt l x) 0 (omega arith), off (recorded l x))))
-
-  pub stored-all : (k : ℕ) → l .channels * l .samples ≤ k → storedTo k ≡ storedOf l g m
-  unfolding storedTo storedOf
-  stored-all k h = listed-same (elementAt l g m k) _ 0 (length m) (λ x less. go x (recorded l x) refl)
-    where
-      go : (x : ℕ) (t : Bool) → recorded l x ≡ t → cond (t && ltb (numberAt l x) k) (g (numberAt l x)) (getD m x 0) ≡ cond t (g (numberAt l x)) (getD m x 0)
-      go x true e = simp (lt-ltb (numberAt l x) k (omega (arith, number-below l x e)))
-      go x false e = refl
-
-  -- one word more
-  module _ (k : ℕ) (fits : Fits l (length m)) (h : k < l .channels * l .samples) where
-    here-at : elementAt l g m (k + 1) (cellAt l k .word) ≡ g k
-    here-at =
-        let known = number-of-cell l (length m) k fits h in
-        rw (known .0, known .1, lt-ltb k (k + 1) (omega arith))
-
-    else-at : (x : ℕ) (t : Bool) → recorded l x ≡ t → (x ≡ cellAt l k .word → ⊥)
-        → cond (t && ltb (numberAt l x) (k + 1)) (g (numberAt l x)) (getD m x 0) ≡ cond (t && ltb (numberAt l x) k) (g (numberAt l x)) (getD m x 0)
-    else-at x true e other =
-        let differs : (numberAt l x ≡ k → ⊥) = λ same. other (sym (cell-of-number l x e) ∙ ap (λ (n : ℕ). cellAt l n .word) same) in
-        rw (next-test (numberAt l x) k differs)
-    else-at x false e other = refl
-
-    pub stored-next : set (storedTo k) (cellAt l k .word) (g k) ≡ storedTo (k + 1)
-    stored-next =
-        ext-getD 0 (set (storedTo k) (cellAt l k .word) (g k)) (storedTo (k + 1))
-        (length-set (storedTo k) (cellAt l k .word) (g k) ∙ length-stored k ∙ sym (length-stored (k + 1)))
-        (λ x less. go x (omega (arith, length-set (storedTo k) (cellAt l k .word) (g k), length-stored k)) (eqb x (cellAt l k .word)) refl)
-      where
-        go : (x : ℕ) → x < length m → (t : Bool) → eqb x (cellAt l k .word) ≡ t → getD (set (storedTo k) (cellAt l k .word) (g k)) x 0 ≡ getD (storedTo (k + 1)) x 0
-        go x less true e =
-            let same : x ≡ cellAt l k .word = eqb-true _ _ e in
-            rw same (getD-set-same (storedTo k) (cellAt l k .word) (g k) 0 (omega (arith, length-stored k))
-            ∙ sym (stored-at (k + 1) (cellAt l k .word) (omega arith) ∙ here-at))
-        go x less false e =
-            getD-set-other (storedTo k) (cellAt l k .word) x (g k) 0 (eqb-false _ _ e)
-            ∙ stored-at k x less ∙ sym (else-at x (recorded l x) refl (eqb-false _ _ e)) ∙ sym (stored-at (k + 1) x less)
-
-pub record Storing (l : Layout) (g : ℕ → ℕ) (m₀ : List ℕ) (m : List ℕ) (cell : Cell) (k : ℕ) : Type 0 where
-  pub counted : k ≤ l .channels * l .samples
-  pub here : cell ≡ cellAt l k
-  pub stored : m ≡ storedTo l g m₀ k
-
-module _ (l : Layout) (g : ℕ → ℕ) (m₀ : List ℕ) where
-  pub storing-begins : (cell : Cell) → cell ≡ firstCell → Storing l g m₀ m₀ cell 0
-  storing-begins cell e = record { counted = omega arith; here = e ∙ cell-begins l; stored = stored-none l g m₀ }
-
-  pub storing-keeps : (m : List ℕ) (cell : Cell) (k : ℕ) → Storing l g m₀ m cell k → length m ≡ length m₀
-  storing-keeps m cell k s = ap length (s .stored) ∙ length-stored l g m₀ k
-
-  pub storing-goes : (m : List ℕ) (cell : Cell) (k : ℕ) (next : Cell) (word : ℕ) → Storing l g m₀ m cell k → Fits l (length m₀) → k < l .channels * l .samples
-      → word ≡ g k → next ≡ cellAt l (k + 1) → Storing l g m₀ (set m (cell .word) word) next (k + 1)
-  storing-goes m cell k next word s fits h e n =
-      record { counted = omega arith; here = n; stored = rw (e, s .here, s .stored) (stored-next l g m₀ k fits h) }
-
-  pub storing-ends : (m : List ℕ) (cell : Cell) (k : ℕ) → Storing l g m₀ m cell k → l .channels * l .samples ≤ k → m ≡ storedOf l g m₀
-  storing-ends m cell k s h = s .stored ∙ stored-all l g m₀ k h
+  pub run-at : (vs l : List ℕ) (at i : ℕ) → i < length vs → at + length vs ≤ length l → getD (sets l at vs) (at + i) d ≡ getD vs i d
+  run-at [] l at i h k = absurd (omega arith)
+  run-at (a ∷ vs) l at zero h k =
+      ap (λ (x : ℕ). getD (sets (set l at a) (suc at) vs) x d) (add-zero at)
+      ∙ run-else vs (set l at a) (suc at) at (inl (omega arith)) ∙ getD-set-same l at a d (omega arith)
+  run-at (a ∷ vs) l at (suc i) h k =
+      let same : at + suc i ≡ suc at + i = omega arith in
+      rw same (run-at vs (set l at a) (suc at) i (omega arith) (omega (arith, length-set l at a)))

@@ -11,12 +11,13 @@ use Rattle.wave.specs.Fields.{twoAt, fourAt, riffId, waveId, formatId, f
 use Rattle.wave.specs.Files.{formatOf, riffRow, formatRow, factRow, dataRow, headerOf, fileOf}
 use Rattle.wave.specs.Reader.{paddedAt, metOf, chunkAt, walkFrom, walkOf, goodRiff, goodFormat, goodFact, countedOf, judgedAt, judgedOf, numberOf, Reading, readOf}
 use Rattle.wave.specs.Reader.Reading.{is, refused}
-use Rattle.wave.specs.Memory.{fitsMemory, cellAt, framesOf, recorded, numberAt, storedOf, fitsFile, writes, writtenOf, outputOf, loads, loadedOf}
+use Rattle.wave.specs.Memory.{fitsMemory, framesOf, storedOf, fitsFile, writes, writtenOf, outputOf, loads, loadedOf}
+use Rattle.wave.specs.declared.Starts.{Starts}
 use Rattle.wave.specs.declared.Layout.{Layout}
 
 -- whatever an answer computes by
 computing : Unit {0}
-unfolding fromHex pairs digitsOf bytesAt littleOf littleBytes twoAt fourAt wordBytes listed formatOf riffRow formatRow factRow dataRow headerOf paddedAt metOf chunkAt walkFrom walkOf goodRiff goodFormat goodFact countedOf judgedAt judgedOf numberOf readOf fitsMemory cellAt framesOf recorded numberAt storedOf fitsFile writes writtenOf outputOf loads loadedOf
+unfolding fromHex pairs digitsOf bytesAt littleOf littleBytes twoAt fourAt wordBytes listed formatOf riffRow formatRow factRow dataRow headerOf paddedAt metOf chunkAt walkFrom walkOf goodRiff goodFormat goodFact countedOf judgedAt judgedOf numberOf readOf fitsMemory framesOf storedOf fitsFile writes writtenOf outputOf loads loadedOf
 computing = tt
 
 -- the ids are their letters
@@ -129,9 +130,12 @@ numbers : map (λ (f : List ℕ). numberOf (judgedOf f)) (wave good ∷ wave "" 
 unfolding computing
 numbers = refl
 
--- ---- written: two channels of a memory with parts of three words, one sample each, as above
+-- ---- written: two channels of a memory from places 0 and 3 on, one sample each, as above
+abbrev starting : ℕ → ℕ → Starts
+starting first second = record { first = first; second = second }
+
 abbrev layout : ℕ → Layout
-layout samples = record { channels = 2; capacity = 3; samples = samples }
+layout samples = record { channels = 2; samples = samples; starts = starting 0 3 }
 
 abbrev memory : List ℕ
 memory = 0x3F800000 ∷ 11 ∷ 12 ∷ 0x7FC00001 ∷ 21 ∷ 22 ∷ 99 ∷ []
@@ -144,6 +148,14 @@ frames : framesOf (layout 3) memory ≡ 0x3F800000 ∷ 0x7FC00001 ∷ 11 ∷ 21 
 unfolding computing
 frames = refl
 
+-- one channel, and two, each from a place of its own on
+abbrev placed : ℕ → ℕ → ℕ → ℕ → Layout
+placed channels samples first second = record { channels = channels; samples = samples; starts = starting first second }
+
+elsewhere : map (λ (l : Layout). framesOf l memory) (placed 1 2 4 0 ∷ placed 2 2 1 5 ∷ []) ≡ (21 ∷ 22 ∷ []) ∷ (11 ∷ 22 ∷ 12 ∷ 99 ∷ []) ∷ []
+unfolding computing
+elsewhere = refl
+
 empty : fileOf 0 2 0 (framesOf (layout 0) memory) ≡ wave "666D7420 12000000 0300 0200 00000000 00000000 0800 2000 0000 66616374 04000000 00000000 64617461 00000000"
 unfolding computing
 empty = refl
@@ -153,7 +165,7 @@ rates : map (λ (rate : ℕ). fourAt (headerOf rate 2 0) 28) (0x20000000 ∷ 0x2
 unfolding computing
 rates = refl
 
--- no room for the last byte; a longer output keeps its rest; more samples than a part has, a memory too short for its parts, no channel, too many
+-- no room for the last byte; a longer output keeps its rest
 rooms : map (λ (room : ℕ). writtenOf (layout 1) 7 room) (65 ∷ 66 ∷ 67 ∷ []) ≡ 0 ∷ 66 ∷ 66 ∷ []
 unfolding computing
 rooms = refl
@@ -162,32 +174,36 @@ kept : outputOf 44100 (layout 1) memory (littleBytes 68 0xFFFF) ≡ wave good ++
 unfolding computing
 kept = refl
 
-unfit : map (λ (l : Layout). writtenOf l 6 (2 ^ 40)) (layout 3 ∷ layout 4 ∷ record { channels = 2; capacity = 4; samples = 0 } ∷ record { channels = 0; capacity = 3; samples = 0 }
-    ∷ record { channels = 16383; capacity = 0; samples = 0 } ∷ record { channels = 16384; capacity = 0; samples = 0 } ∷ []) ≡ 82 ∷ 0 ∷ 0 ∷ 0 ∷ 58 ∷ 0 ∷ []
+-- a recording that meets the next one, or the memory's end, and one sample more; no channel, a third
+unfit : map (λ (l : Layout). writtenOf l 6 (2 ^ 40)) (layout 3 ∷ layout 4 ∷ placed 2 2 0 4 ∷ placed 2 2 0 5 ∷ placed 2 2 3 4 ∷ placed 2 0 0 6 ∷ placed 2 0 0 7 ∷ placed 2 0 1 0
+    ∷ placed 1 2 4 0 ∷ placed 1 2 5 0 ∷ placed 0 0 0 0 ∷ placed 3 0 0 0 ∷ []) ≡ 82 ∷ 0 ∷ 74 ∷ 0 ∷ 0 ∷ 58 ∷ 0 ∷ 0 ∷ 66 ∷ 0 ∷ 0 ∷ 0 ∷ []
 unfolding computing
 unfit = refl
 
 -- the most bytes that a size has: 50 + 4 * samples is 2 ^ 32 - 2, and then 2 ^ 32 + 2
-largest : map (λ (n : ℕ). writtenOf (record { channels = 1; capacity = n; samples = n }) (2 ^ 40) (2 ^ 40)) (1073741811 ∷ 1073741812 ∷ []) ≡ 0x100000006 ∷ 0 ∷ []
+largest : map (λ (n : ℕ). writtenOf (placed 1 n 0 0) (2 ^ 40) (2 ^ 40)) (1073741811 ∷ 1073741812 ∷ []) ≡ 0x100000006 ∷ 0 ∷ []
 unfolding computing
 largest = refl
 
--- ---- stored: each channel's words in its part, nothing else; what has no room isn't
+-- ---- stored: each channel's words from its start on, nothing else; what has no room isn't
 abbrev song : List ℕ
 song = fileOf 44100 2 2 (1 ∷ 2 ∷ 3 ∷ 4 ∷ [])
 
-stored : loadedOf song 3 memory ≡ 1 ∷ 3 ∷ 12 ∷ 2 ∷ 4 ∷ 22 ∷ 99 ∷ []
+stored : map (λ (s : Starts). loadedOf song s memory) (starting 0 3 ∷ starting 0 2 ∷ starting 1 5 ∷ [])
+    ≡ (1 ∷ 3 ∷ 12 ∷ 2 ∷ 4 ∷ 22 ∷ 99 ∷ []) ∷ (1 ∷ 3 ∷ 2 ∷ 4 ∷ 21 ∷ 22 ∷ 99 ∷ []) ∷ (0x3F800000 ∷ 1 ∷ 3 ∷ 0x7FC00001 ∷ 21 ∷ 2 ∷ 4 ∷ []) ∷ []
 unfolding computing
 stored = refl
 
-full : loadedOf song 2 memory ≡ 1 ∷ 3 ∷ 2 ∷ 4 ∷ 21 ∷ 22 ∷ 99 ∷ []
+-- of one channel the second start isn't looked at
+one-channel : loadedOf (fileOf 44100 1 2 (1 ∷ 2 ∷ [])) (starting 5 1) memory ≡ 0x3F800000 ∷ 11 ∷ 12 ∷ 0x7FC00001 ∷ 21 ∷ 1 ∷ 2 ∷ []
 unfolding computing
-full = refl
+one-channel = refl
 
-no-room : loads song 1 7 ∷ loads song 2 3 ∷ loads song 2 4 ∷ loads [] 2 4 ∷ [] ≡ false ∷ false ∷ true ∷ false ∷ []
+no-room : loads song (starting 0 1) 7 ∷ loads song (starting 0 2) 3 ∷ loads song (starting 0 2) 4 ∷ loads song (starting 2 0) 7 ∷ loads (fileOf 44100 3 0 []) (starting 0 0) 7 ∷ loads [] (starting 0 2) 4 ∷ []
+    ≡ false ∷ false ∷ true ∷ false ∷ false ∷ false ∷ []
 unfolding computing
 no-room = refl
 
-no-room-kept : loadedOf song 1 memory ≡ memory
+no-room-kept : loadedOf song (starting 0 1) memory ≡ memory
 unfolding computing
 no-room-kept = refl

@@ -1,34 +1,35 @@
 -- Files are what the request says: `specs/Promised.antt`. Assumes nothing.
-use mathlib.Core.Path.{_≡_, refl, sym, ap, _∙_}
+use mathlib.Core.Path.{_≡_, refl, sym, ap, _∙_, subst}
 use mathlib.Core.Bool.{Bool, true, false, cond}
 use mathlib.Core.List.{List, [], _∷_, _++_, append-assoc, append-nil}
 use mathlib.Core.Logic.{_⊎_, inl, inr}
-use Prim.Native.Nat.{ℕ, zero, suc, _+_, _-_, _*_, _%_, _^_, _≤_, _<_}
-use native.Mathlib.Nat.{zero-add, add-mul, mul-le-mul-right, le-refl}
+use Prim.Native.Nat.{ℕ, zero, suc, _+_, _*_, _%_, _^_, _≤_, _<_}
+use native.Mathlib.Nat.{zero-add}
 use native.Mathlib.Omega.{arith}
-use lib.Dec.{ltb}
-use lib.ListN.{length, take, drop, getD, length-append, length-take, length-drop, List·getD-append}
-use lib.Seq.{ext-getD, getD-take, getD-drop, getD-append-add, drop-at, take-at, length-take-le}
-use borrow.Author.Tests.{lt-ltb, ltb-true, ltb-false, le-leb}
+use lib.Dec.{eqb}
+use lib.ListN.{length, drop, getD, length-append, length-drop}
+use lib.Seq.{ext-getD, getD-take, getD-drop, drop-at, length-sets, length-take-le}
+use borrow.Author.Tests.{eqb-true, eqb-false, le-leb}
 use Rattle.walks.specs.Each.{Each}
 use Rattle.octets.specs.Octets.{littleBytes}
 use Rattle.octets.proofs.Orders.{length-little}
 use Rattle.wave.specs.Fields.{fourAt, riffId, waveId, formatId, factId, dataId, wordBytes, listed}
 use Rattle.wave.specs.Files.{formatOf, riffRow, formatRow, factRow, dataRow, headerOf, fileOf}
-use Rattle.wave.specs.Reader.{judgedOf, numberOf, wordAt}
+use Rattle.wave.specs.Reader.{judgedOf, numberOf, wordsIn}
 use Rattle.wave.specs.Grammar.{Chunk, Whole, chunkBytes, IsWave}
 use Rattle.wave.specs.Grammar.Chunks.{none, main, fact}
-use Rattle.wave.specs.Memory.{fitsMemory, cellAt, framesOf, recorded, numberAt, storedOf, bytesOf, fitsFile, writes, writtenOf, outputOf, layoutOf, loadsIn, loads, loadedIn, loadedOf}
-use Rattle.wave.specs.Promised.{Sized, channelOf, partAt, Rows, Promised}
+use Rattle.wave.specs.Memory.{startAt, fitsMemory, wordOf, framesOf, channelOf, channelStored, storedOf, bytesOf, fitsFile, writes, writtenOf, outputOf, layoutOf, loadsIn, loads, loadedIn, loadedOf}
+use Rattle.wave.specs.Promised.{Sized, recordingAt, Rows, Promised}
+use Rattle.wave.specs.declared.Starts.{Starts}
 use Rattle.wave.specs.declared.Layout.{Layout}
 use Rattle.wave.specs.declared.Wave.{Wave}
 use Rattle.wave.specs.declared.Judged.{Judged}
 use Rattle.wave.specs.declared.Judged.the-variants.{Is, Refused}
 use Rattle.wave.proofs.Standing.{length-words, Word, length-listed, words-stand}
-use Rattle.wave.proofs.Layouts.{parted, frame-below, Fits, fits-true, file-true, file-short, file-fits, inside, number-below, cell-of-number}
-use Rattle.wave.proofs.Copies.{getD-listed, listed-same}
+use Rattle.wave.proofs.Layouts.{frame-below, Fits, fits-true, start-fits, file-true, file-short, file-fits}
+use Rattle.wave.proofs.Copies.{getD-listed, word-is, stored-one, stored-two, length-stored, run-else, run-at}
 use Rattle.wave.proofs.Answers.{length-format, good-known, good-answer, answered}
-use Rattle.wave.proofs.Calls.{length-file, length-frames, load-short, load-done}
+use Rattle.wave.proofs.Calls.{length-file, length-frames, load-short, load-done, length-loaded}
 use Rattle.wave.proofs.Rows.{length-header}
 
 -- ---- what is written is a good file
@@ -106,116 +107,88 @@ module _ (rate channels samples : ℕ) (words : List ℕ) (s : Sized rate channe
       let at = getD-listed (λ (i : ℕ). fourAt (fileOf rate channels samples words) (58 + 4 * i)) 0 (length words) k h in
       ap (λ (i : ℕ). fourAt (fileOf rate channels samples words) (58 + 4 * i)) (sym (zero-add k)) ∙ sym at ∙ ap (λ (l : List ℕ). getD l k 0) read
 
-frame-at : (l : Layout) (m : List ℕ) (i j : ℕ) → i < l .samples → j < l .channels → getD (framesOf l m) (i * l .channels + j) 0 ≡ getD m (j * l .capacity + i) 0
-unfolding framesOf cellAt
+frame-at : (l : Layout) (m : List ℕ) (i j : ℕ) → i < l .samples → j < l .channels → getD (framesOf l m) (i * l .channels + j) 0 ≡ getD m (startAt (l .starts) j + i) 0
+unfolding framesOf
 frame-at l m i j h k =
-    let known = parted (l .channels) i j k in
-    getD-listed (λ (n : ℕ). getD m (cellAt l n .word) 0) 0 (l .channels * l .samples) (i * l .channels + j) (frame-below (l .channels) (l .samples) i j h k)
-    ∙ rw (zero-add (i * l .channels + j), known .0, known .1)
+    getD-listed (wordOf l m) 0 (l .channels * l .samples) (i * l .channels + j) (frame-below (l .channels) (l .samples) i j h k)
+    ∙ ap (wordOf l m) (zero-add (i * l .channels + j)) ∙ word-is l m i j k
 
--- ---- a part of a memory afterwards
-module _ (l : Layout) (g : ℕ → ℕ) (m : List ℕ) (fits : Fits l (length m)) where
-  stored-at : (x : ℕ) → x < length m → getD (storedOf l g m) x 0 ≡ cond (recorded l x) (g (numberAt l x)) (getD m x 0)
-  unfolding storedOf
-  stored-at x h = getD-listed _ 0 (length m) x h ∙ ap (λ (y : ℕ). cond (recorded l y) (g (numberAt l y)) (getD m y 0)) (zero-add x)
+-- ---- a recording in a memory, word by word
+module _ (starts : Starts) (n j : ℕ) (m : List ℕ) where
+  recording-length : startAt starts j + n ≤ length m → length (recordingAt starts n j m) ≡ n
+  recording-length h = length-take-le n (drop (startAt starts j) m) (rw length-drop (omega arith))
 
-  length-stored : length (storedOf l g m) ≡ length m
-  unfolding storedOf
-  length-stored = length-listed _ 0 (length m)
+  recording-at : (i : ℕ) → i < n → getD (recordingAt starts n j m) i 0 ≡ getD m (startAt starts j + i) 0
+  recording-at i h = getD-take n (drop (startAt starts j) m) i 0 h ∙ getD-drop (startAt starts j) m i 0
 
-  module _ (j : ℕ) (some : j < l .channels) where
-    -- the part lies in the memory
-    ends : j * l .capacity + l .capacity ≤ length m
-    ends =
-        let far : (j + 1) * l .capacity ≤ l .channels * l .capacity = mul-le-mul-right {m = j + 1} {n = l .channels} (l .capacity) (omega arith) in
-        omega (arith, add-mul j 1 (l .capacity), fits .parts)
+-- ---- a memory afterwards
+module _ (l : Layout) (words m : List ℕ) (fits : Fits l (length m)) where
+  long : (j : ℕ) → length (channelOf (l .channels) (l .samples) j words) ≡ l .samples
+  long j = length-listed _ 0 (l .samples)
 
-    part-length : (x : List ℕ) → length x ≡ length m → length (partAt (l .capacity) j x) ≡ l .capacity
-    part-length x e = simp (length-take, length-drop) (omega (arith, ends))
+  -- a channel's words leave what stands beside them
+  beside : (j : ℕ) (x : ℕ) (before : List ℕ) → (x < startAt (l .starts) j) ⊎ (startAt (l .starts) j + l .samples ≤ x)
+      → getD (channelStored l words j before) x 0 ≡ getD before x 0
+  beside j x before h =
+      run-else 0 (channelOf (l .channels) (l .samples) j words) before (startAt (l .starts) j) x
+      (subst (λ (n : ℕ). (x < startAt (l .starts) j) ⊎ (startAt (l .starts) j + n ≤ x)) (sym (long j)) h)
 
-    part-element : (x : List ℕ) (i : ℕ) → i < l .capacity → getD (partAt (l .capacity) j x) i 0 ≡ getD x (j * l .capacity + i) 0
-    part-element x i h = getD-take (l .capacity) (drop (j * l .capacity) x) i 0 h ∙ getD-drop (j * l .capacity) x i 0
+  inside : (j i : ℕ) (before : List ℕ) → length before ≡ length m → j < l .channels → i < l .samples
+      → getD (channelStored l words j before) (startAt (l .starts) j + i) 0 ≡ getD (channelOf (l .channels) (l .samples) j words) i 0
+  inside j i before e h k =
+      run-at 0 (channelOf (l .channels) (l .samples) j words) before (startAt (l .starts) j) i (omega (arith, long j))
+      (omega (arith, long j, start-fits l (length m) fits j h))
 
-    -- sample i of channel j
-    element : (i : ℕ) → i < l .capacity → getD (storedOf l g m) (j * l .capacity + i) 0 ≡ cond (ltb i (l .samples)) (g (i * l .channels + j)) (getD m (j * l .capacity + i) 0)
-    unfolding recorded numberAt
-    element i h =
-        let known = parted (l .capacity) j i h in
-        stored-at (j * l .capacity + i) (omega (arith, ends)) ∙ rw (known .0, known .1, lt-ltb j (l .channels) some)
+  -- what holds of a memory with one channel stored, and of one with both
+  cases : (P : List ℕ → Type 0) → ((l .channels ≡ 2 → ⊥) → P (channelStored l words 0 m))
+      → (l .channels ≡ 2 → P (channelStored l words 1 (channelStored l words 0 m))) → P (storedOf l words m)
+  cases P one two = go (eqb (l .channels) 2) refl
+    where
+      go : (t : Bool) → eqb (l .channels) 2 ≡ t → P (storedOf l words m)
+      go true e = subst P (sym (stored-two l words m (eqb-true _ _ e))) (two (eqb-true _ _ e))
+      go false e = subst P (sym (stored-one l words m (eqb-false _ _ e))) (one (eqb-false _ _ e))
 
-    abbrev new : List ℕ
-    new = listed (λ (i : ℕ). g (i * l .channels + j)) 0 (l .samples)
+  stored-at : (j i : ℕ) → j < l .channels → i < l .samples
+      → getD (storedOf l words m) (startAt (l .starts) j + i) 0 ≡ getD (channelOf (l .channels) (l .samples) j words) i 0
+  stored-at zero i h k =
+      let first = inside 0 i m refl h k in
+      cases (λ (x : List ℕ). getD x (l .starts .first + i) 0 ≡ getD (channelOf (l .channels) (l .samples) 0 words) i 0) (λ _. first)
+      (λ two. beside 1 (l .starts .first + i) (channelStored l words 0 m) (inl (omega (arith, fits .apart two))) ∙ first)
+  stored-at (suc j) i h k =
+      let one : suc j ≡ 1 = omega (arith, fits .few) in
+      let two : l .channels ≡ 2 = omega (arith, fits .few) in
+      rw (one, stored-two l words m two) (inside 1 i (channelStored l words 0 m) (length-sets m _ (channelOf (l .channels) (l .samples) 0 words)) (omega arith) k)
 
-    abbrev rest : List ℕ
-    rest = drop (l .samples) (partAt (l .capacity) j m)
+  stored-recording : (j : ℕ) → j < l .channels → recordingAt (l .starts) (l .samples) j (storedOf l words m) ≡ channelOf (l .channels) (l .samples) j words
+  stored-recording j h =
+      let n = recording-length (l .starts) (l .samples) j (storedOf l words m) (omega (arith, start-fits l (length m) fits j h, length-stored l words m)) in
+      ext-getD 0 _ _ (n ∙ sym (long j))
+      (λ i less. let few : i < l .samples = omega (arith, n) in recording-at (l .starts) (l .samples) j (storedOf l words m) i few ∙ stored-at j i h few)
 
-    long-new : length new ≡ l .samples
-    long-new = length-listed _ 0 (l .samples)
-
-    new-at : (i : ℕ) → i < l .samples → getD (new ++ rest) i 0 ≡ g (i * l .channels + j)
-    new-at i h =
-        List·getD-append new rest 0 i (omega (arith, long-new)) ∙ getD-listed _ 0 (l .samples) i h ∙ ap (λ (k : ℕ). g (k * l .channels + j)) (zero-add i)
-
-    rest-at : (i : ℕ) → l .samples ≤ i → i < l .capacity → getD (new ++ rest) i 0 ≡ getD m (j * l .capacity + i) 0
-    rest-at i h k =
-        let place : i ≡ length new + (i - l .samples) = omega (arith, long-new) in
-        let back : l .samples + (i - l .samples) ≡ i = omega arith in
-        ap (λ (n : ℕ). getD (new ++ rest) n 0) place ∙ getD-append-add new rest (i - l .samples) 0
-        ∙ getD-drop (l .samples) (partAt (l .capacity) j m) (i - l .samples) 0
-        ∙ ap (λ (n : ℕ). getD (partAt (l .capacity) j m) n 0) back ∙ part-element m i k
-
-    stored-part : partAt (l .capacity) j (storedOf l g m) ≡ new ++ rest
-    stored-part =
-        let long : length (partAt (l .capacity) j (storedOf l g m)) ≡ l .capacity = part-length (storedOf l g m) length-stored in
-        let same : length (new ++ rest) ≡ l .capacity =
-        length-append new rest ∙ omega (arith, long-new, length-drop (l .samples) (partAt (l .capacity) j m), part-length m refl, fits .part) in
-        ext-getD 0 _ _ (long ∙ sym same) (λ i less. go i (omega (arith, long)) (ltb i (l .samples)) refl)
-      where
-        go : (i : ℕ) → i < l .capacity → (t : Bool) → ltb i (l .samples) ≡ t → getD (partAt (l .capacity) j (storedOf l g m)) i 0 ≡ getD (new ++ rest) i 0
-        go i h true e = part-element (storedOf l g m) i h ∙ element i h ∙ rw e (sym (new-at i (ltb-true _ _ e)))
-        go i h false e = part-element (storedOf l g m) i h ∙ element i h ∙ rw e (sym (rest-at i (ltb-false _ _ e) h))
-
-  -- behind the parts
-  outside : (x : ℕ) (t : Bool) → recorded l x ≡ t → l .channels * l .capacity ≤ x → cond t (g (numberAt l x)) (getD m x 0) ≡ getD m x 0
-  outside x true e h =
-      let room : Fits l (l .channels * l .capacity) = record { some = fits .some; part = fits .part; parts = le-refl _ } in
-      absurd (omega (arith, inside l (l .channels * l .capacity) (numberAt l x) room (number-below l x e) .word-inside, cell-of-number l x e))
-  outside x false e h = refl
-
-  stored-rest : drop (l .channels * l .capacity) (storedOf l g m) ≡ drop (l .channels * l .capacity) m
-  stored-rest =
-      let n = l .channels * l .capacity in
-      ext-getD 0 _ _ (simp length-drop (rw length-stored))
-      (λ i less. getD-drop n (storedOf l g m) i 0 ∙ stored-at (n + i) (omega (arith, length-drop n (storedOf l g m), length-stored))
-      ∙ outside (n + i) (recorded l (n + i)) refl (omega arith) ∙ sym (getD-drop n m i 0))
+  stored-else : (x : ℕ) → ((j : ℕ) → j < l .channels → (x < startAt (l .starts) j) ⊎ (startAt (l .starts) j + l .samples ≤ x)) → getD (storedOf l words m) x 0 ≡ getD m x 0
+  stored-else x h =
+      let first = beside 0 x m (h 0 (fits .some)) in
+      cases (λ (y : List ℕ). getD y x 0 ≡ getD m x 0) (λ _. first) (λ two. beside 1 x (channelStored l words 0 m) (h 1 (omega arith)) ∙ first)
 
 -- ---- reading
-module _ (f : List ℕ) (w : Wave) (capacity : ℕ) (m : List ℕ) (e : judgedOf f ≡ Is w) where
-  loaded-part : fitsMemory (layoutOf w capacity) (length m) ≡ true → (j : ℕ) → j < w .channels
-      → partAt capacity j (loadedOf f capacity m) ≡ channelOf (w .channels) (w .samples) j (listed (wordAt f w) 0 (w .channels * w .samples)) ++ drop (w .samples) (partAt capacity j m)
-  loaded-part h j k =
-      let l = layoutOf w capacity in
-      let words = listed-same (λ (i : ℕ). wordAt f w (i * w .channels + j)) (λ (i : ℕ). getD (listed (wordAt f w) 0 (w .channels * w .samples)) (i * w .channels + j) 0) 0 (w .samples)
-      (λ i less. sym (getD-listed (wordAt f w) 0 (w .channels * w .samples) (i * w .channels + j) (frame-below (w .channels) (w .samples) i j (omega arith) k) ∙ ap (wordAt f w) (zero-add _))) in
-      ap (partAt capacity j) (sym (load-done f capacity m w e h .1)) ∙ stored-part l (wordAt f w) m (fits-true l (length m) h) j k
-      ∙ ap (λ (x : List ℕ). x ++ drop (w .samples) (partAt capacity j m)) words
+module _ (f : List ℕ) (w : Wave) (starts : Starts) (m : List ℕ) (e : judgedOf f ≡ Is w) where
+  loaded-recording : fitsMemory (layoutOf w starts) (length m) ≡ true → (j : ℕ) → j < w .channels
+      → recordingAt starts (w .samples) j (loadedOf f starts m) ≡ channelOf (w .channels) (w .samples) j (wordsIn f w)
+  loaded-recording h j k =
+      ap (recordingAt starts (w .samples) j) (sym (load-done f starts m w e h .1)) ∙ stored-recording (layoutOf w starts) (wordsIn f w) m (fits-true _ _ h) j k
 
-  loaded-front : fitsMemory (layoutOf w capacity) (length m) ≡ true → (j : ℕ) → j < w .channels
-      → take (w .samples) (partAt capacity j (loadedOf f capacity m)) ≡ channelOf (w .channels) (w .samples) j (listed (wordAt f w) 0 (w .channels * w .samples))
-  loaded-front h j k = ap (take (w .samples)) (loaded-part h j k) ∙ take-at _ _ (w .samples) (length-listed _ 0 (w .samples))
-
-  loaded-rest : drop (w .channels * capacity) (loadedOf f capacity m) ≡ drop (w .channels * capacity) m
-  loaded-rest = go (fitsMemory (layoutOf w capacity) (length m)) refl
+  loaded-else : (x : ℕ) → ((j : ℕ) → j < w .channels → (x < startAt starts j) ⊎ (startAt starts j + w .samples ≤ x)) → getD (loadedOf f starts m) x 0 ≡ getD m x 0
+  loaded-else x beside = go (fitsMemory (layoutOf w starts) (length m)) refl
     where
-      go : (t : Bool) → fitsMemory (layoutOf w capacity) (length m) ≡ t → drop (w .channels * capacity) (loadedOf f capacity m) ≡ drop (w .channels * capacity) m
-      go true h = ap (drop (w .channels * capacity)) (sym (load-done f capacity m w e h .1)) ∙ stored-rest (layoutOf w capacity) (wordAt f w) m (fits-true _ _ h)
-      go false h = ap (drop (w .channels * capacity)) (sym (load-short f capacity m w e h .1))
+      go : (t : Bool) → fitsMemory (layoutOf w starts) (length m) ≡ t → getD (loadedOf f starts m) x 0 ≡ getD m x 0
+      go true h = ap (λ (y : List ℕ). getD y x 0) (sym (load-done f starts m w e h .1)) ∙ stored-else (layoutOf w starts) (wordsIn f w) m (fits-true _ _ h) x beside
+      go false h = ap (λ (y : List ℕ). getD y x 0) (sym (load-short f starts m w e h .1))
 
-load-held : (f : List ℕ) (capacity : ℕ) (m : List ℕ) → loads f capacity (length m) ≡ false → loadedOf f capacity m ≡ m
+load-held : (f : List ℕ) (starts : Starts) (m : List ℕ) → loads f starts (length m) ≡ false → loadedOf f starts m ≡ m
 unfolding loads loadedOf
-load-held f capacity m = go (judgedOf f)
+load-held f starts m = go (judgedOf f)
   where
-    go : (j : Judged) → loadsIn capacity (length m) j ≡ false → loadedIn f capacity m j ≡ m
+    go : (j : Judged) → loadsIn starts (length m) j ≡ false → loadedIn f starts m j ≡ m
     go (Is w) h = rw h
     go Refused h = refl
 
@@ -231,7 +204,7 @@ write-rows : (l : Layout) (size room : ℕ) → Rows l size room
 unfolding writtenOf writes
 write-rows l size room = record {
   short-row = λ h k. rw (h, file-short l room k);
-  done-row = λ h c s k. rw (h, file-fits l room (omega arith) s, le-leb _ _ k);
+  done-row = λ h s k. rw (h, file-fits l room s, le-leb _ _ k);
 }
 
 numbers : (f : List ℕ) → (numberOf (judgedOf f) ≡ 0) ⊎ (numberOf (judgedOf f) ≡ 17)
@@ -249,16 +222,15 @@ one-reading f rate channels rate₁ channels₁ words words₁ g h =
     let b = good-answer f rate₁ channels₁ words₁ h in
     (cc, cc, cc)
 
--- ---- a channel's words, frame by frame and in its part
-pub frames-part : (l : Layout) (m : List ℕ) → Fits l (length m) → (j : ℕ) → j < l .channels
-    → channelOf (l .channels) (l .samples) j (framesOf l m) ≡ take (l .samples) (partAt (l .capacity) j m)
-frames-part l m fits j h =
-    let long : length (channelOf (l .channels) (l .samples) j (framesOf l m)) ≡ l .samples = length-listed _ 0 (l .samples) in
-    let part = part-length l (λ (k : ℕ). k) m fits j h m refl in
-    ext-getD 0 _ _ (long ∙ sym (length-take-le (l .samples) (partAt (l .capacity) j m) (omega (arith, fits .part, part))))
-    (λ i less. let few : i < l .samples = omega arith in
+-- ---- a channel's words, frame by frame and in the memory
+pub frames-recording : (l : Layout) (m : List ℕ) → Fits l (length m) → (j : ℕ) → j < l .channels
+    → channelOf (l .channels) (l .samples) j (framesOf l m) ≡ recordingAt (l .starts) (l .samples) j m
+frames-recording l m fits j h =
+    let n = length-listed (λ (i : ℕ). getD (framesOf l m) (i * l .channels + j) 0) 0 (l .samples) in
+    ext-getD 0 _ _ (n ∙ sym (recording-length (l .starts) (l .samples) j m (start-fits l (length m) fits j h)))
+    (λ i less. let few : i < l .samples = omega (arith, n) in
     getD-listed _ 0 (l .samples) i few ∙ ap (λ (k : ℕ). getD (framesOf l m) (k * l .channels + j) 0) (zero-add i) ∙ frame-at l m i j few h
-    ∙ sym (getD-take (l .samples) (partAt (l .capacity) j m) i 0 few ∙ part-element l (λ (k : ℕ). k) m fits j h m i (omega (arith, fits .part))))
+    ∙ sym (recording-at (l .starts) (l .samples) j m i few))
 
 -- ---- written and loaded
 word-fits : (m : List ℕ) (x : ℕ) → Each Word m → Word (getD m x 0)
@@ -281,25 +253,25 @@ module _ (rate : ℕ) (l : Layout) (m : List ℕ) (small : rate < 2 ^ 32) (words
       record {
         rate-fits = small;
         some-channel = fits-true l (length m) fits .some;
-        block-fits = sizes .channels-fit;
+        block-fits = omega (arith, fits-true l (length m) fits .few);
         size-fits = omega arith;
         whole-frames = length-frames l m;
-        words-fit = listed-each Word _ 0 (l .channels * l .samples) (λ k. word-fits m (cellAt l k .word) words);
+        words-fit = listed-each Word _ 0 (l .channels * l .samples) (λ k. word-fits m _ words);
       }
 
-  there-and-back : (m₁ : List ℕ) → fitsMemory l (length m₁) ≡ true → (j : ℕ) → j < l .channels
-      → take (l .samples) (partAt (l .capacity) j (loadedOf (fileOf rate (l .channels) (l .samples) (framesOf l m)) (l .capacity) m₁)) ≡ take (l .samples) (partAt (l .capacity) j m)
-  there-and-back m₁ fits₁ j h =
+  there-and-back : (starts : Starts) (m₁ : List ℕ) → fitsMemory (record { channels = l .channels; samples = l .samples; starts = starts }) (length m₁) ≡ true
+      → (j : ℕ) → j < l .channels
+      → recordingAt starts (l .samples) j (loadedOf (fileOf rate (l .channels) (l .samples) (framesOf l m)) starts m₁) ≡ recordingAt (l .starts) (l .samples) j m
+  there-and-back starts m₁ fits₁ j h =
       let whole = fileOf rate (l .channels) (l .samples) (framesOf l m) in
       let known = good-known whole rate (l .channels) (framesOf l m) (file-good rate (l .channels) (l .samples) (framesOf l m) sized) in
       let w = known .wave in
       let c : w .channels ≡ l .channels = known .same-channels in
       let n : w .samples ≡ l .samples = known .same-samples ∙ file-samples rate (l .channels) (l .samples) (framesOf l m) sized in
-      let there : fitsMemory (layoutOf w (l .capacity)) (length m₁) ≡ true = rw (c, n) fits₁ in
-      let front = loaded-front whole w (l .capacity) m₁ (known .judged) there j (rw c h) in
-      let words : channelOf (w .channels) (w .samples) j (listed (wordAt whole w) 0 (w .channels * w .samples)) ≡ take (l .samples) (partAt (l .capacity) j m) =
-      rw (known .same-words, c, n) (frames-part l m (fits-true l (length m) fits) j h) in
-      rw n at (front ∙ words)
+      let there : fitsMemory (layoutOf w starts) (length m₁) ≡ true = rw (c, n) fits₁ in
+      let words : channelOf (w .channels) (w .samples) j (wordsIn whole w) ≡ recordingAt (l .starts) (l .samples) j m =
+      rw (known .same-words, c, n) (frames-recording l m (fits-true l (length m) fits) j h) in
+      rw n at (loaded-recording whole w starts m₁ (known .judged) there j (rw c h) ∙ words)
 
 -- ---- all of it
 pub promised : Promised
@@ -313,9 +285,10 @@ promised = record {
   sample-at = λ rate channels samples words s i j h k.
       word-at rate channels samples words s (i * channels + j) (rw (s .whole-frames) (frame-below channels samples i j h k));
   frame-at = frame-at;
-  loaded-part = λ f w capacity m e. loaded-part f w capacity m e;
-  loaded-rest = λ f w capacity m e. loaded-rest f w capacity m e;
-  there-and-back = λ rate l m m₁ small words fits file fits₁. there-and-back rate l m small words fits file m₁ fits₁;
+  loaded-recording = loaded-recording;
+  loaded-else = loaded-else;
+  loaded-length = length-loaded;
+  there-and-back = λ rate l starts m m₁ small words fits file. there-and-back rate l m small words fits file starts m₁;
   write-rows = write-rows;
   load-held = load-held;
   write-held = write-held;

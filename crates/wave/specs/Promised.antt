@@ -2,18 +2,31 @@
 -- `proofs/Promised: promised` proves it.
 use mathlib.Core.Path.{_≡_}
 use mathlib.Core.Bool.{true, false}
-use mathlib.Core.List.{List, _++_}
+use mathlib.Core.List.{List}
 use mathlib.Core.Logic.{_⊎_}
 use Prim.Native.Nat.{ℕ, _+_, _*_, _^_, _≤_, _<_}
 use lib.ListN.{length, take, drop, getD}
 use Rattle.walks.specs.Each.{Each}
 use Rattle.octets.specs.Octets.{Bytes}
-use Rattle.wave.specs.Fields.{fourAt, listed}
+use Rattle.wave.specs.Fields.{fourAt}
 use Rattle.wave.specs.Files.{fileOf}
-use Rattle.wave.specs.Reader.{judgedOf, numberOf, readOf, wordAt}
+use Rattle.wave.specs.Reader.{judgedOf, numberOf, readOf, wordsIn}
 use Rattle.wave.specs.Reader.Reading.{is}
 use Rattle.wave.specs.Grammar.{IsWave}
-use Rattle.wave.specs.Memory.{fitsMemory, framesOf, bytesOf, fitsFile, writtenOf, outputOf, layoutOf, loads, loadedOf}
+use Rattle.wave.specs.Memory.{
+  startAt,
+  fitsMemory,
+  framesOf,
+  channelOf,
+  bytesOf,
+  fitsFile,
+  writtenOf,
+  outputOf,
+  layoutOf,
+  loads,
+  loadedOf,
+}
+use Rattle.wave.specs.declared.Starts.{Starts}
 use Rattle.wave.specs.declared.Layout.{Layout}
 use Rattle.wave.specs.declared.Wave.{Wave}
 use Rattle.wave.specs.declared.Judged.the-variants.{Is}
@@ -27,18 +40,14 @@ pub record Sized (rate channels samples : ℕ) (words : List ℕ) : Type 0 where
   pub whole-frames : length words ≡ channels * samples
   pub words-fit : Each (λ (w : ℕ). w < 2 ^ 32) words
 
--- the words of channel j, of words that stand frame by frame
-abbrev pub channelOf : ℕ → ℕ → ℕ → List ℕ → List ℕ
-channelOf channels samples j words = listed (λ (i : ℕ). getD words (i * channels + j) 0) 0 samples
-
--- the part of channel j in a memory
-abbrev pub partAt : ℕ → ℕ → List ℕ → List ℕ
-partAt capacity j m = take capacity (drop (j * capacity) m)
+-- the recording of channel j in a memory
+abbrev pub recordingAt : Starts → ℕ → ℕ → List ℕ → List ℕ
+recordingAt starts samples j m = take samples (drop (startAt starts j) m)
 
 -- "8 for a short output buffer", where each size has room in its field
 pub record Rows (l : Layout) (size room : ℕ) : Type 0 where
   pub short-row : fitsMemory l size ≡ true → room < bytesOf l → writtenOf l size room ≡ 0
-  pub done-row : fitsMemory l size ≡ true → 4 * l .channels < 2 ^ 16 → bytesOf l < 2 ^ 32 + 8 → bytesOf l ≤ room
+  pub done-row : fitsMemory l size ≡ true → bytesOf l < 2 ^ 32 + 8 → bytesOf l ≤ room
       → writtenOf l size room ≡ bytesOf l
 
 pub record Promised : Type 0 where
@@ -63,26 +72,27 @@ pub record Promised : Type 0 where
       → (i j : ℕ) → i < samples → j < channels
       → fourAt (fileOf rate channels samples words) (58 + 4 * (i * channels + j)) ≡ getD words (i * channels + j) 0
   pub frame-at : (l : Layout) (m : List ℕ) (i j : ℕ) → i < l .samples → j < l .channels
-      → getD (framesOf l m) (i * l .channels + j) 0 ≡ getD m (j * l .capacity + i) 0
-  -- "Reading replaces the recording of each channel": a part has its channel's words, and keeps its rest; so does the
-  -- memory behind the parts
-  pub loaded-part : (f : List ℕ) (w : Wave) (capacity : ℕ) (m : List ℕ) → judgedOf f ≡ Is w
-      → fitsMemory (layoutOf w capacity) (length m) ≡ true → (j : ℕ) → j < w .channels
-      → partAt capacity j (loadedOf f capacity m)
-      ≡ channelOf (w .channels) (w .samples) j (listed (wordAt f w) 0 (w .channels * w .samples))
-      ++ drop (w .samples) (partAt capacity j m)
-  pub loaded-rest : (f : List ℕ) (w : Wave) (capacity : ℕ) (m : List ℕ) → judgedOf f ≡ Is w
-      → drop (w .channels * capacity) (loadedOf f capacity m) ≡ drop (w .channels * capacity) m
-  -- what a memory's recordings were is what another's are, written and loaded
-  pub there-and-back : (rate : ℕ) (l : Layout) (m m₁ : List ℕ) → rate < 2 ^ 32 → Each (λ (w : ℕ). w < 2 ^ 32) m
-      → fitsMemory l (length m) ≡ true → fitsFile l (bytesOf l) ≡ true
-      → fitsMemory l (length m₁) ≡ true → (j : ℕ) → j < l .channels
-      → take (l .samples) (partAt (l .capacity) j
-      (loadedOf (fileOf rate (l .channels) (l .samples) (framesOf l m)) (l .capacity) m₁))
-      ≡ take (l .samples) (partAt (l .capacity) j m)
+      → getD (framesOf l m) (i * l .channels + j) 0 ≡ getD m (startAt (l .starts) j + i) 0
+  -- "Reading replaces the recording of each channel": from its start on it has its words, and no other word moves
+  pub loaded-recording : (f : List ℕ) (w : Wave) (starts : Starts) (m : List ℕ) → judgedOf f ≡ Is w
+      → fitsMemory (layoutOf w starts) (length m) ≡ true → (j : ℕ) → j < w .channels
+      → recordingAt starts (w .samples) j (loadedOf f starts m)
+      ≡ channelOf (w .channels) (w .samples) j (wordsIn f w)
+  pub loaded-else : (f : List ℕ) (w : Wave) (starts : Starts) (m : List ℕ) → judgedOf f ≡ Is w → (x : ℕ)
+      → ((j : ℕ) → j < w .channels → (x < startAt starts j) ⊎ (startAt starts j + w .samples ≤ x))
+      → getD (loadedOf f starts m) x 0 ≡ getD m x 0
+  pub loaded-length : (f : List ℕ) (starts : Starts) (m : List ℕ) → length (loadedOf f starts m) ≡ length m
+  -- what a memory's recordings were is what another's are, written and loaded, wherever they begin in it
+  pub there-and-back : (rate : ℕ) (l : Layout) (starts : Starts) (m m₁ : List ℕ) → rate < 2 ^ 32
+      → Each (λ (w : ℕ). w < 2 ^ 32) m → fitsMemory l (length m) ≡ true → fitsFile l (bytesOf l) ≡ true
+      → fitsMemory (record { channels = l .channels; samples = l .samples; starts = starts }) (length m₁) ≡ true
+      → (j : ℕ) → j < l .channels
+      → recordingAt starts (l .samples) j
+      (loadedOf (fileOf rate (l .channels) (l .samples) (framesOf l m)) starts m₁)
+      ≡ recordingAt (l .starts) (l .samples) j m
   pub write-rows : (l : Layout) (size room : ℕ) → Rows l size room
   -- what isn't done changes nothing
-  pub load-held : (f : List ℕ) (capacity : ℕ) (m : List ℕ) → loads f capacity (length m) ≡ false
-      → loadedOf f capacity m ≡ m
+  pub load-held : (f : List ℕ) (starts : Starts) (m : List ℕ) → loads f starts (length m) ≡ false
+      → loadedOf f starts m ≡ m
   pub write-held : (rate : ℕ) (l : Layout) (m out : List ℕ) → writtenOf l (length m) (length out) ≡ 0
       → outputOf rate l m out ≡ out

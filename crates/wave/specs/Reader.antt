@@ -116,12 +116,11 @@ pub data Reading : Type 0 where
   is : ℕ → ℕ → List ℕ → Reading
   refused : Reading
 
--- the word of a number
-abbrev pub wordAt : List ℕ → Wave → ℕ → ℕ
-wordAt f w k = fourAt f (w .first + 4 * k)
+abbrev pub wordsIn : List ℕ → Wave → List ℕ
+wordsIn f w = listed (λ (k : ℕ). fourAt f (w .first + 4 * k)) 0 (w .channels * w .samples)
 
 abbrev pub readIn : List ℕ → Judged → Reading
-readIn f (Is w) = Reading.is (w .rate) (w .channels) (listed (wordAt f w) 0 (w .channels * w .samples))
+readIn f (Is w) = Reading.is (w .rate) (w .channels) (wordsIn f w)
 readIn f Refused = Reading.refused
 
 unfoldable pub readOf : List ℕ → Reading

@@ -8,7 +8,7 @@ mod ids;
 mod words;
 
 ghost use mathlib.Core.Path.{_≡_};
-ghost use Prim.Native.Nat.{_^_, _<_};
+ghost use Prim.Native.Nat.{_^_, _≤_, _<_};
 ghost use lib.ListN.{length};
 ghost use Rattle.wave.specs.Reader.{goodRiff, goodFormat, goodFact, countedOf, judgedAt, judgedOf, numberOf};
 ghost use Rattle.wave.specs.Memory.{fitsFile, writtenOf, outputOf, loads, loadedOf};
@@ -36,11 +36,17 @@ pub enum Judged {
     Refused,
 }
 
-// `samples` words of each of `channels` parts of `capacity` words.
+// Where the recordings of channels 0 and 1 begin in a memory. Of one channel the second isn't looked at.
+pub struct Starts {
+    pub first: usize,
+    pub second: usize,
+}
+
+// `samples` words of each of `channels` channels.
 pub struct Layout {
     pub channels: usize,
-    pub capacity: usize,
     pub samples: usize,
+    pub starts: Starts,
 }
 
 impl Judged {
@@ -160,12 +166,9 @@ pub fn judge(file: &[u8]) -> Judged
 
 // Whether each size has room in its field, and the file in so many bytes.
 fn fits_file(l: Layout, room: usize) -> bool
-    requires { ⌜ 0 < l .channels ⌝ }
+    requires { ⌜ (0 < l .channels) × (l .channels ≤ 2) ⌝ }
     ensures { λ r. ⌜ r ≡ fitsFile l room ⌝ }
 {
-    if 16383 < l.channels {
-        return false;
-    }
     if 0x3fff_ffff < l.samples {
         return false;
     }
@@ -192,22 +195,22 @@ pub fn write(rate: u32, l: Layout, memory: &[u32], out: &mut [u8]) -> usize
     0
 }
 
-// Stores the words of a good file, each channel's in its part of `capacity` words, and answers whether they had room;
-// else nothing is stored.
-pub fn load(file: &[u8], capacity: usize, memory: &mut [u32]) -> bool
-    ensures { λ r. ⌜ r ≡ loads (now (file .entry)) capacity (length (now (memory .entry))) ⌝ }
-    ensures { λ r. ⌜ now (memory .exit) ≡ loadedOf (now (file .entry)) capacity (now (memory .entry)) ⌝ }
+// Stores the words of a good file, each channel's from its start on, and answers whether they had room; else nothing is
+// stored.
+pub fn load(file: &[u8], starts: Starts, memory: &mut [u32]) -> bool
+    ensures { λ r. ⌜ r ≡ loads (now (file .entry)) starts (length (now (memory .entry))) ⌝ }
+    ensures { λ r. ⌜ now (memory .exit) ≡ loadedOf (now (file .entry)) starts (now (memory .entry)) ⌝ }
 {
     match judge(file) {
         Judged::Refused => false,
         Judged::Is(w) => {
             let l = Layout {
                 channels: w.channels,
-                capacity,
                 samples: w.samples,
+                starts,
             };
             if fits_memory(l, memory.len()) {
-                take_words(file, w.first, l, memory);
+                take_words(file, w, starts, memory);
                 true
             } else {
                 false

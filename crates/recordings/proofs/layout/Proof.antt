@@ -6,6 +6,7 @@ use Rattle.walks.proofs.Lists.Loops.{long, getD-any}
 use Rattle.channel.specs.declared.Channel.{Channel}
 use Rattle.channel.specs.Channels.{channelOf}
 use Rattle.sampler.proofs.Seats.{none}
+use Rattle.recordings.specs.Waves.{startsIn}
 use borrow.Author.Needs.{needs}
 use Rattle.recordings.proofs.layout.Statement.{statement}
 use Rattle.recordings.proofs.layout.Tie as tie
@@ -13,11 +14,15 @@ use Rattle.recordings.proofs.layout.Tie as tie
 element-copy-out-c : tie.Need-element-copy-out-c
 element-copy-out-c c = search needs
 
+starts-requires : tie.Need-starts-requires
+starts-requires c κs = search needs
+
 returns : tie.Need-returns
 returns c =
-    let at = c .before .before in
-    ap (λ (d : Channel). record { channels = at .args .t1 .count; capacity = at .args .t1 .capacity; samples = d .head .«data_len» })
-    (getD-any (at .args .t1 .channels) 0 none (channelOf (record { «auto_passthru» = false })) (omega (arith, long _ (at .args .t1 .channels) 2 (at .good .0 .1 .1 .0 .1 .0 .1))))
+    let at = c .before .before .before in
+    rw (c .starts .ensures)
+    (ap (λ (d : Channel). record { channels = at .args .t1 .count; samples = d .head .«data_len»; starts = startsIn (at .args .t1) })
+    (getD-any (at .args .t1 .channels) 0 none (channelOf (record { «auto_passthru» = false })) (omega (arith, long _ (at .args .t1 .channels) 2 (at .good .0 .1 .1 .0 .1 .0 .1)))))
 
 pub layout-spec : {M : Type 1} → statement M
-layout-spec = tie.close (tie.spec element-copy-out-c returns)
+layout-spec = tie.close (tie.spec element-copy-out-c starts-requires returns)

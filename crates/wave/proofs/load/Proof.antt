@@ -19,7 +19,7 @@ fits-memory-requires : tie.Need-fits-memory-requires
 fits-memory-requires c κs = search needs
 
 take-words-requires : tie.Need-take-words-requires
-take-words-requires c κs = (sym (c .before .before .fits-memory .ensures) ∙ c .before .if1 .taken, judged-inside _ _ (sym (c .before .before .before .before .before .before .judge .ensures) ∙ c .before .before .before .before .w .given .1))
+take-words-requires c κs = (judged-inside _ _ (sym (c .before .before .before .before .before .before .judge .ensures) ∙ c .before .before .before .before .w .given .1), sym (c .before .before .fits-memory .ensures) ∙ c .before .if1 .taken)
 
 returns : tie.Need-returns
 returns c = load-refused _ _ _ (sym (c .before .before .judge .ensures) ∙ c .enum-told .given .1)

@@ -11,16 +11,16 @@ fits-memory-requires : tie.Need-fits-memory-requires
 fits-memory-requires c κs = search needs
 
 fits-file-requires : tie.Need-fits-file-requires
-fits-file-requires c κs = fits-true _ _ (sym (c .before .fits-memory .ensures) ∙ c .if1 .taken) .some
+fits-file-requires c κs = let l = fits-true _ _ (sym (c .before .fits-memory .ensures) ∙ c .if1 .taken) in (l .some, l .few)
 
 cast-put-header : tie.Need-cast-put-header
-cast-put-header c = let some = fits-true _ _ (sym (c .before .before .before .before .before .fits-memory .ensures) ∙ c .before .before .before .before .if1 .taken) .some in let fits = file-true _ _ (sym (c .before .before .before .fits-file .ensures) ∙ c .before .before .if2 .taken) in let few = samples-few (c .before .before .before .before .before .before .before .before .args .l) some in omega arith
+cast-put-header c = let l = fits-true _ _ (sym (c .before .before .before .before .before .fits-memory .ensures) ∙ c .before .before .before .before .if1 .taken) in let fits = file-true _ _ (sym (c .before .before .before .fits-file .ensures) ∙ c .before .before .if2 .taken) in let few = samples-few (c .before .before .before .before .before .before .before .before .args .l) (l .some) in omega arith
 
 cast-put-header-2 : tie.Need-cast-put-header-2
-cast-put-header-2 c = let some = fits-true _ _ (sym (c .before .before .before .before .before .before .fits-memory .ensures) ∙ c .before .before .before .before .before .if1 .taken) .some in let fits = file-true _ _ (sym (c .before .before .before .before .fits-file .ensures) ∙ c .before .before .before .if2 .taken) in let few = samples-few (c .before .before .before .before .before .before .before .before .before .args .l) some in omega arith
+cast-put-header-2 c = let l = fits-true _ _ (sym (c .before .before .before .before .before .before .fits-memory .ensures) ∙ c .before .before .before .before .before .if1 .taken) in let fits = file-true _ _ (sym (c .before .before .before .before .fits-file .ensures) ∙ c .before .before .before .if2 .taken) in let few = samples-few (c .before .before .before .before .before .before .before .before .before .args .l) (l .some) in omega arith
 
 put-header-requires : tie.Need-put-header-requires
-put-header-requires c κs = let some = fits-true _ _ (sym (c .before .before .before .before .before .before .fits-memory .ensures) ∙ c .before .before .before .before .before .if1 .taken) .some in let fits = file-true _ _ (sym (c .before .before .before .before .fits-file .ensures) ∙ c .before .before .before .if2 .taken) in let few = samples-few (c .before .before .before .before .before .before .before .before .before .args .l) some in (fits .channels-fit, omega arith, omega arith)
+put-header-requires c κs = let l = fits-true _ _ (sym (c .before .before .before .before .before .before .fits-memory .ensures) ∙ c .before .before .before .before .before .if1 .taken) in let fits = file-true _ _ (sym (c .before .before .before .before .fits-file .ensures) ∙ c .before .before .before .if2 .taken) in let few = samples-few (c .before .before .before .before .before .before .before .before .before .args .l) (l .some) in (omega arith, omega arith, omega arith)
 
 put-words-requires : tie.Need-put-words-requires
 put-words-requires c κs = let fits = file-true _ _ (sym (c .before .before .before .before .before .before .before .before .fits-file .ensures) ∙ c .before .before .before .before .before .before .before .if2 .taken) in ((sym (c .before .before .before .before .before .before .before .before .before .before .fits-memory .ensures) ∙ c .before .before .before .before .before .before .before .before .before .if1 .taken), omega (arith, c .before .before .before .put-header .kept .0))

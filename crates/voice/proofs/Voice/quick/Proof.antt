@@ -1,9 +1,8 @@
 -- `Voice::quick` meets its contract: its tests are those that a voice that glides is known by, and where one fails it doesn't answer. Assumes nothing.
-use mathlib.Core.Path.{_≡_, refl, sym}
-use mathlib.Core.Bool.{Bool, true, false, not, _||_, true≢false}
-use lib.Dec.{eqb}
+use mathlib.Core.Path.{sym}
+use mathlib.Core.Bool.{true≢false}
 use borrow.Author.Needs.{needs}
-use borrow.Author.Tests.{eqb-true}
+use borrow.Author.Tests.{not-false}
 use Rattle.voice.specs.Gliding.{glidedAt}
 use Rattle.voice.proofs.Gliding.{answered}
 use Rattle.voice.proofs.Voice.quick.Statement.{statement}
@@ -30,6 +29,9 @@ quick-beside-requires c κs = search needs
 returns-3 : tie.Need-returns-3
 returns-3 c glides = absurd (true≢false (sym glides))
 
+returns-4 : tie.Need-returns-4
+returns-4 c glides = absurd (true≢false (sym glides))
+
 near-valued-requires : tie.Need-near-valued-requires
 near-valued-requires c κs = search needs
 
@@ -39,36 +41,30 @@ crossing-requires c κs = search needs
 goes-on-requires : tie.Need-goes-on-requires
 goes-on-requires c κs = search needs
 
--- its first test is that of two things at once
-both : (a b : Bool) → (not a || not b) ≡ false → (a ≡ true) × (b ≡ true)
-both true true h = (refl, refl)
-both true false h = absurd (true≢false h)
-both false b h = absurd (true≢false h)
-
-returns-4 : tie.Need-returns-4
+returns-5 : tie.Need-returns-5
 unfolding glidedAt
-returns-4 c =
-    let a = c .before .before .before .before .before .before .before .before .before .before .before .before .before .before .before .before .before .before .before .args in
+returns-5 c =
+    let a = c .before .before .before .before .before .before .before .before .before .before .before .before .before .before .before .before .before .before .before .before .args in
     let found = c .before .before .before .before .before .before .before .before .before .quick-index in
     let keeps = c .before .before .before .before .before .before .before .before .before .before .before .before .before .before .before .keeps in
-    let first = both (eqb (a .self .phrase) (a .t .phrase)) (keeps .result) (c .before .before .before .before .before .before .before .before .before .before .before .before .before .before .if1 .left) in
     let valued = c .before .before .before .near-valued in
     answered (a .t) (a .«data» .now) (a .self) (found .result) (c .before .before .before .before .before .before .quick-beside .result) (valued .result) (found .ensures) (c .before .before .before .before .before .before .quick-beside .ensures) (valued .ensures)
-    (c .before .before .before .before .before .before .before .before .if2 .left) (c .before .before .before .before .before .if3 .left) _ (keeps .result) (c .goes-on .result) (simp (c .before .crossing .ensures, c .before .before .before .before .before .before .before .level .ensures)) (keeps .ensures) (c .goes-on .ensures)
-    (eqb-true (a .self .phrase) (a .t .phrase) (first .0)) (first .1)
+    (c .before .before .before .before .before .before .before .before .if3 .left) (c .before .before .before .before .before .if4 .left) _ (keeps .result) (c .goes-on .result) (simp (c .before .crossing .ensures, c .before .before .before .before .before .before .before .level .ensures)) (keeps .ensures) (c .goes-on .ensures)
+    (c .before .before .before .before .before .before .before .before .before .before .before .before .before .before .before .before .if1 .left) (not-false (keeps .result) (c .before .before .before .before .before .before .before .before .before .before .before .before .before .before .if2 .left))
 
 pub quick-spec : {M : Type 1} → statement M
 quick-spec =
     tie.close
     (tie.spec
-    keeps-requires
     returns
-    quick-index-requires
+    keeps-requires
     returns-2
+    quick-index-requires
+    returns-3
     level-requires
     quick-beside-requires
-    returns-3
+    returns-4
     near-valued-requires
     crossing-requires
     goes-on-requires
-    returns-4)
+    returns-5)
