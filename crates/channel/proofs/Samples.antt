@@ -41,7 +41,7 @@ taken-sound capacity c s m size =
     let r = recordedOf (h .recorder) (h .«data_len») in
     let left = capacity - h .start in
     let handed : writtenIn h (length m) .to - writtenIn h (length m) .from ≡ left =
-        ap (λ (n : ℕ). writtenIn h n .to - writtenIn h n .from) size ∙ room-left capacity h (parts s .head) in
+    ap (λ (n : ℕ). writtenIn h n .to - writtenIn h n .from) size ∙ room-left capacity h (parts s .head) in
     recording-changed capacity c s (r _)
     (subst (λ (n : ℕ). goodRecorded (r n) left ≡ true) (sym handed) (sample-good (h .recorder) (h .«data_len») left (recorder-left capacity h (parts s .head))))
 

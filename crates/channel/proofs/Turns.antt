@@ -141,7 +141,7 @@ module _ (p : Params) (c : Channel) (m : List ℕ) where
         let own = turning-own v in
         let w = turningIn p c m .turn v in
         let gone : turningOn (v .phrase) .leaves (turningOn (v .phrase) .turn v) ≡ turningIn p c m .leaves w =
-            ap (turningOn (v .phrase) .leaves) (sym (own .turns)) ∙ ap (λ (k : ℕ). turningOn k .leaves w) (sym turning-phrase) ∙ sym (turning-own w .leaves) in
+        ap (turningOn (v .phrase) .leaves) (sym (own .turns)) ∙ ap (λ (k : ℕ). turningOn k .leaves w) (sym turning-phrase) ∙ sym (turning-own w .leaves) in
         λ i. record { voice = sym (own .turns) i; stays = not (gone i); output = sym (own .adds out) i }
 
     -- as its parts are worked out
@@ -150,7 +150,7 @@ module _ (p : Params) (c : Channel) (m : List ℕ) where
           → r ≡ turnedOf (turningAt turningBy p at (take (room .to - room .from) (drop (room .from) m))) out v → r ≡ turnedOf (turningIn p c m) out v
       turned-there out room at r lies moment gives =
           let own : take (room .to - room .from) (drop (room .from) m) ≡ storedIn (phraseAt c (v .phrase)) m =
-              ap (λ (z : Room). take (z .to - z .from) (drop (z .from) m)) lies ∙ room-stored q m ∙ ap (λ (z : Phrase). storedIn z m) is in
+          ap (λ (z : Room). take (z .to - z .from) (drop (z .from) m)) lies ∙ room-stored q m ∙ ap (λ (z : Phrase). storedIn z m) is in
           let then : at ≡ momentFor c (v .phrase) = moment ∙ ap (λ (z : Phrase). momentOn (c .head) (v .phrase) (z .length)) is in
           gives ∙ (λ i. turnedOf (turningAt turningBy p (then i) (own i)) out v) ∙ turning-turned out
 

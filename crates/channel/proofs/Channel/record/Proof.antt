@@ -29,9 +29,10 @@ returns : tie.Need-returns
 returns c =
     let a = c .before .before .before .before .before .before .before .args in
     let room = c .before .before .before .before .room in
-    let recorded = c .before .before .recorded in
-    (taken-there (a .self) (a .«data» .now) (room .result) (room .ensures .0) (recorded .result) (recorded .ensures .0),
-    memory-there (a .self) (a .«data» .now) (room .result) (room .ensures .0) (a .input) _ (recorded .ensures .1))
+    let recorded = c .before .before .recorded in (
+      taken-there (a .self) (a .«data» .now) (room .result) (room .ensures .0) (recorded .result) (recorded .ensures .0),
+      memory-there (a .self) (a .«data» .now) (room .result) (room .ensures .0) (a .input) _ (recorded .ensures .1),
+    )
 
 pub record-spec : {M : Type 1} → statement M
 record-spec =
