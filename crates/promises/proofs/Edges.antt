@@ -2,9 +2,10 @@
 use mathlib.Core.Path.{_≡_, refl}
 use mathlib.Core.Bool.{true, false}
 use mathlib.Core.List.{List, [], _∷_, _++_, map}
+use mathlib.Core.Option.{some}
 use Prim.Native.Nat.{ℕ, _+_, _-_, _^_}
 use lib.IntN.{pos, negsuc}
-use lib.ListN.{replicate}
+use lib.ListN.{length, replicate}
 use lib.Ieee.{Float, nan, inf, fin}
 use Rattle.volume.specs.declared.Volume.{Volume}
 use Rattle.volume.specs.declared.Volume.the-variants.{Static, Linear}
@@ -19,8 +20,9 @@ use Rattle.channel.specs.declared.Channel.{Channel}
 use Rattle.sampler.specs.declared.Sampler.{Sampler}
 use Rattle.sampler.specs.Refusals.{capacityOf, setUpNumber}
 use Rattle.sampler.specs.Samplers.{setUpOf}
-use Rattle.promises.specs.Runs.{Call, startRecording, sample, frame, code}
-use Rattle.promises.proofs.Examples.{computing, plain, key, quiet, init, recorded, since}
+use Rattle.fates.specs.Places.{voiceAt}
+use Rattle.promises.specs.Runs.{World, Call, startRecording, sample, frame, chan, code, after, output}
+use Rattle.promises.proofs.Examples.{computing, half, two, plain, key, quiet, init, recorded, since}
 
 -- ==== row 9, condition by condition: the numbers of records at its edge and past it
 
@@ -268,3 +270,30 @@ ends-judged = refl
 pub before-the-end : map (clocks (2 ^ 48 - 1)) (sample 1 zero32 plain ∷ quiet plain ∷ []) ≡ 0 ∷ 0 ∷ []
 unfolding computing
 before-the-end = refl
+
+-- ==== 11/12: a voice goes by its own phrase. Of a part 1, 1/2, 2, 1/4 the phrase 3 is the recording, from sample 1 on, and every other phrase is empty; the voices are alike but for their phrases
+abbrev one-of : ℕ → Voice
+one-of k = voiceOf k 0 (Static one32) (record { since = 10; start = zero32; speed = one32; length = two; «data_length» = two; shift = zero32; mode = Loop })
+
+abbrev phrased : List Voice → World
+phrased vs = record {
+  sampler = both channel (channelWith vs (length vs) (headOn 3 1 2 10 (Static zero32) Idle));
+  memory = replicate 4 0 ++ (0x3F800000 ∷ 0x3F000000 ∷ 0x40000000 ∷ 0x3E800000 ∷ []);
+}
+
+abbrev silence : Call
+silence = sample 1 zero32 plain
+
+-- what is heard of them in two samples
+abbrev heard : List Voice → List Float
+heard vs = output (phrased vs) silence 1 ∷ output (after (phrased vs) silence) silence 1 ∷ []
+
+pub own-phrases-heard :
+    (heard (one-of 3 ∷ []) ≡ half ∷ two ∷ []) × (heard (one-of 7 ∷ []) ≡ zero32 ∷ zero32 ∷ []) × (heard (one-of 7 ∷ one-of 3 ∷ []) ≡ half ∷ two ∷ [])
+unfolding computing
+own-phrases-heard = (refl, refl, refl)
+
+-- on an empty phrase a voice stays as it is
+pub empty-phrase-rests : voiceAt (chan (after (phrased (one-of 7 ∷ one-of 3 ∷ [])) silence) 1) 0 ≡ some (one-of 7)
+unfolding computing
+empty-phrase-rests = refl
