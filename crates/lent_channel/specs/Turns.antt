@@ -37,7 +37,11 @@ begun = record { place = 0; kept = 0; output = zero32; first = 0; glides = true 
 unfoldable pub glidedTo : ℕ → Float → Going
 glidedTo n out = record { place = n; kept = n; output = out; first = 0; glides = true }
 
--- the voice at the next place has taken its turn. The first that leaves is told by its place
+-- the voice at the next place
+abbrev pub nextVoice : Going → Channel → Voice
+nextVoice g c = getD (c .voices) (g .place) blankVoice
+
+-- it has taken its turn. The first that leaves is told by its place
 unfoldable pub nextTurn : Tick → List ℕ → Going → Voice → Turn
 nextTurn t m g v =
     let w = turnOf t m v in
@@ -54,6 +58,10 @@ nextTurn t m g v =
       };
     }
 
+-- so the channel has it: a voice that stays stands behind those that stayed
+unfoldable pub turnedIn : Going → Turn → Channel → Channel
+turnedIn g r c = cond (r .stays) (withVoices (set (c .voices) (g .kept) (r .voice)) (c .count) c) c
+
 -- it took none, and stayed
 unfoldable pub restedOf : Going → Going
 restedOf g = record {
@@ -65,7 +73,7 @@ restedOf g = record {
 }
 
 unfoldable pub restedIn : Going → Channel → Channel
-restedIn g c = withVoices (set (c .voices) (g .kept) (getD (c .voices) (g .place) blankVoice)) (c .count) c
+restedIn g c = withVoices (set (c .voices) (g .kept) (nextVoice g c)) (c .count) c
 
 -- how many voices moved up: those that stayed behind the first that left
 unfoldable pub movedBy : Going → ℕ
@@ -83,21 +91,24 @@ pub record Stands (n : ℕ) (g : Going) : Type 0 where
 pub record Next (n : ℕ) (c : Channel) (t : Tick) (g : Going) : Type 0 where
   pub stands : Stands n g
   pub below : g .place < n
-  pub phrase : getD (c .voices) (g .place) blankVoice .phrase ≡ t .phrase
+  pub phrase : nextVoice g c .phrase ≡ t .phrase
 
 -- ---- what turns promise
 
--- What the turns of the voices from the next to the n-th give, on a channel whose turns stand so: those that stay stand
--- behind the voices that stayed, what is heard is added, and where one has left, all that stay move up.
-unfoldable pub restOf : Turning → ℕ → Channel → Going → Played
-restOf s n c g =
-    let vs = slice (g .place) n (c .voices) in
+-- What the turns of voices give on a channel whose turns stand so: those that stay stand behind the voices that stayed,
+-- what is heard is added, and where one has left, all that stay move up.
+unfoldable pub restBy : Turning → Channel → Going → List Voice → Played
+restBy s c g vs =
     let k = g .kept + length (keptOf s vs) in
     record {
       channel = withVoices (sets (c .voices) (g .kept) (keptOf s vs)) k c;
       output = fold (s .adds) (g .output) vs;
       moved = cond (ltb (g .kept) (g .place)) (k - g .first) (tidiedOf s vs);
     }
+
+-- those of the voices from the next to the n-th
+abbrev pub restOf : Turning → ℕ → Channel → Going → Played
+restOf s n c g = restBy s c g (slice (g .place) n (c .voices))
 
 -- From channel c and g to d and h turns have gone on: what is left of them gives the same
 pub record Onward (s : Turning) (n : ℕ) (c : Channel) (g : Going) (d : Channel) (h : Going) : Type 0 where

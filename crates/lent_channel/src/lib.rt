@@ -2,7 +2,7 @@
 // copied. Each function equals the same definition as that of crate `channel` by value. Those that take a channel lent
 // are proved by hand.
 ghost use mathlib.Core.Path.{_≡_};
-ghost use Prim.Native.Nat.{ℕ, _≤_, _<_};
+ghost use Prim.Native.Nat.{_≤_, _<_};
 ghost use mathlib.Core.Bool.{_&&_};
 ghost use lib.Ieee.{binary32, add};
 ghost use Rattle.voice.specs.Voices.{goodVoice};
@@ -22,7 +22,9 @@ ghost use Rattle.lent_channel.specs.Turns.{
   silent,
   begun,
   glidedTo,
+  nextVoice,
   nextTurn,
+  turnedIn,
   restedOf,
   restedIn,
   movedBy,
@@ -261,9 +263,9 @@ fn moved_of(g: Going) -> u8
 
 // The next voice takes its turn. One that stays moves up where one before it has left.
 fn turn_next(c: &mut Channel, t: Tick, g: Going, data: &[u32]) -> Going
-    ghost { ℕ }
-    requires { λ n. ⌜ Next n (now c) t g ⌝ }
-    ensures { λ n r. ⌜ (g .place < r .place) × Goes t (now («data» .entry)) n (now (c .entry)) g (now (c .exit)) r ⌝ }
+    requires { ⌜ (g .place < 32) × (g .kept ≤ g .place) ⌝ }
+    ensures { λ r. ⌜ (r ≡ nextTurn t (now («data» .entry)) g (nextVoice g (now (c .entry))) .next)
+        × (now (c .exit) ≡ turnedIn g (nextTurn t (now («data» .entry)) g (nextVoice g (now (c .entry)))) (now (c .entry))) ⌝ }
 {
     let r = turned(g, c.voices[g.place], t, data);
     if r.stays {
