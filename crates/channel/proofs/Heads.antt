@@ -126,10 +126,14 @@ module _ (capacity : ℕ) (h : Head) (s : SoundHead capacity h) where
   unfolding writtenIn
   room-left = ap (λ (k : ℕ). capacity - k) (min-eq-left (omega (arith, s .inside)))
 
-  -- every phrase is short enough
-  pub phrase-within : (k : ℕ) → phraseIn h k .length ≤ capacity
+  -- every phrase lies within the capacity, and is short enough
+  pub phrase-inside : (k : ℕ) → endsBy capacity (phraseIn h k) ≡ true
   unfolding phraseIn
-  phrase-within k = cond-split (λ (p : Phrase). p .length ≤ capacity) (eqb k (h .chosen)) (recordingIn h) noPhrase (λ e. omega (arith, s .inside)) (λ e. zero-le)
+  phrase-inside k =
+      cond-split (λ (p : Phrase). endsBy capacity p ≡ true) (eqb k (h .chosen)) (recordingIn h) noPhrase (λ e. inside-ends (recordingIn h) capacity (s .inside)) (λ e. inside-ends noPhrase capacity zero-le)
+
+  pub phrase-within : (k : ℕ) → phraseIn h k .length ≤ capacity
+  phrase-within k = omega (arith, ends-inside (phraseIn h k) capacity (phrase-inside k))
 
   passed-sound : (on : Bool) (v : Volume) → SoundVolume (h .now) v → SoundHead capacity (withPassthru on v h)
   passed-sound on v g = record { time = s .time; numbered = s .numbered; inside = s .inside; volume = g; recorder = s .recorder }

@@ -23,12 +23,13 @@ use Rattle.wave.proofs.Answers.{Known, good-known, answer-good}
 use Rattle.wave.proofs.Layouts.{fits-true}
 use Rattle.wave.proofs.Promised.{promised, file-good, file-samples, frames-recording, sized}
 use Rattle.wave.proofs.Calls.{length-frames, length-file, length-loaded}
+use Rattle.phrases.specs.Phrases.{storedIn}
 use Rattle.recorder.specs.declared.State.{State}
 use Rattle.recorder.specs.declared.State.the-variants.{Triggered, Idle}
 use Rattle.recorder.proofs.Cases.{not-recording}
 use Rattle.channel.specs.declared.Head.{Head}
 use Rattle.channel.specs.declared.Channel.{Channel}
-use Rattle.channel.specs.Heads.{withRecorded, headChangedOf}
+use Rattle.channel.specs.Heads.{headChangedOf}
 use Rattle.channel.specs.Channels.{withHead, channelOf as newChannel}
 use Rattle.sampler.specs.declared.Sampler.{Sampler}
 use Rattle.sampler.specs.Refusals.{row, goodWith, records, anyRecording}
@@ -46,7 +47,7 @@ use Rattle.promises.specs.Outcomes.{on, ListOutcome, ReadOutcome, Allows
 use Rattle.promises.proofs.Accepted.{any-front}
 use Rattle.promises.proofs.Calls.{chan-after, kept}
 use Rattle.promises.proofs.Outcomes.{left-after}
-use Rattle.promises.specs.Recordings.{recording, Words, bytesIn, Written, Read, Recordings, writePlaceOf}
+use Rattle.promises.specs.Recordings.{recording, Words, bytesIn, Written, beginning, Read, Recordings, writePlaceOf}
 
 -- what stands past the last channel
 abbrev new : Channel
@@ -175,7 +176,7 @@ module _ (w : World) (f : List ℕ) (rate channels : ℕ) (words : List ℕ) (g 
   left = left-after w (readWave f) r a
 
   -- the record
-  else-kept : (j : ℕ) → j < channels → chan u j ≡ withHead (withRecorded (record { recorder = chan w j .head .recorder; «data_len» = g .samples }) (chan w j .head)) (chan w j)
+  else-kept : (j : ℕ) → j < channels → chan u j ≡ withHead (beginning (g .samples) (chan w j .head)) (chan w j)
   unfolding event doneTo act headChangedOf
   else-kept j h =
       ap (λ (v : World). chan v j) left ∙ chan-after w two (fit .few) j (omega (arith, counts)) (readWave f) ∙ rw (z, same-samples) refl
@@ -216,13 +217,13 @@ module _ (w : World) (f : List ℕ) (rate channels : ℕ) (words : List ℕ) (g 
   idle j h = not-recording (chan w j .head .recorder) (any-front records (w .sampler .channels) (w .sampler .count) j new (loads .idle) (omega (arith, counts)) (omega (arith, fit .few, two)))
 
   pub read : Read w u rate channels (g .samples) words (r .answer .read)
-  unfolding code readWaveOf
+  unfolding code readWaveOf storedIn
   read = record {
     rated = ap (λ (b : ReadAnswer). b .read) (a .0) ∙ rw (z, held, k .same-rate) refl;
     recordings = λ j h. rw (else-kept j h) (front-is j h);
     rest = λ j h. rw (own-part j) (part-rest (w .sampler) channels (g .samples) (omega (arith, counts, fit .few)) few loaded (w .memory) (length-loaded f _ (w .memory)) else-is j h);
     behind = rw memory-is (parts-rest (w .sampler) channels (g .samples) (omega (arith, counts, fit .few)) few loaded (w .memory) (length-loaded f _ (w .memory)) else-is);
-    write-place = λ j h. ap (λ (c : Channel). writePlaceOf (c .head)) (else-kept j h) ∙ at-end (withRecorded (record { recorder = chan w j .head .recorder; «data_len» = g .samples }) (chan w j .head)) (idle j h);
+    write-place = λ j h. ap (λ (c : Channel). writePlaceOf (c .head)) (else-kept j h) ∙ at-end (beginning (g .samples) (chan w j .head)) (idle j h);
     else-kept = else-kept;
   }
 

@@ -557,7 +557,7 @@ pub record Tidying (w : World) : Type 0 where
       → r .answer .moved ≡ sumFrom (upIn w (frame xs p)) (length xs) 0
   pub frame-bound : (xs : List Float) (p : Params) (r : FrameOutcome) → Allows (on w (frame xs p)) r
       → r .answer .moved ≤ 62
-  -- None moves up where none leaves, in a refused call, and on an empty recording.
+  -- None moves up where none leaves, in a refused call, and where the phrase of every voice is empty.
   pub none : (c : Call) (j : ℕ)
       → ((n : ℕ) (v : Voice) → voiceAt (chan w j) n ≡ some v → follow (event w c j) (chan w j) n ≢ gone)
       → upIn w c j ≡ 0
