@@ -22,7 +22,7 @@ use Rattle.sampler.specs.Refusals.{capacityOf, setUpNumber}
 use Rattle.sampler.specs.Samplers.{setUpOf}
 use Rattle.fates.specs.Places.{voiceAt}
 use Rattle.promises.specs.Runs.{World, Call, startRecording, sample, frame, chan, code, after, output}
-use Rattle.promises.proofs.Examples.{computing, half, two, plain, key, quiet, init, recorded, since}
+use Rattle.promises.proofs.Examples.{computing, half, two, plain, key, quiet, init}
 
 -- ==== row 9, condition by condition: the numbers of records at its edge and past it
 
