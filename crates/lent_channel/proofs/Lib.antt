@@ -3,6 +3,7 @@ pub mod Places
 pub mod Holding
 pub mod Sharing
 pub mod Asking
+pub mod Saying
 pub mod Taking
 pub mod Goings
 pub mod Turns
