@@ -5,5 +5,6 @@ pub mod Sharing
 pub mod Asking
 pub mod Saying
 pub mod Taking
+pub mod Parts
 pub mod Goings
 pub mod Turns

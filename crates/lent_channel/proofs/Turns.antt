@@ -182,6 +182,14 @@ rest-on s n c g stands below all rests =
     let v : Voice = nextVoice g c in
     stays-on s c g (stands .up) v v (g .output) (sym (rests .turns)) (sym (rests .adds (g .output))) n (stands .few) below all refl (stands .first) (rests .stays) (g .glides) (stands .all)
 
+-- as `rest_next` has it
+pub rest-goes : (s : Turning) (n : ℕ) (c : Channel) (g : Going) → Stands n g → g .place < n → length (c .voices) ≡ 32 → T.Rests s (nextVoice g c) → (r : Going) (d : Channel) → (r ≡ restedOf g) × (d ≡ restedIn g c)
+    → (g .place < r .place) × Onward s n c g d r
+unfolding restedOf
+rest-goes s n c g stands below all rests r d is =
+    let further : r .place ≡ g .place + 1 = ap (λ (z : Going). z .place) (is .0) in
+    (omega (arith, further), subst (λ (e : Channel). Onward s n c g e r) (sym (is .1)) (subst (λ (z : Going). Onward s n c g (restedIn g c) z) (sym (is .0)) (rest-on s n c g stands below all rests)))
+
 -- ---- gliding turns
 -- they begin anywhere where no voice has left
 pub glides-from : (t : Tick) (m : List ℕ) (n : ℕ) (c : Channel) (g : Going) → Stands n g → g .kept ≡ g .place → Goes t m n c g c (glidedTo (g .place) (g .output))

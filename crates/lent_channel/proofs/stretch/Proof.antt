@@ -93,7 +93,7 @@ module _ {M : Type 1} (𝓤 : URA M) (H : Heap 𝓤) (A : Atoms 𝓤) (W : Given
     turns-next =
         qed W Begun ∵ exec ! (𝓣 .C) (𝓣 .Λ) En (after 2 (code.function .body)) (atRet En Ends) $ puts ! (addr ! (beyond ! (held ! refl) (stop !))) (fills ! refl (tt, tt)) $
         move ! (5 ∷ []) $ use1 W (Memory ⊛ Memory) (shr-slice-copy 𝓤 H A W (named 1) (κs .1 .0) u32 .twice x₁ (slice-vals x₁)) $ split ! $ move ! (2 ∷ 0 ∷ 6 ∷ []) $
-        lends one-turn b o h (κs .1 .0) q₁ (λ _. (t, (g, (x₁, tt)))) x₁ (λ _. refl) ! 𝓣 known-Turn (λ _. (fine .0, (fine .1 .0, (fine .1 .1 .1 .0, tt)))) (λ _. (omega (arith, may .below, may .stands .few), may .stands .up))
+        lends one-turn b o h (κs .1 .0) q₁ (λ _. (t, (g, (x₁, tt)))) x₁ (λ _. refl) 𝓣 ! known-Turn (λ _. (fine .0, (fine .1 .0, (fine .1 .1 .1 .0, tt)))) (λ _. (omega (arith, may .below, may .stands .few), may .stands .up))
         (λ α δ. and-then ! (its ! refl) (and-then ! (its ! refl) (and-then ! (its ! refl) (and-then ! (its ! refl) (no-more !))))) (λ α r d said isr isd.
         arrives ! refl (fills ! refl (going .typed 𝓤 H A W r _ isr)) $ move ! (2 ∷ []) $ drop ! $ move ! (0 ∷ 2 ∷ 3 ∷ 4 ∷ []) $ close-ref ! tt (mem C.the-row) d {b = b} {o = o} $ gives ! refl $ all-freed ! refl $
         by ! (exits stretching κs q q₁ x a 𝓤 H A W r d isr (turn-goes t (x₁ .now) n h g (may .stands) (may .below) all (may .phrase) r d said)))
@@ -108,7 +108,7 @@ module _ {M : Type 1} (𝓤 : URA M) (H : Heap 𝓤) (A : Atoms 𝓤) (W : Given
       -- all have glided so far
       (λ y. puts ! (addr ! (beyond ! (held ! refl) (stop !))) (fills ! refl (tt, tt)) $
       move ! (5 ∷ []) $ use1 W (Memory ⊛ Memory) (shr-slice-copy 𝓤 H A W (named 1) (κs .1 .0) u32 .twice x₁ (slice-vals x₁)) $ split ! $ move ! (2 ∷ 0 ∷ 6 ∷ []) $
-      lends gliding b o h (κs .1 .0) q₁ (λ _. (t, (g, (n, (x₁, tt))))) x₁ (λ _. refl) ! 𝓣 known-Glide (λ _. fine) (λ _. (may .stands, may .stands .all (holds (g .glides) y)))
+      lends gliding b o h (κs .1 .0) q₁ (λ _. (t, (g, (n, (x₁, tt))))) x₁ (λ _. refl) 𝓣 ! known-Glide (λ _. fine) (λ _. (may .stands, may .stands .all (holds (g .glides) y)))
       (λ α δ. and-then ! (its ! refl) (and-then ! (its ! refl) (and-then ! (its ! refl) (and-then ! (its ! refl) (and-then ! (its ! refl) (no-more !)))))) (λ α r d said isr isd.
       arrives ! refl (fills ! refl (going .typed 𝓤 H A W r _ isr)) $
       puts ! (bin ! (field-of ! refl refl) (field-of ! refl refl) tt) (fills ! refl (tt, tt)) $ branches ! (its ! refl)
