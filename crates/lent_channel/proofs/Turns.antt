@@ -6,7 +6,7 @@ use native.Mathlib.Omega.{arith}
 use mathlib.Core.Bool.{Bool, true, false, not, cond, true≢false}
 use mathlib.Core.List.{List, [], _∷_}
 use lib.Dec.{ltb, eqb}
-use lib.ListN.{length, getD, set, take}
+use lib.ListN.{length, getD, set}
 use lib.Seq.{slice, slice-empty}
 use lib.Ieee.{Float, binary32, add}
 use borrow.Author.Tests.{lt-ltb, le-ltb, ltb-true, ltb-false}

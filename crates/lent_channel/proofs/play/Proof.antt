@@ -1,6 +1,6 @@
 -- `play` meets its contract: a walk of its MIR with a loop, by hand. The borrow is opened before the loop, and closed after it; a turn of the loop lends the channel on to `go_on`, which goes on by some turns of voices (`proofs/Turns.antt`).
 -- So the loop is counted down by the places that are left at most. Assumes nothing.
-use mathlib.Core.Path.{_≡_, refl, sym, _∙_, ap, subst}
+use mathlib.Core.Path.{_≡_, refl, _∙_, ap, subst}
 use Prim.Native.Nat.{ℕ, suc, _+_, _<_, _≤_, _^_, min}
 use native.Mathlib.Omega.{arith}
 use mathlib.Core.Bool.{Bool, true, false}
