@@ -1,5 +1,5 @@
 -- How a walk goes to a voice of a channel behind a reference.
---     channel, voice, params, moment, tick, going, turned, sounded, condition      their rows
+--     channel, voice, headed, phrase, room, params, moment, tick, going, turned, sounded, condition      their rows
 --     points           a pointer to voice i is made: i times a voice's bytes, the address of the first voice, and that many bytes on. It asks what each local holds and takes, in the order of the three statements
 --     visits           the walk goes to voice i, takes a step of its own there, which leaves w in the voice's place, and comes out again
 --     copies-voice     so the voice is copied
@@ -23,6 +23,10 @@ use denote.Laws.{Is, shows}
 use denote.Index.{place-is}
 use denote.Steps.{owned}
 use Rattle.walks.proofs.Steps.Inside.{Inside, Back, goes-in, comes-out}
+use Rattle.phrases.proofs.Phrase as F
+use Rattle.phrases.proofs.Phrase.Laws as F′
+use Rattle.phrases.proofs.Room as S
+use Rattle.phrases.proofs.Room.Laws as S′
 use Rattle.common_types.proofs.Params as P
 use Rattle.common_types.proofs.Params.Laws as P′
 use Rattle.voice.specs.declared.Voice.{Voice}
@@ -34,6 +38,8 @@ use Rattle.voice.proofs.Voice as R
 use Rattle.voice.proofs.Voice.Laws as R′
 use Rattle.channel.specs.declared.Channel.{Channel}
 use Rattle.channel.proofs.Slots.{none}
+use Rattle.channel.proofs.Head as E
+use Rattle.channel.proofs.Head.Laws as E′
 use Rattle.channel.proofs.Channel as C
 use Rattle.channel.proofs.Channel.Laws as C′
 use Rattle.lent_channel.proofs.Going as N
@@ -54,6 +60,15 @@ channel = struct C.the-type C′.the-laws C′.the-plain
 
 abbrev pub voice : Datum
 voice = struct R.the-type R′.the-laws R′.the-plain
+
+abbrev pub headed : Datum
+headed = struct E.the-type E′.the-laws E′.the-plain
+
+abbrev pub phrase : Datum
+phrase = struct F.the-type F′.the-laws F′.the-plain
+
+abbrev pub room : Datum
+room = struct S.the-type S′.the-laws S′.the-plain
 
 abbrev pub params : Datum
 params = struct P.the-type P′.the-laws P′.the-plain

@@ -6,7 +6,7 @@ use native.Mathlib.Omega.{arith}
 use mathlib.Core.Bool.{Bool, true, false, not, cond, true≢false}
 use mathlib.Core.List.{List, [], _∷_}
 use lib.Dec.{ltb, eqb}
-use lib.ListN.{length, getD, set, take}
+use lib.ListN.{length, getD, set}
 use lib.Seq.{slice, slice-empty}
 use lib.Ieee.{Float, binary32, add}
 use borrow.Author.Tests.{lt-ltb, le-ltb, ltb-true, ltb-false}
@@ -99,9 +99,9 @@ module _ (s : Turning) (c : Channel) (g : Going) (up : g .kept ≤ g .place) (v 
       go false f =
           let level : i ≡ k = let u = ltb-false k i f in omega (arith, up, u) in
           let first : 0 + cond (ltb k i) (length (keptOf s (v ∷ vs))) (tidiedOf s (v ∷ vs)) ≡ 0 + cond (ltb k (i + 1)) (length (keptOf s vs)) (tidiedOf s vs) =
-              T.tidied-gone s c k (g .output) out v w true turned sounds (sym gone) vs 0 i up refl in
+          T.tidied-gone s c k (g .output) out v w true turned sounds (sym gone) vs 0 i up refl in
           let here : 0 + tidiedOf s (v ∷ vs) ≡ 0 + length (keptOf s vs) =
-              sym (ap (λ (z : Bool). 0 + cond z (length (keptOf s (v ∷ vs))) (tidiedOf s (v ∷ vs))) f) ∙ first ∙ ap (λ (z : Bool). 0 + cond z (length (keptOf s vs)) (tidiedOf s vs)) later in
+          sym (ap (λ (z : Bool). 0 + cond z (length (keptOf s (v ∷ vs))) (tidiedOf s (v ∷ vs))) f) ∙ first ∙ ap (λ (z : Bool). 0 + cond z (length (keptOf s vs)) (tidiedOf s vs)) later in
           let all : tidiedOf s (v ∷ vs) ≡ k + length (keptOf s vs) - i = omega (arith, level, here) in
           ap (λ (z : Bool). cond z (k + length (keptOf s (v ∷ vs)) - g .first) (tidiedOf s (v ∷ vs))) f ∙ all
           ∙ sym (ap (λ (z : Bool). cond z (k + length (keptOf s vs) - cond (ltb k i) (g .first) i) (tidiedOf s vs)) later ∙ ap (λ (z : Bool). k + length (keptOf s vs) - cond z (g .first) i) f)
@@ -182,6 +182,14 @@ rest-on s n c g stands below all rests =
     let v : Voice = nextVoice g c in
     stays-on s c g (stands .up) v v (g .output) (sym (rests .turns)) (sym (rests .adds (g .output))) n (stands .few) below all refl (stands .first) (rests .stays) (g .glides) (stands .all)
 
+-- as `rest_next` has it
+pub rest-goes : (s : Turning) (n : ℕ) (c : Channel) (g : Going) → Stands n g → g .place < n → length (c .voices) ≡ 32 → T.Rests s (nextVoice g c) → (r : Going) (d : Channel) → (r ≡ restedOf g) × (d ≡ restedIn g c)
+    → (g .place < r .place) × Onward s n c g d r
+unfolding restedOf
+rest-goes s n c g stands below all rests r d is =
+    let further : r .place ≡ g .place + 1 = ap (λ (z : Going). z .place) (is .0) in
+    (omega (arith, further), subst (λ (e : Channel). Onward s n c g e r) (sym (is .1)) (subst (λ (z : Going). Onward s n c g (restedIn g c) z) (sym (is .0)) (rest-on s n c g stands below all rests)))
+
 -- ---- gliding turns
 -- they begin anywhere where no voice has left
 pub glides-from : (t : Tick) (m : List ℕ) (n : ℕ) (c : Channel) (g : Going) → Stands n g → g .kept ≡ g .place → Goes t m n c g c (glidedTo (g .place) (g .output))
@@ -215,8 +223,8 @@ module _ (t : Tick) (m : List ℕ) (n : ℕ) (c : Channel) (i : ℕ) (out : Floa
 pub follows-own : (p : Params) (c : Channel) (m : List ℕ) (k : ℕ) → eqb (phraseAt c k .length) 0 ≡ false → Follows (turningIn p c m) (tickOf p (momentFor c k)) (storedIn (phraseAt c k) m)
 follows-own p c m k full =
     let to : (v : Voice) → v .phrase ≡ tickOf p (momentFor c k) .phrase → T.Alike (turningIn p c m) (turningBy (tickOf p (momentFor c k)) (storedIn (phraseAt c k) m)) v =
-        λ v e. subst (λ (j : ℕ). T.Alike (turningIn p c m) (turningBy (tickOf p (momentFor c j)) (storedIn (phraseAt c j) m)) v) (e ∙ tick-phrase p (momentFor c k))
-        (T.turning-turns p c m v (subst (λ (j : ℕ). eqb (phraseAt c j .length) 0 ≡ false) (sym (e ∙ tick-phrase p (momentFor c k))) full)) in
+    λ v e. subst (λ (j : ℕ). T.Alike (turningIn p c m) (turningBy (tickOf p (momentFor c j)) (storedIn (phraseAt c j) m)) v) (e ∙ tick-phrase p (momentFor c k))
+    (T.turning-turns p c m v (subst (λ (j : ℕ). eqb (phraseAt c j .length) 0 ≡ false) (sym (e ∙ tick-phrase p (momentFor c k))) full)) in
     record { turns = λ v e. to v e .turns; leaves = λ v e. to v e .leaves; adds = λ out v e. to v e .adds out }
 
 -- turns leave the head, by which the voices go

@@ -1,6 +1,6 @@
 -- `glide` meets its contract: a walk of its MIR, by hand, of a loop that is left by a `return` where a voice doesn't glide. In the loop the whole channel lies in memory, with some list of voices to which
 -- gliding turns have gone on (`proofs/Turns.antt`); a turn takes voice i out, to be copied and then to be overwritten. Assumes nothing.
-use mathlib.Core.Path.{_≡_, refl, sym, _∙_, ap, subst}
+use mathlib.Core.Path.{_≡_, refl, _∙_, ap, subst}
 use Prim.Native.Nat.{ℕ, suc, _+_, _-_, _*_, _<_, _≤_, _^_}
 use native.Mathlib.Nat.{le-refl}
 use native.Mathlib.Omega.{arith}
@@ -67,7 +67,7 @@ use Rattle.lent_channel.specs.declared.Going.{Going}
 use Rattle.lent_channel.specs.Turns.{glidedTo, Goes, Glides}
 use Rattle.lent_channel.proofs.Bytes.{voice-bytes}
 use Rattle.lent_channel.proofs.Turns.{goes-on, glides-from, glide-on}
-use Rattle.lent_channel.proofs.Places.{cv, vv, places-are, sets-voice}
+use Rattle.lent_channel.proofs.Places.{vv, places-are, sets-voice}
 use Rattle.lent_channel.proofs.Holding.{voice, tick, going, points, visits, copies-voice}
 use Rattle.lent_channel.proofs.Taking.{Args, Fine, Sl, Tok, Start, Open, Post, exits, takes-over, meets}
 use Rattle.lent_channel.proofs.Goings.{gliding}
