@@ -5,9 +5,10 @@ use Prim.Native.Nat.{_≤_, _<_}
 use mathlib.Core.List.{[], _∷_}
 use mir.Syntax.{w64}
 use Rattle.walks.proofs.Steps.Data.{word}
+use Rattle.common_types.specs.Settings.{measureOf}
 use Rattle.channel.specs.Channels.{turningIn}
 use Rattle.lent_channel.specs.Turns.{nextVoice, nextTurn, turnedIn, Stands, Next, Onward, Goes, Glides}
-use Rattle.lent_channel.proofs.Holding.{params, tick, going}
+use Rattle.lent_channel.proofs.Holding.{params, measure, tick, going}
 use Rattle.lent_channel.proofs.Taking.{Taker}
 
 abbrev pub gliding : Taker
@@ -37,8 +38,8 @@ stretching = record {
 
 abbrev pub going-on : Taker
 going-on = record {
-  takes = going ∷ word w64 ∷ params ∷ [];
+  takes = going ∷ word w64 ∷ params ∷ measure ∷ [];
   gives = going;
-  asks = λ κs a c. Stands (a .1 .0) (a .0) × (a .0 .place < a .1 .0);
-  says = λ κs a c r d. (a .0 .place < r .place) × Onward (turningIn (a .1 .1 .0) c (a .1 .1 .1 .0 .now)) (a .1 .0) c (a .0) d r;
+  asks = λ κs a c. Stands (a .1 .0) (a .0) × (a .0 .place < a .1 .0) × (a .1 .1 .1 .0 ≡ measureOf (a .1 .1 .0));
+  says = λ κs a c r d. (a .0 .place < r .place) × Onward (turningIn (a .1 .1 .0) c (a .1 .1 .1 .1 .0 .now)) (a .1 .0) c (a .0) d r;
 }

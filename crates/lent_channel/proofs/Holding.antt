@@ -1,5 +1,5 @@
 -- How a walk goes to a voice of a channel behind a reference.
---     channel, voice, headed, phrase, room, params, moment, tick, going, turned, sounded, condition      their rows
+--     channel, voice, headed, phrase, room, params, measure, moment, tick, going, turned, sounded, condition      their rows
 --     points           a pointer to voice i is made: i times a voice's bytes, the address of the first voice, and that many bytes on. It asks what each local holds and takes, in the order of the three statements
 --     visits           the walk goes to voice i, takes a step of its own there, which leaves w in the voice's place, and comes out again
 --     copies-voice     so the voice is copied
@@ -27,6 +27,8 @@ use Rattle.phrases.proofs.Phrase as F
 use Rattle.phrases.proofs.Phrase.Laws as F′
 use Rattle.phrases.proofs.Room as S
 use Rattle.phrases.proofs.Room.Laws as S′
+use Rattle.common_types.proofs.Measure as M
+use Rattle.common_types.proofs.Measure.Laws as M′
 use Rattle.common_types.proofs.Params as P
 use Rattle.common_types.proofs.Params.Laws as P′
 use Rattle.voice.specs.declared.Voice.{Voice}
@@ -72,6 +74,9 @@ room = struct S.the-type S′.the-laws S′.the-plain
 
 abbrev pub params : Datum
 params = struct P.the-type P′.the-laws P′.the-plain
+
+abbrev pub measure : Datum
+measure = struct M.the-type M′.the-laws M′.the-plain
 
 abbrev pub moment : Datum
 moment = struct O.the-type O′.the-laws O′.the-plain

@@ -5,6 +5,7 @@ ghost use mathlib.Core.Path.{_≡_};
 ghost use Prim.Native.Nat.{_≤_, _<_};
 ghost use mathlib.Core.Bool.{_&&_};
 ghost use lib.Ieee.{binary32, add};
+ghost use Rattle.common_types.specs.Settings.{measureOf};
 ghost use Rattle.voice.specs.Voices.{goodVoice};
 ghost use Rattle.channel.specs.Heads.{closedOf};
 ghost use Rattle.channel.specs.Channels.{
@@ -41,6 +42,7 @@ ghost use Rattle.lent_channel.specs.Turns.{
 };
 use channel::Channel;
 use channel::Head;
+use common_types::Measure;
 use common_types::Params;
 use voice::Tick;
 use voice::Voice;
@@ -305,9 +307,9 @@ fn rest_next(c: &mut Channel, g: Going) -> Going
 }
 
 // The next turns, before the n-th voice: none of a voice whose phrase is empty. What voices share is worked out once for a
-// stretch of them.
-fn go_on(c: &mut Channel, g: Going, n: usize, params: Params, data: &[u32]) -> Going
-    requires { ⌜ Stands n g × (g .place < n) ⌝ }
+// stretch of them, by the measure of the parameters' loop length.
+fn go_on(c: &mut Channel, g: Going, n: usize, params: Params, m: Measure, data: &[u32]) -> Going
+    requires { ⌜ Stands n g × (g .place < n) × (m ≡ measureOf params) ⌝ }
     ensures { λ r. ⌜ (g .place < r .place)
         × Onward (turningIn params (now (c .entry)) (now («data» .entry))) n (now (c .entry)) g (now (c .exit)) r ⌝ }
 {
@@ -316,7 +318,7 @@ fn go_on(c: &mut Channel, g: Going, n: usize, params: Params, data: &[u32]) -> G
     if phrase.length == 0 {
         return rest_next(c, g);
     }
-    let t = Tick::new(params, c.head.moment_on(k, phrase.length));
+    let t = Tick::measured(params, m, c.head.moment_on(k, phrase.length));
     let room = phrase.room(data.len());
     stretch(c, t, g, n, &data[room.from..room.to])
 }
@@ -329,9 +331,10 @@ fn play(c: &mut Channel, params: Params, data: &[u32]) -> Heard
         ≡ playedOf (turningIn params (now (c .entry)) (now («data» .entry))) (now (c .entry)) .channel) ⌝ }
 {
     let n = channel::places(c.count);
+    let m = params.measure();
     let mut g = beginning();
     while g.place < n {
-        g = go_on(c, g, n, params, data);
+        g = go_on(c, g, n, params, m, data);
     }
     c.count = g.kept;
     Heard {

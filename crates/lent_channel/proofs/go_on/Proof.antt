@@ -51,6 +51,7 @@ use Rattle.walks.proofs.Steps.Data.{word}
 use Rattle.walks.proofs.Steps.Calls.{Says, asks}
 use Rattle.walks.proofs.Steps.Locals.{over, its, held, fills, refills, puts, puts-as, arrives, field-of, beyond, gives, gives-within, leaves-only, all-freed, Addresses, env, allocated, passed}
 use Rattle.common_types.specs.declared.Params.{Params}
+use Rattle.common_types.specs.declared.Measure.{Measure}
 use Rattle.phrases.specs.declared.Phrase.{Phrase}
 use Rattle.phrases.specs.declared.Room.{Room}
 use Rattle.phrases.specs.Phrases.{roomOf}
@@ -63,13 +64,13 @@ use Rattle.phrases.proofs.Phrase.room.Symbol.{name as #room}
 use Rattle.phrases.proofs.Phrase.room.Met as room-thm
 use Rattle.voice.specs.declared.Voice.{Voice}
 use Rattle.voice.specs.declared.Tick.{Tick}
-use Rattle.voice.specs.Voices.{tickOf, blankVoice}
-use Rattle.voice.proofs.PhraseKept.{tick-phrase}
+use Rattle.voice.specs.Voices.{spanBy, tickWith, tickOf, blankVoice}
+use Rattle.voice.proofs.Measured.{tick-measured}
 use Rattle.voice.proofs.Voice as R
 use Rattle.voice.proofs.Voice.Laws as R′
-use Rattle.voice.proofs.Tick.new.Symbol as tick-def
-use Rattle.voice.proofs.Tick.new.Symbol.{name as #tick}
-use Rattle.voice.proofs.Tick.new.Met as tick-thm
+use Rattle.voice.proofs.Tick.measured.Symbol as tick-def
+use Rattle.voice.proofs.Tick.measured.Symbol.{name as #tick}
+use Rattle.voice.proofs.Tick.measured.Met as tick-thm
 use Rattle.channel.specs.declared.Channel.{Channel}
 use Rattle.channel.specs.Heads.{phraseIn, momentOn}
 use Rattle.channel.specs.Channels.{phraseAt, momentFor, turningIn}
@@ -89,7 +90,7 @@ use Rattle.lent_channel.proofs.Bytes.{voice-bytes, phrase-at}
 use Rattle.lent_channel.proofs.Turns.{rest-goes, follows-own}
 use Rattle.lent_channel.proofs.Places.{cv, vv, ev, spot, places-are, reads-voice}
 use Rattle.lent_channel.proofs.Sharing.{head-is}
-use Rattle.lent_channel.proofs.Holding.{headed, phrase, room, params, moment, tick, going, points, visits, reads-head}
+use Rattle.lent_channel.proofs.Holding.{headed, phrase, room, params, measure, moment, tick, going, points, visits, reads-head}
 use Rattle.lent_channel.proofs.Saying.{first-of}
 use Rattle.lent_channel.proofs.Taking.{Args, Fine, Sl, Tok, Start, Open, Post, taking, lends, exits, takes-over, meets}
 use Rattle.lent_channel.proofs.Parts.{startOf, start-is, partOf, shares-part}
@@ -133,7 +134,7 @@ phrase-fits v is = LL.owed R.the-type R′.the-laws v _ is .1 .1 .1 .1 .1 .1 .1 
 record Known {M : Type 1} (𝓤 : URA M) (H : Heap 𝓤) (A : Atoms 𝓤) (mem : Memory → SProp 𝓤) (run : Routine → Fun 𝓤) (𝓣 : Tables 𝓤 H) : Type 2 where
   phrases : Says 𝓤 H A 𝓣 #phrase (record { takes = headed ∷ word w8 ∷ []; gives = phrase; says = λ a. phraseIn (a .0) (a .1 .0) })
   moments : Says 𝓤 H A 𝓣 #moment (record { takes = headed ∷ word w8 ∷ word w64 ∷ []; gives = moment; says = λ a. momentOn (a .0) (a .1 .0) (a .1 .1 .0) })
-  ticks : Says 𝓤 H A 𝓣 #tick (record { takes = params ∷ moment ∷ []; gives = tick; says = λ a. tickOf (a .0) (a .1 .0) })
+  ticks : Says 𝓤 H A 𝓣 #tick (record { takes = params ∷ measure ∷ moment ∷ []; gives = tick; says = λ a. tickWith (spanBy (a .1 .0) (a .1 .1 .0 .«data_len»)) (a .0) (a .1 .1 .0) })
   rooms : Says 𝓤 H A 𝓣 #room (record { takes = phrase ∷ word w64 ∷ []; gives = room; says = λ a. roomOf (a .0) (a .1 .0) })
   rests : Triple 𝓤 (𝓣 .C #rest) (Resting 𝓤 H A mem run)
   stretches : Triple 𝓤 (𝓣 .C #stretch) (taking stretching 𝓤 H A)
@@ -184,8 +185,11 @@ module _ {M : Type 1} (𝓤 : URA M) (H : Heap 𝓤) (A : Atoms 𝓤) (W : Given
   abbrev p : Params
   p = a .1 .1 .0
 
+  abbrev m : Measure
+  m = a .1 .1 .1 .0
+
   abbrev x₁ : RefT (List ℕ)
-  x₁ = a .1 .1 .1 .0
+  x₁ = a .1 .1 .1 .1 .0
 
   abbrev ms : List ℕ
   ms = x₁ .now
@@ -216,7 +220,10 @@ module _ {M : Type 1} (𝓤 : URA M) (H : Heap 𝓤) (A : Atoms 𝓤) (W : Given
   rm = roomOf ph (length ms)
 
   abbrev t : Tick
-  t = tickOf p (momentFor h k)
+  t = tickWith (spanBy m (ph .length)) p (momentFor h k)
+
+  tick-is : t ≡ tickOf p (momentFor h k)
+  tick-is = tick-measured p m (may .2) (momentFor h k)
 
   abbrev start : ℕ
   start = startOf (x₁ .ptr .1) (rm .from) ms
@@ -228,7 +235,7 @@ module _ {M : Type 1} (𝓤 : URA M) (H : Heap 𝓤) (A : Atoms 𝓤) (W : Given
   within = room-inside ph (length ms)
 
   size : length ms * 4 < 2 ^ 63
-  size = fine .1 .1 .1 .0 .0 .1 .1
+  size = fine .1 .1 .1 .1 .0 .0 .1 .1
 
   place-fits : i * voice-bytes < 2 ^ 64
   place-fits = omega (arith, may .1, may .0 .few)
@@ -255,12 +262,12 @@ module _ {M : Type 1} (𝓤 : URA M) (H : Heap 𝓤) (A : Atoms 𝓤) (W : Given
     -- once the phrase is known
     abbrev Phrased : List (Item 𝓤)
     Phrased = over (Open going-on κs q q₁ x a h) En
-        (empty ∷ some (vptr b o) ∷ some (going .val g) ∷ some (vint w64 n) ∷ some (params .val p) ∷ some (sliceVal (x₁ .ptr) (length ms)) ∷ some (vint w8 k) ∷ some (phrase .val ph) ∷ [])
+        (empty ∷ some (vptr b o) ∷ some (going .val g) ∷ some (vint w64 n) ∷ some (params .val p) ∷ some (measure .val m) ∷ some (sliceVal (x₁ .ptr) (length ms)) ∷ some (vint w8 k) ∷ some (phrase .val ph) ∷ [])
 
     -- and whether it is empty; with what the locals behind that hold
     abbrev holding : List (Option Val) → List (Option Val)
     holding vs =
-        empty ∷ some (vptr b o) ∷ some (going .val g) ∷ some (vint w64 n) ∷ some (params .val p) ∷ some (sliceVal (x₁ .ptr) (length ms)) ∷ some (vint w8 k) ∷ some (phrase .val ph) ∷ empty ∷ empty
+        empty ∷ some (vptr b o) ∷ some (going .val g) ∷ some (vint w64 n) ∷ some (params .val p) ∷ some (measure .val m) ∷ some (sliceVal (x₁ .ptr) (length ms)) ∷ some (vint w8 k) ∷ some (phrase .val ph) ∷ empty ∷ empty
         ∷ some (vint w64 (i * voice-bytes)) ∷ some (vptr b (o + 0)) ∷ some (vptr b (spot o i)) ∷ some (ev (h .head)) ∷ some (vbool (eqb (ph .length) 0)) ∷ vs
 
     abbrev Known-so : List (Option Val) → List (Item 𝓤)
@@ -277,10 +284,12 @@ module _ {M : Type 1} (𝓤 : URA M) (H : Heap 𝓤) (A : Atoms 𝓤) (W : Given
       -- the voice is of a phrase that isn't empty
       module _ (full : eqb (ph .length) 0 ≡ false) where
         next : Next n h t g
-        next = record { stands = may .0; below = may .1; phrase = ap (λ (u : Voice). u .phrase) same-voice ∙ sym (tick-phrase p (momentFor h k)) }
+        next = record { stands = may .0; below = may .1; phrase = ap (λ (u : Voice). u .phrase) same-voice }
 
         follows : Follows (turningIn p h ms) t m′
-        follows = subst (Follows (turningIn p h ms) t) (sym (room-stored ph ms)) (follows-own p h ms k full)
+        follows =
+            subst (λ (u : Tick). Follows (turningIn p h ms) u m′) (sym tick-is)
+            (subst (Follows (turningIn p h ms) (tickOf p (momentFor h k))) (sym (room-stored ph ms)) (follows-own p h ms k full))
 
         abbrev part : GName → RefT (List ℕ)
         part δ = partOf (x₁ .ptr .0) (x₁ .ptr .1) (rm .from) (rm .to - rm .from) ms δ
@@ -288,7 +297,7 @@ module _ {M : Type 1} (𝓤 : URA M) (H : Heap 𝓤) (A : Atoms 𝓤) (W : Given
         -- where its part of the memory is made
         abbrev Ready : List (Item 𝓤)
         Ready = over (Open going-on κs q q₁ x a h) En
-            (empty ∷ some (vptr b o) ∷ some (going .val g) ∷ some (vint w64 n) ∷ some (params .val p) ∷ some (sliceVal (x₁ .ptr) (length ms)) ∷ some (vint w8 k) ∷ some (phrase .val ph) ∷ some (tick .val t) ∷ some (room .val rm)
+            (empty ∷ some (vptr b o) ∷ some (going .val g) ∷ some (vint w64 n) ∷ some (params .val p) ∷ some (measure .val m) ∷ some (sliceVal (x₁ .ptr) (length ms)) ∷ some (vint w8 k) ∷ some (phrase .val ph) ∷ some (tick .val t) ∷ some (room .val rm)
             ∷ some (vint w64 (rm .from * 4)) ∷ empty ∷ empty ∷ some (ev (h .head)) ∷ empty ∷ empty ∷ some (moment .val (momentFor h k)) ∷ some (vptr b o) ∷ some (vptr (x₁ .ptr .0) start) ∷ some (vint w64 (length m′))
             ∷ some (vptr (x₁ .ptr .0) start) ∷ some (sliceVal (x₁ .ptr .0, start) (length m′)) ∷ [])
 
@@ -302,6 +311,26 @@ module _ {M : Type 1} (𝓤 : URA M) (H : Heap 𝓤) (A : Atoms 𝓤) (W : Given
             arrives ! refl (fills ! refl (going .typed 𝓤 H A W r _ isr)) $ move ! (0 ∷ 2 ∷ 3 ∷ 4 ∷ []) $ close-ref ! tt (mem C.the-row) d {b = b} {o = o} $ gives ! refl $ all-freed ! refl $
             by ! (exits going-on κs q q₁ x a 𝓤 H A W r d isr (said .0, said .1 (turningIn p h ms) follows))))
 
+        -- once the tick is known
+        abbrev Ticked : List (Item 𝓤)
+        Ticked = over (Open going-on κs q q₁ x a h) En
+            (empty ∷ some (vptr b o) ∷ some (going .val g) ∷ some (vint w64 n) ∷ some (params .val p) ∷ some (measure .val m) ∷ some (sliceVal (x₁ .ptr) (length ms)) ∷ some (vint w8 k) ∷ some (phrase .val ph) ∷ some (tick .val t) ∷ empty
+            ∷ empty ∷ empty ∷ empty ∷ some (ev (h .head)) ∷ empty ∷ empty ∷ some (moment .val (momentFor h k)) ∷ [])
+
+        -- its part of the memory
+        parts-on : Is (tick .like) t (tick .val t ∷ []) → ent 𝓤 (⋆ 𝓤 H A Ticked) (Wp 𝓤 H (𝓣 .C) (𝓣 .Λ) En (after 11 (code.function .body)) (atReturn 𝓤 H En Ends))
+        parts-on ist =
+            qed W Ticked ∵ exec ! (𝓣 .C) (𝓣 .Λ) En (after 11 (code.function .body)) (atRet En Ends) $
+            puts ! (of-opd ! (field-of ! refl refl)) (fills ! refl (tt, record { fits = fine .1 .1 .1 .1 .0 .0 .1 .0 })) $
+            asks ! (known .rooms) (ph, (length ms, tt)) (isph, ((refl, fine .1 .1 .1 .1 .0 .0 .1 .0), tt)) (and-then ! (its ! refl) (and-then ! (its ! refl) (no-more !))) (fills ! refl) (λ isrm.
+            puts ! (addr ! (beyond ! (held ! refl) (stop !))) (fills ! refl (tt, tt)) $
+            puts ! (bin ! (field-of ! refl refl) (lit ! tt) (record { fits = from-fits })) (refills ! refl (tt, record { fits = from-fits })) $
+            puts-as ! (ap (vptr (x₁ .ptr .0)) (sym (start-is (x₁ .ptr .1) (rm .from) ms (le-trans (within .0) (within .1))))) (bin ! (field-of ! refl refl) (its ! refl) tt) (fills ! refl (tt, tt)) $
+            puts-as ! (ap (vint w64) (sym part-long)) (bin ! (field-of ! refl refl) (field-of ! refl refl) (within .0)) (fills ! refl (tt, record { fits = part-fits })) $
+            puts ! (addr ! (beyond ! (held ! refl) (stop !))) (fills ! refl (tt, tt)) $
+            puts ! (agg ! (and-then ! (its ! refl) (and-then ! (its ! refl) (no-more !)))) (fills ! refl (tt, (tt, (record { fits = part-fits }, tt)))) $
+            by ! (hands-on ist))
+
         stretches-on : ent 𝓤 (⋆ 𝓤 H A Phrased) (Wp 𝓤 H (𝓣 .C) (𝓣 .Λ) En (after 8 (code.function .body)) (atReturn 𝓤 H En Ends))
         stretches-on =
             qed W Phrased ∵ exec ! (𝓣 .C) (𝓣 .Λ) En (after 8 (code.function .body)) (atRet En Ends) $
@@ -311,17 +340,8 @@ module _ {M : Type 1} (𝓤 : URA M) (H : Heap 𝓤) (A : Atoms 𝓤) (W : Given
             use2 W (‵ (partAt C.the-row fullShare h b o)) (part-in 𝓤 H A W C.the-row refl fullShare h b o (cv h)) $
             -- what the phrase's voices share
             asks ! (known .moments) (h .head, (k, (ph .length, tt))) (head-is h ish, ((refl, isk), (LL.owed F.the-type F′.the-laws ph _ isph .1 .0, tt))) (and-then ! (its ! refl) (and-then ! (its ! refl) (and-then ! (field-of ! refl refl) (no-more !)))) (fills ! refl) (λ ism.
-            asks ! (known .ticks) (p, (momentFor h k, tt)) (fine .1 .1 .0, (ism, tt)) (and-then ! (its ! refl) (and-then ! (its ! refl) (no-more !))) (fills ! refl) (λ ist.
-            -- its part of the memory
-            puts ! (of-opd ! (field-of ! refl refl)) (fills ! refl (tt, record { fits = fine .1 .1 .1 .0 .0 .1 .0 })) $
-            asks ! (known .rooms) (ph, (length ms, tt)) (isph, ((refl, fine .1 .1 .1 .0 .0 .1 .0), tt)) (and-then ! (its ! refl) (and-then ! (its ! refl) (no-more !))) (fills ! refl) (λ isrm.
-            puts ! (addr ! (beyond ! (held ! refl) (stop !))) (fills ! refl (tt, tt)) $
-            puts ! (bin ! (field-of ! refl refl) (lit ! tt) (record { fits = from-fits })) (refills ! refl (tt, record { fits = from-fits })) $
-            puts-as ! (ap (vptr (x₁ .ptr .0)) (sym (start-is (x₁ .ptr .1) (rm .from) ms (le-trans (within .0) (within .1))))) (bin ! (field-of ! refl refl) (its ! refl) tt) (fills ! refl (tt, tt)) $
-            puts-as ! (ap (vint w64) (sym part-long)) (bin ! (field-of ! refl refl) (field-of ! refl refl) (within .0)) (fills ! refl (tt, record { fits = part-fits })) $
-            puts ! (addr ! (beyond ! (held ! refl) (stop !))) (fills ! refl (tt, tt)) $
-            puts ! (agg ! (and-then ! (its ! refl) (and-then ! (its ! refl) (no-more !)))) (fills ! refl (tt, (tt, (record { fits = part-fits }, tt)))) $
-            by ! (hands-on ist)))))
+            asks ! (known .ticks) (p, (m, (momentFor h k, tt))) (fine .1 .1 .0, (fine .1 .1 .1 .0, (ism, tt))) (and-then ! (its ! refl) (and-then ! (its ! refl) (and-then ! (its ! refl) (no-more !)))) (fills ! refl) (λ ist.
+            by ! (parts-on ist))))
 
       -- it is empty, and the voice rests
       rests : eqb (ph .length) 0 ≡ true
@@ -340,28 +360,46 @@ module _ {M : Type 1} (𝓤 : URA M) (H : Heap 𝓤) (A : Atoms 𝓤) (W : Given
       chooses =
           qed W (Known-so []) ∵ exec ! (𝓣 .C) (𝓣 .Λ) En (after 7 (code.function .body)) (atRet En Ends) $ first ! $ branches ! (its ! refl)
           (λ y. puts ! (addr ! (beyond ! (held ! refl) (stop !))) (fills ! refl (tt, tt)) $ by ! (rests (holds (eqb (ph .length) 0) y)))
-          (λ y. skips ! $ leaves-only ! En 8 refl $ by ! (stretches-on (denied (eqb (ph .length) 0) y)))
+          (λ y. skips ! $ leaves-only ! En 9 refl $ by ! (stretches-on (denied (eqb (ph .length) 0) y)))
 
-  walk : ent 𝓤 (⋆ 𝓤 H A (Start going-on κs q q₁ x a)) (WpFn 𝓤 H (𝓣 .C) (𝓣 .Λ) code.function (vptr b o ∷ going .val g ∷ vint w64 n ∷ params .val p ∷ sliceVal (x₁ .ptr) (length ms) ∷ []) Ends)
+    -- the phrase is looked up
+    abbrev Numbered : List (Item 𝓤)
+    Numbered = over (Open going-on κs q q₁ x a h) En
+        (empty ∷ some (vptr b o) ∷ some (going .val g) ∷ some (vint w64 n) ∷ some (params .val p) ∷ some (measure .val m) ∷ some (sliceVal (x₁ .ptr) (length ms)) ∷ some (vint w8 k) ∷ empty ∷ empty ∷ empty
+        ∷ some (vint w64 (i * voice-bytes)) ∷ some (vptr b (o + 0)) ∷ some (vptr b (spot o i)) ∷ [])
+
+    reads-on : Is C.the-row h (cv h ∷ []) → k < 2 ^ 8 → i < length (h .voices) → ent 𝓤 (⋆ 𝓤 H A Numbered) (Wp 𝓤 H (𝓣 .C) (𝓣 .Λ) En (after 4 (code.function .body)) (atReturn 𝓤 H En Ends))
+    reads-on ish isk inside =
+        qed W Numbered ∵ exec ! (𝓣 .C) (𝓣 .Λ) En (after 4 (code.function .body)) (atRet En Ends) $
+        opened ! fullShare C.the-row (Is C.the-row) (shows 𝓤 H A C.the-row) (LL.vals C.the-type C′.the-laws) (LL.tells C.the-type C′.the-laws) h b o (λ _.
+        use1 W (‵ (fat fullShare C′.mir b o (cv h))) (W .laws .raw-at fullShare C′.mir b o (cv h)) $
+        puts ! (of-opd ! (reads-head b o h ! (held ! refl))) (fills ! refl (headed .typed 𝓤 H A W (h .head) _ (head-is h ish))) $
+        use2 W (‵ (partAt C.the-row fullShare h b o)) (part-in 𝓤 H A W C.the-row refl fullShare h b o (cv h)) $
+        asks ! (known .phrases) (h .head, (k, tt)) (head-is h ish, ((refl, isk), tt)) (and-then ! (its ! refl) (and-then ! (its ! refl) (no-more !))) (fills ! refl) (λ isph.
+        puts ! (bin ! (field-of ! refl refl) (lit ! tt) tt) (fills ! refl (tt, tt)) $
+        by ! (chooses ish isk isph inside)))
+
+    abbrev Entered : List (Item 𝓤)
+    Entered = over (Open going-on κs q q₁ x a h) En (empty ∷ some (vptr b o) ∷ some (going .val g) ∷ some (vint w64 n) ∷ some (params .val p) ∷ some (measure .val m) ∷ some (sliceVal (x₁ .ptr) (length ms)) ∷ [])
+
+    starts-on : Is C.the-row h (cv h ∷ []) → ent 𝓤 (⋆ 𝓤 H A Entered) (Wp 𝓤 H (𝓣 .C) (𝓣 .Λ) En (code.function .body) (atReturn 𝓤 H En Ends))
+    starts-on ish =
+        let all : length (h .voices) ≡ 32 = places-are h ish in
+        let inside : i < length (h .voices) = omega (arith, may .1, may .0 .few, all) in
+        qed W Entered ∵ exec ! (𝓣 .C) (𝓣 .Λ) En (code.function .body) (atRet En Ends) $
+        -- the next voice's phrase is read
+        points i b o ! place-fits (field-of ! refl refl) (fills ! refl (tt, record { fits = place-fits })) (held ! refl) (fills ! refl (tt, tt)) (held ! refl) (held ! refl) (fills ! refl (tt, tt)) $
+        visits i b o fullShare h h v ! (reads-voice 𝓤 H A W fullShare h i none b o inside) (λ is. is) (λ isv. step (λ s.
+        use1 W (‵ (fat fullShare R′.mir b (spot o i) (vv v))) (W .laws .raw-at fullShare R′.mir b (spot o i) (vv v)) $
+        puts ! (of-opd ! (load ! (beyond ! (held ! refl) (fld ! {τ = tyInt w8} {d = phrase-at} refl (stop !))) (look-in ! 0 (sub ! 11 {τ = tyInt w8} {d = phrase-at} refl (whole !))))) (fills ! refl (tt, record { fits = phrase-fits v isv })) $
+        use1 W (‵ (cellAt fullShare (R.the-row .mir) (vv v ∷ []) b (spot o i))) (W .laws .at-raw fullShare R′.mir b (spot o i) (vv v)) $ s)) (λ isv.
+        by ! (reads-on ish (phrase-fits v isv) inside))
+
+  walk : ent 𝓤 (⋆ 𝓤 H A (Start going-on κs q q₁ x a)) (WpFn 𝓤 H (𝓣 .C) (𝓣 .Λ) code.function (vptr b o ∷ going .val g ∷ vint w64 n ∷ params .val p ∷ measure .val m ∷ sliceVal (x₁ .ptr) (length ms) ∷ []) Ends)
   walk =
-      qed W (Start going-on κs q q₁ x a) ∵ enter ! (𝓣 .C) (𝓣 .Λ) code.function (vptr b o ∷ going .val g ∷ vint w64 n ∷ params .val p ∷ sliceVal (x₁ .ptr) (length ms) ∷ []) _ $
+      qed W (Start going-on κs q q₁ x a) ∵ enter ! (𝓣 .C) (𝓣 .Λ) code.function (vptr b o ∷ going .val g ∷ vint w64 n ∷ params .val p ∷ measure .val m ∷ sliceVal (x₁ .ptr) (length ms) ∷ []) _ $
       allocated ! (λ at. params1 ! $ passed ! 1 refl (tt, tt) $ passed ! 2 refl (going .typed 𝓤 H A W g _ (fine .0)) $ passed ! 3 refl (tt, record { fits = fine .1 .0 .1 }) $
-      passed ! 4 refl (params .typed 𝓤 H A W p _ (fine .1 .1 .0)) $ passed ! 5 refl (tt, (tt, (record { fits = fine .1 .1 .1 .0 .0 .1 .0 }, tt))) $ pass0 ! $ takes-over going-on κs q q₁ x a ! tt (λ ish.
-      let all : length (h .voices) ≡ 32 = places-are h ish in
-      let inside : i < length (h .voices) = omega (arith, may .1, may .0 .few, all) in
-      -- the next voice's phrase is read
-      points i b o ! place-fits (field-of ! refl refl) (fills ! refl (tt, record { fits = place-fits })) (held ! refl) (fills ! refl (tt, tt)) (held ! refl) (held ! refl) (fills ! refl (tt, tt)) $
-      visits i b o fullShare h h v ! (reads-voice 𝓤 H A W fullShare h i none b o inside) (λ is. is) (λ isv. step (λ s.
-      use1 W (‵ (fat fullShare R′.mir b (spot o i) (vv v))) (W .laws .raw-at fullShare R′.mir b (spot o i) (vv v)) $
-      puts ! (of-opd ! (load ! (beyond ! (held ! refl) (fld ! {τ = tyInt w8} {d = phrase-at} refl (stop !))) (look-in ! 0 (sub ! 11 {τ = tyInt w8} {d = phrase-at} refl (whole !))))) (fills ! refl (tt, record { fits = phrase-fits v isv })) $
-      use1 W (‵ (cellAt fullShare (R.the-row .mir) (vv v ∷ []) b (spot o i))) (W .laws .at-raw fullShare R′.mir b (spot o i) (vv v)) $ s)) (λ isv.
-      opened ! fullShare C.the-row (Is C.the-row) (shows 𝓤 H A C.the-row) (LL.vals C.the-type C′.the-laws) (LL.tells C.the-type C′.the-laws) h b o (λ _.
-      use1 W (‵ (fat fullShare C′.mir b o (cv h))) (W .laws .raw-at fullShare C′.mir b o (cv h)) $
-      puts ! (of-opd ! (reads-head b o h ! (held ! refl))) (fills ! refl (headed .typed 𝓤 H A W (h .head) _ (head-is h ish))) $
-      use2 W (‵ (partAt C.the-row fullShare h b o)) (part-in 𝓤 H A W C.the-row refl fullShare h b o (cv h)) $
-      asks ! (known .phrases) (h .head, (k, tt)) (head-is h ish, ((refl, phrase-fits v isv), tt)) (and-then ! (its ! refl) (and-then ! (its ! refl) (no-more !))) (fills ! refl) (λ isph.
-      puts ! (bin ! (field-of ! refl refl) (lit ! tt) tt) (fills ! refl (tt, tt)) $
-      by ! (chooses at ish (phrase-fits v isv) isph inside))))))
+      passed ! 4 refl (params .typed 𝓤 H A W p _ (fine .1 .1 .0)) $ passed ! 5 refl (measure .typed 𝓤 H A W m _ (fine .1 .1 .1 .0)) $ passed ! 6 refl (tt, (tt, (record { fits = fine .1 .1 .1 .1 .0 .0 .1 .0 }, tt))) $ pass0 ! $ takes-over going-on κs q q₁ x a ! tt (λ ish. by ! (starts-on at ish)))
 
 pub go-on-spec : {M : Type 1} → stated.statement M
 unfolding code.routine tablesOf
@@ -373,7 +411,7 @@ go-on-spec 𝓤 H 𝓜 𝓖 𝓡 =
     (meets going-on 𝓤 H (𝓖 .A) W 𝓣 code.function (walk 𝓤 H (𝓖 .A) W (𝓜 .mem) (𝓡 .run) 𝓣 (record {
       phrases = record { met = cited 𝓤 H _ 𝓜 𝓡 code.env #phrase phrase-def.routine code.calls-channel·Head·phrase-at (phrase-thm.met 𝓤 H 𝓜 𝓖 𝓡) };
       moments = record { met = cited 𝓤 H _ 𝓜 𝓡 code.env #moment moment-def.routine code.calls-channel·Head·moment-on (moment-thm.met 𝓤 H 𝓜 𝓖 𝓡) };
-      ticks = record { met = cited 𝓤 H _ 𝓜 𝓡 code.env #tick tick-def.routine code.calls-voice·Tick·new (tick-thm.met 𝓤 H 𝓜 𝓖 𝓡) };
+      ticks = record { met = cited 𝓤 H _ 𝓜 𝓡 code.env #tick tick-def.routine code.calls-voice·Tick·measured (tick-thm.met 𝓤 H 𝓜 𝓖 𝓡) };
       rooms = record {
         met = first-of roomed.ended (λ κs a r. r ≡ roomOf (a .0) (a .1 .0)) (λ κs a r. (r .from ≤ r .to) × (r .to ≤ a .1 .0)) 𝓤 H (𝓖 .A) W 𝓣 #room
             (cited 𝓤 H _ 𝓜 𝓡 code.env #room room-def.routine code.calls-phrases·Phrase·room (room-thm.met 𝓤 H 𝓜 𝓖 𝓡));

@@ -53,6 +53,11 @@ use Rattle.walks.proofs.Steps.Tails.{after}
 use Rattle.walks.proofs.Steps.Calls.{Says, asks}
 use Rattle.walks.proofs.Steps.Locals.{less, no-less, over, its, held, fills, refills, puts, arrives, arrives-last, field-of, beyond, gives, leaves-only, all-freed, Addresses, env, allocated, passed}
 use Rattle.common_types.specs.declared.Params.{Params}
+use Rattle.common_types.specs.Settings.{measureOf}
+use Rattle.common_types.proofs.Measure as Q
+use Rattle.common_types.proofs.Params.measure.Symbol as measure-def
+use Rattle.common_types.proofs.Params.measure.Symbol.{name as #measure}
+use Rattle.common_types.proofs.Params.measure.Met as measure-thm
 use Rattle.common_types.proofs.Params as P
 use Rattle.common_types.proofs.Params.Laws as P′
 use Rattle.channel.specs.declared.Channel.{Channel}
@@ -69,7 +74,7 @@ use Rattle.lent_channel.proofs.Bytes.{count-at}
 use Rattle.lent_channel.proofs.Turns.{onward, onward-head, same-turning, begins, ended-heard, ended-channel}
 use Rattle.lent_channel.proofs.Places.{cv, yv, places-are}
 use Rattle.lent_channel.proofs.Sharing.{places, count-fits}
-use Rattle.lent_channel.proofs.Holding.{params, going, sounded, reads-count}
+use Rattle.lent_channel.proofs.Holding.{params, measure, going, sounded, reads-count}
 use Rattle.lent_channel.proofs.Taking.{Sl, Tok, taking, lends-last}
 use Rattle.lent_channel.proofs.Goings.{going-on}
 use Rattle.lent_channel.proofs.Going as N
@@ -100,6 +105,7 @@ Moved 𝓤 H A mem run = tripleOf 𝓤 H A moved.signature (moved.spec 𝓤 H A 
 -- the calls
 record Known {M : Type 1} (𝓤 : URA M) (H : Heap 𝓤) (A : Atoms 𝓤) (mem : Memory → SProp 𝓤) (run : Routine → Fun 𝓤) (𝓣 : Tables 𝓤 H) : Type 2 where
   counts : Says 𝓤 H A 𝓣 #places places
+  measures : Says 𝓤 H A 𝓣 #measure (record { takes = params ∷ []; gives = measure; says = λ a. measureOf (a .0) })
   begins : Says 𝓤 H A 𝓣 #beginning (record { takes = []; gives = going; says = λ _. begun })
   goes : Triple 𝓤 (𝓣 .C #go-on) (taking going-on 𝓤 H A)
   moves : Triple 𝓤 (𝓣 .C #moved-of) (Moved 𝓤 H A mem run)
@@ -186,12 +192,12 @@ module _ {M : Type 1} (𝓤 : URA M) (H : Heap 𝓤) (A : Atoms 𝓤) (W : Given
           En (empty ∷ some (vptr b o) ∷ some (params .val p) ∷ some sl ∷ vs)
 
       abbrev At : State → List (Item 𝓤)
-      At s = Has (s .channel) (some (vint w64 n) ∷ some (going .val (s .at)) ∷ [])
+      At s = Has (s .channel) (some (vint w64 n) ∷ some (measure .val (measureOf p)) ∷ some (going .val (s .at)) ∷ [])
 
       abbrev Left : Out → SProp 𝓤
-      Left = afterBlock 𝓤 H (afterSeq 𝓤 H (Wp 𝓤 H (𝓣 .C) (𝓣 .Λ) En (after 4 (code.function .body)) (atReturn 𝓤 H En Post)) (atReturn 𝓤 H En Post))
+      Left = afterBlock 𝓤 H (afterSeq 𝓤 H (Wp 𝓤 H (𝓣 .C) (𝓣 .Λ) En (after 5 (code.function .body)) (atReturn 𝓤 H En Post)) (atReturn 𝓤 H En Post))
 
-      module _ (all : length (h .voices) ≡ 32) where
+      module _ (all : length (h .voices) ≡ 32) (ism : Is Q.the-row (measureOf p) (measure .val (measureOf p) ∷ [])) where
         -- no turn is left: the count is overwritten, and what is heard is handed up
         module _ (s : State) (r : ℕ) (still : Still s r) (end : s .at .place ≡ n) where
           abbrev g : Going
@@ -213,7 +219,7 @@ module _ {M : Type 1} (𝓤 : URA M) (H : Heap 𝓤) (A : Atoms 𝓤) (W : Given
           unfolding afterTurn
           leaves X =
               qed W (At s) ∵ exec ! (𝓣 .C) (𝓣 .Λ) En code.Mir.turn-1 (anyQ (afterTurn 𝓤 H X Left)) $
-              puts ! (no-less ! (field-of ! refl refl) (its ! refl) end) (fills ! refl (tt, tt)) $ leaves-loop ! (its ! refl) $ exec ! (𝓣 .C) (𝓣 .Λ) En (after 4 (code.function .body)) (atRet En Post) $
+              puts ! (no-less ! (field-of ! refl refl) (its ! refl) end) (fills ! refl (tt, tt)) $ leaves-loop ! (its ! refl) $ exec ! (𝓣 .C) (𝓣 .Λ) En (after 5 (code.function .body)) (atRet En Post) $
               opened ! fullShare C.the-row (Is C.the-row) (shows 𝓤 H A C.the-row) (LL.vals C.the-type C′.the-laws) (LL.tells C.the-type C′.the-laws) (s .channel) b o (λ is.
               use1 W (‵ (fat fullShare C′.mir b o (cv (s .channel)))) (W .laws .raw-at fullShare C′.mir b o (cv (s .channel))) $
               assigns ! (of-opd ! (field-of ! refl refl)) (beyond ! (held ! refl) (fld ! {τ = tyInt w64} {d = count-at} refl (stop !))) (store-in ! 0 (sub ! 1 {τ = tyInt w64} {d = count-at} refl (whole !)) (tt, record { fits = kept-fits })) $
@@ -255,9 +261,9 @@ module _ {M : Type 1} (𝓤 : URA M) (H : Heap 𝓤) (A : Atoms 𝓤) (W : Given
                   qed W (At s) ∵ exec ! (𝓣 .C) (𝓣 .Λ) En code.Mir.turn-1 (anyQ (afterTurn 𝓤 H X Left)) $ puts ! (less ! (field-of ! refl refl) (its ! refl) below) (fills ! refl (tt, tt)) $ stays ! (its ! refl) $
                   puts ! (addr ! (beyond ! (held ! refl) (stop !))) (fills ! refl (tt, tt)) $
                   move ! (5 ∷ []) $ use1 W (‵ (Sl κ₁ x₁) ⊛ ‵ (Sl κ₁ x₁)) (shr-slice-copy 𝓤 H A W (named 1) κ₁ u32 .twice x₁ (slice-vals x₁)) $ split ! $ move ! (2 ∷ 0 ∷ 6 ∷ []) $
-                  lends-last going-on b o c κ₁ q₁ (λ _. (s .at, (n, (p, (x₁, tt))))) x₁ (λ _. refl) 𝓣 ! (known .goes) (λ _. (still .is, ((refl, omega (arith, few)), (isp, (((refl, room), (tt, tt)), tt))))) (λ _. (still .on .stands, below))
-                  (λ α δ. and-then ! (its ! refl) (and-then ! (its ! refl) (and-then ! (its ! refl) (and-then ! (its ! refl) (and-then ! (its ! refl) (no-more !)))))) (λ α z e said isz ise.
-                  arrives-last ! (refills ! refl (going .typed 𝓤 H A W z _ isz)) $ move ! (0 ∷ 3 ∷ 4 ∷ 5 ∷ 1 ∷ 2 ∷ []) $ leaves-only ! En 6 refl $
+                  lends-last going-on b o c κ₁ q₁ (λ _. (s .at, (n, (p, (measureOf p, (x₁, tt)))))) x₁ (λ _. refl) 𝓣 ! (known .goes) (λ _. (still .is, ((refl, omega (arith, few)), (isp, (ism, (((refl, room), (tt, tt)), tt)))))) (λ _. (still .on .stands, below, refl))
+                  (λ α δ. and-then ! (its ! refl) (and-then ! (its ! refl) (and-then ! (its ! refl) (and-then ! (its ! refl) (and-then ! (its ! refl) (and-then ! (its ! refl) (no-more !))))))) (λ α z e said isz ise.
+                  arrives-last ! (refills ! refl (going .typed 𝓤 H A W z _ isz)) $ move ! (0 ∷ 3 ∷ 4 ∷ 5 ∷ 1 ∷ 2 ∷ []) $ leaves-only ! En 7 refl $
                   by ! (go (record { at = z; channel = e }) (goes-further e z said isz)))
 
         loops : Is N.the-row begun (going .val begun ∷ []) → ent 𝓤 (⋆ 𝓤 H A (At (record { at = begun; channel = h }))) (Wp 𝓤 H (𝓣 .C) (𝓣 .Λ) En (loop code.Mir.turn-1) Left)
@@ -274,7 +280,8 @@ module _ {M : Type 1} (𝓤 : URA M) (H : Heap 𝓤) (A : Atoms 𝓤) (W : Given
         puts ! (of-opd ! (reads-count b o h ! (held ! refl))) (fills ! refl (tt, record { fits = count-fits h ish })) $
         use2 W (‵ (partAt C.the-row fullShare h b o)) (part-in 𝓤 H A W C.the-row refl fullShare h b o (cv h)) $
         asks ! (known .counts) (h .count, tt) ((refl, count-fits h ish), tt) (and-then ! (its ! refl) (no-more !)) (fills ! refl) (λ _.
-        asks ! (known .begins) tt tt (no-more !) (fills ! refl) (λ is. leaves-only ! (env (code.function .locals) at) 6 refl $ by ! (loops at (places-are h ish) is))))))
+        asks ! (known .measures) (p, tt) (isp, tt) (and-then ! (its ! refl) (no-more !)) (fills ! refl) (λ ism.
+        asks ! (known .begins) tt tt (no-more !) (fills ! refl) (λ is. leaves-only ! (env (code.function .locals) at) 7 refl $ by ! (loops at (places-are h ish) ism is)))))))
 
   play-walks : Walks 𝓤 H A play.ended stayed (WpFn 𝓤 H (𝓣 .C) (𝓣 .Λ) code.function) (play.clauses 𝓤 H A at-mem run)
   play-walks = walked 𝓤 H A play.ended stayed (play.clauses 𝓤 H A at-mem run) (WpFn 𝓤 H (𝓣 .C) (𝓣 .Λ) code.function)
@@ -301,6 +308,7 @@ play-spec 𝓤 H 𝓜 𝓖 𝓡 =
     (tables 𝓤 H 𝓜 𝓡 code.env .C) (tables 𝓤 H 𝓜 𝓡 code.env .Λ) #play code.function (code.unfolded 𝓤 H 𝓜 𝓡)
     (play-meets 𝓤 H (𝓖 .A) (givenOf 𝓤 H 𝓜 𝓖) (𝓜 .mem) (𝓡 .run) (tablesOf 𝓤 H 𝓜 (tables 𝓤 H 𝓜 𝓡 code.env)) (record {
       counts = record { met = cited 𝓤 H _ 𝓜 𝓡 code.env #places places-def.routine code.calls-channel·places (places-thm.met 𝓤 H 𝓜 𝓖 𝓡) };
+      measures = record { met = cited 𝓤 H _ 𝓜 𝓡 code.env #measure measure-def.routine code.calls-common-types·Params·measure (measure-thm.met 𝓤 H 𝓜 𝓖 𝓡) };
       begins = record { met = cited 𝓤 H _ 𝓜 𝓡 code.env #beginning begin-def.routine code.calls-lent-channel·beginning (begin-thm.met 𝓤 H 𝓜 𝓖 𝓡) };
       goes = cited 𝓤 H _ 𝓜 𝓡 code.env #go-on go-def.routine code.calls-lent-channel·go-on (go-thm.met 𝓤 H 𝓜 𝓖 𝓡);
       moves = cited 𝓤 H _ 𝓜 𝓡 code.env #moved-of moved-def.routine code.calls-lent-channel·moved-of (moved-thm.met 𝓤 H 𝓜 𝓖 𝓡);
