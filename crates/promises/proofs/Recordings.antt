@@ -6,7 +6,6 @@ use mathlib.Core.Logic.{_⊎_}
 use Prim.Native.Nat.{ℕ, _+_, _*_, _^_, _≤_, _<_}
 use native.Mathlib.Nat.{le-refl}
 use native.Mathlib.Omega.{arith}
-use borrow.Author.Tests.{eqb-true}
 use lib.Dec.{eqb, ltb}
 use lib.ListN.{length, take, drop, getD}
 use lib.Seq.{take-at, drop-at}
@@ -34,7 +33,7 @@ use Rattle.channel.specs.Channels.{withHead, channelOf as newChannel}
 use Rattle.sampler.specs.declared.Sampler.{Sampler}
 use Rattle.sampler.specs.Refusals.{row, goodWith, records, anyRecording}
 use Rattle.sampler.specs.Samplers.{partOf}
-use Rattle.sampler.proofs.Rows.{is-true, Fitting, fitting}
+use Rattle.sampler.proofs.Rows.{Fitting, fitting}
 use Rattle.questions.specs.Questions.{answered}
 use Rattle.recordings.specs.Waves.{samplesOf, startsIn, frontsIn, layoutIn, writeNumber, writeWaveOf, waveAfter, badFile, heldIn, readNumber, readWaveOf, readMemory}
 use Rattle.recordings.specs.declared.ReadAnswer.{ReadAnswer}

@@ -10,7 +10,6 @@ use Rattle.common_types.specs.Settings.{loopLengthOf, measureOf, measuredOf}
 use Rattle.common_types.proofs.LoopLengths.{loop-length-measured}
 use Rattle.voice.specs.declared.Span.{Span}
 use Rattle.voice.specs.declared.Moment.{Moment}
-use Rattle.voice.specs.declared.Tick.{Tick}
 use Rattle.voice.specs.Voices.{spanOf, spanBy, tickWith, tickOf}
 
 pub span-measured : (p : Params) (m : Measure) → m ≡ measureOf p → (n : ℕ) → spanBy m n ≡ spanOf p n

@@ -1,5 +1,5 @@
 -- `go_on` meets its contract: a walk of its MIR, by hand. The next voice's phrase is read where it stands. Where that is empty the channel is lent on to `rest_next`; else to `stretch`, with the phrase's tick and its part of the memory. Assumes nothing.
-use mathlib.Core.Path.{_≡_, refl, sym, _∙_, ap, subst}
+use mathlib.Core.Path.{_≡_, refl, sym, ap, subst}
 use Prim.Native.Nat.{ℕ, _+_, _-_, _*_, _<_, _≤_, _^_}
 use native.Mathlib.Nat.{le-trans}
 use native.Mathlib.Omega.{arith}
