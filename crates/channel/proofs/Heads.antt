@@ -1,9 +1,10 @@
 -- A sound head stays sound through a recording, a change of pass-through and the end of a sample, and a new one is sound. Assumes nothing.
-use mathlib.Core.Path.{_≡_, refl}
-use Prim.Native.Nat.{ℕ, _+_, _^_, _≤_, _<_, zero-le}
+use mathlib.Core.Path.{_≡_, refl, ap}
+use Prim.Native.Nat.{ℕ, _+_, _-_, _^_, _≤_, _<_, zero-le}
+use native.Mathlib.Nat.{min-eq-left}
 use native.Mathlib.Omega.{arith}
 use mathlib.Core.Bool.{Bool, true, false, _&&_, Bool·beq, cond}
-use lib.Dec.{T, leb, ltb, leb→le, le→leb}
+use lib.Dec.{T, leb, ltb, eqb, leb→le, le→leb, ltb→lt, lt→ltb}
 use lib.Ieee.{Float, fits}
 use lib.Ieee.Bits.{is-true}
 use lib.Ieee.Fits.{and-i, and-l, and-r}
@@ -15,10 +16,13 @@ use Rattle.volume.specs.Levels.{steppedOf, goodVolume}
 use Rattle.binary32.specs.Leaves.{zero32, one32}
 use Rattle.recorder.specs.declared.Recorded.{Recorded}
 use Rattle.recorder.specs.Recording.{goodRecorder, goodRecorded}
-use Rattle.recorder.proofs.Good.{new-good}
+use Rattle.phrases.specs.Phrases.{noPhrase, endsBy}
+use Rattle.phrases.proofs.Rooms.{ends-inside, inside-ends}
+use Rattle.phrases.specs.declared.Phrase.{Phrase}
+use Rattle.recorder.proofs.Good.{new-good, good-length, good-within}
 use Rattle.voice.specs.Soundness.{Fits, SoundParams, FittingVolume, SoundVolume}
 use Rattle.voice.proofs.Volumes.{static-sound, volume-later, volume-stepped, volume-toward}
-use Rattle.channel.specs.Heads.{withRecorded, withPassthru, lastTime, nextTime, headOf, headChangedOf, interpolatesAfter, passesOf, rampOf, passthruOf, closedOf, goodHead}
+use Rattle.channel.specs.Heads.{withRecorded, withPassthru, recordingIn, phraseIn, writtenIn, lastTime, nextTime, headOf, headChangedOf, interpolatesAfter, passesOf, rampOf, passthruOf, closedOf, goodHead}
 use Rattle.volume.specs.declared.Volume.{Volume}
 use Rattle.channel.specs.declared.Head.{Head}
 use Rattle.channel.specs.declared.HeadChange.{HeadChange}
@@ -26,6 +30,8 @@ use Rattle.channel.specs.declared.HeadChange.the-variants.{StartRecordin
 
 pub record SoundHead (capacity : ℕ) (h : Head) : Type 0 where
   pub time : h .now ≤ 2 ^ 48
+  pub numbered : h .chosen < 8
+  pub inside : h .start + h .«data_len» ≤ capacity
   pub volume : SoundVolume (h .now) (h .«passthru_volume»)
   pub recorder : goodRecorder (h .recorder) (h .«data_len») capacity ≡ true
 
@@ -35,26 +41,34 @@ module _ (capacity : ℕ) (h : Head) where
   unfolding goodHead
   head-parts good fit =
       let a : Bool = leb (h .now) lastTime in
+      let k : Bool = ltb (h .chosen) 8 in
+      let e : Bool = endsBy capacity (recordingIn h) in
       let b : Bool = goodVolume (h .now) (h .«passthru_volume») in
       let c : Bool = goodRecorder (h .recorder) (h .«data_len») capacity in
-      let t : T (a && b && c) = yes good in
+      let t : T ((a && (k && e)) && b && c) = yes good in
+      let u : T (a && (k && e)) = and-l (a && (k && e)) b (and-l ((a && (k && e)) && b) c t) in
       record {
-        time = leb→le (h .now) lastTime (and-l a b (and-l (a && b) c t));
-        volume = record { good = and-r a b (and-l (a && b) c t); fitting = fit };
-        recorder = is-true c (and-r (a && b) c t);
+        time = leb→le (h .now) lastTime (and-l a (k && e) u);
+        numbered = ltb→lt (h .chosen) 8 (and-l k e (and-r a (k && e) u));
+        inside = ends-inside (recordingIn h) capacity (is-true e (and-r k e (and-r a (k && e) u)));
+        volume = record { good = and-r (a && (k && e)) b (and-l ((a && (k && e)) && b) c t); fitting = fit };
+        recorder = is-true c (and-r ((a && (k && e)) && b) c t);
       }
 
   pub head-good : SoundHead capacity h → goodHead capacity h ≡ true
   unfolding goodHead
   head-good s =
       let a : Bool = leb (h .now) lastTime in
+      let k : Bool = ltb (h .chosen) 8 in
+      let e : Bool = endsBy capacity (recordingIn h) in
       let b : Bool = goodVolume (h .now) (h .«passthru_volume») in
       let c : Bool = goodRecorder (h .recorder) (h .«data_len») capacity in
-      is-true (a && b && c) (and-i (a && b) c (and-i a b (le→leb (h .now) lastTime (s .time)) (s .volume .good)) (yes (s .recorder)))
+      let u : T (a && (k && e)) = and-i a (k && e) (le→leb (h .now) lastTime (s .time)) (and-i k e (lt→ltb (h .chosen) 8 (s .numbered)) (yes (inside-ends (recordingIn h) capacity (s .inside)))) in
+      is-true ((a && (k && e)) && b && c) (and-i ((a && (k && e)) && b) c (and-i (a && (k && e)) b u (s .volume .good)) (yes (s .recorder)))
 
 pub new-sound : (capacity : ℕ) (level : Float) (interpolates : Bool) → Fits level → SoundHead capacity (headOf level interpolates)
 unfolding headOf
-new-sound capacity level interpolates t = record { time = zero-le; volume = static-sound level 0 t; recorder = new-good capacity }
+new-sound capacity level interpolates t = record { time = zero-le; numbered = omega arith; inside = zero-le; volume = static-sound level 0 t; recorder = new-good capacity }
 
 -- a change that touches no voice leaves the clock
 pub head-change-now : (d : HeadChange) (h : Head) → headChangedOf d h .now ≡ h .now
@@ -89,8 +103,40 @@ pub passthru-setting : (p : Params) (unfinished : Bool) (h : Head) → passthruO
 passthru-setting p unfinished h = passthru-holds (λ (g : Head). g .interpolates) (λ on v g. refl) p unfinished h
 
 module _ (capacity : ℕ) (h : Head) (s : SoundHead capacity h) where
-  pub recorded-sound : (r : Recorded) → goodRecorded r capacity ≡ true → SoundHead capacity (withRecorded r h)
-  recorded-sound r g = record { time = s .time; volume = s .volume; recorder = g }
+  -- the recording has what the capacity has left from its start on
+  abbrev left : ℕ
+  left = capacity - h .start
+
+  pub recorder-left : goodRecorder (h .recorder) (h .«data_len») left ≡ true
+  recorder-left = good-within (h .recorder) (h .«data_len») capacity (s .recorder) left (omega (arith, s .inside))
+
+  pub recorded-sound : (r : Recorded) → goodRecorded r left ≡ true → SoundHead capacity (withRecorded r h)
+  recorded-sound r g =
+      let short : r .«data_len» ≤ left = good-length (r .recorder) (r .«data_len») left g in
+      record {
+        time = s .time;
+        numbered = s .numbered;
+        inside = omega (arith, s .inside, short);
+        volume = s .volume;
+        recorder = good-within (r .recorder) (r .«data_len») left g capacity (omega (arith, short));
+      }
+
+  -- the recorder is handed just that of the memory
+  pub room-left : writtenIn h capacity .to - writtenIn h capacity .from ≡ left
+  unfolding writtenIn
+  room-left = ap (λ (k : ℕ). capacity - k) (min-eq-left (omega (arith, s .inside)))
+
+  -- every phrase lies within the capacity, and is short enough
+  pub phrase-inside : (k : ℕ) → endsBy capacity (phraseIn h k) ≡ true
+  unfolding phraseIn
+  phrase-inside k =
+      cond-split (λ (p : Phrase). endsBy capacity p ≡ true) (eqb k (h .chosen)) (recordingIn h) noPhrase (λ e. inside-ends (recordingIn h) capacity (s .inside)) (λ e. inside-ends noPhrase capacity zero-le)
+
+  pub phrase-within : (k : ℕ) → phraseIn h k .length ≤ capacity
+  phrase-within k = omega (arith, ends-inside (phraseIn h k) capacity (phrase-inside k))
+
+  passed-sound : (on : Bool) (v : Volume) → SoundVolume (h .now) v → SoundHead capacity (withPassthru on v h)
+  passed-sound on v g = record { time = s .time; numbered = s .numbered; inside = s .inside; volume = g; recorder = s .recorder }
 
   ramp-sound : (p : Params) → SoundParams p → (on : Bool) → SoundVolume (h .now) (rampOf (h .«passthru_volume») (h .now) p on)
   unfolding rampOf fits
@@ -102,10 +148,10 @@ module _ (capacity : ℕ) (h : Head) (s : SoundHead capacity h) where
   passthru-sound p ok unfinished =
       let on = passesOf p unfinished in
       cond-split (SoundHead capacity) (Bool·beq on (h .«passthru_on»)) h (withPassthru on (rampOf (h .«passthru_volume») (h .now) p on) h) (λ e. s)
-      (λ e. record { time = s .time; volume = ramp-sound p ok on; recorder = s .recorder })
+      (λ e. passed-sound on (rampOf (h .«passthru_volume») (h .now) p on) (ramp-sound p ok on))
 
   stepped-sound : SoundHead capacity (withPassthru (h .«passthru_on») (steppedOf (h .«passthru_volume») (h .now)) h)
-  stepped-sound = record { time = s .time; volume = volume-stepped (h .«passthru_volume») (h .now) (s .volume) (h .now); recorder = s .recorder }
+  stepped-sound = passed-sound (h .«passthru_on») (steppedOf (h .«passthru_volume») (h .now)) (volume-stepped (h .«passthru_volume») (h .now) (s .volume) (h .now))
 
 -- ---- the end of a sample: the clock moves on, and not past its end
 pub next-later : (now : ℕ) → now ≤ nextTime now
@@ -138,4 +184,4 @@ module _ (p : Params) (unfinished : Bool) (h : Head) where
   closed-sound capacity ok s =
       let k = stepped-sound capacity h s in
       let g = passthru-sound capacity _ k p ok unfinished in
-      record { time = next-last _ (g .time); volume = volume-later _ _ (g .volume) _ (next-later _); recorder = g .recorder }
+      record { time = next-last _ (g .time); numbered = g .numbered; inside = g .inside; volume = volume-later _ _ (g .volume) _ (next-later _); recorder = g .recorder }

@@ -35,7 +35,7 @@ use Rattle.channel.specs.declared.HeadChange.{HeadChange}
 use Rattle.channel.specs.declared.HeadChange.the-variants.{StartRecording, StopRecording, Interpolate, Load}
 use Rattle.channel.specs.declared.Found.{Found}
 use Rattle.channel.specs.declared.Found.the-variants.{At, Nothing}
-use Rattle.channel.proofs.Heads.{new-sound, passthru-now, passthru-sound}
+use Rattle.channel.proofs.Heads.{new-sound, recorder-left, passthru-now, passthru-sound}
 use Rattle.channel.proofs.Parts.{parts, joined, head-changed, recording-changed, voices-changed, data-within, room, voice-at, some}
 
 -- ---- what set-up and reset make
@@ -106,25 +106,28 @@ module _ (capacity : ℕ) (c : Channel) (s : SoundChannel capacity c) where
   unfolding startPlayingOf
   started-sound small p ok position at note velocity t =
       let n = c .head .«data_len» in
-      let v = freshOf p position note velocity (c .head .now) n in
+      let v = freshOf p position note velocity (momentOf (c .head)) in
       cond-split (SoundChannel capacity) (eqb n 0) c (handledOf p (pushedOf v c)) (λ e. s)
       (λ e. handled-sound capacity (pushedOf v c)
-      (pushed-sound v (fresh-sound p (momentOf (c .head)) ok (some n e) (le-trans (data-within capacity c s) small) (parts s .head .time) position note velocity at t)) p ok)
+      (pushed-sound v (fresh-sound p (momentOf (c .head)) ok (some n e) (le-trans (data-within capacity c s) small) (parts s .head .time) position note velocity (parts s .head .numbered) at t)) p ok)
 
   -- ---- every change
   head-change-sound : (d : HeadChange) → SoundHeadChange capacity (c .head) d → SoundChannel capacity (withHead (headChangedOf d (c .head)) c)
   unfolding headChangedOf SoundHeadChange
   head-change-sound StartRecording ok =
       recording-changed capacity c s (record { recorder = startOf (c .head .recorder); «data_len» = c .head .«data_len» })
-      (start-good (c .head .recorder) (c .head .«data_len») capacity (parts s .head .recorder))
+      (start-good (c .head .recorder) (c .head .«data_len») _ (recorder-left capacity (c .head) (parts s .head)))
   head-change-sound StopRecording ok =
       recording-changed capacity c s (stopOf (c .head .recorder) (c .head .«data_len»))
-      (stop-good (c .head .recorder) (c .head .«data_len») capacity (parts s .head .recorder))
+      (stop-good (c .head .recorder) (c .head .«data_len») _ (recorder-left capacity (c .head) (parts s .head)))
   head-change-sound (Interpolate on) ok =
       let g = parts s .head in
-      head-changed capacity c s (headChangedOf (Interpolate on) (c .head)) (record { time = g .time; volume = g .volume; recorder = g .recorder }) (le-refl (c .head .now))
+      head-changed capacity c s (headChangedOf (Interpolate on) (c .head)) (record { time = g .time; numbered = g .numbered; inside = g .inside; volume = g .volume; recorder = g .recorder }) (le-refl (c .head .now))
   head-change-sound (Load samples) ok =
-      recording-changed capacity c s (record { recorder = c .head .recorder; «data_len» = samples }) (unrecorded-good (c .head .recorder) samples capacity (ok .0) (ok .1))
+      let g = parts s .head in
+      head-changed capacity c s (headChangedOf (Load samples) (c .head))
+      (record { time = g .time; numbered = g .numbered; inside = omega (arith, ok .1); volume = g .volume; recorder = unrecorded-good (c .head .recorder) samples capacity (ok .0) (ok .1) })
+      (le-refl (c .head .now))
 
   pub change-sound : capacity ≤ 2 ^ 22 → (x : Change) → SoundChange capacity c x → SoundChannel capacity (changedOf x c)
   unfolding changedOf SoundChange stopPlayingOf

@@ -1,6 +1,6 @@
 -- A sound channel by its parts, and with another head, recording or voices. Assumes nothing.
 use mathlib.Core.Path.{_≡_, sym, _∙_, subst}
-use Prim.Native.Nat.{ℕ, zero, suc, _≤_, _<_}
+use Prim.Native.Nat.{ℕ, zero, suc, _-_, _≤_, _<_}
 use native.Mathlib.Nat.{le-refl, le-trans, le-of-eq}
 use native.Mathlib.Omega.{arith}
 use mathlib.Core.Bool.{Bool, true, not, _&&_}
@@ -79,7 +79,7 @@ module _ (capacity : ℕ) (c : Channel) (s : SoundChannel capacity c) where
         head = k;
       })
 
-  pub recording-changed : (r : Recorded) → goodRecorded r capacity ≡ true → SoundChannel capacity (withHead (withRecorded r (c .head)) c)
+  pub recording-changed : (r : Recorded) → goodRecorded r (capacity - c .head .start) ≡ true → SoundChannel capacity (withHead (withRecorded r (c .head)) c)
   recording-changed r good = head-changed (withRecorded r (c .head)) (recorded-sound capacity (c .head) (parts s .head) r good) (le-refl (c .head .now))
 
   pub voices-changed : (vs : List Voice) (n : ℕ) → n ≤ 32 → length vs ≡ length (c .voices) → Each (SoundVoice (c .head .now)) (take n vs) → SoundChannel capacity (withVoices vs n c)

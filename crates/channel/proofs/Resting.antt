@@ -2,9 +2,9 @@
 use mathlib.Core.Path.{_≡_, refl, ap, _∙_}
 use Prim.Native.Nat.{ℕ}
 use mathlib.Core.Bool.{Bool, true, false, Bool·beq, cond}
-use mathlib.Core.List.{List}
+use mathlib.Core.List.{List, _++_}
 use lib.Dec.{T}
-use lib.ListN.{length}
+use lib.ListN.{length, take, drop}
 use lib.Ieee.{Float}
 use lib.Ieee.Bits.{is-true}
 use lib.Ieee.Fits.{and-l, and-r}
@@ -17,20 +17,24 @@ use Rattle.volume.specs.Levels.{isStaticOf, steppedOf}
 use Rattle.recorder.specs.declared.Recorded.{Recorded}
 use Rattle.recorder.specs.Recording.{isRecordingOf}
 use Rattle.recorder.proofs.Cases.{not-recording, sample-idle, memory-idle}
-use Rattle.channel.specs.Heads.{withRecorded, withPassthru, passesOf, rampOf, passthruOf, clockedOf, restsOf, closedOf}
+use Rattle.channel.specs.Heads.{writtenIn, withRecorded, withPassthru, passesOf, rampOf, passthruOf, clockedOf, restsOf, closedOf}
 use Rattle.channel.specs.Channels.{withHead, takenOf, memoryOf}
 use Rattle.channel.specs.declared.Head.{Head}
 use Rattle.channel.specs.declared.Channel.{Channel}
+use Rattle.channel.proofs.Rooms.{written-same}
 
 -- ---- nothing is recorded
 module _ (m : List ℕ) (c : Channel) (e : isRecordingOf (c .head .recorder) ≡ false) where
   pub untaken : takenOf m c ≡ c
   unfolding takenOf
-  untaken = ap (λ (r : Recorded). withHead (withRecorded r (c .head)) c) (sample-idle (c .head .recorder) (not-recording (c .head .recorder) e) (c .head .«data_len») (length m))
+  untaken = ap (λ (r : Recorded). withHead (withRecorded r (c .head)) c) (sample-idle (c .head .recorder) (not-recording (c .head .recorder) e) (c .head .«data_len») _)
 
   pub unwritten : (x : Float) → memoryOf x c m ≡ m
   unfolding memoryOf
-  unwritten x = memory-idle (c .head .recorder) (not-recording (c .head .recorder) e) (bitsOf x) m
+  unwritten x =
+      let r = writtenIn (c .head) (length m) in
+      ap (λ (l : List ℕ). take (r .from) m ++ (l ++ drop (r .to) m)) (memory-idle (c .head .recorder) (not-recording (c .head .recorder) e) (bitsOf x) _)
+      ∙ written-same (c .head) m
 
 -- ---- pass-through rests
 steady : (v : Volume) (now : ℕ) → T (isStaticOf v) → steppedOf v now ≡ v

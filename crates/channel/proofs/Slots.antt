@@ -27,6 +27,7 @@ none = record {
   note = record { note = 0; channel = 0 };
   finished = false;
   «is_at_zero_crossing» = false;
+  phrase = 0;
 }
 
 -- ---- a walk that stores what it makes of each voice

@@ -1,26 +1,33 @@
--- One turn of `play`: what is left of the walk, with the turn taken, is what the walk gives; and on an empty recording nothing moves. Assumes nothing.
-use mathlib.Core.Path.{_≡_, refl, sym, ap, _∙_}
+-- A voice's turn on its own phrase, and one turn of `play`: what is left of the walk, with the turn taken, is what the walk gives; and where voices rest nothing moves. Assumes nothing.
+use mathlib.Core.Path.{_≡_, refl, sym, ap, _∙_, subst}
 use mathlib.Core.Bool.{Bool, true, false, not, cond}
 use mathlib.Core.List.{List, [], _∷_, map}
-use Prim.Native.Nat.{ℕ, suc, _+_, _≤_}
+use Prim.Native.Nat.{ℕ, suc, _+_, _-_, _≤_}
 use native.Mathlib.Nat.{le-trans, le-of-eq, add-zero, zero-add, add-suc, suc-add}
 use native.Mathlib.Omega.{arith}
 use native.Mathlib.Numerals.{add-one}
 use borrow.Author.Tests.{not-true, not-false, lt-ltb, le-ltb, ltb-true, ltb-false}
 use lib.Dec.{eqb, ltb}
-use lib.ListN.{length, set}
+use lib.ListN.{length, take, drop, set}
 use lib.Seq.{sets}
 use lib.Ieee.{Float}
 use Rattle.walks.specs.Walks.{without, behind, fold}
 use Rattle.common_types.specs.declared.Params.{Params}
 use Rattle.binary32.specs.Leaves.{zero32}
+use Rattle.phrases.specs.declared.Phrase.{Phrase}
+use Rattle.phrases.specs.declared.Room.{Room}
+use Rattle.phrases.specs.Phrases.{storedIn, roomOf}
+use Rattle.phrases.proofs.Rooms.{room-stored}
 use Rattle.voice.specs.declared.Voice.{Voice}
 use Rattle.voice.specs.declared.Moment.{Moment}
 use Rattle.voice.specs.declared.Tick.{Tick}
 use Rattle.voice.specs.Voices.{tickOf, shouldRemoveOf, productOf, turnOf, soundedOf, endedOf, finishOf, volumeStepped, playedOutOf}
-use Rattle.channel.specs.Channels.{live, withVoices, Turning, keptOf, tidiedOf, heardOf, playedOf, addedOf, turningBy, resting, turningAt, turningOf, playedIfOf}
+use Rattle.voice.proofs.PhraseKept.{turn-phrase}
+use Rattle.channel.specs.Heads.{momentOn}
+use Rattle.channel.specs.Channels.{live, withVoices, Turning, keptOf, tidiedOf, heardOf, playedOf, addedOf, turningBy, resting, turningAt, turningOf, turnedOf, phraseAt, momentFor, turningIn}
 use Rattle.channel.specs.declared.Channel.{Channel}
 use Rattle.channel.specs.declared.Played.{Played}
+use Rattle.channel.specs.declared.Turned.{Turned}
 
 -- what a walk leaves and what is heard of it
 pub record Walked : Type 0 where
@@ -62,26 +69,90 @@ module _ (t : Tick) (m : List ℕ) where
       go true e = refl
       go false e = ap (λ (x : Float). addedOf false out x) (turn-value v e)
 
--- ---- all voices at one moment, with one recording
-module _ (by : Tick → List ℕ → Turning) (p : Params) (at : Moment) (m : List ℕ) where
-  pub turning-some : eqb (at .«data_len») 0 ≡ false → turningOf by p (λ (v : Voice). at) (λ (v : Voice). m) ≡ by (tickOf p at) m
-  unfolding turningOf turningAt
-  turning-some e = rw e
+  -- and these are the parts of its turn
+  pub turned-by : (out out' : Float) (v w : Voice) (gone : Bool) → w ≡ turnOf t m v → gone ≡ shouldRemoveOf t w → out' ≡ addedOf (shouldRemoveOf t v) out (w .«last_sample_value»)
+      → record { voice = w; stays = not gone; output = out' } ≡ turnedOf (turningBy t m) out v
+  unfolding turningBy
+  turned-by out out' v w gone turned is sounds =
+      let leaves : gone ≡ shouldRemoveOf t (turnOf t m v) = is ∙ ap (shouldRemoveOf t) turned in
+      λ i. record { voice = turned i; stays = not (leaves i); output = sounds-by out out' v w turned sounds i }
 
-  pub turning-none : eqb (at .«data_len») 0 ≡ true → turningOf by p (λ (v : Voice). at) (λ (v : Voice). m) ≡ resting
-  unfolding turningOf turningAt
+-- ---- a voice at its moment, with its recording: on an empty one it rests
+module _ (by : Tick → List ℕ → Turning) (p : Params) (at : Moment) (m : List ℕ) where
+  pub turning-none : eqb (at .«data_len») 0 ≡ true → turningAt by p at m ≡ resting
+  unfolding turningAt
   turning-none e = rw e
 
-pub plays-by : (p : Params) (at : Moment) (m : List ℕ) (c : Channel)
-    → playedIfOf p at m c ≡ cond (eqb (at .«data_len») 0) (record { channel = c; output = zero32; moved = 0 }) (playedOf (turningBy (tickOf p at) m) c)
-unfolding playedIfOf
-plays-by p at m c = go (eqb (at .«data_len») 0) refl
-  where
-    go : (b : Bool) → eqb (at .«data_len») 0 ≡ b
-        → cond b (record { channel = c; output = zero32; moved = 0 }) (playedOf (turningOf turningBy p (λ (v : Voice). at) (λ (v : Voice). m)) c)
-        ≡ cond b (record { channel = c; output = zero32; moved = 0 }) (playedOf (turningBy (tickOf p at) m) c)
-    go true e = refl
-    go false e = rw (turning-some turningBy p at m e)
+  pub turning-some : eqb (at .«data_len») 0 ≡ false → turningAt by p at m ≡ by (tickOf p at) m
+  unfolding turningAt
+  turning-some e = rw e
+
+-- s does with a voice what t does
+pub record Alike (s t : Turning) (v : Voice) : Type 0 where
+  pub turns : s .turn v ≡ t .turn v
+  pub leaves : s .leaves v ≡ t .leaves v
+  pub adds : (out : Float) → s .adds out v ≡ t .adds out v
+
+-- it does nothing with it
+pub record Rests (s : Turning) (v : Voice) : Type 0 where
+  pub turns : s .turn v ≡ v
+  pub stays : s .leaves v ≡ false
+  pub adds : (out : Float) → s .adds out v ≡ out
+
+pub resting-rests : (v : Voice) → Rests resting v
+unfolding resting
+resting-rests v = record { turns = refl; stays = refl; adds = λ out. refl }
+
+-- ---- each voice on its own phrase
+module _ (p : Params) (c : Channel) (m : List ℕ) where
+  -- what a sample does with the voices of a phrase
+  abbrev pub turningOn : ℕ → Turning
+  turningOn k = turningAt turningBy p (momentFor c k) (storedIn (phraseAt c k) m)
+
+  pub turning-own : (v : Voice) → Alike (turningIn p c m) (turningOn (v .phrase)) v
+  unfolding turningIn turningOf
+  turning-own v = record { turns = refl; leaves = refl; adds = λ out. refl }
+
+  module _ (v : Voice) where
+    pub turning-rests : eqb (phraseAt c (v .phrase) .length) 0 ≡ true → Rests (turningIn p c m) v
+    turning-rests e =
+        let none = turning-none turningBy p (momentFor c (v .phrase)) (storedIn (phraseAt c (v .phrase)) m) e in
+        let own = subst (λ (s : Turning). Alike (turningIn p c m) s v) none (turning-own v) in
+        let rests = resting-rests v in
+        record { turns = own .turns ∙ rests .turns; stays = own .leaves ∙ rests .stays; adds = λ out. own .adds out ∙ rests .adds out }
+
+    pub turning-turns : eqb (phraseAt c (v .phrase) .length) 0 ≡ false
+        → Alike (turningIn p c m) (turningBy (tickOf p (momentFor c (v .phrase))) (storedIn (phraseAt c (v .phrase)) m)) v
+    turning-turns e =
+        subst (λ (s : Turning). Alike (turningIn p c m) s v) (turning-some turningBy p (momentFor c (v .phrase)) (storedIn (phraseAt c (v .phrase)) m) e) (turning-own v)
+
+    -- a voice's turn leaves it on its phrase
+    pub turning-phrase : turningIn p c m .turn v .phrase ≡ v .phrase
+    unfolding turningBy
+    turning-phrase = go (eqb (phraseAt c (v .phrase) .length) 0) refl
+      where
+        go : (b : Bool) → eqb (phraseAt c (v .phrase) .length) 0 ≡ b → turningIn p c m .turn v .phrase ≡ v .phrase
+        go true e = ap (λ (w : Voice). w .phrase) (turning-rests e .turns)
+        go false e = ap (λ (w : Voice). w .phrase) (turning-turns e .turns) ∙ turn-phrase (tickOf p (momentFor c (v .phrase))) (storedIn (phraseAt c (v .phrase)) m) v
+
+    -- so whether it leaves, once it has taken it, is told by that phrase too
+    pub turning-turned : (out : Float) → turnedOf (turningOn (v .phrase)) out v ≡ turnedOf (turningIn p c m) out v
+    turning-turned out =
+        let own = turning-own v in
+        let w = turningIn p c m .turn v in
+        let gone : turningOn (v .phrase) .leaves (turningOn (v .phrase) .turn v) ≡ turningIn p c m .leaves w =
+        ap (turningOn (v .phrase) .leaves) (sym (own .turns)) ∙ ap (λ (k : ℕ). turningOn k .leaves w) (sym turning-phrase) ∙ sym (turning-own w .leaves) in
+        λ i. record { voice = sym (own .turns) i; stays = not (gone i); output = sym (own .adds out) i }
+
+    -- as its parts are worked out
+    module _ (q : Phrase) (is : q ≡ phraseAt c (v .phrase)) where
+      pub turned-there : (out : Float) (room : Room) (at : Moment) (r : Turned) → room ≡ roomOf q (length m) → at ≡ momentOn (c .head) (v .phrase) (q .length)
+          → r ≡ turnedOf (turningAt turningBy p at (take (room .to - room .from) (drop (room .from) m))) out v → r ≡ turnedOf (turningIn p c m) out v
+      turned-there out room at r lies moment gives =
+          let own : take (room .to - room .from) (drop (room .from) m) ≡ storedIn (phraseAt c (v .phrase)) m =
+          ap (λ (z : Room). take (z .to - z .from) (drop (z .from) m)) lies ∙ room-stored q m ∙ ap (λ (z : Phrase). storedIn z m) is in
+          let then : at ≡ momentFor c (v .phrase) = moment ∙ ap (λ (z : Phrase). momentOn (c .head) (v .phrase) (z .length)) is in
+          gives ∙ (λ i. turnedOf (turningAt turningBy p (then i) (own i)) out v) ∙ turning-turned out
 
 -- ---- a walk over the voices, whatever a sample does with each
 module _ (s : Turning) where

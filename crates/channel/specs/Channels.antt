@@ -1,11 +1,11 @@
 -- What each call does to one channel (document 01, module 6, and the Rust's Channel). The voices are the first `count`
 -- of 32 places; what stands in the others is kept as it was. `m` is the channel's part of the lent memory. Definitions
 -- only.
-use Prim.Native.Nat.{ℕ, _+_}
+use Prim.Native.Nat.{ℕ, _+_, _-_}
 use mathlib.Core.Bool.{Bool, false, not, _&&_, cond}
-use mathlib.Core.List.{List, map}
+use mathlib.Core.List.{List, _++_, map}
 use lib.Dec.{leb, ltb, eqb}
-use lib.ListN.{length, take, getD, set, replicate}
+use lib.ListN.{length, take, drop, getD, set, replicate}
 use lib.Seq.{sets}
 use lib.Ieee.{Float, binary32, add}
 use Rattle.binary32.specs.Leaves.{bitsOf, zero32, one32}
@@ -13,6 +13,8 @@ use Rattle.walks.specs.Walks.{any, every, without, behind, fold, seek}
 use Rattle.common_types.specs.declared.InitParams.{InitParams}
 use Rattle.common_types.specs.declared.Params.{Params}
 use Rattle.common_types.specs.declared.Note.{Note}
+use Rattle.phrases.specs.declared.Phrase.{Phrase}
+use Rattle.phrases.specs.Phrases.{storedIn}
 use Rattle.recorder.specs.Recording.{recordedOf, dataAfter}
 use Rattle.voice.specs.declared.Voice.{Voice}
 use Rattle.voice.specs.declared.Moment.{Moment}
@@ -28,13 +30,27 @@ use Rattle.voice.specs.Voices.{
   blankVoice,
   atSpeedOf,
 }
-use Rattle.channel.specs.Heads.{headOf, headChangedOf, momentOf, withRecorded, passthruOf, mixedOf, closedOf, goodHead}
+use Rattle.channel.specs.Heads.{
+  recordingIn,
+  phraseIn,
+  writtenIn,
+  headOf,
+  headChangedOf,
+  momentOn,
+  momentOf,
+  withRecorded,
+  passthruOf,
+  mixedOf,
+  closedOf,
+  goodHead,
+}
 use Rattle.channel.specs.declared.Head.{Head}
 use Rattle.channel.specs.declared.Channel.{Channel}
 use Rattle.channel.specs.declared.Change.{Change}
 use Rattle.channel.specs.declared.Change.the-variants as change
 use Rattle.channel.specs.declared.HeadChange.the-variants.{StartRecording, StopRecording}
 use Rattle.channel.specs.declared.Played.{Played}
+use Rattle.channel.specs.declared.Turned.{Turned}
 use Rattle.channel.specs.declared.Found.{Found}
 use Rattle.channel.specs.declared.Found.the-variants.{At, Nothing}
 
@@ -75,7 +91,7 @@ pushedOf v c = cond (ltb (c .count) 32) (withVoices (set (c .voices) (c .count) 
 unfoldable pub startPlayingOf : Params → Float → Note → Float → Channel → Channel
 startPlayingOf p position note velocity c =
     cond (eqb (c .head .«data_len») 0) c
-    (handledOf p (pushedOf (freshOf p position note velocity (c .head .now) (c .head .«data_len»)) c))
+    (handledOf p (pushedOf (freshOf p position note velocity (momentOf (c .head))) c))
 
 abbrev pub sameNote : Note → Note → Bool
 sameNote a b = eqb (a .note) (b .note) && eqb (a .channel) (b .channel)
@@ -161,6 +177,10 @@ resting = record { turn = λ (v : Voice). v; leaves = λ (v : Voice). false; add
 unfoldable pub turningAt : (Tick → List ℕ → Turning) → Params → Moment → List ℕ → Turning
 turningAt by p at m = cond (eqb (at .«data_len») 0) resting (by (tickOf p at) m)
 
+-- what a voice's turn gives: the voice after it, whether it stays, and the output with what it adds
+abbrev pub turnedOf : Turning → Float → Voice → Turned
+turnedOf s out v = record { voice = s .turn v; stays = not (s .leaves (s .turn v)); output = s .adds out v }
+
 -- each voice v has a moment of its own, `at v`, and a recording of its own, `m v`
 unfoldable pub turningOf : (Tick → List ℕ → Turning) → Params → (Voice → Moment) → (Voice → List ℕ) → Turning
 turningOf by p at m = record {
@@ -169,27 +189,38 @@ turningOf by p at m = record {
   adds = λ (out : Float) (v : Voice). turningAt by p (at v) (m v) .adds out v;
 }
 
--- All voices have one moment and one recording. With an empty one the channel is left as it is: by `resting` too, but for
--- a count above 32, which `playedOf` lowers to 32.
-unfoldable pub playedIfOf : Params → Moment → List ℕ → Channel → Played
-playedIfOf p at m c = cond (eqb (at .«data_len») 0) (record { channel = c; output = zero32; moved = 0 })
-    (playedOf (turningOf turningBy p (λ (v : Voice). at) (λ (v : Voice). m)) c)
+-- the phrase of a number, and what its voices go by
+abbrev pub phraseAt : Channel → ℕ → Phrase
+phraseAt c k = phraseIn (c .head) k
 
--- the channel once the sample x has been recorded, and its memory
+abbrev pub momentFor : Channel → ℕ → Moment
+momentFor c k = momentOn (c .head) k (phraseAt c k .length)
+
+-- each voice goes by its own phrase, and hears that of it which stands in the memory
+unfoldable pub turningIn : Params → Channel → List ℕ → Turning
+turningIn p c m =
+    turningOf turningBy p (λ (v : Voice). momentFor c (v .phrase)) (λ (v : Voice). storedIn (phraseAt c (v .phrase)) m)
+
+-- the channel once the sample x has been recorded, and its memory: the recorder is handed a part of it
 unfoldable pub takenOf : List ℕ → Channel → Channel
-takenOf m c = withHead (withRecorded (recordedOf (c .head .recorder) (c .head .«data_len») (length m)) (c .head)) c
+takenOf m c =
+    let r = writtenIn (c .head) (length m) in
+    withHead (withRecorded (recordedOf (c .head .recorder) (c .head .«data_len») (r .to - r .from)) (c .head)) c
 
 unfoldable pub memoryOf : Float → Channel → List ℕ → List ℕ
-memoryOf x c m = dataAfter (c .head .recorder) (bitsOf x) m
+memoryOf x c m =
+    let r = writtenIn (c .head) (length m) in
+    take (r .from) m
+    ++ (dataAfter (c .head .recorder) (bitsOf x) (take (r .to - r .from) (drop (r .from) m)) ++ drop (r .to) m)
 
 -- records first, then plays, then adds the input at its level, and closes
 unfoldable pub processSampleOf : Params → Float → Channel → List ℕ → Played
 processSampleOf p x c m =
-    let h = takenOf m c .head in
-    let r = playedIfOf p (momentOf h) (memoryOf x c m) (takenOf m c) in
+    let d = takenOf m c in
+    let r = playedOf (turningIn p d (memoryOf x c m)) d in
     record {
-      channel = withHead (closedOf p (anyUnfinishedOf (r .channel)) h) (r .channel);
-      output = mixedOf x (r .output) h;
+      channel = withHead (closedOf p (anyUnfinishedOf (r .channel)) (d .head)) (r .channel);
+      output = mixedOf x (r .output) (d .head);
       moved = r .moved;
     }
 
@@ -203,9 +234,9 @@ changedOf change.Reset c = resetOf c
 
 -- ---- questions
 
--- the recording, as bit patterns: the front of the channel's part, while it records too
+-- the recording, as bit patterns, while it records too
 abbrev pub recordingOf : Channel → List ℕ → List ℕ
-recordingOf c m = take (c .head .«data_len») m
+recordingOf c m = storedIn (recordingIn (c .head)) m
 
 -- row 5 by this channel: a recording that isn't empty, and 32 voices
 unfoldable pub fullOf : Channel → Bool

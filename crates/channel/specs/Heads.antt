@@ -1,14 +1,17 @@
 -- What of a channel is not its voices: clock, recording and pass-through (document 01, module 6, and the Rust's
 -- Channel). Definitions only.
-use Prim.Native.Nat.{ℕ, _+_, _^_}
+use Prim.Native.Nat.{ℕ, _+_, _^_, min}
 use mathlib.Core.Bool.{Bool, true, false, not, _&&_, Bool·beq, cond}
-use lib.Dec.{leb, ltb}
+use lib.Dec.{leb, ltb, eqb}
 use lib.Ieee.{Float, binary32, add, mul}
 use Rattle.common_types.specs.declared.Params.{Params}
 use Rattle.volume.specs.declared.Volume.{Volume}
 use Rattle.volume.specs.declared.Volume.the-variants.{Static}
 use Rattle.volume.specs.Levels.{isStaticOf, levelOf, towardOf, steppedOf, goodVolume}
 use Rattle.binary32.specs.Leaves.{zero32, one32}
+use Rattle.phrases.specs.declared.Phrase.{Phrase}
+use Rattle.phrases.specs.declared.Room.{Room}
+use Rattle.phrases.specs.Phrases.{noPhrase, endsBy}
 use Rattle.recorder.specs.declared.Recorded.{Recorded}
 use Rattle.recorder.specs.Recording.{newRecorderOf, startOf, stopOf, goodRecorder}
 use Rattle.voice.specs.declared.Moment.{Moment}
@@ -22,10 +25,12 @@ withRecorded r
     h = record {
       now = h .now;
       «data_len» = r .«data_len»;
+      start = h .start;
       «passthru_volume» = h .«passthru_volume»;
       recorder = r .recorder;
       «passthru_on» = h .«passthru_on»;
       interpolates = h .interpolates;
+      chosen = h .chosen;
     }
 
 abbrev pub withPassthru : Bool → Volume → Head → Head
@@ -33,15 +38,35 @@ withPassthru on volume
     h = record {
       now = h .now;
       «data_len» = h .«data_len»;
+      start = h .start;
       «passthru_volume» = volume;
       recorder = h .recorder;
       «passthru_on» = on;
       interpolates = h .interpolates;
+      chosen = h .chosen;
     }
 
--- ---- what the voices go by in one sample
+-- ---- phrases (request 11/12)
+
+-- the recording is the phrase that is chosen
+abbrev pub recordingIn : Head → Phrase
+recordingIn h = record { start = h .start; length = h .«data_len» }
+
+-- the phrase of a number; those that aren't chosen are empty
+unfoldable pub phraseIn : Head → ℕ → Phrase
+phraseIn h k = cond (eqb k (h .chosen)) (recordingIn h) noPhrase
+
+-- the part of a memory of that size that the recorder writes to: from the recording's start on
+unfoldable pub writtenIn : Head → ℕ → Room
+writtenIn h size = record { from = min (h .start) size; to = size }
+
+-- ---- what the voices of a phrase of n samples go by in one sample
+abbrev pub momentOn : Head → ℕ → ℕ → Moment
+momentOn h k n = record { now = h .now; «data_len» = n; interpolates = h .interpolates; phrase = k }
+
+-- what those go by that start now
 abbrev pub momentOf : Head → Moment
-momentOf h = record { now = h .now; «data_len» = h .«data_len»; interpolates = h .interpolates }
+momentOf h = momentOn h (h .chosen) (h .«data_len»)
 
 -- ---- the clock: it ends at 2 ^ 48, and a sample then is refused (row 6)
 abbrev pub lastTime : ℕ
@@ -56,10 +81,12 @@ headOf level interpolates =
     record {
       now = 0;
       «data_len» = 0;
+      start = 0;
       «passthru_volume» = Static level;
       recorder = newRecorderOf;
       «passthru_on» = false;
       interpolates = interpolates;
+      chosen = 0;
     }
 
 -- ---- the changes that touch no voice
@@ -71,13 +98,25 @@ headChangedOf (Interpolate on)
     h = record {
       now = h .now;
       «data_len» = h .«data_len»;
+      start = h .start;
       «passthru_volume» = h .«passthru_volume»;
       recorder = h .recorder;
       «passthru_on» = h .«passthru_on»;
       interpolates = on;
+      chosen = h .chosen;
     }
 -- request 10/12: the recording is what stands in the front of the channel's part, so many samples
-headChangedOf (Load samples) h = withRecorded (record { recorder = h .recorder; «data_len» = samples }) h
+headChangedOf (Load samples)
+    h = record {
+      now = h .now;
+      «data_len» = samples;
+      start = 0;
+      «passthru_volume» = h .«passthru_volume»;
+      recorder = h .recorder;
+      «passthru_on» = h .«passthru_on»;
+      interpolates = h .interpolates;
+      chosen = h .chosen;
+    }
 
 -- 7/12's setting after such a change: the one that sets it does, and the others keep it
 unfoldable pub interpolatesAfter : HeadChange → Bool → Bool
@@ -111,10 +150,12 @@ clockedOf h =
     record {
       now = nextTime (h .now);
       «data_len» = h .«data_len»;
+      start = h .start;
       «passthru_volume» = h .«passthru_volume»;
       recorder = h .recorder;
       «passthru_on» = h .«passthru_on»;
       interpolates = h .interpolates;
+      chosen = h .chosen;
     }
 
 -- the end of a sample: the level's step, the change of state, and the clock
@@ -126,7 +167,8 @@ closedOf p unfinished h = clockedOf
 unfoldable pub restsOf : Bool → Head → Bool
 restsOf wanted h = isStaticOf (h .«passthru_volume») && Bool·beq wanted (h .«passthru_on»)
 
--- ---- a head that may stand in a record of that capacity
+-- ---- a head that may stand in a record of that capacity: there is a chosen phrase, and it lies within the capacity
+-- (request 11/12)
 unfoldable pub goodHead : ℕ → Head → Bool
-goodHead capacity h = leb (h .now) lastTime && goodVolume (h .now) (h .«passthru_volume»)
-    && goodRecorder (h .recorder) (h .«data_len») capacity
+goodHead capacity h = (leb (h .now) lastTime && (ltb (h .chosen) 8 && endsBy capacity (recordingIn h)))
+    && goodVolume (h .now) (h .«passthru_volume») && goodRecorder (h .recorder) (h .«data_len») capacity

@@ -14,7 +14,11 @@ ghost use Rattle.voice.specs.Voices.{shouldRemoveOf};
 ghost use Rattle.channel.specs.declared.HeadChange.the-variants.{StartRecording, StopRecording, Interpolate, Load};
 ghost use Rattle.channel.specs.Heads.{
   nextTime,
+  recordingIn,
+  phraseIn,
+  writtenIn,
   headOf,
+  momentOn,
   momentOf,
   headChangedOf,
   clockedOf,
@@ -48,7 +52,9 @@ ghost use Rattle.channel.specs.Channels.{
   addedOf,
   playedOf,
   turningBy,
-  playedIfOf,
+  turningAt,
+  turnedOf,
+  turningIn,
   takenOf,
   memoryOf,
   processSampleOf,
@@ -60,6 +66,8 @@ ghost use Rattle.channel.specs.Channels.{
 use common_types::InitParams;
 use common_types::Note;
 use common_types::Params;
+use phrases::Phrase;
+use phrases::Room;
 use recorder::Recorded;
 use recorder::Recorder;
 use voice::Moment;
@@ -70,14 +78,17 @@ use volume::Volume;
 // The clock's end: a sample then is refused.
 pub const LAST_TIME: usize = 0x1_0000_0000_0000;
 
-// What of a channel is not its voices. It holds the enums, and is stored whole.
+// What of a channel is not its voices. It holds the enums, and is stored whole. The recording is the phrase of the number
+// `chosen`: `data_len` samples from `start` on. Every other phrase is empty.
 pub struct Head {
     pub now: usize,
     pub data_len: usize,
+    pub start: usize,
     pub passthru_volume: Volume,
     pub recorder: Recorder,
     pub passthru_on: bool,
     pub interpolates: bool,
+    pub chosen: u8,
 }
 
 // The voices are the first `count` of the 32.
@@ -134,10 +145,12 @@ impl Head {
         Self {
             now: 0,
             data_len: 0,
+            start: 0,
             passthru_volume: Volume::new(level),
             recorder: Recorder::new(),
             passthru_on: false,
             interpolates,
+            chosen: 0,
         }
     }
 
@@ -149,10 +162,12 @@ impl Head {
         Self {
             now: self.now,
             data_len: r.data_len,
+            start: self.start,
             passthru_volume: volume.copied(),
             recorder,
             passthru_on: self.passthru_on,
             interpolates: self.interpolates,
+            chosen: self.chosen,
         }
     }
 
@@ -181,10 +196,12 @@ impl Head {
         Self {
             now: self.now,
             data_len: self.data_len,
+            start: self.start,
             passthru_volume: volume.copied(),
             recorder: recorder.copied(),
             passthru_on: self.passthru_on,
             interpolates: on,
+            chosen: self.chosen,
         }
     }
 
@@ -192,11 +209,18 @@ impl Head {
     fn loaded(self, samples: usize) -> Self
         ensures { λ r. ⌜ r ≡ headChangedOf (Load samples) self ⌝ }
     {
+        let volume = self.passthru_volume;
         let recorder = self.recorder;
-        self.with_recorded(Recorded {
-            recorder: recorder.copied(),
+        Self {
+            now: self.now,
             data_len: samples,
-        })
+            start: 0,
+            passthru_volume: volume.copied(),
+            recorder: recorder.copied(),
+            passthru_on: self.passthru_on,
+            interpolates: self.interpolates,
+            chosen: self.chosen,
+        }
     }
 
     pub fn changed(self, change: HeadChange) -> Self
@@ -236,10 +260,12 @@ impl Head {
         Self {
             now: self.now,
             data_len: self.data_len,
+            start: self.start,
             passthru_volume: volume,
             recorder,
             passthru_on: on,
             interpolates: self.interpolates,
+            chosen: self.chosen,
         }
     }
 
@@ -276,10 +302,12 @@ impl Head {
         Self {
             now: next_time(self.now),
             data_len: self.data_len,
+            start: self.start,
             passthru_volume: volume.copied(),
             recorder: recorder.copied(),
             passthru_on: on,
             interpolates: self.interpolates,
+            chosen: self.chosen,
         }
     }
 
@@ -300,10 +328,12 @@ impl Head {
         Self {
             now: self.now,
             data_len: self.data_len,
+            start: self.start,
             passthru_volume: volume.copied(),
             recorder: recorder.copied(),
             passthru_on: self.passthru_on,
             interpolates: self.interpolates,
+            chosen: self.chosen,
         }
     }
 
@@ -314,20 +344,61 @@ impl Head {
         recorder.is_recording()
     }
 
-    pub fn moment(self) -> Moment
-        ensures { λ r. ⌜ r ≡ momentOf self ⌝ }
+    // The recording: the phrase that is chosen.
+    pub fn recording(self) -> Phrase
+        ensures { λ r. ⌜ r ≡ recordingIn self ⌝ }
+    {
+        Phrase {
+            start: self.start,
+            length: self.data_len,
+        }
+    }
+
+    // The phrase of that number.
+    pub fn phrase_at(self, k: u8) -> Phrase
+        ensures { λ r. ⌜ r ≡ phraseIn self k ⌝ }
+    {
+        if k == self.chosen {
+            return self.recording();
+        }
+        Phrase::none()
+    }
+
+    // What the voices of a phrase go by that has so many samples.
+    pub fn moment_on(self, phrase: u8, length: usize) -> Moment
+        ensures { λ r. ⌜ r ≡ momentOn self phrase length ⌝ }
     {
         Moment {
             now: self.now,
-            data_len: self.data_len,
+            data_len: length,
             interpolates: self.interpolates,
+            phrase,
+        }
+    }
+
+    // What those go by that start now.
+    pub fn moment(self) -> Moment
+        ensures { λ r. ⌜ r ≡ momentOf self ⌝ }
+    {
+        self.moment_on(self.chosen, self.data_len)
+    }
+
+    // The part of a memory of that size that the recorder writes to: from the recording's start on.
+    pub fn room(self, size: usize) -> Room
+        ensures { λ r. ⌜ r ≡ writtenIn self size ⌝ }
+        ensures { λ r. ⌜ (r .from ≤ r .to) × (r .to ≤ size) ⌝ }
+    {
+        Room {
+            from: phrases::smaller(self.start, size),
+            to: size,
         }
     }
 
     pub fn good(self, capacity: usize) -> bool
         ensures { λ r. ⌜ r ≡ goodHead capacity self ⌝ }
     {
-        if LAST_TIME < self.now {
+        let recording = self.recording();
+        if (LAST_TIME < self.now) | (8 <= self.chosen) | !recording.ends_by(capacity) {
             return false;
         }
         let volume = self.passthru_volume;
@@ -459,7 +530,7 @@ impl Channel {
         if head.data_len == 0 {
             return self;
         }
-        let v = Voice::new(params, position, note, velocity, head.now, head.data_len);
+        let v = Voice::new(params, position, note, velocity, head.moment());
         self.push(v).handle_passthru(params)
     }
 
@@ -545,15 +616,19 @@ impl Channel {
         ensures { λ r. ⌜ now («data» .exit) ≡ memoryOf input self (now («data» .entry)) ⌝ }
     {
         let head = self.head;
-        self.head = head.recorded(input, data);
+        let room = head.room(data.len());
+        let from = room.from;
+        let to = room.to;
+        self.head = head.recorded(input, &mut data[from..to]);
         self
     }
 
-    // Each voice takes its turn; those that are then to be removed leave, and the others move up in order.
-    fn play(mut self, t: Tick, data: &[u32]) -> Played
-        ensures { λ r. ⌜ r ≡ playedOf (turningBy t (now («data» .entry))) self ⌝ }
+    // Each voice takes its turn on its phrase; those that are then to be removed leave, and the others move up in order.
+    fn play(mut self, params: Params, data: &[u32]) -> Played
+        ensures { λ r. ⌜ r ≡ playedOf (turningIn params self (now («data» .entry))) self ⌝ }
         ensures { λ r. ⌜ r .moved ≤ 32 ⌝ }
     {
+        let head = self.head;
         let n = places(self.count);
         let mut output = 0.0;
         let mut moved = 0;
@@ -561,10 +636,16 @@ impl Channel {
         let mut i = 0;
         while i < n {
             let v = self.voices[i];
-            let w = v.turn(t, data);
-            output = sound(output, v, w, t);
-            if !w.should_remove(t) {
+            let phrase = head.phrase_at(v.phrase);
+            let room = phrase.room(data.len());
+            let at = head.moment_on(v.phrase, phrase.length);
+            let from = room.from;
+            let to = room.to;
+            let r = take_turn(v, output, at, params, &data[from..to]);
+            output = r.output;
+            if r.stays {
                 moved = moved_up(moved, k, i);
+                let w = r.voice;
                 self.voices[k] = w;
                 k += 1;
             }
@@ -578,21 +659,6 @@ impl Channel {
         }
     }
 
-    fn play_voices(self, params: Params, data: &[u32]) -> Played
-        ensures { λ r. ⌜ r ≡ playedIfOf params (momentOf (self .head)) (now («data» .entry)) self ⌝ }
-        ensures { λ r. ⌜ r .moved ≤ 32 ⌝ }
-    {
-        let head = self.head;
-        if head.data_len == 0 {
-            return Played {
-                channel: self,
-                output: 0.0,
-                moved: 0,
-            };
-        }
-        self.play(Tick::new(params, head.moment()), data)
-    }
-
     pub fn with_sample(self, params: Params, input: f32, data: &mut [u32]) -> Played
         ensures { λ r. ⌜ r ≡ processSampleOf params input self (now («data» .entry)) ⌝ }
         ensures { λ r. ⌜ now («data» .exit) ≡ memoryOf input self (now («data» .entry)) ⌝ }
@@ -600,7 +666,7 @@ impl Channel {
     {
         let recorded = self.record(input, data);
         let head = recorded.head;
-        let played = recorded.play_voices(params, data);
+        let played = recorded.play(params, data);
         let output = head.mixed(input, played.output);
         let mut channel = played.channel;
         let unfinished = channel.any_unfinished();
@@ -679,6 +745,33 @@ pub fn sped(v: Voice, note: Note, speed: f32) -> Voice
         v.at_speed(speed)
     } else {
         v
+    }
+}
+
+// What a voice's turn gives: the voice after it, whether it stays, and the output with what it adds.
+pub struct Turned {
+    pub voice: Voice,
+    pub stays: bool,
+    pub output: f32,
+}
+
+// The turn of a voice on its phrase; on an empty one it takes none.
+fn take_turn(v: Voice, output: f32, at: Moment, params: Params, data: &[u32]) -> Turned
+    ensures { λ r. ⌜ r ≡ turnedOf (turningAt turningBy params at (now («data» .entry))) output v ⌝ }
+{
+    if at.data_len == 0 {
+        return Turned {
+            voice: v,
+            stays: true,
+            output,
+        };
+    }
+    let t = Tick::new(params, at);
+    let voice = v.turn(t, data);
+    Turned {
+        voice,
+        stays: !voice.should_remove(t),
+        output: sound(output, v, voice, t),
     }
 }
 

@@ -21,7 +21,7 @@ use Rattle.channel.specs.Channels.{sameNote, unfinishedOf, wantedOf, findOf, ta
 use Rattle.fates.specs.Engine.{turnedOf, leavesOf, momentAt, heldAt}
 use Rattle.fates.specs.Events.{Event, idle, changes, sounds, act, emptyAt, tickAt, Sampled, decayOf, lastOf, beforeLast}
 use Rattle.fates.specs.Places.{Housed, voiceAt, Place, at, gone, fateOf, follow, findsAt, becomes, stops, outOf, playsOut, finishes, onward, followAll}
-use Rattle.fates.proofs.Own.{sampled-kept, own-turn, own-leaves}
+use Rattle.fates.proofs.Own.{sampled-kept, own-turn, own-leaves, becomes-phrase}
 use Rattle.fates.proofs.Housing.{housed}
 use Rattle.fates.proofs.Stops.{found}
 use Rattle.fates.proofs.Tracks.{tracks}
@@ -132,7 +132,7 @@ fading r d e [] c h n v s w p q l =
     (subst (λ (z : Event). follow z c n ≡ gone) (sym (q .sample))
     (turns-gone p (q .input) (q .memory) c n v r d s (q .finds) (ending-turns (tickAt p (q .memory) c v) (heldAt (q .input) (q .memory) c v) v r d w) l))
 fading r d e (e' ∷ es) c h n v s w p q l =
-    gone-on e c (e' ∷ es) n (λ k f. fading r d e' es (act e c) (housed e c h) k (becomes e c n v) (tracks e c h n k v s f) (ending-on e c n v r d s w) p (sampled-kept v (becomes e c n v) q) l)
+    gone-on e c (e' ∷ es) n (λ k f. fading r d e' es (act e c) (housed e c h) k (becomes e c n v) (tracks e c h n k v s f) (ending-on e c n v r d s w) p (sampled-kept v (becomes e c n v) (becomes-phrase e c n v) q) l)
 
 pub goes : (e : Event) (es : List Event) (c : Channel) → Housed c → (n : ℕ) (v : Voice) → voiceAt c n ≡ some v
     → finishes e c n ≡ true
@@ -148,4 +148,4 @@ goes e [] c h n v s f p q l =
     (subst (λ (z : Event). follow z c n ≡ gone) (sym (q .sample)) (turns-gone p (q .input) (q .memory) c n v (c .head .now) (p .«decay_samples») s (q .finds) (w .1) k))
 goes e (e' ∷ es) c h n v s f p q l =
     gone-on e c (e' ∷ es) n
-    (λ k g. fading (c .head .now) (decayOf e) e' es (act e c) (housed e c h) k (becomes e c n v) (tracks e c h n k v s g) (finished-ending e c n v s f) p (sampled-kept v (becomes e c n v) q) l)
+    (λ k g. fading (c .head .now) (decayOf e) e' es (act e c) (housed e c h) k (becomes e c n v) (tracks e c h n k v s g) (finished-ending e c n v s f) p (sampled-kept v (becomes e c n v) (becomes-phrase e c n v) q) l)

@@ -12,11 +12,9 @@ use lib.Ieee.{Float}
 use Rattle.common_types.specs.declared.InitParams.{InitParams}
 use Rattle.common_types.specs.declared.Params.{Params}
 use Rattle.common_types.specs.declared.Note.{Note}
-use Rattle.binary32.specs.Leaves.{zero32}
 use Rattle.voice.specs.declared.Voice.{Voice}
 use Rattle.voice.specs.Voices.{finishOf, blankVoice}
 use Rattle.channel.specs.declared.Channel.{Channel}
-use Rattle.channel.specs.declared.Played.{Played}
 use Rattle.channel.specs.declared.Change.the-variants as change
 use Rattle.channel.specs.declared.Found.{Found}
 use Rattle.channel.specs.declared.Found.the-variants.{At, Nothing}
@@ -93,19 +91,10 @@ housed-turned s c h = record {
 
 housed-sounded : (p : Params) (x : Float) (m : List ℕ) (c : Channel) → Housed c → Housed (stepOf p x c m .channel)
 unfolding stepOf takenOf
-housed-sounded p x m c h = go (eqb (takenOf m c .head .«data_len») 0)
-  where
-    r : Bool → Played
-    r b = cond {A = Played} b (record { channel = takenOf m c; output = zero32; moved = 0 }) (playedOf (turnsIn p x m c) (takenOf m c))
-
-    k : Housed (takenOf m c)
-    k = headless (takenOf m c) c refl refl h
-
-    go : (b : Bool) → Housed (record { voices = r b .channel .voices; count = r b .channel .count; head = stepOf p x c m .channel .head })
-    go true = record { places = h .places; room = h .room }
-    go false =
-        let s = housed-turned (turnsIn p x m c) (takenOf m c) k in
-        record { places = s .places; room = s .room }
+housed-sounded p x m c h =
+    let taken : Channel = takenOf m c in
+    let played : Channel = playedOf (turnsIn p x m c) taken .channel in
+    headless (stepOf p x c m .channel) played refl refl (housed-turned (turnsIn p x m c) taken (headless taken c refl refl h))
 
 pub housed : (e : Event) (c : Channel) → Housed c → Housed (act e c)
 unfolding act stopPlayingOf setNoteSpeedOf resetOf

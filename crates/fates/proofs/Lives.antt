@@ -1,5 +1,5 @@
 -- The voices that there are after each event, and that the 32 places stay. Assumes nothing.
-use mathlib.Core.Path.{_≡_, refl, sym, ap, _∙_}
+use mathlib.Core.Path.{_≡_, refl, sym}
 use mathlib.Core.Bool.{Bool, true, false, not, _||_, cond}
 use mathlib.Core.List.{List, [], _∷_, _++_, map, append-nil}
 use Prim.Native.Nat.{ℕ, _+_, _≤_}
@@ -13,10 +13,8 @@ use lib.Ieee.{Float}
 use Rattle.walks.proofs.Lists.Each.{fewer, front-sets, front-map}
 use Rattle.common_types.specs.declared.Params.{Params}
 use Rattle.common_types.specs.declared.Note.{Note}
-use Rattle.binary32.specs.Leaves.{zero32}
 use Rattle.voice.specs.declared.Voice.{Voice}
 use Rattle.channel.specs.declared.Channel.{Channel}
-use Rattle.channel.specs.declared.Played.{Played}
 use Rattle.channel.specs.Channels.{
   live,
   withVoices,
@@ -30,11 +28,9 @@ use Rattle.channel.specs.Channels.{
   takenOf,
 }
 use Rattle.channel.specs.declared.Change.the-variants as change
-use Rattle.channel.proofs.Turns.{resting-kept}
 use Rattle.fates.specs.Engine.{bornOf, begunOf, turnsIn, stepOf}
 use Rattle.fates.specs.Events.{changes}
 use Rattle.fates.specs.Places.{Housed, addedBy}
-use Rattle.fates.proofs.Own.{rests}
 
 pub live-length : (c : Channel) → Housed c → length (live c) ≡ c .count
 live-length c h = length-take-le (c .count) (c .voices) (omega (arith, h .places, h .room))
@@ -70,9 +66,4 @@ live-turned s c h = front-sets (c .voices) (keptOf s (live c)) (omega (arith, le
 
 pub live-sounded : (p : Params) (x : Float) (m : List ℕ) (c : Channel) → Housed c → live (stepOf p x c m .channel) ≡ keptOf (turnsIn p x m c) (live c)
 unfolding stepOf takenOf
-live-sounded p x m c h = go (eqb (takenOf m c .head .«data_len») 0) refl
-  where
-    go : (b : Bool) → eqb (takenOf m c .head .«data_len») 0 ≡ b
-        → live (cond {A = Played} b (record { channel = takenOf m c; output = zero32; moved = 0 }) (playedOf (turnsIn p x m c) (takenOf m c)) .channel) ≡ keptOf (turnsIn p x m c) (live c)
-    go true e = sym (ap (λ (s : Turning). keptOf s (live c)) (rests p x m c e) ∙ resting-kept (live c))
-    go false e = live-turned (turnsIn p x m c) (takenOf m c) (record { places = h .places; room = h .room })
+live-sounded p x m c h = live-turned (turnsIn p x m c) (takenOf m c) (record { places = h .places; room = h .room })

@@ -111,7 +111,7 @@ module _ (p₀ : Params) (position : Float) (note : Note) (velocity : Float) whe
         let z = clock-stands (begin ∷ es) c r q in
         record {
           voice = w .voice;
-          sounds = sounds-each p x m (acts es (act begin c)) (length (live c)) (w .voice) (w .stands) (ap (λ (v : Voice). v .finished) (w .same)) (finds-kept m (acts es (act begin c)) (bornOf p₀ position note velocity c) (w .voice) g);
+          sounds = sounds-each p x m (acts es (act begin c)) (length (live c)) (w .voice) (w .stands) (ap (λ (v : Voice). v .finished) (w .same)) (finds-kept m (acts es (act begin c)) (bornOf p₀ position note velocity c) (w .voice) (ap (λ (v : Voice). v .phrase) (w .same)) g);
           as-started = w .same;
           since = ap (λ (v : Voice). v .clip2 .since) (w .same) ∙ sym z;
         }

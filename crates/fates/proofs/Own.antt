@@ -1,40 +1,66 @@
--- What a sample does with a voice, by what that voice finds; and what it gives of all voices, on an empty recording too. Assumes nothing.
-use mathlib.Core.Path.{_≡_, refl, sym, ap, _∙_}
+-- What a voice finds goes by its phrase, which no event changes; what a sample does with a voice, by what that voice finds; and what it gives of all voices. Assumes nothing.
+use mathlib.Core.Path.{_≡_, refl, sym, ap, _∙_, subst}
 use mathlib.Core.Bool.{Bool, true, false, _||_, cond}
 use mathlib.Core.List.{List}
 use Prim.Native.Nat.{ℕ}
 use lib.Dec.{eqb}
+use lib.ListN.{length}
 use lib.Ieee.{Float, binary32, add, mul}
 use Rattle.common_types.specs.declared.Params.{Params}
 use Rattle.volume.specs.Levels.{levelOf}
 use Rattle.binary32.specs.Leaves.{zero32}
+use Rattle.phrases.specs.declared.Phrase.{Phrase}
+use Rattle.phrases.specs.Phrases.{endsBy, storedIn}
+use Rattle.phrases.proofs.Rooms.{stored-length}
 use Rattle.voice.specs.declared.Voice.{Voice}
 use Rattle.voice.specs.declared.Moment.{Moment}
 use Rattle.voice.specs.declared.Tick.{Tick}
+use Rattle.voice.specs.Voices.{soundedOf, endedOf, finishOf, atSpeedOf}
+use Rattle.voice.proofs.PhraseKept.{finish-phrase, at-speed-phrase, stepped-phrase, ended-phrase, sounded-phrase}
 use Rattle.channel.specs.declared.Channel.{Channel}
-use Rattle.channel.specs.declared.Played.{Played}
-use Rattle.channel.specs.Heads.{momentOf}
-use Rattle.channel.specs.Channels.{live, Turning, tidiedOf, heardOf, playedOf, addedOf, resting, turningAt, turningOf, takenOf, memoryOf}
-use Rattle.channel.proofs.Turns.{turning-none, resting-tidied, resting-heard}
+use Rattle.channel.specs.declared.Change.the-variants as change
+use Rattle.channel.specs.Channels.{live, sameNote, findOf, spedOf, tidiedOf, heardOf, playedOf, addedOf, resting, turningAt, turningOf, phraseAt, momentFor, takenOf, memoryOf}
+use Rattle.channel.proofs.Samples.{memory-kept}
 use Rattle.fates.specs.Engine.{passesOver, turnedOf, leavesOf, turnsBy, momentAt, heldAt, turnsIn, stepOf}
-use Rattle.fates.specs.Events.{Event, emptyAt, tickAt, Sampled}
+use Rattle.fates.specs.Events.{Event, idle, changes, sounds, lengthAt, emptyAt, tickAt, Sampled}
+use Rattle.fates.specs.Places.{findsAt, becomes}
 use Rattle.fates.specs.Sounding.{termOf}
+use Rattle.walks.proofs.Tests.{either}
 
--- ---- a voice keeps its moment and its recording, whatever becomes of it
-pub moment-kept : (m : List ℕ) (c : Channel) (v w : Voice) → momentAt m c v ≡ momentAt m c w
+-- ---- voices of one phrase find the same
+pub moment-kept : (m : List ℕ) (c : Channel) (v w : Voice) → w .phrase ≡ v .phrase → momentAt m c w ≡ momentAt m c v
 unfolding momentAt
-moment-kept m c v w = refl
+moment-kept m c v w e = ap (λ (k : ℕ). momentFor (takenOf m c) k) e
 
-held-kept : (x : Float) (m : List ℕ) (c : Channel) (v w : Voice) → heldAt x m c v ≡ heldAt x m c w
+held-kept : (x : Float) (m : List ℕ) (c : Channel) (v w : Voice) → w .phrase ≡ v .phrase → heldAt x m c w ≡ heldAt x m c v
 unfolding heldAt
-held-kept x m c v w = refl
+held-kept x m c v w e = ap (λ (k : ℕ). storedIn (phraseAt (takenOf m c) k) (memoryOf x c m)) e
 
--- so it finds in a sample what it would have found before
-pub finds-kept : (m : List ℕ) (c : Channel) (v w : Voice) → emptyAt m c v ≡ false → emptyAt m c w ≡ false
-finds-kept m c v w e = ap (λ (at : Moment). eqb (at .«data_len») 0) (moment-kept m c w v) ∙ e
+pub finds-kept : (m : List ℕ) (c : Channel) (v w : Voice) → w .phrase ≡ v .phrase → emptyAt m c v ≡ false → emptyAt m c w ≡ false
+finds-kept m c v w k e = ap (λ (at : Moment). eqb (at .«data_len») 0) (moment-kept m c v w k) ∙ e
 
-pub sampled-kept : {e : Event} {c : Channel} {p : Params} (v w : Voice) → Sampled e c p v → Sampled e c p w
-sampled-kept {e} {c} {p} v w s = record { input = s .input; memory = s .memory; sample = s .sample; finds = finds-kept (s .memory) c v w (s .finds) }
+pub sampled-kept : {e : Event} {c : Channel} {p : Params} (v w : Voice) → w .phrase ≡ v .phrase → Sampled e c p v → Sampled e c p w
+sampled-kept {e} {c} {p} v w k s = record { input = s .input; memory = s .memory; sample = s .sample; finds = finds-kept (s .memory) c v w k (s .finds) }
+
+-- ---- it is its own phrase that a voice goes by
+pub moment-own : (m : List ℕ) (c : Channel) (v : Voice) → momentAt m c v .phrase ≡ v .phrase
+unfolding momentAt
+moment-own m c v = refl
+
+-- and where that lies within the memory, the voice has as many samples as its moment says
+pub held-length : (x : Float) (m : List ℕ) (c : Channel) (v : Voice) → endsBy (length m) (phraseAt (takenOf m c) (v .phrase)) ≡ true
+    → length (heldAt x m c v) ≡ lengthAt m c v
+unfolding momentAt heldAt
+held-length x m c v ends =
+    let own : Phrase = phraseAt (takenOf m c) (v .phrase) in
+    stored-length own (memoryOf x c m) (subst (λ (n : ℕ). endsBy n own ≡ true) (sym (memory-kept x c m)) ends)
+
+-- ---- its turn leaves a voice its phrase
+turned-phrase : (t : Tick) (m : List ℕ) (v : Voice) → turnedOf t m v .phrase ≡ v .phrase
+unfolding turnedOf
+turned-phrase t m v =
+    stepped-phrase (t .now) _
+    ∙ either (λ (w : Voice). w .phrase) (passesOver t v) v (endedOf t (soundedOf t m v)) (v .phrase) refl (ended-phrase t (soundedOf t m v) ∙ sounded-phrase t m v)
 
 -- ---- one voice
 module _ (p : Params) (x : Float) (m : List ℕ) (c : Channel) (v : Voice) where
@@ -60,40 +86,43 @@ module _ (p : Params) (x : Float) (m : List ℕ) (c : Channel) (v : Voice) where
       go true = refl
       go false = refl
 
+  own-phrase : turnsIn p x m c .turn v .phrase ≡ v .phrase
+  own-phrase = ap (λ (w : Voice). w .phrase) own-turn ∙ either (λ (w : Voice). w .phrase) (emptyAt m c v) v (turnedOf t own v) (v .phrase) refl (turned-phrase t own v)
+
   -- once it has taken its turn
   pub own-leaves : turnsIn p x m c .leaves (turnsIn p x m c .turn v) ≡ cond (emptyAt m c v) false (leavesOf t (turnedOf t own v))
   unfolding turningOf turningAt turnsBy resting
   own-leaves =
       let u = turnsIn p x m c .turn v in
-      (λ i. turningAt turnsBy p (moment-kept m c u v i) (held-kept x m c u v i) .leaves u) ∙ go (emptyAt m c v)
+      (λ i. turningAt turnsBy p (moment-kept m c v u own-phrase i) (held-kept x m c v u own-phrase i) .leaves u) ∙ go (emptyAt m c v)
     where
       go : (b : Bool) → cond b resting (turnsBy t own) .leaves (cond b resting (turnsBy t own) .turn v) ≡ cond b false (leavesOf t (turnedOf t own v))
       go true = refl
       go false = refl
 
--- ---- all of them
+-- ---- no event changes a voice's phrase
+pub becomes-phrase : (e : Event) (c : Channel) (n : ℕ) (v : Voice) → becomes e c n v .phrase ≡ v .phrase
+unfolding becomes spedOf
+becomes-phrase idle c n v = refl
+becomes-phrase (changes (change.Start p position note velocity)) c n v = refl
+becomes-phrase (changes (change.Stop p note)) c n v =
+    either (λ (w : Voice). w .phrase) (findsAt (findOf note c) n) (finishOf (c .head .now) (p .«decay_samples») v) v (v .phrase) (finish-phrase (c .head .now) (p .«decay_samples») v) refl
+becomes-phrase (changes (change.Speed note speed)) c n v = either (λ (w : Voice). w .phrase) (sameNote (v .note) note) (atSpeedOf speed v) v (v .phrase) (at-speed-phrase speed v) refl
+becomes-phrase (changes (change.Head d)) c n v = refl
+becomes-phrase (changes change.Reset) c n v = refl
+becomes-phrase (sounds p x m) c n v = own-phrase p x m c v
+
+-- so it finds in a sample what it would have found as it was before the event
+pub becomes-moment : (e : Event) (c : Channel) (n : ℕ) (v : Voice) (m : List ℕ) (d : Channel) → momentAt m d (becomes e c n v) ≡ momentAt m d v
+becomes-moment e c n v m d = moment-kept m d v (becomes e c n v) (becomes-phrase e c n v)
+
+-- ---- all voices
 module _ (p : Params) (x : Float) (m : List ℕ) (c : Channel) where
-  pub rests : eqb (takenOf m c .head .«data_len») 0 ≡ true → turnsIn p x m c ≡ resting
-  unfolding momentAt heldAt
-  rests e = turning-none turnsBy p (momentOf (takenOf m c .head)) (memoryOf x c m) e
-
-  abbrev by-test : Bool → Played
-  by-test b = cond {A = Played} b (record { channel = takenOf m c; output = zero32; moved = 0 }) (playedOf (turnsIn p x m c) (takenOf m c))
-
   pub step-moved : stepOf p x c m .moved ≡ tidiedOf (turnsIn p x m c) (live c)
   unfolding stepOf playedOf takenOf
-  step-moved = go (eqb (takenOf m c .head .«data_len») 0) refl
-    where
-      go : (b : Bool) → eqb (takenOf m c .head .«data_len») 0 ≡ b → by-test b .moved ≡ tidiedOf (turnsIn p x m c) (live c)
-      go true e = sym (ap (λ (s : Turning). tidiedOf s (live c)) (rests e) ∙ resting-tidied (live c))
-      go false e = refl
+  step-moved = refl
 
   pub step-output : stepOf p x c m .output
       ≡ add binary32 (add binary32 zero32 (heardOf (turnsIn p x m c) (live c))) (mul binary32 x (levelOf (c .head .«passthru_volume») (c .head .now)))
   unfolding stepOf playedOf takenOf
-  step-output =
-      ap (λ (y : Float). add binary32 (add binary32 zero32 y) (mul binary32 x (levelOf (c .head .«passthru_volume») (c .head .now)))) (go (eqb (takenOf m c .head .«data_len») 0) refl)
-    where
-      go : (b : Bool) → eqb (takenOf m c .head .«data_len») 0 ≡ b → by-test b .output ≡ heardOf (turnsIn p x m c) (live c)
-      go true e = sym (ap (λ (s : Turning). heardOf s (live c)) (rests e) ∙ resting-heard (live c))
-      go false e = refl
+  step-output = refl

@@ -37,7 +37,7 @@ use Rattle.fates.specs.Places.{
   finishedIn,
 }
 use Rattle.walks.proofs.Tests.{neither, either}
-use Rattle.fates.proofs.Own.{own-turn, own-leaves}
+use Rattle.fates.proofs.Own.{own-turn, own-leaves, becomes-phrase}
 use Rattle.fates.proofs.Housing.{housed}
 use Rattle.fates.proofs.Tracks.{gone-never, tracks}
 
@@ -96,24 +96,32 @@ stays-one (sounds p x m) c r n v s u f = go (emptyAt m c v) refl (subst (λ (o :
         stay false e (unfinished-stays t (turnedOf t mem v) w) w
 
 -- ---- any events without a reset
-pub record StaysAll (es : List Event) (c : Channel) (n : ℕ) : Type 0 where
+pub record StaysAll (es : List Event) (c : Channel) (n : ℕ) (v : Voice) : Type 0 where
   pub place : ℕ
   pub voice : Voice
   pub follows : followAll es c n ≡ at place
   pub stands : voiceAt (acts es c) place ≡ some voice
   pub unfinished : voice .finished ≡ false
+  pub phrase : voice .phrase ≡ v .phrase
 
 pub stays-all : (es : List Event) (c : Channel) → Housed c → any isReset es ≡ false → (n : ℕ) (v : Voice) → voiceAt c n ≡ some v → v .finished ≡ false
-    → finishedIn es c n ≡ false → StaysAll es c n
+    → finishedIn es c n ≡ false → StaysAll es c n v
 unfolding acts followAll finishedIn any
-stays-all [] c h r n v s u f = record { place = n; voice = v; follows = refl; stands = s; unfinished = u }
+stays-all [] c h r n v s u f = record { place = n; voice = v; follows = refl; stands = s; unfinished = u; phrase = refl }
 stays-all (e ∷ es) c h r n v s u f =
     let a = neither (isReset e) (any isReset es) r in
     let b = neither (finishes e c n) (somewhere (follow e c n) (λ (k : ℕ). finishedIn es (act e c) k)) f in
     let w = stays-one e c (a .0) n v s u (b .0) in
     let g : finishedIn es (act e c) (w .place) ≡ false = subst (λ (z : Place). somewhere z (λ (k : ℕ). finishedIn es (act e c) k) ≡ false) (w .follows) (b .1) in
     let q = stays-all es (act e c) (housed e c h) (a .1) (w .place) (becomes e c n v) (tracks e c h n (w .place) v s (w .follows)) (w .unfinished) g in
-    record { place = q .place; voice = q .voice; follows = ap (λ (z : Place). onward z (λ (k : ℕ). followAll es (act e c) k)) (w .follows) ∙ q .follows; stands = q .stands; unfinished = q .unfinished }
+    record {
+      place = q .place;
+      voice = q .voice;
+      follows = ap (λ (z : Place). onward z (λ (k : ℕ). followAll es (act e c) k)) (w .follows) ∙ q .follows;
+      stands = q .stands;
+      unfinished = q .unfinished;
+      phrase = q .phrase ∙ becomes-phrase e c n v;
+    }
 
 pub stays : (es : List Event) (c : Channel) → Housed c → any isReset es ≡ false → (n : ℕ) (v : Voice) → voiceAt c n ≡ some v → v .finished ≡ false
     → followAll es c n ≡ gone → finishedIn es c n ≡ true

@@ -140,6 +140,7 @@ steady (d ∷ es) e c h n k v s f a =
 -- the voice at place n of the channel sounds by the clip q
 pub record Beats (p : Params) (x : Float) (m : List ℕ) (c : Channel) (n : ℕ) (q : Clip) : Type 0 where
   pub voice : Voice
+  pub finds : emptyAt m c voice ≡ false
   pub sounds : Sounds p x m c n voice
   pub clip : voice .clip2 ≡ q
   pub term : termOf p x m c voice ≡ mul binary32 (valueOf (tickAt p m c voice) (heldAt x m c voice) q) (levelOf (voice .volume) (c .head .now))
@@ -152,7 +153,7 @@ module _ (p : Params) (x : Float) (m : List ℕ) where
       let t = tickAt p m c v in
       let mem = heldAt x m c v in
       let b = agrees p x m c n v s e a in
-      record { voice = v; sounds = sounds-each p x m c n v s u e; clip = refl; term = product-is t mem v b; last = turned-last t mem v b u }
+      record { voice = v; finds = e; sounds = sounds-each p x m c n v s u e; clip = refl; term = product-is t mem v b; last = turned-last t mem v b u }
 
   pub record BeatsAt (es : List Event) (c : Channel) (n : ℕ) (q : Clip) : Type 0 where
     pub place : ℕ
@@ -168,19 +169,19 @@ module _ (p : Params) (x : Float) (m : List ℕ) where
       record {
         place = w .place;
         follows = w .follows;
-        beats = subst (Beats p x m (acts es c) (w .place)) (ap (λ (y : Voice). y .clip2) same ∙ k .keeps .clip) (beat (acts es c) (w .place) (w .voice) (w .stands) (w .unfinished) (finds-kept m (acts es c) v (w .voice) e) (k .last));
+        beats = subst (Beats p x m (acts es c) (w .place)) (ap (λ (y : Voice). y .clip2) same ∙ k .keeps .clip) (beat (acts es c) (w .place) (w .voice) (w .stands) (w .unfinished) (finds-kept m (acts es c) v (w .voice) (w .phrase) e) (k .last));
       }
     where
       alike : (a b : Voice) → some a ≡ some b → a ≡ b
       alike a b h = cc
 
   -- after the sample, where it is still there
-  pub shown : (c : Channel) → Housed c → (n i : ℕ) (q : Clip) (b : Beats p x m c n q) → emptyAt m c (b .voice) ≡ false → follow (sounds p x m) c n ≡ at i
+  pub shown : (c : Channel) → Housed c → (n i : ℕ) (q : Clip) (b : Beats p x m c n q) → follow (sounds p x m) c n ≡ at i
       → (u : Voice) × (voiceAt (act (sounds p x m) c) i ≡ some u) × (u .«last_sample_index» ≡ indexAt q (c .head .now))
   unfolding becomes
-  shown c h n i q b e f =
+  shown c h n i q b f =
       let v = b .voice in (
         becomes (sounds p x m) c n v,
         tracks (sounds p x m) c h n i v (b .sounds .stands) f,
-        ap (λ (w : Voice). w .«last_sample_index») (own-turn p x m c v ∙ ap (λ (t : Bool). cond t v (turnedOf (tickAt p m c v) (heldAt x m c v) v)) e) ∙ b .last,
+        ap (λ (w : Voice). w .«last_sample_index») (own-turn p x m c v ∙ ap (λ (t : Bool). cond t v (turnedOf (tickAt p m c v) (heldAt x m c v) v)) (b .finds)) ∙ b .last,
       )

@@ -80,4 +80,4 @@ pub sounds-later : (es : List Event) (c : Channel) → Housed c → any isReset 
     → (p : Params) (x : Float) (m : List ℕ) → emptyAt m (acts es c) v ≡ false → Later p x m es c n
 sounds-later es c h r n v s u f p x m e =
     let w = stays-all es c h r n v s u f in
-    record { place = w .place; voice = w .voice; follows = w .follows; sounds = sounds-each p x m (acts es c) (w .place) (w .voice) (w .stands) (w .unfinished) (finds-kept m (acts es c) v (w .voice) e) }
+    record { place = w .place; voice = w .voice; follows = w .follows; sounds = sounds-each p x m (acts es c) (w .place) (w .voice) (w .stands) (w .unfinished) (finds-kept m (acts es c) v (w .voice) (w .phrase) e) }

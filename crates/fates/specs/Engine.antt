@@ -13,6 +13,7 @@ use Rattle.common_types.specs.declared.NoteOffBehaviour.{NoteOffBehaviour}
 use Rattle.common_types.specs.declared.NoteOffBehaviour.the-variants as off
 use Rattle.volume.specs.Levels.{isStaticAndMuteOf, levelOf}
 use Rattle.binary32.specs.Leaves.{zero32}
+use Rattle.phrases.specs.Phrases.{storedIn}
 use Rattle.voice.specs.declared.Voice.{Voice}
 use Rattle.voice.specs.declared.Moment.{Moment}
 use Rattle.voice.specs.declared.Tick.{Tick}
@@ -29,15 +30,17 @@ use Rattle.channel.specs.Channels.{
   playedOf,
   addedOf,
   turningOf,
+  phraseAt,
+  momentFor,
   takenOf,
   memoryOf,
 }
 
 -- ---- a start
 
--- the voice that it makes: the clip begins at the channel's count
+-- the voice that it makes: the clip begins at the channel's count, and the phrase is the chosen one
 abbrev pub bornOf : Params → Float → Note → Float → Channel → Voice
-bornOf p position note velocity c = freshOf p position note velocity (c .head .now) (c .head .«data_len»)
+bornOf p position note velocity c = freshOf p position note velocity (momentOf (c .head))
 
 -- an empty recording takes none
 unfoldable pub begunOf : Params → Float → Note → Float → Channel → Channel
@@ -72,23 +75,22 @@ turnsBy t m = record {
   adds = λ (out : Float) (v : Voice). addedOf (passesOver t v) out (productOf t m v);
 }
 
--- what a voice finds once the sample x has been recorded: its moment and its recording, for now those of its channel
+-- what a voice finds once the sample x has been recorded: its moment, and its recording, that of its phrase
 unfoldable pub momentAt : List ℕ → Channel → Voice → Moment
-momentAt m c v = momentOf (takenOf m c .head)
+momentAt m c v = momentFor (takenOf m c) (v .phrase)
 
 unfoldable pub heldAt : Float → List ℕ → Channel → Voice → List ℕ
-heldAt x m c v = memoryOf x c m
+heldAt x m c v = storedIn (phraseAt (takenOf m c) (v .phrase)) (memoryOf x c m)
 
 -- what the sample does with each voice
 abbrev pub turnsIn : Params → Float → List ℕ → Channel → Turning
 turnsIn p x m c = turningOf turnsBy p (momentAt m c) (heldAt x m c)
 
--- records first, then its voices take their turns if the recording isn't empty, then the input is added
+-- records first, then its voices take their turns, then the input is added
 unfoldable pub stepOf : Params → Float → Channel → List ℕ → Played
 stepOf p x c m =
     let d = takenOf m c in
-    let r = cond {A = Played} (eqb (d .head .«data_len») 0) (record { channel = d; output = zero32; moved = 0 })
-    (playedOf (turnsIn p x m c) d) in
+    let r = playedOf (turnsIn p x m c) d in
     record {
       channel = withHead (closedOf p (anyUnfinishedOf (r .channel)) (d .head)) (r .channel);
       output = add binary32 (add binary32 zero32 (r .output))

@@ -26,6 +26,7 @@ use Rattle.channel.specs.declared.Change.the-variants as change
 use Rattle.channel.specs.declared.Channel.{Channel}
 use Rattle.channel.specs.declared.Found.{Found}
 use Rattle.channel.specs.declared.Found.the-variants.{At, Nothing}
+use Rattle.channel.specs.Heads.{momentOf}
 use Rattle.channel.specs.Channels.{withVoices, unfinishedOf, sameNote, wantedOf, spedOf, anyUnfinishedOf, handledOf, pushedOf, startPlayingOf, findOf, finishedAtOf, stopPlayingOf, setNoteSpeedOf, resetOf, changedOf}
 use Rattle.lent_changes.specs.declared.Pass.{Pass}
 use Rattle.lent_changes.specs.Changes.{askingOf, behindOf, goingOf, startPass, passOf, hitsOf, remadeOf, passedOf, openedOf, handledIf, endedOf}
@@ -257,7 +258,7 @@ module _ (h : Channel) (all : length (h .voices) ≡ 32) where
     x = change.Start q position note velocity
 
     abbrev new : Voice
-    new = freshOf q position note velocity (h .head .now) (h .head .«data_len»)
+    new = freshOf q position note velocity (momentOf (h .head))
 
     abbrev pass : Bool → Bool → Pass
     pass a b = cond a (askingOf 0 (h .count) (h .head)) (cond b (askingOf 32 (h .count) (h .head)) (behindOf (h .count) (h .head)))

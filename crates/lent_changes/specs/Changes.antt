@@ -12,7 +12,7 @@ use Rattle.voice.specs.Voices.{finishOf, freshOf, blankVoice, atSpeedOf}
 use Rattle.channel.specs.declared.Head.{Head}
 use Rattle.channel.specs.declared.Change.{Change}
 use Rattle.channel.specs.declared.Change.the-variants as change
-use Rattle.channel.specs.Heads.{headOf, headChangedOf, passthruOf}
+use Rattle.channel.specs.Heads.{headOf, momentOf, headChangedOf, passthruOf}
 use Rattle.channel.specs.Channels.{unfinishedOf, sameNote}
 use Rattle.lent_changes.specs.declared.Pass.{Pass}
 
@@ -103,7 +103,7 @@ passedOf p v hit =
 
 -- the voice that a start stores
 unfoldable pub openedOf : Change → Head → Voice
-openedOf (change.Start q position note velocity) h = freshOf q position note velocity (h .now) (h .«data_len»)
+openedOf (change.Start q position note velocity) h = freshOf q position note velocity (momentOf h)
 openedOf (change.Stop q note) h = blankVoice
 openedOf (change.Speed note speed) h = blankVoice
 openedOf (change.Head d) h = blankVoice

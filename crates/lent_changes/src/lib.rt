@@ -188,7 +188,7 @@ fn opened(change: Change, head: Head) -> Voice
             position,
             note,
             velocity,
-        } => Voice::new(params, position, note, velocity, head.now, head.data_len),
+        } => Voice::new(params, position, note, velocity, head.moment()),
         Change::Stop { .. } => Voice::blank(),
         Change::Speed { .. } => Voice::blank(),
         Change::Head(_) => Voice::blank(),

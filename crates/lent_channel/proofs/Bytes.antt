@@ -1,4 +1,4 @@
--- How many bytes a voice and a channel take, at which byte of a channel its count and its head stand, and at which byte of a head its clock, its memory's length and its recorder, as the declared records are laid out.
+-- How many bytes a voice and a channel take, at which byte of a voice its phrase stands, at which byte of a channel its count and its head stand, and at which byte of a head its clock, its memory's length and its recorder, as the declared records are laid out.
 -- Assumes nothing.
 use Prim.Native.Nat.{ℕ}
 use mathlib.Core.Option.{Option, none, some}
@@ -17,6 +17,10 @@ at (some f) = f .1
 abbrev pub voice-bytes : ℕ
 voice-bytes = size (lone (R.the-row .mir))
 
+-- its phrase's number
+abbrev pub phrase-at : ℕ
+phrase-at = at (fieldOf (lone (R.the-row .mir)) 11)
+
 abbrev pub channel-bytes : ℕ
 channel-bytes = size (lone (C.the-row .mir))
 
@@ -33,4 +37,4 @@ abbrev pub length-at : ℕ
 length-at = at (fieldOf (lone (E.the-row .mir)) 1)
 
 abbrev pub recorder-at : ℕ
-recorder-at = at (fieldOf (lone (E.the-row .mir)) 3)
+recorder-at = at (fieldOf (lone (E.the-row .mir)) 4)

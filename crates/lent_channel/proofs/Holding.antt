@@ -1,5 +1,5 @@
 -- How a walk goes to a voice of a channel behind a reference.
---     channel, voice, condition    their rows, and that of what a channel is judged to be
+--     channel, voice, headed, phrase, room, params, measure, moment, tick, going, turned, sounded, condition      their rows
 --     points           a pointer to voice i is made: i times a voice's bytes, the address of the first voice, and that many bytes on. It asks what each local holds and takes, in the order of the three statements
 --     visits           the walk goes to voice i, takes a step of its own there, which leaves w in the voice's place, and comes out again
 --     copies-voice     so the voice is copied
@@ -23,13 +23,33 @@ use denote.Laws.{Is, shows}
 use denote.Index.{place-is}
 use denote.Steps.{owned}
 use Rattle.walks.proofs.Steps.Inside.{Inside, Back, goes-in, comes-out}
+use Rattle.phrases.proofs.Phrase as F
+use Rattle.phrases.proofs.Phrase.Laws as F′
+use Rattle.phrases.proofs.Room as S
+use Rattle.phrases.proofs.Room.Laws as S′
+use Rattle.common_types.proofs.Measure as M
+use Rattle.common_types.proofs.Measure.Laws as M′
+use Rattle.common_types.proofs.Params as P
+use Rattle.common_types.proofs.Params.Laws as P′
 use Rattle.voice.specs.declared.Voice.{Voice}
+use Rattle.voice.proofs.Moment as O
+use Rattle.voice.proofs.Moment.Laws as O′
+use Rattle.voice.proofs.Tick as K
+use Rattle.voice.proofs.Tick.Laws as K′
 use Rattle.voice.proofs.Voice as R
 use Rattle.voice.proofs.Voice.Laws as R′
 use Rattle.channel.specs.declared.Channel.{Channel}
 use Rattle.channel.proofs.Slots.{none}
+use Rattle.channel.proofs.Head as E
+use Rattle.channel.proofs.Head.Laws as E′
 use Rattle.channel.proofs.Channel as C
 use Rattle.channel.proofs.Channel.Laws as C′
+use Rattle.lent_channel.proofs.Going as N
+use Rattle.lent_channel.proofs.Going.Laws as N′
+use Rattle.lent_channel.proofs.Turn as Z
+use Rattle.lent_channel.proofs.Turn.Laws as Z′
+use Rattle.lent_channel.proofs.Heard as Y
+use Rattle.lent_channel.proofs.Heard.Laws as Y′
 use Rattle.lent_channel.proofs.Condition as D
 use Rattle.lent_channel.proofs.Condition.Laws as D′
 use Rattle.lent_channel.proofs.Bytes.{voice-bytes}
@@ -42,6 +62,36 @@ channel = struct C.the-type C′.the-laws C′.the-plain
 
 abbrev pub voice : Datum
 voice = struct R.the-type R′.the-laws R′.the-plain
+
+abbrev pub headed : Datum
+headed = struct E.the-type E′.the-laws E′.the-plain
+
+abbrev pub phrase : Datum
+phrase = struct F.the-type F′.the-laws F′.the-plain
+
+abbrev pub room : Datum
+room = struct S.the-type S′.the-laws S′.the-plain
+
+abbrev pub params : Datum
+params = struct P.the-type P′.the-laws P′.the-plain
+
+abbrev pub measure : Datum
+measure = struct M.the-type M′.the-laws M′.the-plain
+
+abbrev pub moment : Datum
+moment = struct O.the-type O′.the-laws O′.the-plain
+
+abbrev pub tick : Datum
+tick = struct K.the-type K′.the-laws K′.the-plain
+
+abbrev pub going : Datum
+going = struct N.the-type N′.the-laws N′.the-plain
+
+abbrev pub turned : Datum
+turned = struct Z.the-type Z′.the-laws Z′.the-plain
+
+abbrev pub sounded : Datum
+sounded = struct Y.the-type Y′.the-laws Y′.the-plain
 
 abbrev pub condition : Datum
 condition = struct D.the-type D′.the-laws D′.the-plain

@@ -3,4 +3,8 @@ pub mod Places
 pub mod Holding
 pub mod Sharing
 pub mod Asking
+pub mod Saying
+pub mod Taking
+pub mod Parts
+pub mod Goings
 pub mod Turns

@@ -1,263 +1,297 @@
--- Where the loop over the voices that take a turn begins, what a turn leaves to those behind it, and what the loop has come to where it ends; and a channel without voices. Assumes nothing.
+-- What turns of voices leave to those behind them: where they begin, how one turn goes on, one that glides and one that a voice doesn't take, and what they have come to where they end; and a channel without voices. Assumes nothing.
 use mathlib.Core.Path.{_≡_, refl, sym, _∙_, ap, subst}
-use Prim.Native.Nat.{ℕ, _+_, _≤_, min}
-use native.Mathlib.Nat.{le-refl, zero-add}
+use Prim.Native.Nat.{ℕ, _+_, _-_, _≤_, _<_, min, zero-le}
+use native.Mathlib.Nat.{le-refl, add-zero}
 use native.Mathlib.Omega.{arith}
-use mathlib.Core.Bool.{Bool, true, false, not, cond}
+use mathlib.Core.Bool.{Bool, true, false, not, cond, true≢false}
 use mathlib.Core.List.{List, [], _∷_}
 use lib.Dec.{ltb, eqb}
-use lib.ListN.{length, set, take}
-use lib.Seq.{slice}
+use lib.ListN.{length, getD, set}
+use lib.Seq.{slice, slice-empty}
 use lib.Ieee.{Float, binary32, add}
-use borrow.Author.Tests.{eqb-true, le-ltb, not-true, not-false}
+use borrow.Author.Tests.{lt-ltb, le-ltb, ltb-true, ltb-false}
 use Rattle.walks.specs.Walks.{any, without, behind, fold}
-use Rattle.walks.proofs.Lists.Loops.{Walk, take-most}
-use Rattle.walks.proofs.Tests.{either}
+use Rattle.walks.proofs.Lists.Loops.{Walk, turns, stores, take-most}
 use Rattle.common_types.specs.declared.Params.{Params}
 use Rattle.binary32.specs.Leaves.{zero32}
+use Rattle.phrases.specs.Phrases.{storedIn}
 use Rattle.voice.specs.declared.Voice.{Voice}
 use Rattle.voice.specs.declared.Tick.{Tick}
-use Rattle.voice.specs.declared.Moment.{Moment}
 use Rattle.voice.specs.declared.Quick.{Quick}
-use Rattle.voice.specs.Voices.{tickOf, turnOf, shouldRemoveOf}
+use Rattle.voice.specs.Voices.{tickOf, turnOf, shouldRemoveOf, blankVoice}
 use Rattle.voice.specs.Gliding.{Quickly}
 use Rattle.voice.proofs.Gliding.{glides}
+use Rattle.voice.proofs.PhraseKept.{turn-phrase, tick-phrase}
 use Rattle.channel.specs.declared.Head.{Head}
 use Rattle.channel.specs.declared.Channel.{Channel}
 use Rattle.channel.specs.declared.Played.{Played}
-use Rattle.channel.specs.Heads.{momentOf, mixedOf, closedOf}
-use Rattle.channel.specs.Channels.{withHead, withVoices, anyUnfinishedOf, Turning, keptOf, tidiedOf, addedOf, heardOf as heard-of, playedOf, turningBy, playedIfOf}
-use Rattle.channel.proofs.Samples.{played-if-head}
-use Rattle.channel.proofs.Turns.{sounds-by, plays-by, Walked, restOf, rest-start, rest-end, rest-keep, rest-gone, tidiedFrom, tidied-end, tidied-same, tidied-keep, tidied-gone, step-up}
-use Rattle.lent_channel.specs.declared.Glided.{Glided}
+use Rattle.channel.specs.Heads.{mixedOf, closedOf}
+use Rattle.channel.specs.Channels.{withHead, withVoices, anyUnfinishedOf, Turning, keptOf, tidiedOf, addedOf, heardOf as heard-of, playedOf, turningBy, phraseAt, momentFor, turningIn}
+use Rattle.channel.proofs.Samples.{played-head}
+use Rattle.channel.proofs.Turns as T
 use Rattle.lent_channel.specs.declared.Going.{Going}
 use Rattle.lent_channel.specs.declared.Turn.{Turn}
-use Rattle.lent_channel.specs.Turns.{unusedTick, silent, turnCountOf, sharedOf, voicesLeftOf, restFrom, Glides, afterGliding, turnedOf, heardOf}
+use Rattle.lent_channel.specs.Turns.{silent, begun, glidedTo, nextVoice, nextTurn, turnedIn, restedOf, restedIn, movedBy, Stands, restBy, restOf, Onward, Follows, Goes, heardOf}
 
 -- what a walk leaves and what is heard of it, with how many have moved up
-abbrev counting : Walked → ℕ → Played
+abbrev counting : T.Walked → ℕ → Played
 counting r n = record { channel = r .channel; output = r .output; moved = n }
 
-with-count : {r r′ : Walked} {n n′ : ℕ} → r ≡ r′ → n ≡ n′ → counting r n ≡ counting r′ n′
+with-count : {r r′ : T.Walked} {n n′ : ℕ} → r ≡ r′ → n ≡ n′ → counting r n ≡ counting r′ n′
 with-count e f = λ i. counting (e i) (f i)
 
--- a gliding turn: the voice stays in its place, and is heard
-pub rest-glide : (t : Tick) (m : List ℕ) (c : Channel) (k : ℕ) (out out′ : Float) (v : Voice) (r : Quick) → Quickly t m v r → r .glides ≡ true → out′ ≡ add binary32 out (r .voice .«last_sample_value»)
-    → (vs : List Voice) → restFrom (turningBy t m) c k out (v ∷ vs) ≡ restFrom (turningBy t m) (withVoices (set (c .voices) k (r .voice)) (c .count) c) (k + 1) out′ vs
-unfolding turningBy addedOf
-rest-glide t m c k out out′ v r quickly plain adds vs =
-    let s = turningBy t m in
-    let turned = quickly plain in
-    let stays = glides t m v (turned .0) in
-    let sounds : out′ ≡ s .adds out v = sounds-by t m out out′ v (r .voice) (turned .1) (adds ∙ ap (λ (b : Bool). addedOf b out (r .voice .«last_sample_value»)) (sym (stays .stays))) in
-    let is : false ≡ s .leaves (r .voice) = sym (ap (shouldRemoveOf t) (turned .1) ∙ stays .stays-after) in
-    with-count (rest-keep s c k out out′ v (r .voice) false (turned .1) sounds is vs refl) (tidied-same s c k out out′ v (r .voice) false (turned .1) sounds is vs refl)
+-- ---- turns that have gone on go on
+pub onward : {s : Turning} {n : ℕ} {c d e : Channel} {g h k : Going} → Onward s n c g d h → Onward s n d h e k → Onward s n c g e k
+onward x y = record { stands = y .stands; same = y .same ∙ x .same }
 
--- what the turns of the voices vs give where the turns stand at g: some voices may have left
-abbrev pub restBy : Turning → Channel → Going → List Voice → Played
-restBy s c g vs = counting (restOf s c (g .kept) (g .output) vs) (tidiedFrom s (g .moved) (g .kept) (g .place) vs)
+pub goes-on : {t : Tick} {m : List ℕ} {n : ℕ} {c d e : Channel} {g h k : Going} → Goes t m n c g d h → Goes t m n d h e k → Goes t m n c g e k
+goes-on x y s f = onward (x s f) (y s f)
 
--- after the gliding turns none has
-rest-gliding : (s : Turning) (c : Channel) (g : Glided) (vs : List Voice) → restBy s c (afterGliding g) vs ≡ restFrom s c (g .upto) (g .output) vs
-unfolding afterGliding
-rest-gliding s c g vs =
-    let level = le-ltb (g .upto) (g .upto) (le-refl (g .upto)) in
-    with-count refl (zero-add _ ∙ ap (λ (b : Bool). cond b (length (keptOf s vs)) (tidiedOf s vs)) level)
+-- ---- one turn, by which the voice v becomes w: it stays, or it leaves
+module _ (s : Turning) (c : Channel) (g : Going) (up : g .kept ≤ g .place) (v w : Voice) (out : Float) (turned : w ≡ s .turn v) (sounds : out ≡ s .adds (g .output) v) where
+  abbrev k : ℕ
+  k = g .kept
 
--- where no turn is left
-rest-none : (s : Turning) (c : Channel) (g : Going) → restBy s c g [] ≡ record { channel = withVoices (c .voices) (g .kept) c; output = g .output; moved = g .moved }
-rest-none s c g = with-count (rest-end s c (g .kept) (g .output)) (tidied-end s (g .moved) (g .kept) (g .place))
+  abbrev i : ℕ
+  i = g .place
 
--- a turn of the voice v
-module _ (t : Tick) (m : List ℕ) (c : Channel) (g : Going) (v : Voice) (less : g .kept ≤ g .place) where
-  abbrev by : Turning
-  by = turningBy t m
+  abbrev staying : Bool → Going
+  staying b = record { place = i + 1; kept = k + 1; output = out; first = g .first; glides = b }
 
-  abbrev w : Voice
-  w = turnOf t m v
+  abbrev leaving : Going
+  leaving = record { place = i + 1; kept = k; output = out; first = cond (ltb k i) (g .first) i; glides = false }
 
-  abbrev gone : Bool
-  gone = shouldRemoveOf t w
+  rest-stays : s .leaves w ≡ false → (b : Bool) (vs : List Voice) → restBy s c g (v ∷ vs) ≡ restBy s (withVoices (set (c .voices) k w) (c .count) c) (staying b) vs
+  unfolding restBy
+  rest-stays stays b vs = with-count on (go (ltb k i) refl)
+    where
+      on : T.restOf s c k (g .output) (v ∷ vs) ≡ T.restOf s (withVoices (set (c .voices) k w) (c .count) c) (k + 1) out vs
+      on = T.rest-keep s c k (g .output) out v w false turned sounds (sym stays) vs refl
 
-  -- where the turns stand then
-  abbrev on : Bool → Going
-  on b = record {
-    place = g .place + 1;
-    kept = cond b (g .kept) (g .kept + 1);
-    output = addedOf (shouldRemoveOf t v) (g .output) (w .«last_sample_value»);
-    moved = cond b (g .moved) (cond (ltb (g .kept) (g .place)) (g .moved + 1) (g .moved));
-  }
+      before : Bool → ℕ
+      before z = cond z (k + length (keptOf s (v ∷ vs)) - g .first) (tidiedOf s (v ∷ vs))
 
-  heard : on gone .output ≡ by .adds (g .output) v
-  heard = sounds-by t m (g .output) _ v w refl refl
+      behind-it : Bool → ℕ
+      behind-it z = cond z (k + 1 + length (keptOf s vs) - g .first) (tidiedOf s vs)
 
-  stays-so : (vs : List Voice) → not gone ≡ true → restBy by c g (v ∷ vs) ≡ restBy by (withVoices (set (c .voices) (g .kept) w) (c .count) c) (on gone) vs
-  unfolding turningBy
-  stays-so vs h =
-      with-count (rest-keep by c (g .kept) (g .output) _ v w gone refl heard refl vs h) (tidied-keep by c (g .kept) (g .output) _ v w gone refl heard refl vs (g .moved) (g .place) less _ refl h)
-      ∙ ap (λ (b : Bool). restBy by (withVoices (set (c .voices) (g .kept) w) (c .count) c) (on b) vs) (sym (not-true gone h))
+      go : (z : Bool) → ltb k i ≡ z → before (ltb k i) ≡ behind-it (ltb (k + 1) (i + 1))
+      go true f =
+          let g′ : ltb (k + 1) (i + 1) ≡ true = lt-ltb (k + 1) (i + 1) (let u = ltb-true k i f in omega (arith, u)) in
+          ap before f ∙ ap (λ (r : T.Walked). r .channel .count - g .first) on ∙ sym (ap behind-it g′)
+      go false f =
+          let g′ : ltb (k + 1) (i + 1) ≡ false = le-ltb (k + 1) (i + 1) (let u = ltb-false k i f in omega (arith, u)) in
+          ap before f ∙ T.tidied-same s c k (g .output) out v w false turned sounds (sym stays) vs refl ∙ sym (ap behind-it g′)
 
-  leaves-so : (vs : List Voice) → not gone ≡ false → restBy by c g (v ∷ vs) ≡ restBy by c (on gone) vs
-  unfolding turningBy
-  leaves-so vs h =
-      with-count (rest-gone by c (g .kept) (g .output) _ v w gone refl heard refl vs h) (tidied-gone by c (g .kept) (g .output) _ v w gone refl heard refl vs (g .moved) (g .place) less h)
-      ∙ ap (λ (b : Bool). restBy by c (on b) vs) (sym (not-false gone h))
+  rest-leaves : s .leaves w ≡ true → (vs : List Voice) → restBy s c g (v ∷ vs) ≡ restBy s c leaving vs
+  unfolding restBy
+  rest-leaves gone vs = with-count on (go (ltb k i) refl)
+    where
+      on : T.restOf s c k (g .output) (v ∷ vs) ≡ T.restOf s c k out vs
+      on = T.rest-gone s c k (g .output) out v w true turned sounds (sym gone) vs refl
 
-  module _ (r : Turn) (e : r ≡ turnedOf t m g v) where
-    pub rest-stays : r .stays ≡ true → (vs : List Voice) → restBy by c g (v ∷ vs) ≡ restBy by (withVoices (set (c .voices) (g .kept) (r .voice)) (c .count) c) (r .next) vs
-    unfolding turnedOf
-    rest-stays h vs = subst (λ (x : Turn). x .stays ≡ true → restBy by c g (v ∷ vs) ≡ restBy by (withVoices (set (c .voices) (g .kept) (x .voice)) (c .count) c) (x .next) vs) (sym e) (stays-so vs) h
+      later : ltb k (i + 1) ≡ true
+      later = lt-ltb k (i + 1) (omega (arith, up))
 
-    pub rest-leaves : r .stays ≡ false → (vs : List Voice) → restBy by c g (v ∷ vs) ≡ restBy by c (r .next) vs
-    unfolding turnedOf
-    rest-leaves h vs = subst (λ (x : Turn). x .stays ≡ false → restBy by c g (v ∷ vs) ≡ restBy by c (x .next) vs) (sym e) (leaves-so vs) h
+      go : (z : Bool) → ltb k i ≡ z → cond (ltb k i) (k + length (keptOf s (v ∷ vs)) - g .first) (tidiedOf s (v ∷ vs)) ≡ cond (ltb k (i + 1)) (k + length (keptOf s vs) - cond (ltb k i) (g .first) i) (tidiedOf s vs)
+      go true f =
+          ap (λ (z : Bool). cond z (k + length (keptOf s (v ∷ vs)) - g .first) (tidiedOf s (v ∷ vs))) f ∙ ap (λ (r : T.Walked). r .channel .count - g .first) on
+          ∙ sym (ap (λ (z : Bool). cond z (k + length (keptOf s vs) - cond (ltb k i) (g .first) i) (tidiedOf s vs)) later ∙ ap (λ (z : Bool). k + length (keptOf s vs) - cond z (g .first) i) f)
+      go false f =
+          let level : i ≡ k = let u = ltb-false k i f in omega (arith, up, u) in
+          let first : 0 + cond (ltb k i) (length (keptOf s (v ∷ vs))) (tidiedOf s (v ∷ vs)) ≡ 0 + cond (ltb k (i + 1)) (length (keptOf s vs)) (tidiedOf s vs) =
+          T.tidied-gone s c k (g .output) out v w true turned sounds (sym gone) vs 0 i up refl in
+          let here : 0 + tidiedOf s (v ∷ vs) ≡ 0 + length (keptOf s vs) =
+          sym (ap (λ (z : Bool). 0 + cond z (length (keptOf s (v ∷ vs))) (tidiedOf s (v ∷ vs))) f) ∙ first ∙ ap (λ (z : Bool). 0 + cond z (length (keptOf s vs)) (tidiedOf s vs)) later in
+          let all : tidiedOf s (v ∷ vs) ≡ k + length (keptOf s vs) - i = omega (arith, level, here) in
+          ap (λ (z : Bool). cond z (k + length (keptOf s (v ∷ vs)) - g .first) (tidiedOf s (v ∷ vs))) f ∙ all
+          ∙ sym (ap (λ (z : Bool). cond z (k + length (keptOf s vs) - cond (ltb k i) (g .first) i) (tidiedOf s vs)) later ∙ ap (λ (z : Bool). k + length (keptOf s vs) - cond z (g .first) i) f)
 
-    pub next-place : r .next .place ≡ g .place + 1
-    unfolding turnedOf
-    next-place = ap (λ (x : Turn). x .next .place) e
+  -- on a channel that has all voices
+  module _ (n : ℕ) (few : n ≤ 32) (below : g .place < n) (all : length (c .voices) ≡ 32) (is : getD (c .voices) (g .place) blankVoice ≡ v) (first : g .first ≤ g .kept) where
+    walk : Walk (restOf s n c g) (restBy s c g) (c .voices) n (g .place)
+    walk = record { upto = omega (arith, below); within = omega (arith, few, all); same = refl }
 
-    -- no more have stayed, and no more have moved up, than have taken a turn
-    pub next-less : r .next .kept ≤ r .next .place
-    unfolding turnedOf
-    next-less = subst (λ (x : Turn). x .next .kept ≤ x .next .place) (sym e) (go gone)
+    now-next : {go : List Voice → Played} → ((vs : List Voice) → restBy s c g (v ∷ vs) ≡ go vs) → (vs : List Voice) → restBy s c g (getD (c .voices) (g .place) blankVoice ∷ vs) ≡ go vs
+    now-next e vs = ap (λ (u : Voice). restBy s c g (u ∷ vs)) is ∙ e vs
+
+    pub stays-on : s .leaves w ≡ false → (b : Bool) → (b ≡ true → k ≡ i) → Onward s n c g (withVoices (set (c .voices) k w) (c .count) c) (staying b)
+    stays-on stays b level = record {
+      stands = record { few = few; inside = omega (arith, below); up = omega (arith, up); first = omega (arith, first); all = λ e. ap (λ (j : ℕ). j + 1) (level e) };
+      same = stores blankVoice k w walk below up (now-next (rest-stays stays b)) .same;
+    }
+
+    pub leaves-on : s .leaves w ≡ true → Onward s n c g c leaving
+    leaves-on gone = record {
+      stands = record { few = few; inside = omega (arith, below); up = omega (arith, up); first = low (ltb k i) refl; all = λ e. absurd (true≢false (sym e)) };
+      same = turns blankVoice walk below (now-next (rest-leaves gone)) .same;
+    }
       where
-        go : (b : Bool) → on b .kept ≤ on b .place
-        go true = omega (arith, less)
-        go false = omega (arith, less)
+        low : (z : Bool) → ltb k i ≡ z → cond z (g .first) i ≤ k
+        low true f = first
+        low false f = ltb-false k i f
 
-    pub next-few : g .moved ≤ g .place → r .next .moved ≤ r .next .place
-    unfolding turnedOf
-    next-few few = subst (λ (x : Turn). x .next .moved ≤ x .next .place) (sym e) (go gone)
-      where
-        go : (b : Bool) → on b .moved ≤ on b .place
-        go true = omega (arith, few)
-        go false = step-up (g .moved) (g .kept) (g .place) _ few refl
+-- ---- the turn of the next voice, which is of the tick's phrase
+module _ (t : Tick) (m : List ℕ) (n : ℕ) (c : Channel) (g : Going) (stands : Stands n g) (below : g .place < n) (all : length (c .voices) ≡ 32) (own : nextVoice g c .phrase ≡ t .phrase) where
+  abbrev next : Voice
+  next = nextVoice g c
 
-pub turns-few : (p : Params) (at : Moment) (count : ℕ) → sharedOf p at count .turns ≤ 32
-unfolding sharedOf turnCountOf
-turns-few p at count = go (eqb (at .«data_len») 0)
+  pub turn-on : Goes t m n c g (turnedIn g (nextTurn t m g next) c) (nextTurn t m g next .next)
+  unfolding nextTurn turnedIn turningBy
+  turn-on s follows = go (shouldRemoveOf t (turnOf t m next)) refl
+    where
+      out : Float
+      out = addedOf (shouldRemoveOf t next) (g .output) (turnOf t m next .«last_sample_value»)
+
+      turned : turnOf t m next ≡ s .turn next
+      turned = sym (follows .turns next own)
+
+      sounds : out ≡ s .adds (g .output) next
+      sounds = T.sounds-by t m (g .output) out next (turnOf t m next) refl refl ∙ sym (follows .adds (g .output) next own)
+
+      gone : s .leaves (turnOf t m next) ≡ shouldRemoveOf t (turnOf t m next)
+      gone = follows .leaves (turnOf t m next) (turn-phrase t m next ∙ own)
+
+      so : Bool → Turn
+      so b = record {
+        voice = turnOf t m next;
+        stays = not b;
+        next = record {
+          place = g .place + 1;
+          kept = cond b (g .kept) (g .kept + 1);
+          output = out;
+          first = cond b (cond (ltb (g .kept) (g .place)) (g .first) (g .place)) (g .first);
+          glides = false;
+        };
+      }
+
+      go : (b : Bool) → shouldRemoveOf t (turnOf t m next) ≡ b → Onward s n c g (cond (not b) (withVoices (set (c .voices) (g .kept) (turnOf t m next)) (c .count) c) c) (so b .next)
+      go true e = leaves-on s c g (stands .up) next (turnOf t m next) out turned sounds n (stands .few) below all refl (stands .first) (gone ∙ e)
+      go false e = stays-on s c g (stands .up) next (turnOf t m next) out turned sounds n (stands .few) below all refl (stands .first) (gone ∙ e) false (λ f. absurd (true≢false (sym f)))
+
+  -- as `turn_next` has it
+  pub turn-goes : (r : Going) (d : Channel) → (r ≡ nextTurn t m g next .next) × (d ≡ turnedIn g (nextTurn t m g next) c) → (g .place < r .place) × Goes t m n c g d r
+  unfolding nextTurn
+  turn-goes r d is =
+      let further : r .place ≡ g .place + 1 = ap (λ (z : Going). z .place) (is .0) in
+      (omega (arith, further), subst (λ (e : Channel). Goes t m n c g e r) (sym (is .1)) (subst (λ (z : Going). Goes t m n c g (turnedIn g (nextTurn t m g next) c) z) (sym (is .0)) turn-on))
+
+-- ---- a voice that rests
+pub rest-on : (s : Turning) (n : ℕ) (c : Channel) (g : Going) → Stands n g → g .place < n → length (c .voices) ≡ 32 → T.Rests s (nextVoice g c) → Onward s n c g (restedIn g c) (restedOf g)
+unfolding restedIn restedOf
+rest-on s n c g stands below all rests =
+    let v : Voice = nextVoice g c in
+    stays-on s c g (stands .up) v v (g .output) (sym (rests .turns)) (sym (rests .adds (g .output))) n (stands .few) below all refl (stands .first) (rests .stays) (g .glides) (stands .all)
+
+-- as `rest_next` has it
+pub rest-goes : (s : Turning) (n : ℕ) (c : Channel) (g : Going) → Stands n g → g .place < n → length (c .voices) ≡ 32 → T.Rests s (nextVoice g c) → (r : Going) (d : Channel) → (r ≡ restedOf g) × (d ≡ restedIn g c)
+    → (g .place < r .place) × Onward s n c g d r
+unfolding restedOf
+rest-goes s n c g stands below all rests r d is =
+    let further : r .place ≡ g .place + 1 = ap (λ (z : Going). z .place) (is .0) in
+    (omega (arith, further), subst (λ (e : Channel). Onward s n c g e r) (sym (is .1)) (subst (λ (z : Going). Onward s n c g (restedIn g c) z) (sym (is .0)) (rest-on s n c g stands below all rests)))
+
+-- ---- gliding turns
+-- they begin anywhere where no voice has left
+pub glides-from : (t : Tick) (m : List ℕ) (n : ℕ) (c : Channel) (g : Going) → Stands n g → g .kept ≡ g .place → Goes t m n c g c (glidedTo (g .place) (g .output))
+unfolding glidedTo restBy
+glides-from t m n c g stands level s follows = record {
+  stands = record { few = stands .few; inside = stands .inside; up = le-refl (g .place); first = zero-le; all = λ e. refl };
+  same = with-count (ap (λ (k : ℕ). T.restOf s c k (g .output) vs) (sym level)) (ap (λ (z : Bool). cond z (g .place + length (keptOf s vs) - 0) (tidiedOf s vs)) (le-ltb (g .place) (g .place) (le-refl (g .place)))
+      ∙ sym (ap (λ (z : Bool). cond z (g .kept + length (keptOf s vs) - g .first) (tidiedOf s vs)) (le-ltb (g .kept) (g .place) (omega (arith, level)))));
+}
   where
-    go : (z : Bool) → cond z 0 (min count 32) ≤ 32
-    go true = omega arith
-    go false = omega arith
+    vs : List Voice
+    vs = slice (g .place) n (c .voices)
 
-module _ (p : Params) (at : Moment) (ms : List ℕ) (h : Channel) (all : length (h .voices) ≡ 32) where
-  abbrev shared : Turning
-  shared = turningBy (sharedOf p at (h .count) .tick) ms
+-- the voice stays in its place, and is heard
+module _ (t : Tick) (m : List ℕ) (n : ℕ) (c : Channel) (i : ℕ) (out : Float) (v : Voice) (r : Quick) where
+  pub glide-on : n ≤ 32 → i < n → length (c .voices) ≡ 32 → getD (c .voices) i blankVoice ≡ v → Quickly t m v r → r .glides ≡ true
+      → Goes t m n c (glidedTo i out) (withVoices (set (c .voices) i (r .voice)) (c .count) c) (glidedTo (i + 1) (add binary32 out (r .voice .«last_sample_value»)))
+  unfolding glidedTo turningBy addedOf
+  glide-on few below all is quickly plain s follows =
+      let turned = quickly plain in
+      let stays = glides t m v (turned .1) in
+      let w : Voice = r .voice in
+      let same : w ≡ s .turn v = turned .2 ∙ sym (follows .turns v (turned .0)) in
+      let sum : Float = add binary32 out (r .voice .«last_sample_value») in
+      let sounds : sum ≡ s .adds out v = T.sounds-by t m out sum v w (turned .2) (ap (λ (b : Bool). addedOf b out (w .«last_sample_value»)) (sym (stays .stays))) ∙ sym (follows .adds out v (turned .0)) in
+      let own : w .phrase ≡ t .phrase = ap (λ (u : Voice). u .phrase) (turned .2) ∙ turn-phrase t m v ∙ turned .0 in
+      let kept : s .leaves w ≡ false = follows .leaves w own ∙ ap (shouldRemoveOf t) (turned .2) ∙ stays .stays-after in
+      stays-on s c (glidedTo i out) (le-refl i) v w sum same sounds n few below all is zero-le kept true (λ e. refl)
 
-  abbrev n : ℕ
-  n = sharedOf p at (h .count) .turns
+-- ---- what each voice does on its own phrase
+pub follows-own : (p : Params) (c : Channel) (m : List ℕ) (k : ℕ) → eqb (phraseAt c k .length) 0 ≡ false → Follows (turningIn p c m) (tickOf p (momentFor c k)) (storedIn (phraseAt c k) m)
+follows-own p c m k full =
+    let to : (v : Voice) → v .phrase ≡ tickOf p (momentFor c k) .phrase → T.Alike (turningIn p c m) (turningBy (tickOf p (momentFor c k)) (storedIn (phraseAt c k) m)) v =
+    λ v e. subst (λ (j : ℕ). T.Alike (turningIn p c m) (turningBy (tickOf p (momentFor c j)) (storedIn (phraseAt c j) m)) v) (e ∙ tick-phrase p (momentFor c k))
+    (T.turning-turns p c m v (subst (λ (j : ℕ). eqb (phraseAt c j .length) 0 ≡ false) (sym (e ∙ tick-phrase p (momentFor c k))) full)) in
+    record { turns = λ v e. to v e .turns; leaves = λ v e. to v e .leaves; adds = λ out v e. to v e .adds out }
 
-  abbrev goal : Played
-  goal = restFrom shared h 0 zero32 (take n (h .voices))
+-- turns leave the head, by which the voices go
+pub onward-head : {s : Turning} {n : ℕ} {c d : Channel} {g h : Going} → Onward s n c g d h → d .head ≡ c .head
+unfolding restBy
+onward-head x = ap (λ (r : Played). r .channel .head) (x .same)
 
-  all-few : min n 32 ≡ n
-  all-few = omega (arith, turns-few p at (h .count))
+pub same-turning : (p : Params) (m : List ℕ) (c d : Channel) → d .head ≡ c .head → turningIn p d m ≡ turningIn p c m
+unfolding turningIn
+same-turning p m c d e = ap (λ (h : Head). turningIn p (withHead h d) m) e
 
-  -- the loop begins where the gliding turns end
-  pub begins-there : (d : Channel) (g : Glided) → Glides (sharedOf p at (h .count)) ms h d g → length (d .voices) ≡ 32 → Walk goal (restBy shared (withVoices (d .voices) (d .count) d) (afterGliding g)) (d .voices) n (g .upto)
-  begins-there d g e long = record {
-    upto = subst (λ (j : ℕ). g .upto ≤ j) all-few (e .few);
-    within = omega (arith, turns-few p at (h .count), long);
-    same = rest-gliding shared d g _ ∙ subst (λ (j : ℕ). restFrom shared d (g .upto) (g .output) (slice (g .upto) j (d .voices)) ≡ restFrom shared h 0 zero32 (take j (h .voices))) all-few (e .same);
-  }
+-- ---- from the first turn to the last
+module _ (s : Turning) (c : Channel) (all : length (c .voices) ≡ 32) where
+  pub begins : Stands (min (c .count) 32) begun
+  unfolding begun
+  begins = record { few = omega arith; inside = zero-le; up = zero-le; first = zero-le; all = λ e. refl }
 
-  -- what the loop leaves, where the turns stand at g
-  module _ (l : List Voice) (g : Going) where
-    abbrev left : ℕ → Played
-    left m = record { channel = withVoices l m h; output = g .output; moved = g .moved }
+  rest-start : restOf s (min (c .count) 32) c begun ≡ playedOf s c
+  unfolding begun restBy playedOf heard-of
+  rest-start =
+      ap (λ (vs : List Voice). counting (T.restOf s c 0 zero32 vs) (tidiedOf s vs)) (take-most (c .voices) (c .count) 32 all)
+      ∙ with-count (T.rest-start s c) refl
 
-    abbrev nothing-taken : Played
-    nothing-taken = record { channel = withVoices (h .voices) 0 h; output = zero32; moved = 0 }
+  -- where none is left
+  module _ (d : Channel) (g : Going) (on : Onward s (min (c .count) 32) c begun d g) (end : g .place ≡ min (c .count) 32) where
+    abbrev left : Played
+    left = record { channel = withVoices (d .voices) (g .kept) d; output = g .output; moved = movedBy g }
 
-    -- no turn
-    rest-of-none : (u : Turning) → restFrom u h 0 zero32 [] ≡ nothing-taken
-    unfolding tidiedOf behind
-    rest-of-none u = with-count (rest-end u h 0 zero32) refl
+    rest-none : restBy s d g [] ≡ left
+    unfolding restBy movedBy tidiedOf behind keptOf without
+    rest-none = with-count (T.rest-end s d (g .kept) (g .output)) (ap (λ (n : ℕ). cond (ltb (g .kept) (g .place)) (n - g .first) 0) (add-zero (g .kept)))
 
-    count-stays : (u : Turning) → left (g .kept) ≡ restFrom u h 0 zero32 (take (min (h .count) 32) (h .voices)) → voicesLeftOf (min (h .count) 32) (g .kept) (h .count) ≡ g .kept
-    unfolding voicesLeftOf
-    count-stays u e = go (eqb (min (h .count) 32) 0) refl
-      where
-        go : (z : Bool) → eqb (min (h .count) 32) 0 ≡ z → cond z (h .count) (g .kept) ≡ g .kept
-        go false f = refl
-        go true f =
-            let m : min (h .count) 32 ≡ 0 = eqb-true (min (h .count) 32) 0 f in
-            let c : h .count ≡ 0 = omega (arith, m) in
-            c ∙ sym (ap (λ (r : Played). r .channel .count) (e ∙ ap (λ (j : ℕ). restFrom u h 0 zero32 (take j (h .voices))) m ∙ rest-of-none u))
+    ended : left ≡ playedOf s c
+    ended = sym rest-none ∙ ap (restBy s d g) (sym (ap (λ (j : ℕ). slice j (min (c .count) 32) (d .voices)) end ∙ slice-empty (min (c .count) 32) (d .voices))) ∙ on .same ∙ rest-start
 
-    ended-at : (u : Turning) (z : Bool) → left (g .kept) ≡ restFrom u h 0 zero32 (take (cond z 0 (min (h .count) 32)) (h .voices))
-        → left (voicesLeftOf (cond z 0 (min (h .count) 32)) (g .kept) (h .count)) ≡ cond z (record { channel = h; output = zero32; moved = 0 }) (playedOf u h)
-    unfolding voicesLeftOf playedOf
-    ended-at u true e = ap (λ (r : Played). record { channel = withVoices (r .channel .voices) (h .count) h; output = r .output; moved = r .moved }) (e ∙ rest-of-none u)
-    ended-at u false e = ap left (count-stays u e) ∙ e ∙ ap (restFrom u h 0 zero32) (take-most (h .voices) (h .count) 32 all) ∙ with-count (rest-start u h) refl
+    pub ended-heard : record { output = g .output; moved = movedBy g } ≡ heardOf (playedOf s c)
+    ended-heard = ap heardOf ended
 
-    -- what no turn sees doesn't matter
-    rest-same : (u v : Turning) (m : ℕ) → m ≡ 0 → restFrom u h 0 zero32 (take m (h .voices)) ≡ restFrom v h 0 zero32 (take m (h .voices))
-    rest-same u v m e = ap (λ (j : ℕ). restFrom u h 0 zero32 (take j (h .voices))) e ∙ rest-of-none u ∙ sym (rest-of-none v) ∙ ap (λ (j : ℕ). restFrom v h 0 zero32 (take j (h .voices))) (sym e)
-
-    by-tick : (u v : Tick) (m : ℕ) (z : Bool) → eqb m 0 ≡ z → restFrom (turningBy (cond z u v) ms) h 0 zero32 (take m (h .voices)) ≡ restFrom (turningBy v ms) h 0 zero32 (take m (h .voices))
-    by-tick u v m true f = rest-same (turningBy u ms) (turningBy v ms) m (eqb-true m 0 f)
-    by-tick u v m false f = refl
-
-    module _ (e : restBy shared (withVoices l (h .count) h) g [] ≡ goal) where
-      ended : left (voicesLeftOf n (g .kept) (h .count)) ≡ playedIfOf p at ms h
-      unfolding sharedOf turnCountOf
-      ended =
-          let v = tickOf p at in
-          ended-at (turningBy v ms) (eqb (at .«data_len») 0) (sym (rest-none shared (withVoices l (h .count) h) g) ∙ e ∙ by-tick unusedTick v n (eqb n 0) refl) ∙ sym (plays-by p at ms h)
-
-    -- the same of the channel that the gliding turns left
-    module _ (d : Channel) (count : d .count ≡ h .count) (e : restBy shared (withVoices l (d .count) d) g [] ≡ goal) where
-      head : d .head ≡ h .head
-      head = ap (λ (r : Played). r .channel .head) e
-
-      back : withVoices l (d .count) d ≡ withVoices l (h .count) h
-      back = ap (λ (c : ℕ). record { voices = l; count = c; head = d .head }) count ∙ ap (λ (t : Head). record { voices = l; count = h .count; head = t }) head
-
-      ends-so : left (voicesLeftOf n (g .kept) (h .count)) ≡ playedIfOf p at ms h
-      ends-so = ended (ap (λ (c : Channel). restBy shared c g []) (sym back) ∙ e)
-
-      pub ended-heard : record { output = g .output; moved = g .moved } ≡ heardOf (playedIfOf p at ms h)
-      ended-heard = ap heardOf ends-so
-
-      pub ended-channel : withVoices l (voicesLeftOf n (g .kept) (d .count)) d ≡ playedIfOf p at ms h .channel
-      ended-channel = ap (λ (c : Channel). withVoices l (voicesLeftOf n (g .kept) (c .count)) c) back ∙ ap (λ (r : Played). r .channel) ends-so
+    pub ended-channel : withVoices (d .voices) (g .kept) d ≡ playedOf s c .channel
+    ended-channel = ap (λ (r : Played). r .channel) ended
 
 -- ---- a sample, once it is recorded: the voices play and leave the head as it was, which is closed
 abbrev closing : Params → Float → Head → Played → Played
 closing p x t r = record { channel = withHead (closedOf p (anyUnfinishedOf (r .channel)) t) (r .channel); output = mixedOf x (r .output) t; moved = r .moved }
 
-module _ (p : Params) (x : Float) (m : List ℕ) (c : Channel) where
-  abbrev given : Played
-  given = playedIfOf p (momentOf (c .head)) m c
-
-  pub sample-by : closing p x (given .channel .head) given ≡ closing p x (c .head) given
-  sample-by = ap (λ (t : Head). closing p x t given) (played-if-head p (momentOf (c .head)) m c)
+pub sample-by : (p : Params) (x : Float) (s : Turning) (c : Channel) → closing p x (playedOf s c .channel .head) (playedOf s c) ≡ closing p x (c .head) (playedOf s c)
+sample-by p x s c = ap (λ (t : Head). closing p x t (playedOf s c)) (played-head s c)
 
 -- ---- a channel without voices: nothing is heard of it, it stays as it is, and no voice is unfinished
-module _ (p : Params) (at : Moment) (m : List ℕ) (c : Channel) (none : c .count ≡ 0) where
+module _ (s : Turning) (c : Channel) (none : c .count ≡ 0) where
   abbrev with-none : Channel → Played
   with-none d = record { channel = d; output = zero32; moved = 0 }
 
   abbrev of-count : ℕ → Channel
   of-count n = withVoices (c .voices) n c
 
-  played-none : (u : Turning) → playedOf u c ≡ with-none c
+  played-none : playedOf s c ≡ with-none c
   unfolding playedOf keptOf tidiedOf heard-of without behind fold
-  played-none u = subst (λ (n : ℕ). playedOf u (of-count n) ≡ with-none (of-count n)) (sym none) refl
+  played-none = subst (λ (n : ℕ). playedOf s (of-count n) ≡ with-none (of-count n)) (sym none) refl
 
-  plays-none : playedIfOf p at m c ≡ with-none c
-  unfolding playedIfOf
-  plays-none = either (λ (r : Played). r) (eqb (at .«data_len») 0) _ _ (with-none c) refl (played-none _)
-
-  pub none-heard : silent ≡ heardOf (playedIfOf p at m c)
+  pub none-heard : silent ≡ heardOf (playedOf s c)
   unfolding silent
-  none-heard = sym (ap heardOf plays-none)
+  none-heard = sym (ap heardOf played-none)
 
-  pub none-gone : c ≡ playedIfOf p at m c .channel
-  none-gone = sym (ap (λ (r : Played). r .channel) plays-none)
+  pub none-gone : c ≡ playedOf s c .channel
+  none-gone = sym (ap (λ (r : Played). r .channel) played-none)
 
-  pub none-unfinished : false ≡ anyUnfinishedOf (playedIfOf p at m c .channel)
+  pub none-unfinished : false ≡ anyUnfinishedOf (playedOf s c .channel)
   unfolding anyUnfinishedOf any
   none-unfinished = subst (λ (n : ℕ). false ≡ anyUnfinishedOf (of-count n)) (sym none) refl ∙ ap anyUnfinishedOf none-gone

@@ -1,90 +1,49 @@
 -- What the steps around the loops over a lent channel work out. Definitions only.
 use mathlib.Core.Path.{_≡_}
-use Prim.Native.Nat.{ℕ, _+_, _≤_, min}
-use mathlib.Core.Bool.{Bool, false, not, _&&_, cond}
+use Prim.Native.Nat.{ℕ, _+_, _-_, _≤_, _<_}
+use mathlib.Core.Bool.{Bool, true, false, not, _&&_, cond}
 use mathlib.Core.List.{List}
 use lib.Dec.{leb, ltb, eqb}
-use lib.ListN.{length, take}
+use lib.ListN.{length, getD, set}
 use lib.Seq.{sets, slice}
 use lib.Ieee.{Float}
-use Rattle.common_types.specs.declared.Params.{Params}
-use Rattle.common_types.specs.declared.NoteOffBehaviour.the-variants.{Decay}
-use Rattle.clip.specs.declared.Mode.the-variants.{Loop}
 use Rattle.binary32.specs.Leaves.{zero32}
 use Rattle.walks.specs.Walks.{fold}
 use Rattle.voice.specs.declared.Voice.{Voice}
-use Rattle.voice.specs.declared.Moment.{Moment}
 use Rattle.voice.specs.declared.Tick.{Tick}
-use Rattle.voice.specs.Voices.{tickOf, turnOf, shouldRemoveOf}
+use Rattle.voice.specs.Voices.{turnOf, shouldRemoveOf, blankVoice}
 use Rattle.channel.specs.declared.Head.{Head}
 use Rattle.channel.specs.declared.Channel.{Channel}
 use Rattle.channel.specs.declared.Played.{Played}
 use Rattle.channel.specs.Heads.{goodHead, mixedOf}
 use Rattle.channel.specs.Channels.{withVoices, Turning, keptOf, tidiedOf, addedOf, turningBy, fullOf, goodChannel}
 use Rattle.recorder.specs.Recording.{isRecordingOf}
-use Rattle.lent_channel.specs.declared.Shared.{Shared}
 use Rattle.lent_channel.specs.declared.Heard.{Heard}
-use Rattle.lent_channel.specs.declared.Glided.{Glided}
 use Rattle.lent_channel.specs.declared.Going.{Going}
 use Rattle.lent_channel.specs.declared.Turn.{Turn}
 use Rattle.lent_channel.specs.declared.Condition.{Condition}
-
--- how many voices take a turn: none if the recording is empty, otherwise as many as there are, and never more than
--- there are places
-unfoldable pub turnCountOf : ℕ → ℕ → ℕ
-turnCountOf len count = cond (eqb len 0) 0 (min count 32)
 
 -- what is heard of a channel without voices
 unfoldable pub silent : Heard
 silent = record { output = zero32; moved = 0 }
 
--- what stands where no voice takes a turn; no voice sees it
-unfoldable pub unusedTick : Tick
-unusedTick = record {
-  now = 0;
-  «decay_samples» = 0;
-  span = record { length = zero32; «whole_length» = zero32; «data_length» = zero32 };
-  speed = zero32;
-  mode = Loop;
-  once = false;
-  «note_off_behavior» = Decay;
-  interpolates = false;
-}
+-- ---- where the turns stand
 
-unfoldable pub sharedOf : Params → Moment → ℕ → Shared
-sharedOf p at count =
-    let n = turnCountOf (at .«data_len») count in
-    record { tick = cond (eqb n 0) unusedTick (tickOf p at); turns = n }
+-- before the first
+unfoldable pub begun : Going
+begun = record { place = 0; kept = 0; output = zero32; first = 0; glides = true }
 
--- how many voices there are after the turns: where there was none, as many as before
-unfoldable pub voicesLeftOf : ℕ → ℕ → ℕ → ℕ
-voicesLeftOf turns kept count = cond (eqb turns 0) count kept
+-- all voices before that place have glided: each stayed where it was
+unfoldable pub glidedTo : ℕ → Float → Going
+glidedTo n out = record { place = n; kept = n; output = out; first = 0; glides = true }
 
--- what the turns of the voices vs give, where k voices before them took theirs and all stayed, and `out` was heard of
--- them: those that stay stand behind the k, what is heard is added, and none of the k moved up
-abbrev pub restFrom : Turning → Channel → ℕ → Float → List Voice → Played
-restFrom s c k out vs = record {
-  channel = withVoices (sets (c .voices) k (keptOf s vs)) (k + length (keptOf s vs)) c;
-  output = fold (s .adds) out vs;
-  moved = tidiedOf s vs;
-}
+-- the voice at the next place
+abbrev pub nextVoice : Going → Channel → Voice
+nextVoice g c = getD (c .voices) (g .place) blankVoice
 
--- What gliding turns promise, from channel c to d: what the turns of the voices from `upto` on give on d, with the output
--- so far, is what all of them give on c, and so none of them moved up; and the count is as it was. How far they go is
--- left open.
-pub record Glides (s : Shared) (m : List ℕ) (c d : Channel) (g : Glided) : Type 0 where
-  pub few : g .upto ≤ min (s .turns) 32
-  pub count : d .count ≡ c .count
-  pub same : restFrom (turningBy (s .tick) m) d (g .upto) (g .output) (slice (g .upto) (min (s .turns) 32) (d .voices))
-      ≡ restFrom (turningBy (s .tick) m) c 0 zero32 (take (min (s .turns) 32) (c .voices))
-
--- where the turns stand after those that glide: each of these voices stayed in its place
-unfoldable pub afterGliding : Glided → Going
-afterGliding g = record { place = g .upto; kept = g .upto; output = g .output; moved = 0 }
-
--- the turn of the voice at the next place: one that stays moves up where one before it has left
-unfoldable pub turnedOf : Tick → List ℕ → Going → Voice → Turn
-turnedOf t m g v =
+-- it has taken its turn. The first that leaves is told by its place
+unfoldable pub nextTurn : Tick → List ℕ → Going → Voice → Turn
+nextTurn t m g v =
     let w = turnOf t m v in
     let gone = shouldRemoveOf t w in
     record {
@@ -94,9 +53,83 @@ turnedOf t m g v =
         place = g .place + 1;
         kept = cond gone (g .kept) (g .kept + 1);
         output = addedOf (shouldRemoveOf t v) (g .output) (w .«last_sample_value»);
-        moved = cond gone (g .moved) (cond (ltb (g .kept) (g .place)) (g .moved + 1) (g .moved));
+        first = cond gone (cond (ltb (g .kept) (g .place)) (g .first) (g .place)) (g .first);
+        glides = false;
       };
     }
+
+-- so the channel has it: a voice that stays stands behind those that stayed
+unfoldable pub turnedIn : Going → Turn → Channel → Channel
+turnedIn g r c = cond (r .stays) (withVoices (set (c .voices) (g .kept) (r .voice)) (c .count) c) c
+
+-- it took none, and stayed
+unfoldable pub restedOf : Going → Going
+restedOf g = record {
+  place = g .place + 1;
+  kept = g .kept + 1;
+  output = g .output;
+  first = g .first;
+  glides = g .glides;
+}
+
+unfoldable pub restedIn : Going → Channel → Channel
+restedIn g c = withVoices (set (c .voices) (g .kept) (nextVoice g c)) (c .count) c
+
+-- how many voices moved up: those that stayed behind the first that left
+unfoldable pub movedBy : Going → ℕ
+movedBy g = cond (ltb (g .kept) (g .place)) (g .kept - g .first) 0
+
+-- turns stand so before the n-th voice
+pub record Stands (n : ℕ) (g : Going) : Type 0 where
+  pub few : n ≤ 32
+  pub inside : g .place ≤ n
+  pub up : g .kept ≤ g .place
+  pub first : g .first ≤ g .kept
+  pub all : g .glides ≡ true → g .kept ≡ g .place
+
+-- and the next of these voices is of the tick's phrase
+pub record Next (n : ℕ) (c : Channel) (t : Tick) (g : Going) : Type 0 where
+  pub stands : Stands n g
+  pub below : g .place < n
+  pub phrase : nextVoice g c .phrase ≡ t .phrase
+
+-- ---- what turns promise
+
+-- What the turns of voices give on a channel whose turns stand so: those that stay stand behind the voices that stayed,
+-- what is heard is added, and where one has left, all that stay move up.
+unfoldable pub restBy : Turning → Channel → Going → List Voice → Played
+restBy s c g vs =
+    let k = g .kept + length (keptOf s vs) in
+    record {
+      channel = withVoices (sets (c .voices) (g .kept) (keptOf s vs)) k c;
+      output = fold (s .adds) (g .output) vs;
+      moved = cond (ltb (g .kept) (g .place)) (k - g .first) (tidiedOf s vs);
+    }
+
+-- those of the voices from the next to the n-th
+abbrev pub restOf : Turning → ℕ → Channel → Going → Played
+restOf s n c g = restBy s c g (slice (g .place) n (c .voices))
+
+-- From channel c and g to d and h turns have gone on: what is left of them gives the same
+pub record Onward (s : Turning) (n : ℕ) (c : Channel) (g : Going) (d : Channel) (h : Going) : Type 0 where
+  pub stands : Stands n h
+  pub same : restOf s n d h ≡ restOf s n c g
+
+-- s does with each voice of the tick's phrase what tick and memory say
+pub record Follows (s : Turning) (t : Tick) (m : List ℕ) : Type 0 where
+  pub turns : (v : Voice) → v .phrase ≡ t .phrase → s .turn v ≡ turningBy t m .turn v
+  pub leaves : (v : Voice) → v .phrase ≡ t .phrase → s .leaves v ≡ turningBy t m .leaves v
+  pub adds : (out : Float) (v : Voice) → v .phrase ≡ t .phrase → s .adds out v ≡ turningBy t m .adds out v
+
+-- turns of voices of the tick's phrase, whatever others do
+abbrev pub Goes : Tick → List ℕ → ℕ → Channel → Going → Channel → Going → Type 0
+Goes t m n c g d h = (s : Turning) → Follows s t m → Onward s n c g d h
+
+-- gliding turns: how far they go is left open
+pub record Glides (t : Tick) (m : List ℕ) (n : ℕ) (c : Channel) (g : Going) (d : Channel) (h : Going) : Type 0 where
+  pub further : g .place ≤ h .place
+  pub goes : Goes t m n c g d h
+  pub none : h .place ≡ g .place → (d ≡ c)
 
 -- what of a channel's sample goes up to the frame: all but the channel
 abbrev pub heardOf : Played → Heard

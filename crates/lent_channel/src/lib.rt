@@ -5,12 +5,14 @@ ghost use mathlib.Core.Path.{_≡_};
 ghost use Prim.Native.Nat.{_≤_, _<_};
 ghost use mathlib.Core.Bool.{_&&_};
 ghost use lib.Ieee.{binary32, add};
+ghost use Rattle.common_types.specs.Settings.{measureOf};
 ghost use Rattle.voice.specs.Voices.{goodVoice};
 ghost use Rattle.channel.specs.Heads.{closedOf};
 ghost use Rattle.channel.specs.Channels.{
   anyUnfinishedOf,
   withHead,
-  playedIfOf,
+  playedOf,
+  turningIn,
   takenOf,
   memoryOf,
   processSampleOf,
@@ -18,14 +20,20 @@ ghost use Rattle.channel.specs.Channels.{
   goodChannel,
 };
 ghost use Rattle.lent_channel.specs.Turns.{
-  unusedTick,
   silent,
-  turnCountOf,
-  sharedOf,
-  voicesLeftOf,
+  begun,
+  glidedTo,
+  nextVoice,
+  nextTurn,
+  turnedIn,
+  restedOf,
+  restedIn,
+  movedBy,
+  Stands,
+  Next,
+  Onward,
+  Goes,
   Glides,
-  afterGliding,
-  turnedOf,
   headGoodOf,
   heardOf,
   mixedWith,
@@ -34,19 +42,10 @@ ghost use Rattle.lent_channel.specs.Turns.{
 };
 use channel::Channel;
 use channel::Head;
-use clip::Mode;
-use common_types::NoteOffBehaviour;
+use common_types::Measure;
 use common_types::Params;
-use voice::Moment;
-use voice::Span;
 use voice::Tick;
 use voice::Voice;
-
-// How many voices take a turn, and what they share.
-pub struct Shared {
-    pub tick: Tick,
-    pub turns: usize,
-}
 
 // What a sample of a channel hands up to the frame: its output, and how many voices moved up as others left.
 pub struct Heard {
@@ -62,59 +61,6 @@ fn silence() -> Heard
         output: 0.0,
         moved: 0,
     }
-}
-
-// What stands where no voice takes a turn: no voice sees it, and nothing is worked out for it.
-fn unused() -> Tick
-    ensures { λ r. ⌜ r ≡ unusedTick ⌝ }
-{
-    Tick {
-        now: 0,
-        decay_samples: 0,
-        span: Span {
-            length: 0.0,
-            whole_length: 0.0,
-            data_length: 0.0,
-        },
-        speed: 0.0,
-        mode: Mode::Loop,
-        once: false,
-        note_off_behavior: NoteOffBehaviour::Decay,
-        interpolates: false,
-    }
-}
-
-// With an empty recording no voice takes a turn.
-fn turns_of(data_len: usize, count: usize) -> usize
-    ensures { λ r. ⌜ r ≡ turnCountOf «data_len» count ⌝ }
-{
-    if data_len == 0 {
-        return 0;
-    }
-    channel::places(count)
-}
-
-fn shared_of(at: Moment, count: usize, params: Params) -> Shared
-    ensures { λ r. ⌜ r ≡ sharedOf params at count ⌝ }
-{
-    let turns = turns_of(at.data_len, count);
-    if turns == 0 {
-        return Shared {
-            tick: unused(),
-            turns,
-        };
-    }
-    Shared {
-        tick: Tick::new(params, at),
-        turns,
-    }
-}
-
-// How many voices there are once `turns` took their turn and `kept` of them stayed.
-fn counted(turns: usize, kept: usize, count: usize) -> usize
-    ensures { λ r. ⌜ r ≡ voicesLeftOf turns kept count ⌝ }
-{
-    if turns == 0 { count } else { kept }
 }
 
 // What the voices don't say of whether a channel may stand in a record of that capacity.
@@ -200,47 +146,20 @@ pub fn judged(c: &Channel, capacity: usize) -> Condition
     condition_of(c.head, c.count, good)
 }
 
-// How many voices took a gliding turn, from the first on, and what was heard of them.
-pub struct Glided {
-    pub upto: usize,
-    pub output: f32,
-}
-
 fn added(output: f32, w: Voice) -> f32
     ensures { λ r. ⌜ r ≡ add binary32 output (w .«last_sample_value») ⌝ }
 {
     output + w.last_sample_value
 }
 
-// Voices take their turns in place, up to the first that does not glide.
-fn glide(c: &mut Channel, b: Shared, data: &[u32]) -> Glided
-    ensures { λ r. ⌜ Glides b (now («data» .entry)) (now (c .entry)) (now (c .exit)) r ⌝ }
-{
-    let t = b.tick;
-    let n = channel::places(b.turns);
-    let mut output = 0.0;
-    let mut i: usize = 0;
-    while i < n {
-        let v = c.voices[i];
-        let q = v.quick(t, data);
-        if !q.glides {
-            return Glided { upto: i, output };
-        }
-        let w = q.voice;
-        c.voices[i] = w;
-        output = added(output, w);
-        i = i + 1;
-    }
-    Glided { upto: i, output }
-}
-
-// Where the voices' turns stand: the place of the next, how many have stayed, what was heard of them, and how many of
-// those that stayed moved up.
+// Where the voices' turns stand: the place of the next, how many have stayed, what was heard of them, the place of the
+// first that left, if one did, and whether each of them glided.
 pub struct Going {
     pub place: usize,
     pub kept: usize,
     pub output: f32,
-    pub moved: u8,
+    pub first: usize,
+    pub glides: bool,
 }
 
 // What a turn gives: the voice, whether it stays, and where the turns stand then.
@@ -250,25 +169,62 @@ pub struct Turn {
     pub next: Going,
 }
 
-fn after_gliding(g: Glided) -> Going
-    ensures { λ r. ⌜ r ≡ afterGliding g ⌝ }
+// Before the first turn.
+fn beginning() -> Going
+    ensures { λ r. ⌜ r ≡ begun ⌝ }
 {
     Going {
-        place: g.upto,
-        kept: g.upto,
-        output: g.output,
-        moved: 0,
+        place: 0,
+        kept: 0,
+        output: 0.0,
+        first: 0,
+        glides: true,
     }
 }
 
-// The turn of the voice at the next place. One that stays moves up where one before it has left.
-fn turned(g: Going, v: Voice, t: Tick, data: &[u32]) -> Turn
-    requires { ⌜ (g .place < 32) × (g .kept ≤ g .place) × (g .moved ≤ g .place) ⌝ }
-    ensures { λ r. ⌜ r ≡ turnedOf t (now («data» .entry)) g v ⌝ }
+// Voices up to that place have glided: each stayed where it was.
+fn glided(upto: usize, output: f32) -> Going
+    ensures { λ r. ⌜ r ≡ glidedTo upto output ⌝ }
 {
+    Going {
+        place: upto,
+        kept: upto,
+        output,
+        first: 0,
+        glides: true,
+    }
+}
+
+// Voices of the tick's phrase take their turns in place, from the next on and before the n-th, up to the first that does
+// not glide.
+fn glide(c: &mut Channel, t: Tick, g: Going, n: usize, data: &[u32]) -> Going
+    requires { ⌜ Stands n g × (g .kept ≡ g .place) ⌝ }
+    ensures { λ r. ⌜ Glides t (now («data» .entry)) n (now (c .entry)) g (now (c .exit)) r ⌝ }
+{
+    let mut output = g.output;
+    let mut i = g.place;
+    while i < n {
+        let v = c.voices[i];
+        let q = v.quick(t, data);
+        if !q.glides {
+            return glided(i, output);
+        }
+        let w = q.voice;
+        c.voices[i] = w;
+        output = added(output, w);
+        i = i + 1;
+    }
+    glided(i, output)
+}
+
+// The turn of the voice at the next place.
+fn turned(g: Going, v: Voice, t: Tick, data: &[u32]) -> Turn
+    requires { ⌜ (g .place < 32) × (g .kept ≤ g .place) ⌝ }
+    ensures { λ r. ⌜ r ≡ nextTurn t (now («data» .entry)) g v ⌝ }
+{
+    let place = g.place + 1;
     let voice = v.turn(t, data);
     let output = channel::sound(g.output, v, voice, t);
-    let place = g.place + 1;
     if voice.should_remove(t) {
         return Turn {
             voice,
@@ -277,15 +233,11 @@ fn turned(g: Going, v: Voice, t: Tick, data: &[u32]) -> Turn
                 place,
                 kept: g.kept,
                 output,
-                moved: g.moved,
+                first: if g.kept < g.place { g.first } else { g.place },
+                glides: false,
             },
         };
     }
-    let moved = if g.kept < g.place {
-        g.moved + 1
-    } else {
-        g.moved
-    };
     Turn {
         voice,
         stays: true,
@@ -293,32 +245,101 @@ fn turned(g: Going, v: Voice, t: Tick, data: &[u32]) -> Turn
             place,
             kept: g.kept + 1,
             output,
-            moved,
+            first: g.first,
+            glides: false,
         },
     }
 }
 
-// Each voice takes its turn if the recording isn't empty; those that are then to be removed leave, and the others move
-// up in order. Gliding turns go first, as far as they go. The clock and the recording's length are the head's.
-fn play(c: &mut Channel, at: Moment, params: Params, data: &[u32]) -> Heard
-    ensures { λ r. ⌜ (r ≡ heardOf (playedIfOf params at (now («data» .entry)) (now (c .entry))))
-        × (now (c .exit) ≡ playedIfOf params at (now («data» .entry)) (now (c .entry)) .channel) ⌝ }
+// How many voices moved up: those that stayed behind the first that left.
+fn moved_of(g: Going) -> u8
+    requires { ⌜ (g .kept ≤ 32) × (g .first ≤ g .kept) ⌝ }
+    ensures { λ r. ⌜ r ≡ movedBy g ⌝ }
 {
-    let b = shared_of(at, c.count, params);
-    let t = b.tick;
-    let n = b.turns;
-    let mut g = after_gliding(glide(c, b, data));
-    while g.place < n {
-        let r = turned(g, c.voices[g.place], t, data);
-        if r.stays {
-            c.voices[g.kept] = r.voice;
-        }
-        g = r.next;
+    if g.kept < g.place {
+        (g.kept - g.first) as u8
+    } else {
+        0
     }
-    c.count = counted(n, g.kept, c.count);
+}
+
+// The next voice takes its turn. One that stays moves up where one before it has left.
+fn turn_next(c: &mut Channel, t: Tick, g: Going, data: &[u32]) -> Going
+    requires { ⌜ (g .place < 32) × (g .kept ≤ g .place) ⌝ }
+    ensures { λ r. ⌜ (r ≡ nextTurn t (now («data» .entry)) g (nextVoice g (now (c .entry))) .next)
+        × (now (c .exit) ≡ turnedIn g (nextTurn t (now («data» .entry)) g (nextVoice g (now (c .entry)))) (now (c .entry))) ⌝ }
+{
+    let r = turned(g, c.voices[g.place], t, data);
+    if r.stays {
+        c.voices[g.kept] = r.voice;
+    }
+    r.next
+}
+
+// Turns of voices of the tick's phrase, of which the next is one: those that glide, if all before them did and the next
+// does; else that of the next.
+fn stretch(c: &mut Channel, t: Tick, g: Going, n: usize, data: &[u32]) -> Going
+    requires { ⌜ Next n (now c) t g ⌝ }
+    ensures { λ r. ⌜ (g .place < r .place) × Goes t (now («data» .entry)) n (now (c .entry)) g (now (c .exit)) r ⌝ }
+{
+    if g.glides {
+        let h = glide(c, t, g, n, data);
+        if g.place < h.place {
+            return h;
+        }
+    }
+    turn_next(c, t, g, data)
+}
+
+// The next voice takes no turn, and stays.
+fn rest_next(c: &mut Channel, g: Going) -> Going
+    requires { ⌜ (g .place < 32) × (g .kept ≤ g .place) ⌝ }
+    ensures { λ r. ⌜ (r ≡ restedOf g) × (now (c .exit) ≡ restedIn g (now (c .entry))) ⌝ }
+{
+    c.voices[g.kept] = c.voices[g.place];
+    Going {
+        place: g.place + 1,
+        kept: g.kept + 1,
+        output: g.output,
+        first: g.first,
+        glides: g.glides,
+    }
+}
+
+// The next turns, before the n-th voice: none of a voice whose phrase is empty. What voices share is worked out once for a
+// stretch of them, by the measure of the parameters' loop length.
+fn go_on(c: &mut Channel, g: Going, n: usize, params: Params, m: Measure, data: &[u32]) -> Going
+    requires { ⌜ Stands n g × (g .place < n) × (m ≡ measureOf params) ⌝ }
+    ensures { λ r. ⌜ (g .place < r .place)
+        × Onward (turningIn params (now (c .entry)) (now («data» .entry))) n (now (c .entry)) g (now (c .exit)) r ⌝ }
+{
+    let k = c.voices[g.place].phrase;
+    let phrase = c.head.phrase_at(k);
+    if phrase.length == 0 {
+        return rest_next(c, g);
+    }
+    let t = Tick::measured(params, m, c.head.moment_on(k, phrase.length));
+    let room = phrase.room(data.len());
+    stretch(c, t, g, n, &data[room.from..room.to])
+}
+
+// Each voice takes its turn if its phrase isn't empty; those that are then to be removed leave, and the others move up in
+// order.
+fn play(c: &mut Channel, params: Params, data: &[u32]) -> Heard
+    ensures { λ r. ⌜ (r ≡ heardOf (playedOf (turningIn params (now (c .entry)) (now («data» .entry))) (now (c .entry))))
+        × (now (c .exit)
+        ≡ playedOf (turningIn params (now (c .entry)) (now («data» .entry))) (now (c .entry)) .channel) ⌝ }
+{
+    let n = channel::places(c.count);
+    let m = params.measure();
+    let mut g = beginning();
+    while g.place < n {
+        g = go_on(c, g, n, params, m, data);
+    }
+    c.count = g.kept;
     Heard {
         output: g.output,
-        moved: g.moved,
+        moved: moved_of(g),
     }
 }
 
@@ -340,7 +361,8 @@ fn record(c: &mut Channel, input: f32, data: &mut [u32])
 {
     let head = c.head;
     if head.is_recording() {
-        let after = head.recorded(input, data);
+        let room = head.room(data.len());
+        let after = head.recorded(input, &mut data[room.from..room.to]);
         c.head.data_len = after.data_len;
         c.head.recorder = after.recorder;
     }
@@ -369,7 +391,7 @@ pub fn with_sample(c: &mut Channel, params: Params, input: f32, data: &mut [u32]
     let mut played = silence();
     let mut unfinished = false;
     if c.count != 0 {
-        played = play(c, c.head.moment(), params, data);
+        played = play(c, params, data);
         unfinished = any_unfinished(c);
     }
     close(c, params, unfinished, input, played)

@@ -132,10 +132,12 @@ fn passing(h: Head, volume: Volume) -> Head {
     Head {
         now: h.now,
         data_len: h.data_len,
+        start: h.start,
         passthru_volume: volume,
         recorder,
         passthru_on: h.passthru_on,
         interpolates: h.interpolates,
+        chosen: h.chosen,
     }
 }
 
@@ -189,6 +191,7 @@ fn at_level(v: Voice, volume: Volume) -> Voice {
         note,
         finished: v.finished,
         is_at_zero_crossing: v.is_at_zero_crossing,
+        phrase: v.phrase,
     }
 }
 

@@ -22,10 +22,12 @@ use Rattle.recorder.specs.Recording.{goodRecorder}
 use Rattle.binary32.specs.Leaves.{zero32, one32}
 use Rattle.clip.specs.declared.Clip.{Clip}
 use Rattle.clip.specs.Refusals.{most32, goodLength, goodClip}
+use Rattle.phrases.specs.Phrases.{endsBy}
+use Rattle.phrases.proofs.Rooms.{ends-inside, inside-ends}
 use Rattle.voice.specs.declared.Voice.{Voice}
 use Rattle.voice.specs.Voices.{goodVoice}
 use Rattle.channel.specs.declared.Channel.{Channel}
-use Rattle.channel.specs.Heads.{headOf, goodHead}
+use Rattle.channel.specs.Heads.{recordingIn, headOf, goodHead}
 use Rattle.channel.specs.Channels.{live, channelOf, goodVoicesOf, goodChannel}
 use Rattle.sampler.specs.declared.Sampler.{Sampler}
 use Rattle.sampler.specs.Refusals.{row, present, channelAt, goodSizes, goodSampler, goodWith, capacityOf, setUpNumber}
@@ -141,6 +143,7 @@ writes-from Idle len h = refl
 
 -- ---- voices
 record Judged (now : ℕ) (v : Voice) : Type 0 where
+  phrase : v .phrase < 8
   since : v .clip2 .since ≤ now
   finished-at : v .«finished_at» ≤ now
   ramps : Ramps now (v .volume)
@@ -152,10 +155,11 @@ voice-to now v h =
     let s = leb (v .clip2 .since) now in
     let f = leb (v .«finished_at») now in
     let r = goodVolume now (v .volume) in
-    let g = both ((s && f) && r) (goodClip (v .clip2)) h in
+    let n = both (ltb (v .phrase) 8) (((s && f) && r) && goodClip (v .clip2)) h in
+    let g = both ((s && f) && r) (goodClip (v .clip2)) (n .1) in
     let k = both (s && f) r (g .0) in
     let l = both s f (k .0) in
-    record { since = leb-true _ _ (l .0); finished-at = leb-true _ _ (l .1); ramps = volume-to now (v .volume) (k .1); clip = clip-good (v .clip2) .0 (g .1) }
+    record { phrase = ltb-true _ _ (n .0); since = leb-true _ _ (l .0); finished-at = leb-true _ _ (l .1); ramps = volume-to now (v .volume) (k .1); clip = clip-good (v .clip2) .0 (g .1) }
 
 voice-from : (now : ℕ) (v : Voice) → Judged now v → goodVoice now v ≡ true
 unfolding goodVoice
@@ -163,19 +167,27 @@ voice-from now v h =
     let s = leb (v .clip2 .since) now in
     let f = leb (v .«finished_at») now in
     let r = goodVolume now (v .volume) in
-    join ((s && f) && r) (goodClip (v .clip2)) (join (s && f) r (join s f (le-leb _ _ (h .since)) (le-leb _ _ (h .finished-at))) (volume-from now (v .volume) (h .ramps)))
-    (clip-good (v .clip2) .1 (h .clip))
+    join (ltb (v .phrase) 8) (((s && f) && r) && goodClip (v .clip2)) (lt-ltb _ _ (h .phrase))
+    (join ((s && f) && r) (goodClip (v .clip2)) (join (s && f) r (join s f (le-leb _ _ (h .since)) (le-leb _ _ (h .finished-at))) (volume-from now (v .volume) (h .ramps)))
+    (clip-good (v .clip2) .1 (h .clip)))
 
 -- ---- channels
 module _ (capacity : ℕ) (c : Channel) where
   abbrev now : ℕ
   now = c .head .now
 
+  -- there is a chosen phrase, and it lies within the capacity
+  abbrev lies : Bool
+  lies = ltb (c .head .chosen) 8 && endsBy capacity (recordingIn (c .head))
+
   channel-to : goodChannel capacity c ≡ true → GoodChannel capacity c
   unfolding goodChannel goodHead goodRecorder goodVoicesOf
   channel-to h = record {
     voices = leb-true _ _ (first .0);
     data-length = leb-true _ _ (recorder .1);
+    chosen = ltb-true _ _ (placed .0);
+    within = ends-inside (recordingIn (c .head)) capacity (placed .1);
+    phrase = λ v i. voice v i .phrase;
     write-place = writes-to (c .head .recorder .state) (c .head .«data_len») (recorder .0);
     clock = leb-true _ _ (timed .0);
     since = λ v i. voice v i .since;
@@ -192,11 +204,17 @@ module _ (capacity : ℕ) (c : Channel) where
       first : (leb (c .count) 32 ≡ true) × (goodHead capacity (c .head) ≡ true)
       first = both (leb (c .count) 32) (goodHead capacity (c .head)) (whole .0)
 
-      head : ((leb now (2 ^ 48) && goodVolume now (c .head .«passthru_volume»)) ≡ true) × (goodRecorder (c .head .recorder) (c .head .«data_len») capacity ≡ true)
-      head = both (leb now (2 ^ 48) && goodVolume now (c .head .«passthru_volume»)) (goodRecorder (c .head .recorder) (c .head .«data_len») capacity) (first .1)
+      head : (((leb now (2 ^ 48) && lies) && goodVolume now (c .head .«passthru_volume»)) ≡ true) × (goodRecorder (c .head .recorder) (c .head .«data_len») capacity ≡ true)
+      head = both ((leb now (2 ^ 48) && lies) && goodVolume now (c .head .«passthru_volume»)) (goodRecorder (c .head .recorder) (c .head .«data_len») capacity) (first .1)
 
-      timed : (leb now (2 ^ 48) ≡ true) × (goodVolume now (c .head .«passthru_volume») ≡ true)
-      timed = both (leb now (2 ^ 48)) (goodVolume now (c .head .«passthru_volume»)) (head .0)
+      levels : ((leb now (2 ^ 48) && lies) ≡ true) × (goodVolume now (c .head .«passthru_volume») ≡ true)
+      levels = both (leb now (2 ^ 48) && lies) (goodVolume now (c .head .«passthru_volume»)) (head .0)
+
+      timed : (leb now (2 ^ 48) ≡ true) × (lies ≡ true)
+      timed = both (leb now (2 ^ 48)) lies (levels .0)
+
+      placed : (ltb (c .head .chosen) 8 ≡ true) × (endsBy capacity (recordingIn (c .head)) ≡ true)
+      placed = both (ltb (c .head .chosen) 8) (endsBy capacity (recordingIn (c .head))) (timed .1)
 
       recorder : ((elim (c .head .recorder .state) [ Triggered write ↦ leb write (c .head .«data_len») | Idle ↦ true ]) ≡ true) × (leb (c .head .«data_len») capacity ≡ true)
       recorder = both _ (leb (c .head .«data_len») capacity) (head .1)
@@ -205,7 +223,7 @@ module _ (capacity : ℕ) (c : Channel) where
       voice v (n, e) = voice-to now v (every-place (goodVoice now) (live c) (whole .1) n v e)
 
       ramp : (a b : ℕ) → IsRamp c a b → Ramped a b now
-      ramp a b (x, y, inl e) = volume-to now (c .head .«passthru_volume») (timed .1) a b x y e
+      ramp a b (x, y, inl e) = volume-to now (c .head .«passthru_volume») (levels .1) a b x y e
       ramp a b (x, y, inr (v, i, e)) = voice v i .ramps a b x y e
 
   channel-from : GoodChannel capacity c → goodChannel capacity c ≡ true
@@ -213,8 +231,11 @@ module _ (capacity : ℕ) (c : Channel) where
   channel-from h =
       join (leb (c .count) 32 && goodHead capacity (c .head)) (goodVoicesOf c)
       (join (leb (c .count) 32) (goodHead capacity (c .head)) (le-leb _ _ (h .voices))
-      (join (leb now (2 ^ 48) && goodVolume now (c .head .«passthru_volume»)) (goodRecorder (c .head .recorder) (c .head .«data_len») capacity)
-      (join (leb now (2 ^ 48)) (goodVolume now (c .head .«passthru_volume»)) (le-leb now (2 ^ 48) (h .clock)) (volume-from now (c .head .«passthru_volume») (λ a b x y e. ramp a b (x, y, inl e))))
+      (join ((leb now (2 ^ 48) && lies) && goodVolume now (c .head .«passthru_volume»)) (goodRecorder (c .head .recorder) (c .head .«data_len») capacity)
+      (join (leb now (2 ^ 48) && lies) (goodVolume now (c .head .«passthru_volume»))
+      (join (leb now (2 ^ 48)) lies (le-leb now (2 ^ 48) (h .clock))
+      (join (ltb (c .head .chosen) 8) (endsBy capacity (recordingIn (c .head))) (lt-ltb _ _ (h .chosen)) (inside-ends (recordingIn (c .head)) capacity (h .within))))
+      (volume-from now (c .head .«passthru_volume») (λ a b x y e. ramp a b (x, y, inl e))))
       (join _ (leb (c .head .«data_len») capacity) (writes-from (c .head .recorder .state) (c .head .«data_len») (h .write-place)) (le-leb _ _ (h .data-length)))))
       (place-every (goodVoice now) (live c) (λ n v e. voice-from now v (judged v (n, e))))
     where
@@ -222,7 +243,7 @@ module _ (capacity : ℕ) (c : Channel) where
       ramp a b r = record { begun = h .ramp-start a b r; lasts = h .ramp-not-empty a b r; short = h .ramp-length a b r }
 
       judged : (v : Voice) → IsVoice c v → Judged now v
-      judged v i = record { since = h .since v i; finished-at = h .finished-at v i; ramps = λ a b x y e. ramp a b (x, y, inr (v, i, e)); clip = h .clip v i }
+      judged v i = record { phrase = h .phrase v i; since = h .since v i; finished-at = h .finished-at v i; ramps = λ a b x y e. ramp a b (x, y, inr (v, i, e)); clip = h .clip v i }
 
 -- ---- sizes
 one-or-two : (n : ℕ) → (eqb n 1 || eqb n 2) ≡ true → (n ≡ 1) ⊎ (n ≡ 2)
@@ -254,7 +275,7 @@ sizes-from count capacity h =
 
 -- past the last channel stands one that is good
 blank-good : (capacity : ℕ) → goodChannel capacity (channelOf (record { «auto_passthru» = false })) ≡ true
-unfolding goodChannel goodHead goodRecorder goodVoicesOf goodVolume every channelOf headOf
+unfolding goodChannel goodHead endsBy goodRecorder goodVoicesOf goodVolume every channelOf headOf
 blank-good capacity = rw (le-leb 0 capacity (omega arith))
 
 pub record-to : (s : Sampler) → goodSampler s ≡ true → GoodRecord s

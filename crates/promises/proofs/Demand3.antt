@@ -18,7 +18,7 @@ use Rattle.voice.specs.declared.Voice.{Voice}
 use Rattle.voice.specs.Voices.{freshOf}
 use Rattle.channel.specs.declared.Channel.{Channel}
 use Rattle.channel.specs.declared.Played.{Played}
-use Rattle.channel.specs.Heads.{lastTime}
+use Rattle.channel.specs.Heads.{lastTime, momentOf}
 use Rattle.channel.specs.Channels.{live, fullOf}
 use Rattle.sampler.specs.Refusals.{setUpNumber}
 use Rattle.fates.specs.Engine.{bornOf, stepOf}
@@ -101,7 +101,7 @@ module _ (w : World) (st : Standing w) (j : ℕ) (k : j < w .sampler .count) whe
     made : chan (after w (start position note velocity p₀)) j ≡ act b (chan w j)
     made = next (start position note velocity p₀) ∙ ap (λ (e : Event). act e (chan w j)) begun
 
-    pub takes : live (chan (after w (start position note velocity p₀)) j) ≡ live (chan w j) ++ (freshOf p₀ position note velocity (chan w j .head .now) (chan w j .head .«data_len») ∷ [])
+    pub takes : live (chan (after w (start position note velocity p₀)) j) ≡ live (chan w j) ++ (freshOf p₀ position note velocity (momentOf (chan w j .head)) ∷ [])
     unfolding b
     takes = ap live made ∙ taken p₀ position note velocity (chan w j) house some-data room
 
@@ -128,7 +128,7 @@ module _ (w : World) (st : Standing w) (j : ℕ) (k : j < w .sampler .count) whe
           → stoppedIn (events (after w (start position note velocity p₀)) cs j) (chan (after w (start position note velocity p₀)) j) (length (live (chan w j))) ≡ false
           → emptyAt m (chan (run w (start position note velocity p₀ ∷ cs)) j) (bornOf p₀ position note velocity (chan w j)) ≡ false
           → FirstIn (run w (start position note velocity p₀ ∷ cs)) s j p x m (length (live (chan w j)))
-          (freshOf p₀ position note velocity (chan w j .head .now) (chan w j .head .«data_len»))
+          (freshOf p₀ position note velocity (momentOf (chan w j .head)))
       unfolding es
       sooner s p x m h same free full =
           let cs' : List Call = start position note velocity p₀ ∷ cs in

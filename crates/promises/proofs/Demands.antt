@@ -45,7 +45,7 @@ use Rattle.channel.specs.declared.Change.the-variants.{Start, Stop, Speed, Head
 use Rattle.channel.specs.declared.HeadChange.the-variants.{Load}
 use Rattle.wave.specs.Reader.{judgedOf}
 use Rattle.wave.specs.Memory.{loadedOf}
-use Rattle.recordings.specs.Waves.{startsIn, writeNumber, waveAfter, heldIn, readNumber, readWaveOf, readMemory}
+use Rattle.recordings.specs.Waves.{frontsIn, writeNumber, waveAfter, heldIn, readNumber, readWaveOf, readMemory}
 use Rattle.promises.specs.Runs.{
   World,
   setUp,
@@ -130,7 +130,7 @@ after-held w (frame xs p) h =
     λ t. record { sampler = e t .sampler; memory = e t .memory }
 after-held w (readWave f) h =
     let n = readNumber (w .sampler) (judgedOf f) (length (w .memory)) in
-    λ t. record { sampler = other n (eachOf (Head (Load (heldIn (judgedOf f) .samples))) (w .sampler)) (w .sampler) h t; memory = other n (loadedOf f (startsIn (w .sampler)) (w .memory)) (w .memory) h t }
+    λ t. record { sampler = other n (eachOf (Head (Load (heldIn (judgedOf f) .samples))) (w .sampler)) (w .sampler) h t; memory = other n (loadedOf f (frontsIn (w .sampler)) (w .memory)) (w .memory) h t }
 after-held w (asks q) h = refl
 
 untouched : (w : World) (c : Call) (r : Outcome (on w c)) → Allows (on w c) r → code w c ≢ 0 → Untouched w c r

@@ -2,9 +2,10 @@
 use mathlib.Core.Path.{_≡_, refl}
 use mathlib.Core.Bool.{true, false}
 use mathlib.Core.List.{List, [], _∷_, _++_, map}
+use mathlib.Core.Option.{some}
 use Prim.Native.Nat.{ℕ, _+_, _-_, _^_}
 use lib.IntN.{pos, negsuc}
-use lib.ListN.{replicate}
+use lib.ListN.{length, replicate}
 use lib.Ieee.{Float, nan, inf, fin}
 use Rattle.volume.specs.declared.Volume.{Volume}
 use Rattle.volume.specs.declared.Volume.the-variants.{Static, Linear}
@@ -19,8 +20,9 @@ use Rattle.channel.specs.declared.Channel.{Channel}
 use Rattle.sampler.specs.declared.Sampler.{Sampler}
 use Rattle.sampler.specs.Refusals.{capacityOf, setUpNumber}
 use Rattle.sampler.specs.Samplers.{setUpOf}
-use Rattle.promises.specs.Runs.{Call, startRecording, sample, frame, code}
-use Rattle.promises.proofs.Examples.{computing, plain, key, quiet, init, recorded, since}
+use Rattle.fates.specs.Places.{voiceAt}
+use Rattle.promises.specs.Runs.{World, Call, startRecording, sample, frame, chan, code, after, output}
+use Rattle.promises.proofs.Examples.{computing, half, two, plain, key, quiet, init}
 
 -- ==== row 9, condition by condition: the numbers of records at its edge and past it
 
@@ -31,8 +33,9 @@ clipWith since start length data-length = record { since = since; start = start;
 abbrev clip : Clip
 clip = clipWith 0 zero32 one32 one32
 
-abbrev pub voiceWith : ℕ → Volume → Clip → Voice
-voiceWith finished-at volume c = record {
+-- a voice of that phrase
+abbrev voiceOf : ℕ → ℕ → Volume → Clip → Voice
+voiceOf phrase finished-at volume c = record {
   «finished_at» = finished-at;
   «last_sample_index» = 0;
   clip2 = c;
@@ -44,20 +47,30 @@ voiceWith finished-at volume c = record {
   note = key 60;
   finished = false;
   «is_at_zero_crossing» = false;
+  phrase = phrase;
 }
+
+abbrev pub voiceWith : ℕ → Volume → Clip → Voice
+voiceWith finished-at volume c = voiceOf 0 finished-at volume c
 
 abbrev voice : Voice
 voice = voiceWith 0 (Static one32) clip
 
-abbrev headWith : ℕ → ℕ → Volume → State → Head
-headWith now len volume state = record {
+-- the phrase with the number `chosen` is the recording: so many samples from `start` on
+abbrev headOn : ℕ → ℕ → ℕ → ℕ → Volume → State → Head
+headOn chosen start len now volume state = record {
   now = now;
   «data_len» = len;
+  start = start;
   «passthru_volume» = volume;
   recorder = record { state = state; «skipped_samples» = 0; «incorrect_state» = 0 };
   «passthru_on» = false;
   interpolates = false;
+  chosen = chosen;
 }
+
+abbrev headWith : ℕ → ℕ → Volume → State → Head
+headWith now len volume state = headOn 0 0 len now volume state
 
 -- 10 samples in, with 1 recorded
 abbrev head : Head
@@ -107,6 +120,30 @@ voice-counts-judged = refl
 pub data-lengths-judged : numbers (heads (headWith 10 4 (Static one32) Idle) ∷ heads (headWith 10 5 (Static one32) Idle) ∷ []) ≡ 0 ∷ 9 ∷ []
 unfolding computing
 data-lengths-judged = refl
+
+-- 11/12: the phrase that is chosen is one of eight,
+abbrev chooses : ℕ → Sampler
+chooses k = heads (headOn k 0 1 10 (Static one32) Idle)
+
+pub chosen-judged : numbers (map chooses (0 ∷ 7 ∷ 8 ∷ [])) ≡ 0 ∷ 0 ∷ 9 ∷ []
+unfolding computing
+chosen-judged = refl
+
+-- and it lies "within the channel's capacity", of 4 samples: its end there and one past it, with samples and with none
+abbrev lies : ℕ → ℕ → Sampler
+lies start len = heads (headOn 7 start len 10 (Static one32) Idle)
+
+pub ends-of-phrases-judged : numbers (lies 1 3 ∷ lies 2 3 ∷ lies 4 0 ∷ lies 5 0 ∷ []) ≡ 0 ∷ 9 ∷ 0 ∷ 9 ∷ []
+unfolding computing
+ends-of-phrases-judged = refl
+
+-- the number of a voice's phrase "is below eight"
+abbrev ofPhrase : ℕ → Sampler
+ofPhrase k = voices (voiceOf k 0 (Static one32) clip)
+
+pub phrases-judged : numbers (map ofPhrase (0 ∷ 7 ∷ 8 ∷ [])) ≡ 0 ∷ 0 ∷ 9 ∷ []
+unfolding computing
+phrases-judged = refl
 
 -- "a write place exceeds the data length"
 pub write-places-judged : numbers (heads (headWith 10 3 (Static one32) (Triggered 3)) ∷ heads (headWith 10 3 (Static one32) (Triggered 4)) ∷ []) ≡ 0 ∷ 9 ∷ []
@@ -233,3 +270,30 @@ ends-judged = refl
 pub before-the-end : map (clocks (2 ^ 48 - 1)) (sample 1 zero32 plain ∷ quiet plain ∷ []) ≡ 0 ∷ 0 ∷ []
 unfolding computing
 before-the-end = refl
+
+-- ==== 11/12: a voice goes by its own phrase. Of a part 1, 1/2, 2, 1/4 the phrase 3 is the recording, from sample 1 on, and every other phrase is empty; the voices are alike but for their phrases
+abbrev one-of : ℕ → Voice
+one-of k = voiceOf k 0 (Static one32) (record { since = 10; start = zero32; speed = one32; length = two; «data_length» = two; shift = zero32; mode = Loop })
+
+abbrev phrased : List Voice → World
+phrased vs = record {
+  sampler = both channel (channelWith vs (length vs) (headOn 3 1 2 10 (Static zero32) Idle));
+  memory = replicate 4 0 ++ (0x3F800000 ∷ 0x3F000000 ∷ 0x40000000 ∷ 0x3E800000 ∷ []);
+}
+
+abbrev silence : Call
+silence = sample 1 zero32 plain
+
+-- what is heard of them in two samples
+abbrev heard : List Voice → List Float
+heard vs = output (phrased vs) silence 1 ∷ output (after (phrased vs) silence) silence 1 ∷ []
+
+pub own-phrases-heard :
+    (heard (one-of 3 ∷ []) ≡ half ∷ two ∷ []) × (heard (one-of 7 ∷ []) ≡ zero32 ∷ zero32 ∷ []) × (heard (one-of 7 ∷ one-of 3 ∷ []) ≡ half ∷ two ∷ [])
+unfolding computing
+own-phrases-heard = (refl, refl, refl)
+
+-- on an empty phrase a voice stays as it is
+pub empty-phrase-rests : voiceAt (chan (after (phrased (one-of 7 ∷ one-of 3 ∷ [])) silence) 1) 0 ≡ some (one-of 7)
+unfolding computing
+empty-phrase-rests = refl

@@ -1,15 +1,13 @@
 -- The parts put together are what the contracts cite. Assumes nothing.
 use mathlib.Core.Path.{_≡_, refl, sym, ap}
-use mathlib.Core.Bool.{cond}
 use mathlib.Core.List.{List}
-use lib.Dec.{eqb}
 use Prim.Native.Nat.{ℕ}
 use lib.Ieee.{Float, add}
 use Rattle.common_types.specs.declared.Params.{Params}
 use Rattle.common_types.specs.declared.NoteOffBehaviour.{NoteOffBehaviour}
 use Rattle.common_types.specs.declared.NoteOffBehaviour.the-variants as off
 use Rattle.volume.specs.Levels.{isStaticAndMuteOf}
-use Rattle.binary32.specs.Leaves.{zero32}
+use Rattle.phrases.specs.Phrases.{storedIn}
 use Rattle.voice.specs.declared.Voice.{Voice}
 use Rattle.voice.specs.declared.Tick.{Tick}
 use Rattle.voice.specs.Voices.{lateOf, overOf, shouldRemoveOf, productOf, turnOf}
@@ -17,8 +15,8 @@ use Rattle.channel.specs.declared.Channel.{Channel}
 use Rattle.channel.specs.declared.Played.{Played}
 use Rattle.channel.specs.declared.Change.{Change}
 use Rattle.channel.specs.declared.Change.the-variants as change
-use Rattle.channel.specs.Heads.{momentOf, closedOf, mixedOf}
-use Rattle.channel.specs.Channels.{withHead, anyUnfinishedOf, startPlayingOf, Turning, playedOf, addedOf, turningBy, turningOf, playedIfOf, takenOf, memoryOf, processSampleOf, changedOf}
+use Rattle.channel.specs.Heads.{closedOf, mixedOf}
+use Rattle.channel.specs.Channels.{withHead, anyUnfinishedOf, startPlayingOf, Turning, playedOf, addedOf, turningBy, turningOf, phraseAt, momentFor, turningIn, takenOf, memoryOf, processSampleOf, changedOf}
 use Rattle.fates.specs.Engine.{begunOf, passesOver, turnedOf, letsGo, leavesOf, turnsBy, momentAt, heldAt, stepOf}
 use Rattle.fates.specs.Events.{changes, sounds, act}
 
@@ -45,7 +43,7 @@ unfolding turnsBy turningBy turnedOf turnOf passesOver
 turns-same t m = λ i. record { turn = turnOf t m; leaves = λ (u : Voice). leaves-same t u i; adds = λ (out : Float) (v : Voice). addedOf (shouldRemoveOf t v) out (productOf t m v) }
 
 pub step-same : (p : Params) (x : Float) (c : Channel) (m : List ℕ) → stepOf p x c m ≡ processSampleOf p x c m
-unfolding stepOf momentAt heldAt processSampleOf playedIfOf takenOf closedOf add
+unfolding stepOf momentAt heldAt processSampleOf turningIn closedOf add
 step-same p x c m = ap (λ (by : Tick → List ℕ → Turning). by-parts by) (λ i t m. turns-same t m i)
   where
     d : Channel
@@ -53,8 +51,7 @@ step-same p x c m = ap (λ (by : Tick → List ℕ → Turning). by-parts by) (�
 
     by-parts : (Tick → List ℕ → Turning) → Played
     by-parts by =
-        let r = cond {A = Played} (eqb (d .head .«data_len») 0) (record { channel = d; output = zero32; moved = 0 })
-        (playedOf (turningOf by p (λ (v : Voice). momentOf (d .head)) (λ (v : Voice). memoryOf x c m)) d) in
+        let r = playedOf (turningOf by p (λ (v : Voice). momentFor d (v .phrase)) (λ (v : Voice). storedIn (phraseAt d (v .phrase)) (memoryOf x c m))) d in
         record { channel = withHead (closedOf p (anyUnfinishedOf (r .channel)) (d .head)) (r .channel); output = mixedOf x (r .output) (d .head); moved = r .moved }
 
 pub sounds-same : (p : Params) (x : Float) (c : Channel) (m : List ℕ) → processSampleOf p x c m .channel ≡ act (sounds p x m) c

@@ -30,13 +30,15 @@ use Rattle.clip.specs.Refusals.{goodLength, goodClip}
 use Rattle.clip.specs.Plain.{PlainClip, isPlain}
 use Rattle.clip.proofs.Plain.{tested}
 use Rattle.walks.specs.Each.{Each}
+use Rattle.phrases.specs.Phrases.{endsBy, storedIn}
 use Rattle.voice.specs.declared.Voice.{Voice}
+use Rattle.voice.specs.declared.Moment.{Moment}
 use Rattle.voice.specs.Voices.{spanOf, tickOf, lateOf, overOf, shouldRemoveOf, movedOf, betweenOf, valueOf, productOf, soundedOf, finishOf, playedOutOf, endedOf, volumeStepped, turnOf, freshOf, blankVoice, atSpeedOf, goodVoice}
 use Rattle.voice.specs.Agreeing.{agreesOf}
 use Rattle.channel.specs.declared.Head.{Head}
 use Rattle.channel.specs.Soundness.{FittingChange}
-use Rattle.channel.specs.Heads.{headChangedOf, nextTime, headOf, rampOf, passthruOf, closedOf, goodHead}
-use Rattle.channel.specs.Channels.{live, withHead, withVoices, channelOf, resetOf, anyUnfinishedOf, handledOf, pushedOf, startPlayingOf, wantedOf, findOf, finishedAtOf, stopPlayingOf, spedOf, setNoteSpeedOf, keptOf, tidiedOf, addedOf, heardOf, playedOf, turningBy, resting, turningAt, turningOf, playedIfOf, takenOf, memoryOf, processSampleOf, changedOf, fullOf, goodVoicesOf, goodChannel, recordingOf}
+use Rattle.channel.specs.Heads.{phraseIn, writtenIn, headChangedOf, nextTime, headOf, rampOf, passthruOf, closedOf, goodHead}
+use Rattle.channel.specs.Channels.{live, withHead, withVoices, channelOf, resetOf, anyUnfinishedOf, handledOf, pushedOf, startPlayingOf, wantedOf, findOf, finishedAtOf, stopPlayingOf, spedOf, setNoteSpeedOf, keptOf, tidiedOf, addedOf, heardOf, playedOf, turningBy, resting, turningAt, turningOf, turningIn, takenOf, memoryOf, processSampleOf, changedOf, fullOf, goodVoicesOf, goodChannel, recordingOf}
 use Rattle.sampler.specs.Refusals.{goodSizes, goodSampler, capacityOf, goodWith, setUpNumber, startRows, stopRows, speedRows, sampleNumber, frameNumber, latestOf, roomOf, runNumber, doneOf, channelNumber}
 use Rattle.sampler.specs.declared.Sampler.{Sampler}
 use Rattle.sampler.specs.declared.Ran.{Ran}
@@ -62,7 +64,7 @@ use Rattle.promises.proofs.TruePositions.{true-positions}
 
 -- whatever a run computes by
 unfoldable pub computing : Unit {0}
-unfolding floorOf minOf maxOf crossingOf any every without behind fold seek speedOf timeLengthOf lengthOf loopLengthOf lengthBeyond beyondLimits progressOf levelOf towardOf steppedOf goodRamp goodVolume raised inState misusedOf skippedOf startOf stopOf recordedOf dataAfter goodRecorder leadOf travelAt loopedOf roundTripOf mirroredOf bouncedOf wrappedOf placedOf clipOffsetAt clipToDataOf offsetAt indexAt madeOf backOf foundAt reversingAt shiftFor settledOf withSpeed withMode withLength withDataLength goodLength goodClip spanOf tickOf lateOf overOf shouldRemoveOf movedOf positionOf aheadOf nextAt betweenOf valueOf productOf soundedOf finishOf playedOutOf endedOf volumeStepped turnOf freshOf blankVoice atSpeedOf goodVoice nextTime headOf rampOf passthruOf closedOf goodHead channelOf resetOf anyUnfinishedOf handledOf pushedOf startPlayingOf wantedOf findOf finishedAtOf stopPlayingOf spedOf setNoteSpeedOf headChangedOf keptOf tidiedOf addedOf heardOf playedOf turningBy resting turningAt turningOf playedIfOf takenOf begunOf passesOver turnedOf letsGo leavesOf turnsBy momentAt heldAt stepOf memoryOf processSampleOf changedOf fullOf goodVoicesOf goodChannel goodSizes goodSampler capacityOf goodWith setUpNumber startRows stopRows speedRows sampleNumber frameNumber channelNumber notesOf listNumber setUpOf eachOf answerOf partOf playedAt sampledOf outputOf movedAt memoryAt sampleOf sampleMemory entryOf entriesOf entriesMoved framedOf frameMoved act isReset isSample decayOf fateOf follow stops becomes addedBy outOf playsOut followAll stoppedIn finishedIn agreesOf disagrees alters alteredIn setUp questionNumber code after run doneTo event events isResetCall isRead output before add sub mul div rem neg lt le eq ofInt toUnsigned isNan ofBits toBits nanBits ofFields latestOf roomOf runNumber doneOf framesOf ranOf runAnswer
+unfolding floorOf minOf maxOf crossingOf any every without behind fold seek speedOf timeLengthOf lengthOf loopLengthOf lengthBeyond beyondLimits progressOf levelOf towardOf steppedOf goodRamp goodVolume raised inState misusedOf skippedOf startOf stopOf recordedOf dataAfter goodRecorder leadOf travelAt loopedOf roundTripOf mirroredOf bouncedOf wrappedOf placedOf clipOffsetAt clipToDataOf offsetAt indexAt madeOf backOf foundAt reversingAt shiftFor settledOf withSpeed withMode withLength withDataLength goodLength goodClip spanOf tickOf lateOf overOf shouldRemoveOf movedOf positionOf aheadOf nextAt betweenOf valueOf productOf soundedOf finishOf playedOutOf endedOf volumeStepped turnOf freshOf blankVoice atSpeedOf goodVoice endsBy storedIn phraseIn writtenIn nextTime headOf rampOf passthruOf closedOf goodHead channelOf resetOf anyUnfinishedOf handledOf pushedOf startPlayingOf wantedOf findOf finishedAtOf stopPlayingOf spedOf setNoteSpeedOf headChangedOf keptOf tidiedOf addedOf heardOf playedOf turningBy resting turningAt turningOf turningIn takenOf begunOf passesOver turnedOf letsGo leavesOf turnsBy momentAt heldAt stepOf memoryOf processSampleOf changedOf fullOf goodVoicesOf goodChannel goodSizes goodSampler capacityOf goodWith setUpNumber startRows stopRows speedRows sampleNumber frameNumber channelNumber notesOf listNumber setUpOf eachOf answerOf partOf playedAt sampledOf outputOf movedAt memoryAt sampleOf sampleMemory entryOf entriesOf entriesMoved framedOf frameMoved act isReset isSample decayOf fateOf follow stops becomes addedBy outOf playsOut followAll stoppedIn finishedIn agreesOf disagrees alters alteredIn setUp questionNumber code after run doneTo event events isResetCall isRead output before add sub mul div rem neg lt le eq ofInt toUnsigned isNan ofBits toBits nanBits ofFields latestOf roomOf runNumber doneOf framesOf ranOf runAnswer
 computing = tt
 
 -- ---- parameters, keys, calls
@@ -148,16 +150,20 @@ soft = record {
   «note_off_behavior» = off.Decay;
 }
 
+-- what a voice goes by that starts at count 2, with 2 samples recorded
+abbrev pub then : Moment
+then = record { now = 2; «data_len» = 2; interpolates = false; phrase = 0 }
+
 promised : Demand3 older 1
 unfolding computing
 promised = demand3 2 init cells refl (recorded ++ (press 60 ∷ [])) 1 (lit< tt)
 
-pub on-time-met : FirstIn younger (quiet soft) 1 soft zero32 part 1 (freshOf plain zero32 (key 60) one32 2 2)
+pub on-time-met : FirstIn younger (quiet soft) 1 soft zero32 part 1 (freshOf plain zero32 (key 60) one32 then)
 unfolding computing
 on-time-met = promised .on-time zero32 (key 60) one32 plain refl refl between refl (quiet soft) soft zero32 part refl refl refl refl
 
 -- the older voice, stopped with no decay, has no term; that of the younger one, at its note's speed 0.5, is its first recorded value, 1
-pub on-time-terms : termsWith soft zero32 part (chan younger 1) 1 (atSpeedOf half (freshOf plain zero32 (key 60) one32 2 2)) ≡ one32 ∷ []
+pub on-time-terms : termsWith soft zero32 part (chan younger 1) 1 (atSpeedOf half (freshOf plain zero32 (key 60) one32 then)) ≡ one32 ∷ []
 unfolding computing termsOf
 on-time-terms = refl
 
@@ -191,7 +197,7 @@ again = quiet plain ∷ press 60 ∷ []
 
 pub sounds-on-met : (k : ℕ) × (u : Voice) × (followAll (events older again 1) (chan older 1) 0 ≡ at k) × SoundsIn (run older again) (sample 1 zero32 plain) 1 plain zero32 part k u
 unfolding computing
-sounds-on-met = promised .sounds-on 0 (freshOf plain zero32 (key 60) one32 2 2) refl refl again refl refl (sample 1 zero32 plain) plain zero32 part refl refl
+sounds-on-met = promised .sounds-on 0 (freshOf plain zero32 (key 60) one32 then) refl refl again refl refl (sample 1 zero32 plain) plain zero32 part refl refl
 
 -- it has come to 0.5, and the second one begins at 1
 pub sounds-on-terms : termsWith plain zero32 part (chan (run older again) 1) 0 (getD (live (chan (run older again) 1)) 0 blankVoice) ≡ half ∷ one32 ∷ []
@@ -201,7 +207,7 @@ sounds-on-terms = refl
 -- ---- stays: play-once finishes the voice in its second sample, and with no decay it leaves in that sample
 pub stays-met : finishedIn (events older (quiet once ∷ quiet once ∷ []) 1) (chan older 1) 0 ≡ true
 unfolding computing
-stays-met = promised .stays 0 (freshOf plain zero32 (key 60) one32 2 2) refl refl (quiet once ∷ quiet once ∷ []) refl refl
+stays-met = promised .stays 0 (freshOf plain zero32 (key 60) one32 then) refl refl (quiet once ∷ quiet once ∷ []) refl refl
 
 -- and not before
 pub stays-before : finishedIn (events older (quiet once ∷ []) 1) (chan older 1) 0 ≡ false
@@ -258,11 +264,11 @@ fades b = quiet (fading b) ∷ quiet (fading b) ∷ quiet (fading b) ∷ []
 pub goes-met : (b : NoteOffBehaviour) → followAll (events older (stop (key 60) (fading b) ∷ fades b) 1) (chan older 1) 0 ≡ gone
 unfolding computing
 goes-met off.Decay =
-    promised .goes (stop (key 60) (fading off.Decay)) 0 (freshOf plain zero32 (key 60) one32 2 2) refl refl (fades off.Decay) (fading off.Decay) zero32 part refl refl (lit≤ tt)
+    promised .goes (stop (key 60) (fading off.Decay)) 0 (freshOf plain zero32 (key 60) one32 then) refl refl (fades off.Decay) (fading off.Decay) zero32 part refl refl (lit≤ tt)
 goes-met off.ZeroCrossing =
-    promised .goes (stop (key 60) (fading off.ZeroCrossing)) 0 (freshOf plain zero32 (key 60) one32 2 2) refl refl (fades off.ZeroCrossing) (fading off.ZeroCrossing) zero32 part refl refl (lit≤ tt)
+    promised .goes (stop (key 60) (fading off.ZeroCrossing)) 0 (freshOf plain zero32 (key 60) one32 then) refl refl (fades off.ZeroCrossing) (fading off.ZeroCrossing) zero32 part refl refl (lit≤ tt)
 goes-met off.DecayAndZeroCrossing =
-    promised .goes (stop (key 60) (fading off.DecayAndZeroCrossing)) 0 (freshOf plain zero32 (key 60) one32 2 2) refl refl (fades off.DecayAndZeroCrossing) (fading off.DecayAndZeroCrossing) zero32 part refl refl
+    promised .goes (stop (key 60) (fading off.DecayAndZeroCrossing)) 0 (freshOf plain zero32 (key 60) one32 then) refl refl (fades off.DecayAndZeroCrossing) (fading off.DecayAndZeroCrossing) zero32 part refl refl
     (lit≤ tt)
 
 -- by the end of sample 3 it is not, where the decay alone decides
@@ -306,13 +312,13 @@ no-place = refl
 
 pub free-met : (chan (after stopped (quiet plain)) 1 .count < chan stopped 1 .count) × (fullOf (chan (after stopped (quiet plain)) 1) ≡ false)
 unfolding computing
-free-met = demand3 2 init cells refl (recorded ++ (replicate 32 (press 60) ++ (stop (key 60) plain ∷ []))) 1 (lit< tt) .free (quiet plain) 0 (finishOf 2 0 (freshOf plain zero32 (key 60) one32 2 2)) refl refl refl
+free-met = demand3 2 init cells refl (recorded ++ (replicate 32 (press 60) ++ (stop (key 60) plain ∷ []))) 1 (lit< tt) .free (quiet plain) 0 (finishOf 2 0 (freshOf plain zero32 (key 60) one32 then)) refl refl refl
 
 pub place-again : code (after stopped (quiet plain)) (press 60) ≡ 0
 unfolding computing
 place-again = refl
 
-pub taken-met : live (chan (after older (press 61)) 1) ≡ live (chan older 1) ++ (freshOf plain zero32 (key 61) one32 2 2 ∷ [])
+pub taken-met : live (chan (after older (press 61)) 1) ≡ live (chan older 1) ++ (freshOf plain zero32 (key 61) one32 then ∷ [])
 unfolding computing
 taken-met = promised .taken zero32 (key 61) one32 plain refl refl
 
@@ -330,20 +336,20 @@ unfolding computing
 true-promised = true-positions 2 init cells refl (recorded ++ (press 60 ∷ [])) 1 (lit< tt)
 
 -- both begin with a loop of the 2 samples, at the recording's start and at its half
-whole-clip : PlainClip (freshOf plain zero32 (key 61) one32 2 2 .clip2) 0 2 2
+whole-clip : PlainClip (freshOf plain zero32 (key 61) one32 then .clip2) 0 2 2
 unfolding computing isPlain wholeIn
-whole-clip = tested (freshOf plain zero32 (key 61) one32 2 2 .clip2) refl .plain
+whole-clip = tested (freshOf plain zero32 (key 61) one32 then .clip2) refl .plain
 
-half-clip : PlainClip (freshOf plain half (key 61) one32 2 2 .clip2) 1 2 2
+half-clip : PlainClip (freshOf plain half (key 61) one32 then .clip2) 1 2 2
 unfolding computing isPlain wholeIn
-half-clip = tested (freshOf plain half (key 61) one32 2 2 .clip2) refl .plain
+half-clip = tested (freshOf plain half (key 61) one32 then .clip2) refl .plain
 
-undisturbed : Undisturbed older 1 (press 61) steadily (quiet plain) plain zero32 part (freshOf plain zero32 (key 61) one32 2 2) 3
+undisturbed : Undisturbed older 1 (press 61) steadily (quiet plain) plain zero32 part (freshOf plain zero32 (key 61) one32 then) 3
 unfolding computing
 undisturbed = record { accepted = refl; recorded = refl; no-reset = refl; unfinished = refl; unaltered = refl; sample = refl; finds = refl; later = refl; within = lit≤ tt }
 
 -- 3 samples on it has moved up to place 0, and sounds and shows sample 1: the value 0.5
-pub on-the-beat-met : OnTheBeat older 1 (press 61) steadily (quiet plain) plain zero32 part (freshOf plain zero32 (key 61) one32 2 2) 1
+pub on-the-beat-met : OnTheBeat older 1 (press 61) steadily (quiet plain) plain zero32 part (freshOf plain zero32 (key 61) one32 then) 1
 unfolding computing
 on-the-beat-met = true-promised .on-the-beat zero32 (key 61) one32 plain 0 2 2 whole-clip steadily (quiet plain) plain zero32 part 3 undisturbed
 
@@ -359,7 +365,7 @@ unfolding computing
 seen-met = true-promised .seen zero32 (key 61) one32 plain 0 2 2 whole-clip steadily (quiet plain) plain zero32 part 3 undisturbed 0 0 refl refl
 
 -- in the sample of its own count it sounds its start
-pub no-lag-met : OnTheBeat older 1 (start half (key 61) one32 plain) [] (quiet plain) plain zero32 part (freshOf plain half (key 61) one32 2 2) 1
+pub no-lag-met : OnTheBeat older 1 (start half (key 61) one32 plain) [] (quiet plain) plain zero32 part (freshOf plain half (key 61) one32 then) 1
 unfolding computing
 no-lag-met =
     true-promised .no-lag half (key 61) one32 plain 1 2 2 half-clip [] (quiet plain) plain zero32 part
@@ -418,7 +424,7 @@ unfolding computing
 opens-met = whole 2 init cells refl leaving fitting-leaving .opens zero32 (key 60) one32 plain refl refl refl none-full
 
 -- ---- no panic: a voice that plays
-plays : Plays older 1 0 (freshOf plain zero32 (key 60) one32 2 2) (quiet plain) plain zero32 part
+plays : Plays older 1 0 (freshOf plain zero32 (key 60) one32 then) (quiet plain) plain zero32 part
 unfolding computing FittingCall fits
 plays = record { present = lit< tt; stands = refl; floats = tt; sample = refl; finds = refl }
 
@@ -426,7 +432,7 @@ fitting-older : Each FittingCall (recorded ++ (press 60 ∷ []))
 unfolding Each
 fitting-older = fitting-joined recorded (press 60 ∷ []) fitting-recorded (fitting-presses 1)
 
-pub asked-met : Asked (tickAt plain part (chan older 1) (freshOf plain zero32 (key 60) one32 2 2)) (freshOf plain zero32 (key 60) one32 2 2)
+pub asked-met : Asked (tickAt plain part (chan older 1) (freshOf plain zero32 (key 60) one32 then)) (freshOf plain zero32 (key 60) one32 then)
 unfolding computing
 asked-met = no-panic 2 init cells refl (recorded ++ (press 60 ∷ [])) fitting-older .asked 1 0 _ (quiet plain) plain zero32 part plays
 
@@ -435,7 +441,7 @@ abbrev astray : World
 astray = since (press 60 ∷ speed (key 60) nan ∷ [])
 
 abbrev strayed : Voice
-strayed = atSpeedOf nan (freshOf plain zero32 (key 60) one32 2 2)
+strayed = atSpeedOf nan (freshOf plain zero32 (key 60) one32 then)
 
 strays : Plays astray 1 0 strayed (quiet plain) plain zero32 part
 unfolding computing FittingCall fits
@@ -516,7 +522,7 @@ filled-met =
 
 -- ---- each number of the table, given
 abbrev timed : ℕ → Head → Head
-timed n h = record { now = n; «data_len» = h .«data_len»; «passthru_volume» = h .«passthru_volume»; recorder = h .recorder; «passthru_on» = h .«passthru_on»; interpolates = h .interpolates }
+timed n h = record { now = n; «data_len» = h .«data_len»; start = h .start; «passthru_volume» = h .«passthru_volume»; recorder = h .recorder; «passthru_on» = h .«passthru_on»; interpolates = h .interpolates; chosen = h .chosen }
 
 -- channel 0's clock at its end
 abbrev late : World
@@ -599,7 +605,7 @@ run-rest-met = refl
 -- ---- 12/12: each channel with 32 voices, of which those marked are finished and leave in the next sample
 abbrev marked : Bool → Voice
 marked ends =
-    let v = freshOf plain zero32 (key 60) one32 2 2 in
+    let v = freshOf plain zero32 (key 60) one32 then in
     cond ends (finishOf 2 0 v) v
 
 abbrev letGo : List Bool → World

@@ -7,12 +7,11 @@ use borrow.Author.Tests.{eq-eqb}
 use lib.ListN.{length, take, drop, length-map}
 use lib.Seq.{length-take-le, take-at}
 use Rattle.common_types.specs.declared.Params.{Params}
-use Rattle.common_types.specs.Settings.{loopLengthOf}
 use Rattle.channel.specs.Channels.{live}
 use Rattle.questions.specs.declared.VoiceInfo.{VoiceInfo}
 use Rattle.questions.specs.declared.VoiceInfos.{VoiceInfos}
 use Rattle.questions.specs.declared.Counted.the-variants as counted
-use Rattle.questions.specs.Questions.{noInfos, inFront, answered, voiceInfosOf, infoNumber, getVoiceInfoOf}
+use Rattle.questions.specs.Questions.{noInfos, inFront, answered, figuresOf, voiceInfosOf, infoNumber, getVoiceInfoOf}
 use Rattle.questions.proofs.Room.{infos-fit}
 use Rattle.questions.specs.Lists.{countedOf, listedOf}
 use Rattle.promises.specs.Runs.{World, chan}
@@ -20,7 +19,7 @@ use Rattle.promises.specs.Demands.{figures}
 
 module _ (w : World) (j : ℕ) (p : Params) (room : ℕ) (ok : infoNumber (w .sampler) j p room ≡ 0) (places : length (chan w j .voices) ≡ 32) where
   infos : VoiceInfos
-  infos = voiceInfosOf (loopLengthOf p (chan w 0 .head .«data_len»)) (chan w j)
+  infos = voiceInfosOf p (chan w 0) (chan w j)
 
   given : getVoiceInfoOf (w .sampler) j p room ≡ infos
   unfolding getVoiceInfoOf answered infos
@@ -34,7 +33,7 @@ module _ (w : World) (j : ℕ) (p : Params) (room : ℕ) (ok : infoNumber (w .sa
   as-many = length-map (live (chan w j)) _ ∙ length-take-le (chan w j .count) (chan w j .voices) (omega (arith, few))
 
   in-front : take (chan w j .count) (infos .infos) ≡ figures w j p
-  unfolding infos voiceInfosOf
+  unfolding infos voiceInfosOf figuresOf
   in-front = take-at (figures w j p) (drop (length (figures w j p)) noInfos) (chan w j .count) as-many
 
   pub infos-given : (r : VoiceInfos) → r ≡ getVoiceInfoOf (w .sampler) j p room → (r .count ≡ chan w j .count) × (take (r .count) (r .infos) ≡ figures w j p)

@@ -6,7 +6,6 @@ use mathlib.Core.Logic.{_⊎_}
 use Prim.Native.Nat.{ℕ, _+_, _*_, _^_, _≤_, _<_}
 use native.Mathlib.Nat.{le-refl}
 use native.Mathlib.Omega.{arith}
-use borrow.Author.Tests.{eqb-true}
 use lib.Dec.{eqb, ltb}
 use lib.ListN.{length, take, drop, getD}
 use lib.Seq.{take-at, drop-at}
@@ -18,35 +17,36 @@ use Rattle.wave.specs.Files.{fileOf}
 use Rattle.wave.specs.Reader.{judgedOf}
 use Rattle.wave.specs.Grammar.{IsWave}
 use Rattle.wave.specs.Memory.{startAt, fitsMemory, framesOf, channelOf, bytesOf, layoutOf, loadedOf}
-use Rattle.wave.specs.Promised.{Sized}
+use Rattle.wave.specs.Promised.{Sized, recordingAt}
 use Rattle.wave.proofs.Answers.{Known, good-known, answer-good}
 use Rattle.wave.proofs.Layouts.{fits-true}
 use Rattle.wave.proofs.Promised.{promised, file-good, file-samples, frames-recording, sized}
 use Rattle.wave.proofs.Calls.{length-frames, length-file, length-loaded}
+use Rattle.phrases.specs.Phrases.{storedIn}
 use Rattle.recorder.specs.declared.State.{State}
 use Rattle.recorder.specs.declared.State.the-variants.{Triggered, Idle}
 use Rattle.recorder.proofs.Cases.{not-recording}
 use Rattle.channel.specs.declared.Head.{Head}
 use Rattle.channel.specs.declared.Channel.{Channel}
-use Rattle.channel.specs.Heads.{withRecorded, headChangedOf}
+use Rattle.channel.specs.Heads.{headChangedOf}
 use Rattle.channel.specs.Channels.{withHead, channelOf as newChannel}
 use Rattle.sampler.specs.declared.Sampler.{Sampler}
 use Rattle.sampler.specs.Refusals.{row, goodWith, records, anyRecording}
 use Rattle.sampler.specs.Samplers.{partOf}
-use Rattle.sampler.proofs.Rows.{is-true, Fitting, fitting}
+use Rattle.sampler.proofs.Rows.{Fitting, fitting}
 use Rattle.questions.specs.Questions.{answered}
-use Rattle.recordings.specs.Waves.{samplesOf, startsIn, layoutIn, writeNumber, writeWaveOf, waveAfter, badFile, heldIn, readNumber, readWaveOf, readMemory}
+use Rattle.recordings.specs.Waves.{samplesOf, startsIn, frontsIn, layoutIn, writeNumber, writeWaveOf, waveAfter, badFile, heldIn, readNumber, readWaveOf, readMemory}
 use Rattle.recordings.specs.declared.ReadAnswer.{ReadAnswer}
 use Rattle.recordings.specs.declared.WaveRead.{WaveRead}
-use Rattle.recordings.proofs.Parts.{starts-fit, part-front, part-rest, parts-rest}
-use Rattle.recordings.proofs.Numbers.{short, layout-fits, file-fits, Writes, write-says, Loads, read-says}
+use Rattle.recordings.proofs.Parts.{fronts-fit, part-front, part-rest, parts-rest, recording-there, alike-at}
+use Rattle.recordings.proofs.Numbers.{layout-fits, file-fits, Writes, write-says, Loads, read-says}
 use Rattle.fates.specs.Events.{act}
 use Rattle.promises.specs.Runs.{World, readWave, asks, writeWave, questionNumber, code, after, chan, ownPart, doneTo, event}
 use Rattle.promises.specs.Outcomes.{on, ListOutcome, ReadOutcome, Allows, leftBy}
 use Rattle.promises.proofs.Accepted.{any-front}
 use Rattle.promises.proofs.Calls.{chan-after, kept}
 use Rattle.promises.proofs.Outcomes.{left-after}
-use Rattle.promises.specs.Recordings.{recording, Words, bytesIn, Written, Read, Recordings, writePlaceOf}
+use Rattle.promises.specs.Recordings.{recording, Words, bytesIn, Written, beginning, Read, Recordings, writePlaceOf}
 
 -- what stands past the last channel
 abbrev new : Channel
@@ -108,14 +108,14 @@ module _ (w : World) where
     in-front : take (bytesIn w) (r .lent) ≡ file
     in-front = ap (take (bytesIn w)) lent ∙ take-at file _ (bytesIn w) long
 
-    at-most : s .count ≤ 2
-    at-most = fitting s size (lets .good) .few
+    whole : Fitting s size
+    whole = fitting s size (lets .good)
 
-    room : s .count ≤ length (s .channels)
-    room = omega (arith, at-most, two)
+    at-most : s .count ≤ 2
+    at-most = whole .few
 
     fits-file : Sized rate (s .count) n frames
-    fits-file = sized rate (layoutIn s) (w .memory) small words (layout-fits s size (lets .good)) (file-fits s size (lets .good) (bytesOf (layoutIn s)) (le-refl _))
+    fits-file = sized rate (layoutIn s) (w .memory) small words (layout-fits s size (lets .good) two (lets .alike)) (file-fits s size (lets .good) (bytesOf (layoutIn s)) (le-refl _))
 
     -- a good file with so many samples a channel
     record Good (f : List ℕ) : Type 0 where
@@ -125,9 +125,6 @@ module _ (w : World) where
     good : Good (take (bytesIn w) (r .lent))
     good = subst Good (sym in-front) (record { is = file-good rate (s .count) n frames fits-file; samples = file-samples rate (s .count) n frames fits-file })
 
-    same-length : (j : ℕ) → j < s .count → chan w j .head .«data_len» ≡ n
-    same-length j k = eqb-true _ _ (is-true _ (any-front (λ (c : Channel). not (eqb (c .head .«data_len») n)) (s .channels) (s .count) j new (lets .alike) k room))
-
     pub written : Written w rate out r
     unfolding code questionNumber writeWaveOf answered
     written = record {
@@ -135,8 +132,9 @@ module _ (w : World) where
       file = in-front;
       good = good .is;
       samples = good .samples;
-      recordings = λ j k. rw (same-length j k) (part-front s n j (w .memory) (omega (arith, at-most)) (short s size (lets .good))
-          ∙ sym (frames-recording (layoutIn s) (w .memory) (fits-true (layoutIn s) size (layout-fits s size (lets .good))) j k));
+      recordings = λ j k. recording-there s (whole .good) at-most j k (w .memory)
+          ∙ ap (λ (x : ℕ). recordingAt (startsIn s) x j (w .memory)) (alike-at s two at-most (lets .alike) j k)
+          ∙ sym (frames-recording (layoutIn s) (w .memory) (fits-true (layoutIn s) size (layout-fits s size (lets .good) two (lets .alike))) j k);
       answer = a .0 ∙ rw z refl;
       rest = ap (drop (bytesIn w)) lent ∙ drop-at file _ (bytesIn w) long;
     }
@@ -175,7 +173,7 @@ module _ (w : World) (f : List ℕ) (rate channels : ℕ) (words : List ℕ) (g 
   left = left-after w (readWave f) r a
 
   -- the record
-  else-kept : (j : ℕ) → j < channels → chan u j ≡ withHead (withRecorded (record { recorder = chan w j .head .recorder; «data_len» = g .samples }) (chan w j .head)) (chan w j)
+  else-kept : (j : ℕ) → j < channels → chan u j ≡ withHead (beginning (g .samples) (chan w j .head)) (chan w j)
   unfolding event doneTo act headChangedOf
   else-kept j h =
       ap (λ (v : World). chan v j) left ∙ chan-after w two (fit .few) j (omega (arith, counts)) (readWave f) ∙ rw (z, same-samples) refl
@@ -185,7 +183,7 @@ module _ (w : World) (f : List ℕ) (rate channels : ℕ) (words : List ℕ) (g 
 
   -- the memory
   abbrev loaded : List ℕ
-  loaded = loadedOf f (startsIn (w .sampler)) (w .memory)
+  loaded = loadedOf f (frontsIn (w .sampler)) (w .memory)
 
   memory-is : u .memory ≡ loaded
   unfolding code readMemory
@@ -198,31 +196,31 @@ module _ (w : World) (f : List ℕ) (rate channels : ℕ) (words : List ℕ) (g 
   few : g .samples ≤ w .sampler .capacity
   few = subst (λ (n : ℕ). n ≤ w .sampler .capacity) same-samples (loads .room)
 
-  fits : fitsMemory (layoutOf (k .wave) (startsIn (w .sampler))) (length (w .memory)) ≡ true
+  fits : fitsMemory (layoutOf (k .wave) (frontsIn (w .sampler))) (length (w .memory)) ≡ true
   fits =
-      starts-fit (w .sampler) (length (w .memory)) (layoutOf (k .wave) (startsIn (w .sampler))) fit (k .same-channels ∙ counts)
+      fronts-fit (w .sampler) (length (w .memory)) (layoutOf (k .wave) (frontsIn (w .sampler))) fit (k .same-channels ∙ counts)
       (subst (λ (n : ℕ). n ≤ w .sampler .capacity) (sym (k .same-samples)) few) refl
 
   front-is : (j : ℕ) → j < channels → take (g .samples) (ownPart u j) ≡ channelOf channels (g .samples) j words
   front-is j h =
-      let known = promised .loaded-recording f (k .wave) (startsIn (w .sampler)) (w .memory) (k .judged) fits j (subst (λ (n : ℕ). j < n) (sym (k .same-channels)) h) in
+      let known = promised .loaded-recording f (k .wave) (frontsIn (w .sampler)) (w .memory) (k .judged) fits j (subst (λ (n : ℕ). j < n) (sym (k .same-channels)) h) in
       rw (own-part j) (part-front (w .sampler) (g .samples) j loaded (omega (arith, counts, fit .few)) few ∙ (rw (k .same-words, k .same-channels, k .same-samples) at known))
 
   -- every other word
-  else-is : (x : ℕ) → ((j : ℕ) → j < channels → (x < startAt (startsIn (w .sampler)) j) ⊎ (startAt (startsIn (w .sampler)) j + g .samples ≤ x)) → getD loaded x 0 ≡ getD (w .memory) x 0
-  else-is x beside = promised .loaded-else f (k .wave) (startsIn (w .sampler)) (w .memory) (k .judged) x (rw (k .same-channels, k .same-samples) beside)
+  else-is : (x : ℕ) → ((j : ℕ) → j < channels → (x < startAt (frontsIn (w .sampler)) j) ⊎ (startAt (frontsIn (w .sampler)) j + g .samples ≤ x)) → getD loaded x 0 ≡ getD (w .memory) x 0
+  else-is x beside = promised .loaded-else f (k .wave) (frontsIn (w .sampler)) (w .memory) (k .judged) x (rw (k .same-channels, k .same-samples) beside)
 
   idle : (j : ℕ) → j < channels → chan w j .head .recorder .state ≡ Idle
   idle j h = not-recording (chan w j .head .recorder) (any-front records (w .sampler .channels) (w .sampler .count) j new (loads .idle) (omega (arith, counts)) (omega (arith, fit .few, two)))
 
   pub read : Read w u rate channels (g .samples) words (r .answer .read)
-  unfolding code readWaveOf
+  unfolding code readWaveOf storedIn
   read = record {
     rated = ap (λ (b : ReadAnswer). b .read) (a .0) ∙ rw (z, held, k .same-rate) refl;
     recordings = λ j h. rw (else-kept j h) (front-is j h);
     rest = λ j h. rw (own-part j) (part-rest (w .sampler) channels (g .samples) (omega (arith, counts, fit .few)) few loaded (w .memory) (length-loaded f _ (w .memory)) else-is j h);
     behind = rw memory-is (parts-rest (w .sampler) channels (g .samples) (omega (arith, counts, fit .few)) few loaded (w .memory) (length-loaded f _ (w .memory)) else-is);
-    write-place = λ j h. ap (λ (c : Channel). writePlaceOf (c .head)) (else-kept j h) ∙ at-end (withRecorded (record { recorder = chan w j .head .recorder; «data_len» = g .samples }) (chan w j .head)) (idle j h);
+    write-place = λ j h. ap (λ (c : Channel). writePlaceOf (c .head)) (else-kept j h) ∙ at-end (beginning (g .samples) (chan w j .head)) (idle j h);
     else-kept = else-kept;
   }
 

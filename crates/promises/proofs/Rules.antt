@@ -38,7 +38,7 @@ use Rattle.channel.specs.Channels.{live}
 use Rattle.questions.specs.declared.VoiceInfo.{VoiceInfo}
 use Rattle.questions.specs.declared.OffsetAnswer.the-variants as offset
 use Rattle.questions.specs.declared.Told.the-variants as told
-use Rattle.questions.specs.Questions.{answered, listAfter, notesOf, activeNotesAfter, getLastRecordedOffsetOf, isRecordingOf, voiceInfoOf, voiceInfosOf, infoNumber, getVoiceInfoOf}
+use Rattle.questions.specs.Questions.{answered, listAfter, notesOf, activeNotesAfter, getLastRecordedOffsetOf, isRecordingOf, voiceInfoOf, figuresOf, voiceInfosOf, infoNumber, getVoiceInfoOf}
 use Rattle.recorder.specs.declared.LastOffset.the-variants.{At, Nothing}
 use Rattle.recorder.specs.Recording.{lastRecordedOffsetOf, isRecordingOf as recordsOf}
 use Rattle.promises.specs.Runs.{World, Call, start, stop, speed, startRecording, stopRecording, reset, sample, frame, code, after, run, chan, setUp, output}
@@ -245,6 +245,7 @@ all-change = record {
   once = false;
   «note_off_behavior» = off.Decay;
   interpolates = false;
+  phrase = 0;
 }
 
 pub updates-in-order : movedOf all-change (voiceWith 0 (Static one32) (clipFrom 0 two two (asFloat 4) (asFloat 3) zero32 Loop)) ≡ clipFrom 1 two (neg one32) (asFloat 3) two one32 PingPong
@@ -479,7 +480,7 @@ info start end at = record { start = start; end = end; pos = at }
 pub infos-told :
     (infosAt 0 ≡ info tenth (fin false 12862533 (negsuc 23)) (fin false 11184811 (negsuc 24)) ∷ info zero32 (fin false 11184811 (negsuc 23)) (fin false 11184811 (negsuc 24)) ∷ [])
     × (infosAt 1 ≡ info tenth (fin false 838861 (negsuc 22)) half ∷ info zero32 zero32 half ∷ [])
-unfolding computing answered voiceInfoOf voiceInfosOf infoNumber getVoiceInfoOf
+unfolding computing answered voiceInfoOf figuresOf voiceInfosOf infoNumber getVoiceInfoOf
 infos-told = (refl, refl)
 
 -- of the two voices the one that isn't finished

@@ -27,7 +27,6 @@ use Rattle.fates.specs.Engine.{bornOf, momentAt, heldAt}
 use Rattle.fates.specs.Events.{Event, sounds, act, acts, emptyAt, tickAt}
 use Rattle.fates.specs.Places.{voiceAt, at, follow, followAll}
 use Rattle.fates.specs.Steady.{alteredIn}
-use Rattle.fates.proofs.Own.{finds-kept}
 use Rattle.fates.proofs.Steady.{Beats, BeatsAt, beats-at, shown}
 use Rattle.fates.proofs.Tracks.{at-same}
 use Rattle.walks.proofs.Lists.Looks.{look-last}
@@ -136,7 +135,7 @@ module _ (w : World) (st : Standing w) (j : ℕ) (present : j < w .sampler .coun
           let here : beating .place ≡ n = at-same (beating .place) n (sym (beating .follows) ∙ f) in
           let step : follow (sounds p x m) (chan v j) (beating .place) ≡ at i
           = subst (λ (y : ℕ). follow (sounds p x m) (chan v j) y ≡ at i) (sym here) (subst (λ (e : Event). follow e (chan v j) n ≡ at i) (U .sample) g) in
-          let q = shown p x m (chan v j) (house v stand j there) (beating .place) i (fresh .clip2) beats (finds-kept m (chan v j) fresh (beats .voice) (U .finds)) step in
+          let q = shown p x m (chan v j) (house v stand j there) (beating .place) i (fresh .clip2) beats step in
           let last : q .0 .«last_sample_index» ≡ plainIndex a l d k = q .2 ∙ index in
           record {
             voice = q .0;

@@ -21,7 +21,7 @@ use Rattle.promises.specs.Demands.{FirstIn, termsWith}
 use Rattle.promises.specs.Recordings.{recording, writePlaceOf, Words, bytesIn, Written, Read}
 use Rattle.promises.proofs.Demand3.{demand3}
 use Rattle.promises.proofs.Recordings.{recordings}
-use Rattle.promises.proofs.Examples.{computing, half, two, plain, key, press, quiet, init, cells, recorded, since}
+use Rattle.promises.proofs.Examples.{computing, half, two, plain, key, press, quiet, init, cells, recorded, since, then}
 
 -- ---- written: the take of two channels, 0.5, 1 and 1, 0.5, to a list one byte longer than its file
 abbrev taken : World
@@ -159,10 +159,10 @@ part = 0x40000000 ∷ 0x3E800000 ∷ []
 abbrev replaced : World
 replaced = since (other ∷ [])
 
-pub on-time-met : FirstIn (after replaced (press 60)) (quiet plain) 1 plain zero32 part 0 (freshOf plain zero32 (key 60) one32 2 2)
+pub on-time-met : FirstIn (after replaced (press 60)) (quiet plain) 1 plain zero32 part 0 (freshOf plain zero32 (key 60) one32 then)
 unfolding computing filing
 on-time-met = demand3 2 init cells refl (recorded ++ (other ∷ [])) 1 (lit< tt) .on-time zero32 (key 60) one32 plain refl refl [] refl (quiet plain) plain zero32 part refl refl refl refl
 
-pub on-time-terms : termsWith plain zero32 part (chan (after replaced (press 60)) 1) 0 (freshOf plain zero32 (key 60) one32 2 2) ≡ two ∷ []
+pub on-time-terms : termsWith plain zero32 part (chan (after replaced (press 60)) 1) 0 (freshOf plain zero32 (key 60) one32 then) ≡ two ∷ []
 unfolding computing filing termsOf
 on-time-terms = refl

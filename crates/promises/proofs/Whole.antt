@@ -21,6 +21,7 @@ use Rattle.common_types.specs.Settings.{speedOf, loopLengthOf, beyondLimits, de
 use Rattle.common_types.proofs.LoopLengths.{loop-length-fits}
 use Rattle.recorder.specs.ErrorText.{errorText}
 use Rattle.clip.specs.Positions.{indexAt, nextAt}
+use Rattle.phrases.specs.Phrases.{endsBy}
 use Rattle.voice.specs.declared.Voice.{Voice}
 use Rattle.clip.specs.Bounds.{Sound}
 use Rattle.clip.proofs.Lengths.{float-length}
@@ -30,12 +31,12 @@ use Rattle.clip.proofs.Answers.{speed-found, mode-found, length-asked}
 use Rattle.voice.specs.Voices.{clipModeOf, spanOf, tickOf, movedOf, blankVoice}
 use Rattle.voice.specs.Soundness.{SoundParams, SoundVoice}
 use Rattle.voice.proofs.Moves.{loop-length-good, moved-sound}
-use Rattle.voice.proofs.Kept.{next-recorded, clip-sound}
-use Rattle.channel.specs.Heads.{momentOf}
-use Rattle.channel.specs.Channels.{live, takenOf}
+use Rattle.voice.proofs.Kept.{index-recorded, next-recorded, clip-sound}
+use Rattle.channel.specs.Channels.{live, phraseAt, takenOf}
 use Rattle.channel.specs.Soundness.{FittingChange, SoundChannel}
-use Rattle.channel.proofs.Parts.{data-within, voice-at}
-use Rattle.channel.proofs.Samples.{taken-sound, memory-kept, voice-recorded}
+use Rattle.channel.proofs.Heads.{phrase-inside, phrase-within}
+use Rattle.channel.proofs.Parts.{parts, voice-at}
+use Rattle.channel.proofs.Samples.{taken-sound}
 use Rattle.sampler.specs.declared.Sampler.{Sampler}
 use Rattle.sampler.specs.Refusals.{channelAt, goodSampler, goodWith, anyRecording, noChannel, setUpNumber, frameNumber, channelNumber, row, roomOf, runNumber}
 use Rattle.sampler.specs.Soundness.{SoundSampler, Reached, Unbroken}
@@ -55,6 +56,7 @@ use Rattle.channel.specs.declared.HeadChange.the-variants.{Load}
 use Rattle.promises.specs.Runs.{World, setUp, Question, getFramesProcessed, getDataLen, isRecording, getLastRecordedOffset, printErrorInfo, iterActiveNotes, getVoiceInfo, fillVoiceInfo, getWaveformSummary, writeWave, questionNumber, Call, change, sample, frame, readWave, asks, code, after, run, chan, FittingCall}
 use Rattle.promises.specs.Demands.{lengthened, sped, toldLength, Asked, AllPlaced, Plays, NoPanic, Whole}
 use Rattle.walks.proofs.Lists.Looks.{look-below, look-value}
+use Rattle.fates.proofs.Own.{held-length}
 use Rattle.fates.proofs.Lives.{live-length}
 use Rattle.promises.proofs.Calls.{Standing, standing-run, standing-new}
 use Rattle.promises.proofs.Accepted.{Heard, heard, start-opens}
@@ -158,29 +160,31 @@ module _ (w : World) (st : Standing w) (h : SoundSampler (w .sampler)) (j n : �
       go : (l : ℕ) → (l ≡ 0 → ⊥) → 1 ≤ l
       go l q = omega arith
 
-  index-inside : indexAt (movedOf (tickAt p m (chan w j) v) v) (chan w j .head .now) < lengthAt m (chan w j) v
-  unfolding momentAt takenOf
-  index-inside =
-      subst (λ (u : Voice). indexAt (movedOf (tickAt p m (chan w j) v) u) (chan w j .head .now) < lengthAt m (chan w j) v) itself
-      (voice-recorded (w .sampler .capacity) (takenOf m (chan w j)) taken p sound-params (small (w .sampler) h) n blankVoice place some-data)
+  -- its phrase lies within the capacity
+  ends : endsBy (w .sampler .capacity) (phraseAt (takenOf m (chan w j)) (v .phrase)) ≡ true
+  ends = phrase-inside (w .sampler .capacity) (takenOf m (chan w j) .head) (parts taken .head) (v .phrase)
 
   data-inside : lengthAt m (chan w j) v ≤ length (heldAt x m (chan w j) v)
-  unfolding momentAt heldAt
-  data-inside = le-trans (data-within (w .sampler .capacity) (takenOf m (chan w j)) taken) (le-of-eq (sym (memory-kept x (chan w j) m ∙ size)))
+  data-inside = le-of-eq (sym (held-length x m (chan w j) v (subst (λ (k : ℕ). endsBy k (phraseAt (takenOf m (chan w j)) (v .phrase)) ≡ true) (sym size) ends)))
 
   short : lengthAt m (chan w j) v ≤ 2 ^ 22
   unfolding momentAt
-  short = le-trans (data-within (w .sampler .capacity) (takenOf m (chan w j)) taken) (small (w .sampler) h)
+  short = le-trans (phrase-within (w .sampler .capacity) (takenOf m (chan w j) .head) (parts taken .head) (v .phrase)) (small (w .sampler) h)
+
+  sound : SoundVoice (chan w j .head .now) v
+  unfolding takenOf
+  sound = subst (SoundVoice (chan w j .head .now)) itself (voice-at (w .sampler .capacity) (takenOf m (chan w j)) taken n blankVoice place)
 
   voice-sound : Sound (v .clip2)
-  unfolding takenOf
-  voice-sound = clip-sound (chan w j .head .now) v (subst (SoundVoice (chan w j .head .now)) itself (voice-at (w .sampler .capacity) (takenOf m (chan w j)) taken n blankVoice place))
+  voice-sound = clip-sound (chan w j .head .now) v sound
+
+  index-inside : indexAt (movedOf (tickAt p m (chan w j) v) v) (chan w j .head .now) < lengthAt m (chan w j) v
+  unfolding momentAt takenOf
+  index-inside = index-recorded p (momentAt m (chan w j) v) sound-params some-data short v sound
 
   next-inside : nextAt (movedOf (tickAt p m (chan w j) v) v) (chan w j .head .now) < lengthAt m (chan w j) v
   unfolding momentAt takenOf
-  next-inside =
-      next-recorded p (momentOf (takenOf m (chan w j) .head)) sound-params some-data short v
-      (subst (SoundVoice (chan w j .head .now)) itself (voice-at (w .sampler .capacity) (takenOf m (chan w j)) taken n blankVoice place))
+  next-inside = next-recorded p (momentAt m (chan w j) v) sound-params some-data short v sound
 
   lengthened-sound : Sound (lengthened (tickAt p m (chan w j) v) v)
   unfolding tickOf spanOf momentAt takenOf
@@ -209,7 +213,7 @@ module _ (w : World) (st : Standing w) (h : SoundSampler (w .sampler)) (j n : �
         before-speed = clip-offset-inside (lengthened t v) now lengthened-sound;
         before-data-length = clip-offset-inside (sped t v) now sped-sound;
         before-mode = clip-offset-inside (toldLength t v) now told-sound;
-        sounding = clip-offset-inside (movedOf t v) now (moved-sound p (momentOf (takenOf m (chan w j) .head)) sound-params some-data short v voice-sound);
+        sounding = clip-offset-inside (movedOf t v) now (moved-sound p (momentAt m (chan w j) v) sound-params some-data short v voice-sound);
       }
 
   updates-asked : Asked (tickAt p m (chan w j) v) v

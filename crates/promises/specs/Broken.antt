@@ -39,10 +39,14 @@ IsRamp c a b = (x : Float) × (y : Float)
 
 -- "a voice count exceeds 32, data length exceeds capacity, a write place exceeds the data length, the clock exceeds
 -- 2^48, a `since`, `finished_at` or ramp start lies after the clock, a ramp is empty or longer than 2^24, or a clip is
--- bad. Only voices below the count are judged."
+-- bad. Only voices below the count are judged." And of request 11/12: the number of a voice's phrase "is below eight,
+-- .. all lie within the channel's capacity", and there is a chosen phrase.
 pub record GoodChannel (capacity : ℕ) (c : Channel) : Type 0 where
   pub voices : c .count ≤ 32
   pub data-length : c .head .«data_len» ≤ capacity
+  pub chosen : c .head .chosen < 8
+  pub within : c .head .start + c .head .«data_len» ≤ capacity
+  pub phrase : (v : Voice) → IsVoice c v → v .phrase < 8
   pub write-place : (write : ℕ) → c .head .recorder .state ≡ Triggered write → write ≤ c .head .«data_len»
   pub clock : c .head .now ≤ 2 ^ 48
   pub since : (v : Voice) → IsVoice c v → v .clip2 .since ≤ c .head .now

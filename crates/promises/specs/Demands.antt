@@ -15,10 +15,12 @@ use Rattle.promises.specs.Demands.Names.*
 -- ==== Demand 1
 
 -- the figures of channel j's voices, in their order; "voice info takes its loop length from channel 0's data length,
--- its other figures from the asked channel."
+-- its other figures from the asked channel", and "uses the voice's phrase number, on channel 0 and on the asked channel"
+-- (11/12).
 abbrev pub figures : World → ℕ → Params → List VoiceInfo
 figures w j p =
-    map (voiceInfoOf (loopLengthOf p (chan w 0 .head .«data_len»)) (asFloat (chan w j .head .«data_len»)))
+    map (λ (v : Voice). voiceInfoOf (loopLengthOf p (phraseAt (chan w 0) (v .phrase) .length))
+    (asFloat (phraseAt (chan w j) (v .phrase) .length)) v)
     (live (chan w j))
 
 -- the values of channel 0's recording in so many columns
@@ -398,7 +400,7 @@ pub record Demand3 (w : World) (j : ℕ) : Type 0 where
       → emptyAt m (chan (run w (start position note velocity p₀ ∷ cs)) j) (bornOf p₀ position note velocity (chan w j))
       ≡ false
       → FirstIn (run w (start position note velocity p₀ ∷ cs)) s j p x m (length (live (chan w j)))
-      (freshOf p₀ position note velocity (chan w j .head .now) (chan w j .head .«data_len»))
+      (freshOf p₀ position note velocity (momentOf (chan w j .head)))
   -- And until it is finished a voice sounds, where it then stands, in every accepted sample that finds the recording
   -- not empty.
   pub sounds-on : (n : ℕ) (v : Voice) → voiceAt (chan w j) n ≡ some v → v .finished ≡ false
@@ -445,7 +447,7 @@ pub record Demand3 (w : World) (j : ℕ) : Type 0 where
   pub taken : (position : Float) (note : Note) (velocity : Float) (p : Params)
       → code w (start position note velocity p) ≡ 0 → isEmpty (chan w j) ≡ false
       → live (chan (after w (start position note velocity p)) j) ≡ live (chan w j)
-      ++ (freshOf p position note velocity (chan w j .head .now) (chan w j .head .«data_len») ∷ [])
+      ++ (freshOf p position note velocity (momentOf (chan w j .head)) ∷ [])
 
 -- ==== Request 8/12, after demand 3: "True positions at normal speed. Our lag measurement relies on this."
 
@@ -555,7 +557,7 @@ pub record Tidying (w : World) : Type 0 where
       → r .answer .moved ≡ sumFrom (upIn w (frame xs p)) (length xs) 0
   pub frame-bound : (xs : List Float) (p : Params) (r : FrameOutcome) → Allows (on w (frame xs p)) r
       → r .answer .moved ≤ 62
-  -- None moves up where none leaves, in a refused call, and on an empty recording.
+  -- None moves up where none leaves, in a refused call, and where the phrase of every voice is empty.
   pub none : (c : Call) (j : ℕ)
       → ((n : ℕ) (v : Voice) → voiceAt (chan w j) n ≡ some v → follow (event w c j) (chan w j) n ≢ gone)
       → upIn w c j ≡ 0

@@ -13,7 +13,6 @@ use Rattle.wave.specs.Grammar.{IsWave}
 use Rattle.wave.specs.Memory.{channelOf}
 use Rattle.recorder.specs.declared.State.the-variants.{Triggered, Idle}
 use Rattle.channel.specs.declared.Head.{Head}
-use Rattle.channel.specs.Heads.{withRecorded}
 use Rattle.channel.specs.Channels.{withHead, recordingOf}
 use Rattle.sampler.specs.Refusals.{row, goodWith, anyRecording}
 use Rattle.questions.specs.declared.Counted.the-variants.{Done}
@@ -63,6 +62,20 @@ pub record Written (w : World) (rate : ℕ) (out : List ℕ) (r : ListOutcome) :
 
 -- ---- what a read leaves, from w to u
 
+-- a head whose recording is the first so many samples of its part
+abbrev pub beginning : ℕ → Head → Head
+beginning samples
+    h = record {
+      now = h .now;
+      «data_len» = samples;
+      start = 0;
+      «passthru_volume» = h .«passthru_volume»;
+      recorder = h .recorder;
+      «passthru_on» = h .«passthru_on»;
+      interpolates = h .interpolates;
+      chosen = h .chosen;
+    }
+
 pub record Read (w u : World) (rate channels samples : ℕ) (words : List ℕ) (answer : WaveRead) : Type 0 where
   -- the answer has the rate
   pub rated : answer ≡ record { rate = rate; number = 0 }
@@ -73,11 +86,9 @@ pub record Read (w u : World) (rate channels samples : ℕ) (words : List ℕ) (
   pub behind : drop (channels * w .sampler .capacity) (u .memory) ≡ drop (channels * w .sampler .capacity) (w .memory)
   -- "and puts the write place at its end;"
   pub write-place : (j : ℕ) → j < channels → writePlaceOf (chan u j .head) ≡ samples
-  -- "voices already sounding go on as after any change of data": but for its length nothing of a channel moves
-  pub else-kept : (j : ℕ) → j < channels
-      → chan u j
-      ≡ withHead (withRecorded (record { recorder = chan w j .head .recorder; «data_len» = samples }) (chan w j .head))
-      (chan w j)
+  -- "voices already sounding go on as after any change of data": but for its place and its length nothing of a channel
+  -- moves
+  pub else-kept : (j : ℕ) → j < channels → chan u j ≡ withHead (beginning samples (chan w j .head)) (chan w j)
 
 -- ---- of every record and memory
 pub record Recordings (w : World) : Type 0 where

@@ -5,5 +5,6 @@ pub mod Numbers
 pub mod Room
 pub mod Cuts
 pub mod Filling
+pub mod Stored
 pub mod Summaries
 pub mod Examples

@@ -2,12 +2,13 @@
 use mathlib.Core.Path.{_≡_, refl, sym, ap, ap₂, _∙_, subst}
 use mathlib.Core.Bool.{true, false, not}
 use mathlib.Core.List.{List}
-use Prim.Native.Nat.{ℕ, zero, suc, _+_, _^_, _≤_}
-use native.Mathlib.Nat.{le-trans, le-of-eq, one-mul, zero-mul, mul-le-mul-right}
+use Prim.Native.Nat.{ℕ, zero, suc, _+_, _-_, _^_, _≤_}
+use native.Mathlib.Nat.{le-trans, le-of-eq, one-mul, zero-mul, zero-add, mul-le-mul-right, add-sub-cancel-left}
+use native.Mathlib.Omega.{arith}
 use borrow.Author.Tests.{ne-eqb, ltb-false}
 use lib.Dec.{T, ltb}
-use lib.ListN.{length, take, drop}
-use lib.Seq.{sets, length-sets, length-take-le, take-at, take-take}
+use lib.ListN.{length, take, drop, length-take}
+use lib.Seq.{sets, length-sets, length-take-le, take-at}
 use lib.Ieee.{Float, nan, inf, fin, binary32, up, down, round, lt, isNan}
 use Rattle.binary32.specs.Leaves.{zero32, minOf, rootOf}
 use Rattle.binary32.proofs.Between.{le-not-lt}
@@ -17,15 +18,17 @@ use Rattle.walks.specs.Walks.{fold}
 use Rattle.walks.proofs.Tests.{denied}
 use Rattle.walks.proofs.Lists.Runs.{run-front}
 use Rattle.channel.specs.declared.Channel.{Channel}
+use Rattle.channel.specs.Heads.{recordingIn}
 use Rattle.channel.specs.Channels.{recordingOf}
 use Rattle.sampler.specs.declared.Sampler.{Sampler}
 use Rattle.sampler.specs.Refusals.{channelAt, goodWith}
 use Rattle.sampler.specs.Samplers.{partOf}
 use Rattle.sampler.proofs.Rows.{passed, is-true, fitting}
-use Rattle.sampler.proofs.Channels.{short-data}
+use Rattle.sampler.proofs.Channels.{recording-within}
 use Rattle.questions.specs.Questions.{answered, inFront}
 use Rattle.questions.specs.Waveforms.{columnOf, columnAt, columnsFrom, columnsOf, smallestOf, largestOf, summaryWith, waveformNumber, waveformOf, getWaveformSummaryOf, waveformAfter}
 use Rattle.questions.specs.declared.WaveformSummary.{WaveformSummary}
+use Rattle.questions.proofs.Stored.{stored-at}
 
 -- ---- as many values as columns
 pub columns-count : (columns : ℕ) (recording : List ℕ) (count i : ℕ) → length (columnsFrom columns recording count i) ≡ count
@@ -66,31 +69,36 @@ smallest-zero columns recording (suc count) i =
 
 -- ---- what a number of 0 says
 module _ (s : Sampler) (columns : ℕ) (list : List Float) (m : List ℕ) where
-  abbrev end : ℕ
-  end = channelAt s 0 .head .«data_len»
+  abbrev start : ℕ
+  start = channelAt s 0 .head .start
 
-  -- what is written is a recording of the memory's front
+  abbrev samples : ℕ
+  samples = channelAt s 0 .head .«data_len»
+
+  -- what is written is of a stretch of the memory
   pub record Written : Type 0 where
-    pub short : end ≤ length m
-    pub few : end ≤ 2 ^ 22
+    pub inside : start + samples ≤ length m
+    pub few : start + samples ≤ 2 ^ 22
     pub most : columns ≤ 4096
     pub room : columns ≤ length list
-    pub front : recordingOf (channelAt s 0) (partOf s 0 m) ≡ take end m
+    pub found : recordingOf (channelAt s 0) (partOf s 0 m) ≡ take samples (drop start m)
 
   pub done-written : waveformNumber s columns (length list) (length m) ≡ 0 → Written
-  unfolding waveformNumber partOf
+  unfolding waveformNumber
   done-written h =
       let g = passed (not (goodWith s (length m))) 8 _ h in
       let k = passed (ltb 4096 columns) 10 _ (g .1) in
       let r = passed (ltb (length list) columns) 7 _ (k .1) in
       let w = fitting s (length m) (is-true (goodWith s (length m)) (g .0)) in
-      let d = short-data s 0 (w .good) (w .some) in
+      let d = recording-within s 0 (w .good) (w .some) in
       record {
-        short = le-trans d (le-trans (le-of-eq (sym (one-mul (s .capacity)))) (le-trans (mul-le-mul-right (s .capacity) (w .some)) (w .fits)));
+        inside = le-trans d (le-trans (le-of-eq (sym (one-mul (s .capacity)))) (le-trans (mul-le-mul-right (s .capacity) (w .some)) (w .fits)));
         few = le-trans d (w .small);
         most = ltb-false 4096 columns (k .0);
         room = ltb-false (length list) columns (r .0);
-        front = ap (λ (a : ℕ). take end (take (s .capacity) (drop a m))) (zero-mul (s .capacity)) ∙ take-take end (s .capacity) m d;
+        found =
+            stored-at s 0 m (recordingIn (channelAt s 0 .head)) d
+            ∙ ap (λ (a : ℕ). take samples (drop a m)) (ap (λ (front : ℕ). front + start) (zero-mul (s .capacity)) ∙ zero-add start);
       }
 
   -- r is the answer, and `after` the lent list afterwards
@@ -111,20 +119,26 @@ module _ (s : Sampler) (columns : ℕ) (list : List Float) (m : List ℕ) where
     w : Written
     w = done-written z
 
+    -- as the code cuts it out
     abbrev recording : List ℕ
-    recording = take (c .head .«data_len») m
+    recording = take (c .head .start + c .head .«data_len» - c .head .start) (drop (c .head .start) m)
 
-    same-end : c .head .«data_len» ≡ end
-    same-end = ap (λ (d : Channel). d .head .«data_len») e
+    pub ends-inside : c .head .start + c .head .«data_len» ≤ length m
+    ends-inside = le-trans (le-of-eq (ap (λ (d : Channel). d .head .start + d .head .«data_len») e)) (w .inside)
 
-    pub front-count : c .head .«data_len» ≡ length recording
-    front-count = sym (length-take-le (c .head .«data_len») m (le-trans (le-of-eq same-end) (w .short)))
+    pub end-few : c .head .start + c .head .«data_len» ≤ 2 ^ 22
+    end-few = le-trans (le-of-eq (ap (λ (d : Channel). d .head .start + d .head .«data_len») e)) (w .few)
 
-    pub front-asked : (length recording ≤ 2 ^ 22) × (columns ≤ 4096) × (columns ≤ length list)
-    front-asked = (le-trans (le-of-eq (sym front-count ∙ same-end)) (w .few), w .most, w .room)
+    found-there : recording ≡ recordingOf (channelAt s 0) (partOf s 0 m)
+    found-there =
+        ap (λ (k : ℕ). take k (drop (c .head .start) m)) (add-sub-cancel-left (c .head .start) (c .head .«data_len»))
+        ∙ ap (λ (d : Channel). take (d .head .«data_len») (drop (d .head .start) m)) e ∙ sym (w .found)
+
+    pub asked-for : (length recording ≤ 2 ^ 22) × (columns ≤ 4096) × (columns ≤ length list)
+    asked-for = (omega (arith, length-take (c .head .start + c .head .«data_len» - c .head .start) (drop (c .head .start) m), end-few), w .most, w .room)
 
     values : columnsOf columns recording ≡ waveformOf s columns m
-    values = ap (columnsOf columns) (ap (λ (k : ℕ). take k m) same-end ∙ sym (w .front))
+    values = ap (columnsOf columns) found-there
 
     count : length (columnsOf columns recording) ≡ columns
     count = columns-count columns recording columns 0

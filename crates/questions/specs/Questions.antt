@@ -17,7 +17,7 @@ use Rattle.recorder.specs.Recording.{isRecordingOf as recordsOf}
 use Rattle.recorder.specs.ErrorText.{errorText}
 use Rattle.voice.specs.declared.Voice.{Voice}
 use Rattle.channel.specs.declared.Channel.{Channel}
-use Rattle.channel.specs.Channels.{live}
+use Rattle.channel.specs.Channels.{live, phraseAt}
 use Rattle.sampler.specs.declared.Sampler.{Sampler}
 use Rattle.sampler.specs.Refusals.{channelAt, row, goodSampler, noChannel, channelNumber}
 use Rattle.questions.specs.declared.VoiceInfo.{VoiceInfo}
@@ -111,18 +111,21 @@ noInfos = replicate 32 noInfo
 abbrev pub infosWith : List VoiceInfo → ℕ → ℕ → VoiceInfos
 infosWith infos count number = record { infos = infos; count = count; number = number }
 
+-- of the voice's phrase on channel c; the loop length is worked out from channel a's phrase of that number
+unfoldable pub figuresOf : Params → Channel → Channel → Voice → VoiceInfo
+figuresOf p a c v =
+    voiceInfoOf (loopLengthOf p (phraseAt a (v .phrase) .length)) (asFloat (phraseAt c (v .phrase) .length)) v
+
 -- as many as the channel has voices, in the front of 32
-unfoldable pub voiceInfosOf : Float → Channel → VoiceInfos
-voiceInfosOf length c =
-    infosWith (inFront (map (voiceInfoOf length (asFloat (c .head .«data_len»))) (live c)) noInfos) (c .count) 0
+unfoldable pub voiceInfosOf : Params → Channel → Channel → VoiceInfos
+voiceInfosOf p a c = infosWith (inFront (map (figuresOf p a c) (live c)) noInfos) (c .count) 0
 
 unfoldable pub infoNumber : Sampler → ℕ → Params → ℕ → ℕ
 infoNumber s j p room =
     row (not (goodSampler s)) 9
     (row (noChannel s j) 1 (row (beyondLimits p) 4 (row (ltb room (channelAt s j .count)) 8 0)))
 
--- the loop length is worked out from channel 0's recording, the other figures from the asked channel's
+-- "Voice info uses the voice's phrase number, on channel 0 and on the asked channel" (request 11/12)
 unfoldable pub getVoiceInfoOf : Sampler → ℕ → Params → ℕ → VoiceInfos
 getVoiceInfoOf s j p room =
-    answered (voiceInfosOf (loopLengthOf p (channelAt s 0 .head .«data_len»)) (channelAt s j)) (infosWith noInfos 0)
-    (infoNumber s j p room)
+    answered (voiceInfosOf p (channelAt s 0) (channelAt s j)) (infosWith noInfos 0) (infoNumber s j p room)

@@ -260,17 +260,21 @@ fn no_infos(count: usize, number: u8) -> VoiceInfos
     }
 }
 
-fn voice_infos(c: Channel, length: f32) -> VoiceInfos
-    ensures { λ r. ⌜ r ≡ voiceInfosOf length c ⌝ }
+// Each voice's figures are of its own phrase; the loop length of `first`'s phrase of that number.
+fn voice_infos(c: Channel, first: Channel, params: Params) -> VoiceInfos
+    ensures { λ r. ⌜ r ≡ voiceInfosOf params first c ⌝ }
 {
     let head = c.head;
-    let data_length = binary32::usize_to_f32(head.data_len);
+    let other = first.head;
     let n = channel::places(c.count);
     let mut answer = no_infos(c.count, 0);
     let mut i = 0;
     while i < n {
         let v = c.voices[i];
-        answer.infos[i] = voice_info(v, length, data_length);
+        let whole = other.phrase_at(v.phrase);
+        let own = head.phrase_at(v.phrase);
+        let length = params.loop_length(whole.length);
+        answer.infos[i] = voice_info(v, length, binary32::usize_to_f32(own.length));
         i += 1;
     }
     answer
@@ -287,8 +291,7 @@ pub fn get_voice_info(s: Sampler, channel: usize, params: Params, room: usize) -
     if number != 0 {
         return no_infos(0, number);
     }
-    let first = channel_at(s, 0).head;
-    voice_infos(c, params.loop_length(first.data_len))
+    voice_infos(c, channel_at(s, 0), params)
 }
 
 // The most columns of a waveform summary.
@@ -387,8 +390,9 @@ pub fn get_waveform_summary(
         };
     }
     let head = channel_at(s, 0).head;
-    let end = head.data_len;
-    write_columns(&memory[..end], columns, list);
+    let start = head.start;
+    let end = start + head.data_len;
+    write_columns(&memory[start..end], columns, list);
     WaveformSummary {
         smallest: 0.0,
         largest: largest(&list[..columns]),

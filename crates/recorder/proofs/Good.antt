@@ -43,6 +43,12 @@ module _ (r : Recorder) (len capacity : ℕ) (good : goodRecorder r len capacity
       (λ idle. leb-true len capacity (sym (good-idle r idle len capacity) ∙ good))
       (λ w recording. leb-true len capacity (and-eq-true-iff (leb w len) (leb len capacity) .0 (sym (good-recording r w recording len capacity) ∙ good) .1))
 
+  -- and with any other capacity that has room for the data
+  pub good-within : (room : ℕ) → len ≤ room → goodRecorder r len room ≡ true
+  good-within room h = by-state r
+      (λ idle. idle-good r len room idle h)
+      (λ w recording. recording-good r w len room recording (good-write w recording) h)
+
   -- each call leaves it good
   pub start-good : goodRecorder (startOf r) len capacity ≡ true
   unfolding inState

@@ -2,7 +2,7 @@
 use mathlib.Core.Path.{_≡_, refl}
 use mathlib.Core.Bool.{false}
 use mathlib.Core.List.{List, [], _∷_, _++_, map}
-use Prim.Native.Nat.{ℕ, _-_, _*_}
+use Prim.Native.Nat.{ℕ, _-_, _*_, _^_}
 use lib.ListN.{length, take, replicate}
 use Rattle.octets.specs.Octets.{bytesAt, littleOf, littleBytes}
 use Rattle.octets.proofs.Hex.{digitsOf, pairs, fromHex}
@@ -14,6 +14,7 @@ use Rattle.common_types.specs.declared.InitParams.{InitParams}
 use Rattle.walks.specs.Walks.{any, every}
 use Rattle.volume.specs.Levels.{goodVolume}
 use Rattle.recorder.specs.Recording.{inState, startOf, isRecordingOf, goodRecorder}
+use Rattle.phrases.specs.Phrases.{endsBy}
 use Rattle.channel.specs.declared.Channel.{Channel}
 use Rattle.channel.specs.declared.HeadChange.{HeadChange}
 use Rattle.channel.specs.declared.HeadChange.the-variants.{StartRecording, Load}
@@ -29,7 +30,7 @@ use Rattle.recordings.specs.declared.ReadAnswer.{ReadAnswer}
 
 -- whatever an answer computes by
 unfoldable pub computing : Unit {0}
-unfolding fromHex pairs digitsOf bytesAt littleOf littleBytes twoAt fourAt wordBytes listed formatOf riffRow formatRow factRow dataRow headerOf paddedAt metOf chunkAt walkFrom walkOf goodRiff goodFormat goodFact countedOf judgedAt judgedOf fitsMemory framesOf storedOf loadedOf any every goodVolume inState startOf isRecordingOf goodRecorder headOf headChangedOf goodHead channelOf changedOf goodVoicesOf goodChannel goodSizes goodSampler capacityOf goodWith setUpNumber setUpOf eachOf answerOf answered writeNumber writeWaveOf waveAfter readNumber readWaveOf readMemory
+unfolding fromHex pairs digitsOf bytesAt littleOf littleBytes twoAt fourAt wordBytes listed formatOf riffRow formatRow factRow dataRow headerOf paddedAt metOf chunkAt walkFrom walkOf goodRiff goodFormat goodFact countedOf judgedAt judgedOf fitsMemory framesOf storedOf loadedOf any every goodVolume inState startOf isRecordingOf goodRecorder headOf headChangedOf endsBy goodHead channelOf changedOf goodVoicesOf goodChannel goodSizes goodSampler capacityOf goodWith setUpNumber setUpOf eachOf answerOf answered writeNumber writeWaveOf waveAfter readNumber readWaveOf readMemory
 computing = tt
 
 -- ---- records: two channels with parts of three words, in a memory of seven
@@ -56,6 +57,25 @@ second-records = let s = lasting 2 1 in withChannels (channelAt s 0 ∷ changed 
 -- with the second channel not in use
 abbrev alone : Sampler → Sampler
 alone s = record { channels = s .channels; count = 1; capacity = s .capacity }
+
+-- with a recording that begins at that place of its part
+abbrev begun : ℕ → Channel → Channel
+begun place c =
+    let h = c .head in
+    withHead (record {
+      now = h .now;
+      «data_len» = h .«data_len»;
+      start = place;
+      «passthru_volume» = h .«passthru_volume»;
+      recorder = h .recorder;
+      «passthru_on» = h .«passthru_on»;
+      interpolates = h .interpolates;
+      chosen = h .chosen;
+    }) c
+
+-- both of two samples
+abbrev beginning : ℕ → ℕ → Sampler
+beginning a b = let s = lasting 2 2 in withChannels (begun a (channelAt s 0) ∷ begun b (channelAt s 1) ∷ []) s
 
 -- the first samples: a NaN with a payload and 1, -0 and 0.5
 abbrev memory : List ℕ
@@ -112,6 +132,20 @@ one-channel : waveAfter (alone second-records) 44100 memory (replicate 66 7) ≡
 unfolding computing
 one-channel = refl
 
+-- a recording is written from its start on, each channel's from its own; one past the part's end is refused, and of a channel not in use the start counts for nothing
+from-starts : map (λ (s : Sampler). waveAfter s 44100 memory (replicate 74 7)) (beginning 1 0 ∷ beginning 0 1 ∷ [])
+    ≡ fileOf 44100 2 2 (0x3F800000 ∷ 0x80000000 ∷ 12 ∷ 0x3F000000 ∷ []) ∷ fileOf 44100 2 2 (0x7FC00001 ∷ 0x3F000000 ∷ 0x3F800000 ∷ 22 ∷ []) ∷ []
+unfolding computing
+from-starts = refl
+
+past-ends : map (λ (s : Sampler). writeNumber s 74 7) (beginning 1 1 ∷ beginning 2 0 ∷ beginning 0 2 ∷ []) ≡ 0 ∷ 9 ∷ 9 ∷ []
+unfolding computing
+past-ends = refl
+
+unused-start : waveAfter (alone (beginning 1 (2 ^ 64 - 1))) 44100 memory (replicate 66 7) ≡ fileOf 44100 1 2 (0x3F800000 ∷ 12 ∷ [])
+unfolding computing
+unused-start = refl
+
 -- ---- reading: as many samples as the capacity, and one more; then 9, 15, 17, 16, 18, each where those behind it hold too
 abbrev number : Sampler → List ℕ → ℕ
 number s f = readNumber s (judgedOf f) 7
@@ -123,16 +157,16 @@ read-rows : number new (stereo 3) ∷ number new (stereo 4) ∷ number new (mono
 unfolding computing
 read-rows = refl
 
--- the record is that of recordings of two samples, whatever they were before, and the answer has the rate
+-- the record is that of recordings of two samples in front of their parts, whatever they were before, and the answer has the rate
 abbrev answers : Sampler → ℕ → ℕ → ReadAnswer
 answers s rate n = record { sampler = s; read = record { rate = rate; number = n } }
 
-reads : map (λ (s : Sampler). readWaveOf s file 7) (new ∷ lasting 3 1 ∷ []) ≡ answers (lasting 2 2) 44100 0 ∷ answers (lasting 2 2) 44100 0 ∷ []
+reads : map (λ (s : Sampler). readWaveOf s file 7) (new ∷ lasting 3 1 ∷ beginning 1 1 ∷ []) ≡ replicate 3 (answers (lasting 2 2) 44100 0)
 unfolding computing
 reads = refl
 
 -- a part keeps its third word, and the memory its last one
-stored : readMemory new file others ≡ 0x7FC00001 ∷ 0x3F800000 ∷ 32 ∷ 0x80000000 ∷ 0x3F000000 ∷ 42 ∷ 98 ∷ []
+stored : map (λ (s : Sampler). readMemory s file others) (new ∷ beginning 1 1 ∷ []) ≡ replicate 2 (0x7FC00001 ∷ 0x3F800000 ∷ 32 ∷ 0x80000000 ∷ 0x3F000000 ∷ 42 ∷ 98 ∷ [])
 unfolding computing
 stored = refl
 

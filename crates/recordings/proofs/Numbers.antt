@@ -26,7 +26,7 @@ use Rattle.sampler.proofs.Channels.{short-data}
 use Rattle.questions.specs.declared.Counted.{Counted}
 use Rattle.questions.specs.declared.Counted.the-variants as counted
 use Rattle.questions.specs.Questions.{countedNumber, answered}
-use Rattle.recordings.specs.Waves.{samplesOf, lengthsDiffer, startsIn, layoutIn, writeNumber, writeWaveOf, waveAfter, badFile, heldIn, readNumber, readWaveOf, readMemory}
+use Rattle.recordings.specs.Waves.{samplesOf, lengthsDiffer, layoutIn, writeNumber, writeWaveOf, waveAfter, badFile, heldIn, readNumber, readWaveOf, frontsIn, readMemory}
 use Rattle.recordings.specs.declared.ReadAnswer.{ReadAnswer}
 use Rattle.recordings.proofs.Parts.{starts-fit}
 
@@ -44,8 +44,8 @@ module _ (s : Sampler) (size : ℕ) (good : goodWith s size ≡ true) where
       let a : s .count * samplesOf s ≤ 2 * samplesOf s = mul-le-mul-right (samplesOf s) (g .few) in
       le-trans (le-of-eq (ap (λ (k : Layout). k .channels * k .samples) e)) (omega (arith, a, short, g .small))
 
-  pub layout-fits : fitsMemory (layoutIn s) size ≡ true
-  layout-fits = starts-fit s size (layoutIn s) g refl short refl
+  pub layout-fits : length (s .channels) ≡ 2 → lengthsDiffer s ≡ false → fitsMemory (layoutIn s) size ≡ true
+  layout-fits = starts-fit s size g
 
   pub file-fits : (room : ℕ) → bytesOf (layoutIn s) ≤ room → fitsFile (layoutIn s) room ≡ true
   unfolding fitsFile
@@ -84,12 +84,12 @@ module _ (s : Sampler) (rate : ℕ) (m out : List ℕ) where
     unfolding writeWaveOf waveAfter answered
     write-refused h = (simp (← e, ne-eqb number 0 h), simp (← e, ne-eqb number 0 h))
 
-    pub write-done : number ≡ 0 → (l : Layout) → l ≡ layoutIn s → (bytes : ℕ) → bytes ≡ writtenOf l (length m) (length out) → (after : List ℕ) → after ≡ outputOf rate l m out
+    pub write-done : number ≡ 0 → length (s .channels) ≡ 2 → (l : Layout) → l ≡ layoutIn s → (bytes : ℕ) → bytes ≡ writtenOf l (length m) (length out) → (after : List ℕ) → after ≡ outputOf rate l m out
         → Answers (counted.Done bytes) after
     unfolding writeWaveOf waveAfter answered writtenOf outputOf writes
-    write-done z l k bytes b after o =
+    write-done z two l k bytes b after o =
         let w = write-says s (length out) (length m) (sym e ∙ z) in
-        let x = layout-fits s (length m) (w .good) in
+        let x = layout-fits s (length m) (w .good) two (w .alike) in
         let y = file-fits s (length m) (w .good) (length out) (w .fits) in
         (rw (← e, z, b, k, x, y) refl, rw (← e, z) (o ∙ rw (k, x, y) refl))
 
@@ -114,7 +114,7 @@ module _ (s : Sampler) (f m : List ℕ) where
     unfolding readWaveOf readMemory answerOf
     read-refused h = (simp (← is, ← e, ne-eqb number 0 h), simp (← is, ← e, ne-eqb number 0 h))
 
-    pub read-done : number ≡ 0 → (x : Starts) → x ≡ startsIn s → (after : List ℕ) → after ≡ loadedOf f x m → (w : Wave) → w ≡ heldIn j → (a : Sampler) → a ≡ eachOf (Head (Load (w .samples))) s
+    pub read-done : number ≡ 0 → (x : Starts) → x ≡ frontsIn s → (after : List ℕ) → after ≡ loadedOf f x m → (w : Wave) → w ≡ heldIn j → (a : Sampler) → a ≡ eachOf (Head (Load (w .samples))) s
         → Reads (record { sampler = a; read = record { rate = w .rate; number = 0 } }) after
     unfolding readWaveOf readMemory answerOf
     read-done z x k after l w h a g = (rw (← is, ← e, z, g, h) refl, rw (← is, ← e, z, ← k) l)
@@ -150,7 +150,7 @@ loads-change s j size l = rw (fitting s size (l .good) .good, l .idle, le-ltb (s
 module _ (s : Sampler) (f m : List ℕ) where
   pub read-memory-length : length (readMemory s f m) ≡ length m
   unfolding readMemory
-  read-memory-length = cond-split (λ (x : List ℕ). length x ≡ length m) (eqb (readNumber s (judgedOf f) (length m)) 0) _ _ (λ _. length-loaded f (startsIn s) m) (λ _. refl)
+  read-memory-length = cond-split (λ (x : List ℕ). length x ≡ length m) (eqb (readNumber s (judgedOf f) (length m)) 0) _ _ (λ _. length-loaded f (frontsIn s) m) (λ _. refl)
 
   -- a read leaves the record as a change does, or as it was
   pub read-sampler : (P : Sampler → Type 0) → P s → (changeNumber s (Head (Load (heldIn (judgedOf f) .samples))) ≡ 0 → P (changeOf s (Head (Load (heldIn (judgedOf f) .samples))) .sampler)) → P (readWaveOf s f (length m) .sampler)

@@ -1,6 +1,6 @@
 -- Recordings out and in as WAVE files (request 10/12): what the two calls answer, and what they leave of the record and
 -- of what is lent with it. A file's bytes are said in crate `wave`. Definitions only. Assumes nothing.
-use Prim.Native.Nat.{ℕ}
+use Prim.Native.Nat.{ℕ, _+_}
 use mathlib.Core.Bool.{Bool, true, false, not, cond}
 use mathlib.Core.List.{List, _++_}
 use lib.Dec.{eqb, ltb}
@@ -35,9 +35,13 @@ samplesOf s = channelAt s 0 .head .«data_len»
 abbrev pub lengthsDiffer : Sampler → Bool
 lengthsDiffer s = any (λ (c : Channel). not (eqb (c .head .«data_len») (samplesOf s))) (present s)
 
--- where each channel's recording begins in the memory: in front of its part
+-- where each channel's recording begins in the memory: from its start on in its part (request 11/12); of one channel
+-- there is no second
 abbrev pub startsIn : Sampler → Starts
-startsIn s = record { first = 0; second = s .capacity }
+startsIn s = record {
+  first = channelAt s 0 .head .start;
+  second = cond (eqb (s .count) 2) (s .capacity + channelAt s 1 .head .start) 0;
+}
 
 -- where the recordings stand in it
 abbrev pub layoutIn : Sampler → Layout
@@ -87,6 +91,10 @@ readWaveOf s f size =
       read = record { rate = cond (eqb number 0) (heldIn j .rate) 0; number = number };
     }
 
+-- where each channel's part begins
+abbrev pub frontsIn : Sampler → Starts
+frontsIn s = record { first = 0; second = s .capacity }
+
 -- the memory: the front of each channel's part is the file's channel
 unfoldable pub readMemory : Sampler → List ℕ → List ℕ → List ℕ
-readMemory s f m = cond (eqb (readNumber s (judgedOf f) (length m)) 0) (loadedOf f (startsIn s) m) m
+readMemory s f m = cond (eqb (readNumber s (judgedOf f) (length m)) 0) (loadedOf f (frontsIn s) m) m

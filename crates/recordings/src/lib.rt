@@ -2,12 +2,12 @@
 // takes every value of its arguments, and equals a definition in specs/. On a refusal the record and what is lent with
 // it hold what they held.
 ghost use mathlib.Core.Path.{_≡_};
-ghost use mathlib.Core.Bool.{not};
+ghost use mathlib.Core.Bool.{true, not};
 ghost use lib.Dec.{eqb};
 ghost use lib.ListN.{length};
 ghost use Rattle.walks.specs.Walks.{any};
 ghost use Rattle.channel.specs.declared.Channel.{Channel};
-ghost use Rattle.sampler.specs.Refusals.{present};
+ghost use Rattle.sampler.specs.Refusals.{present, goodSampler};
 ghost use Rattle.recordings.specs.Waves.{
   startsIn,
   layoutIn,
@@ -18,6 +18,7 @@ ghost use Rattle.recordings.specs.Waves.{
   heldIn,
   readNumber,
   readWaveOf,
+  frontsIn,
   readMemory,
 };
 use questions::Counted;
@@ -40,9 +41,9 @@ pub struct ReadAnswer {
     pub read: WaveRead,
 }
 
-// Where each channel's recording begins in the memory: in front of its part.
-fn starts(s: Sampler) -> Starts
-    ensures { λ r. ⌜ r ≡ startsIn s ⌝ }
+// Where each channel's part begins in the memory.
+fn fronts(s: Sampler) -> Starts
+    ensures { λ r. ⌜ r ≡ frontsIn s ⌝ }
 {
     Starts {
         first: 0,
@@ -50,8 +51,22 @@ fn starts(s: Sampler) -> Starts
     }
 }
 
+// Where the second channel's recording begins in the memory. One that isn't in use may have any start.
+fn second_start(s: Sampler) -> usize
+    requires { ⌜ goodSampler s ≡ true ⌝ }
+    ensures { λ r. ⌜ r ≡ startsIn s .second ⌝ }
+{
+    if s.count == 2 {
+        let c = s.channels[1];
+        let head = c.head;
+        return s.capacity + head.start;
+    }
+    0
+}
+
 // Where the recordings stand in the memory; they are as long as channel 0's.
 fn layout(s: Sampler) -> Layout
+    requires { ⌜ goodSampler s ≡ true ⌝ }
     ensures { λ r. ⌜ r ≡ layoutIn s ⌝ }
 {
     let c = s.channels[0];
@@ -59,7 +74,10 @@ fn layout(s: Sampler) -> Layout
     Layout {
         channels: s.count,
         samples: head.data_len,
-        starts: starts(s),
+        starts: Starts {
+            first: head.start,
+            second: second_start(s),
+        },
     }
 }
 
@@ -152,7 +170,7 @@ pub fn read_wave(s: Sampler, file: &[u8], memory: &mut [u32]) -> ReadAnswer
             read: WaveRead { rate: 0, number },
         };
     }
-    wave::load(file, starts(s), memory);
+    wave::load(file, fronts(s), memory);
     let w = held(judged);
     let sampler = s.loaded(w.samples);
     ReadAnswer {

@@ -1,7 +1,7 @@
 -- What is known of a channel of a good record: it is a good one, with at most 32 voices, and its recording has room in the capacity. Assumes nothing.
 use mathlib.Core.Path.{_≡_, refl, sym, ap, _∙_}
 use mathlib.Core.Bool.{Bool, true, false, _&&_}
-use Prim.Native.Nat.{ℕ, _≤_, _<_}
+use Prim.Native.Nat.{ℕ, _+_, _≤_, _<_}
 use native.Mathlib.Omega.{arith}
 use borrow.Author.Tests.{ltb-true, ltb-false, leb-true}
 use lib.Dec.{leb, ltb}
@@ -12,8 +12,9 @@ use Rattle.walks.proofs.Lists.Every.{both, every-at}
 use Rattle.channel.specs.declared.Channel.{Channel}
 use Rattle.volume.specs.Levels.{goodVolume}
 use Rattle.recorder.specs.Recording.{goodRecorder}
-use Rattle.recorder.proofs.Good.{good-length}
-use Rattle.channel.specs.Heads.{lastTime, goodHead}
+use Rattle.phrases.specs.Phrases.{endsBy}
+use Rattle.phrases.proofs.Rooms.{ends-inside}
+use Rattle.channel.specs.Heads.{lastTime, recordingIn, goodHead}
 use Rattle.channel.specs.Channels.{live, channelOf, goodVoicesOf, goodChannel}
 use Rattle.channel.proofs.Kept.{new-channel-sound}
 use Rattle.sampler.specs.Refusals.{present, channelAt, goodSizes, goodSampler}
@@ -46,9 +47,19 @@ few-voices s j good k = leb-true _ 32 (head-and-count (s .capacity) (channelAt s
 pub few-live : (s : Sampler) (j : ℕ) → goodSampler s ≡ true → j < s .count → length (live (channelAt s j)) ≤ 32
 few-live s j good k = omega (arith, few-voices s j good k, length-take (channelAt s j .count) (channelAt s j .voices))
 
-pub short-data : (s : Sampler) (j : ℕ) → goodSampler s ≡ true → j < s .count → channelAt s j .head .«data_len» ≤ s .capacity
+-- its recording ends by the capacity
+pub recording-within : (s : Sampler) (j : ℕ) → goodSampler s ≡ true → j < s .count
+    → channelAt s j .head .start + channelAt s j .head .«data_len» ≤ s .capacity
 unfolding goodHead
-short-data s j good k =
+recording-within s j good k =
     let h = channelAt s j .head in
-    good-length (h .recorder) (h .«data_len») (s .capacity)
-    (both (leb (h .now) lastTime && goodVolume (h .now) (h .«passthru_volume»)) (goodRecorder (h .recorder) (h .«data_len») (s .capacity)) (head-and-count (s .capacity) (channelAt s j) (good-at s j good k) .1) .1)
+    let time : Bool = leb (h .now) lastTime in
+    let chosen : Bool = ltb (h .chosen) 8 in
+    let ends : Bool = endsBy (s .capacity) (recordingIn h) in
+    let volume : Bool = goodVolume (h .now) (h .«passthru_volume») in
+    let all = head-and-count (s .capacity) (channelAt s j) (good-at s j good k) .1 in
+    let first = both (time && (chosen && ends)) volume (both ((time && (chosen && ends)) && volume) (goodRecorder (h .recorder) (h .«data_len») (s .capacity)) all .0) .0 in
+    ends-inside (recordingIn h) (s .capacity) (both chosen ends (both time (chosen && ends) first .1) .1)
+
+pub short-data : (s : Sampler) (j : ℕ) → goodSampler s ≡ true → j < s .count → channelAt s j .head .«data_len» ≤ s .capacity
+short-data s j good k = omega (arith, recording-within s j good k)

@@ -26,10 +26,12 @@ none = record {
   head = record {
     now = 0;
     «data_len» = 0;
+    start = 0;
     «passthru_volume» = Static nan;
     recorder = record { state = Triggered 0; «skipped_samples» = 0; «incorrect_state» = 0 };
     «passthru_on» = false;
     interpolates = false;
+    chosen = 0;
   };
 }
 

@@ -14,6 +14,7 @@ use Rattle.smf.specs.declared.Cue.{Cue}
 use Rattle.smf.proofs.Examples.{computing as reading}
 use Rattle.songs.specs.Plays.{callOf, oneMore, cuesOf, playedOf, playOf, dueOf}
 use Rattle.voice.specs.Voices.{freshOf}
+use Rattle.channel.specs.Heads.{momentOf}
 use Rattle.channel.specs.Channels.{live}
 use Rattle.promises.specs.Runs.{World, setUp, frame, run, chan, one, frames, made, makes}
 use Rattle.promises.specs.Demands.{FirstIn}
@@ -86,7 +87,7 @@ abbrev found : World
 found = run (host .world) (hands plain (cueOf 2 0x3C00 ∷ []))
 
 in-the-second-frame : FirstIn (called list plain host) (frame (zero32 ∷ zero32 ∷ []) plain) 1 plain zero32 part (length (live (chan found 1)))
-    (freshOf plain (asFloat 0) (fromU64Of (second .note)) (second .velocity) (chan found 1 .head .now) (chan found 1 .head .«data_len»))
+    (freshOf plain (asFloat 0) (fromU64Of (second .note)) (second .velocity) (momentOf (chan found 1 .head)))
 unfolding computing reading turnedAll callOf oneMore cuesOf playedOf playOf dueOf handOf makes made
 in-the-second-frame = met .sounds (cueOf 2 0x3C00 ∷ []) [] refl found refl refl refl refl (frame (zero32 ∷ zero32 ∷ []) plain) plain zero32 part refl refl
 

@@ -14,6 +14,7 @@ use Rattle.binary32.specs.Leaves.{asFloat, zero32}
 use Rattle.common_types.specs.Notes.{fromU64Of}
 use Rattle.voice.specs.Soundness.{FittingParams}
 use Rattle.voice.specs.Voices.{freshOf}
+use Rattle.channel.specs.Heads.{momentOf}
 use Rattle.channel.specs.Channels.{live}
 use Rattle.fates.specs.Engine.{bornOf}
 use Rattle.fates.specs.Events.{sounds, emptyAt}
@@ -151,7 +152,7 @@ module _ (count : ℕ) (q : InitParams) (m : List ℕ) (good : setUpNumber count
             subst
             (λ (n : ℕ). event (played (h .world) list (h .next) n p) s j ≡ sounds sp x part → emptyAt part (chan (played (h .world) list (h .next) n p) j) (bornOf p (asFloat 0) (fromU64Of (c .note)) (c .velocity) (chan u j)) ≡ false
             → FirstIn (played (h .world) list (h .next) n p) s j sp x part (length (live (chan u j)))
-            (freshOf p (asFloat 0) (fromU64Of (c .note)) (c .velocity) (chan u j .head .now) (chan u j .head .«data_len»)))
+            (freshOf p (asFloat 0) (fromU64Of (c .note)) (c .velocity) (momentOf (chan u j .head))))
             (sym is)
             (songs .time .on-time count q m good (i .calls) j k list (h .next) p (h .world) (i .from) earlier c later
             (subst (λ (n : ℕ). dueIn list (h .next) n ≡ earlier ++ (c ∷ later)) is due) starts u then accepted filled free s sp x part);

@@ -14,6 +14,7 @@ use Rattle.common_types.specs.Notes.{fromU64Of}
 use Rattle.common_types.specs.declared.InitParams.{InitParams}
 use Rattle.common_types.specs.declared.Note.{Note}
 use Rattle.common_types.specs.declared.Params.{Params}
+use Rattle.channel.specs.Heads.{momentOf}
 use Rattle.channel.specs.declared.Change.{Change}
 use Rattle.channel.specs.Channels.{live}
 use Rattle.voice.specs.Voices.{freshOf}
@@ -212,12 +213,12 @@ module _ (count : ℕ) (q : InitParams) (m : List ℕ) (good : setUpNumber count
         → (s : Call) (sp : Params) (x : Float) (part : List ℕ) → event (played w list next (c .frame) p) s j ≡ sounds sp x part
         → emptyAt part (chan (played w list next (c .frame) p) j) (bornOf p (asFloat 0) (fromU64Of (c .note)) (c .velocity) (chan u j)) ≡ false
         → FirstIn (played w list next (c .frame) p) s j sp x part (length (live (chan u j)))
-        (freshOf p (asFloat 0) (fromU64Of (c .note)) (c .velocity) (chan u j .head .now) (chan u j .head .«data_len»))
+        (freshOf p (asFloat 0) (fromU64Of (c .note)) (c .velocity) (momentOf (chan u j .head)))
     in-time accepted filled free s sp x part =
         subst
         (λ (v : World). event v s j ≡ sounds sp x part → emptyAt part (chan v j) (bornOf p (asFloat 0) (fromU64Of (c .note)) (c .velocity) (chan u j)) ≡ false
         → FirstIn v s j sp x part (length (live (chan u j)))
-        (freshOf p (asFloat 0) (fromU64Of (c .note)) (c .velocity) (chan u j .head .now) (chan u j .head .«data_len»)))
+        (freshOf p (asFloat 0) (fromU64Of (c .note)) (c .velocity) (momentOf (chan u j .head))))
         reached
         (λ sample full. holds .on-time (asFloat 0) (fromU64Of (c .note)) (c .velocity) p accepted filled (hands p later) (no-reset p later) s sp x part sample same free full)
 

@@ -20,6 +20,7 @@ use Rattle.smf.specs.Cues.{Entry, songOf, countedOf, listOf, cueOf}
 use Rattle.smf.specs.declared.Counted.the-variants.{Done}
 use Rattle.smf.specs.declared.Cue.{Cue}
 use Rattle.songs.specs.Plays.{playOf}
+use Rattle.channel.specs.Heads.{momentOf}
 use Rattle.fates.specs.Engine.{bornOf}
 use Rattle.fates.specs.Events.{sounds, emptyAt}
 use Rattle.fates.specs.Places.{stoppedIn}
@@ -99,7 +100,7 @@ pub record Heard (w : World) (j : ℕ) (list : List ℕ) (p : Params) (h : Host)
       → emptyAt part (chan (called list p h) j) (bornOf p (asFloat 0) (fromU64Of (c .note)) (c .velocity) (chan u j))
       ≡ false
       → FirstIn (called list p h) s j sp x part (length (live (chan u j)))
-      (freshOf p (asFloat 0) (fromU64Of (c .note)) (c .velocity) (chan u j .head .now) (chan u j .head .«data_len»))
+      (freshOf p (asFloat 0) (fromU64Of (c .note)) (c .velocity) (momentOf (chan u j .head)))
 
 pub record SongHeard : Type 0 where
   -- of a file that is read, a host whose turns keep step, and an entry e of the song that is a start

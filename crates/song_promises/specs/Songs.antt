@@ -18,6 +18,7 @@ use Rattle.sampler.specs.Refusals.{setUpNumber}
 use Rattle.smf.specs.Cues.{songOf, numbersOf}
 use Rattle.smf.specs.declared.Cue.{Cue}
 use Rattle.songs.specs.Plays.{cuesOf, dueOf, playOf}
+use Rattle.channel.specs.Heads.{momentOf}
 use Rattle.fates.specs.Engine.{bornOf}
 use Rattle.fates.specs.Events.{sounds, emptyAt}
 use Rattle.fates.specs.Places.{stoppedIn}
@@ -113,7 +114,7 @@ pub record SongOnTime : Type 0 where
       → emptyAt part (chan (played w list next (c .frame) p) j)
       (bornOf p (asFloat 0) (fromU64Of (c .note)) (c .velocity) (chan u j)) ≡ false
       → FirstIn (played w list next (c .frame) p) s j sp x part (length (live (chan u j)))
-      (freshOf p (asFloat 0) (fromU64Of (c .note)) (c .velocity) (chan u j .head .now) (chan u j .head .«data_len»))
+      (freshOf p (asFloat 0) (fromU64Of (c .note)) (c .velocity) (momentOf (chan u j .head)))
 
 -- A host that begins at entry 0 and count 0, and plays before the frame of each count, makes every call at its own
 -- count.

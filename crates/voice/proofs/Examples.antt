@@ -1,4 +1,4 @@
--- Turns on either side of each condition of one that glides, and values between samples, computed. Assumes nothing.
+-- Turns on either side of each condition of one that glides, a good voice's last phrase, and values between samples, computed. Assumes nothing.
 use mathlib.Core.Path.{_≡_, refl}
 use Prim.Native.Nat.{ℕ}
 use mathlib.Core.Bool.{Bool, true, false}
@@ -10,13 +10,14 @@ use Rattle.common_types.specs.declared.NoteOffBehaviour.{NoteOffBehaviour}
 use Rattle.common_types.specs.declared.NoteOffBehaviour.the-variants as off
 use Rattle.volume.specs.declared.Volume.{Volume}
 use Rattle.volume.specs.declared.Volume.the-variants.{Static, Linear}
-use Rattle.volume.specs.Levels.{levelOf, steppedOf, keepsOf}
+use Rattle.volume.specs.Levels.{levelOf, steppedOf, keepsOf, goodVolume}
 use Rattle.clip.specs.declared.Clip.{Clip}
 use Rattle.clip.specs.declared.Mode.{Mode}
 use Rattle.clip.specs.declared.Mode.the-variants.{Loop, PingPong}
 use Rattle.clip.specs.Positions.{positionOf, leadOf, travelAt, loopedOf, wrappedOf, placedOf, clipOffsetAt, clipToDataOf, offsetAt, indexAt, aheadOf, nextAt}
+use Rattle.clip.specs.Refusals.{goodLength, goodClip}
 use Rattle.clip.specs.Updates.{madeOf, withLength, withSpeed, withDataLength, withMode}
-use Rattle.voice.specs.Voices.{lateOf, overOf, shouldRemoveOf, movedOf, betweenOf, valueOf, productOf, soundedOf, playedOutOf, endedOf, volumeStepped, turnOf}
+use Rattle.voice.specs.Voices.{lateOf, overOf, shouldRemoveOf, movedOf, betweenOf, valueOf, productOf, soundedOf, playedOutOf, endedOf, volumeStepped, turnOf, goodVoice}
 use Rattle.voice.specs.Agreeing.{agreesOf}
 use Rattle.voice.specs.Gliding.{glidesOf, glidedAt}
 use Rattle.voice.specs.declared.Voice.{Voice}
@@ -38,6 +39,7 @@ tickAt now interpolates behaviour once length total mode = record {
   once = once;
   «note_off_behavior» = behaviour;
   interpolates = interpolates;
+  phrase = 0;
 }
 
 -- at the clock 4, with the setting off, a loop length of 4 and 10 samples recorded, each of them 1
@@ -50,9 +52,9 @@ tick behaviour once = tickWith behaviour once (asFloat 4) (asFloat 10) Loop
 abbrev ones : List ℕ
 ones = map (λ (n : ℕ). 1065353216) (0 ∷ 1 ∷ 2 ∷ 3 ∷ [])
 
--- a voice with so much played; its value before was 1
-abbrev voiceOn : Clip → Volume → Float → Float → Bool → ℕ → Bool → Voice
-voiceOn clip volume played speed finished time crossing = record {
+-- a voice of that phrase with so much played; its value before was 1
+abbrev voiceOn : ℕ → Clip → Volume → Float → Float → Bool → ℕ → Bool → Voice
+voiceOn phrase clip volume played speed finished time crossing = record {
   «finished_at» = time;
   «last_sample_index» = 0;
   clip2 = clip;
@@ -64,11 +66,14 @@ voiceOn clip volume played speed finished time crossing = record {
   note = record { note = 60; channel = 0 };
   finished = finished;
   «is_at_zero_crossing» = crossing;
+  phrase = phrase;
 }
 
--- in a loop of 4
+abbrev loopOf4 : Clip
+loopOf4 = madeOf 0 zero32 one32 (asFloat 4) (asFloat 10) Loop
+
 abbrev voiceWith : Volume → Float → Float → Bool → ℕ → Bool → Voice
-voiceWith volume played speed finished time crossing = voiceOn (madeOf 0 zero32 one32 (asFloat 4) (asFloat 10) Loop) volume played speed finished time crossing
+voiceWith volume played speed finished time crossing = voiceOn 0 loopOf4 volume played speed finished time crossing
 
 abbrev sounding : Volume → Voice
 sounding volume = voiceWith volume one32 one32 false 0 false
@@ -113,6 +118,16 @@ pub to-a-crossing : (glidesOf (tick off.ZeroCrossing false) ones (finished (Stat
 unfolding computing
 to-a-crossing = (refl, refl, refl, refl, refl)
 
+-- ---- a voice in a record: there are eight phrases
+
+-- sound but for its phrase
+abbrev numbered : ℕ → Voice
+numbered phrase = voiceOn phrase loopOf4 (Static one32) one32 one32 false 0 false
+
+pub last-phrase : (goodVoice 4 (numbered 7) ≡ true) × (goodVoice 4 (numbered 8) ≡ false)
+unfolding goodVoice goodVolume goodClip goodLength madeOf ofInt le
+last-phrase = (refl, refl)
+
 -- ---- values between samples, on either setting
 
 abbrev half : Float
@@ -121,7 +136,7 @@ half = fin false 1 (negsuc 0)
 -- what a voice at half speed and full level sounds by at a time, in a loop of 3 from `start`, of a recording of 4
 abbrev heard : Bool → Float → List ℕ → ℕ → Float
 heard interpolates start m now =
-    soundedOf (tickAt now interpolates off.Decay false (asFloat 3) (asFloat 4) Loop) m (voiceOn (madeOf 0 start half (asFloat 3) (asFloat 4) Loop) (Static one32) one32 half false 0 false)
+    soundedOf (tickAt now interpolates off.Decay false (asFloat 3) (asFloat 4) Loop) m (voiceOn 0 (madeOf 0 start half (asFloat 3) (asFloat 4) Loop) (Static one32) one32 half false 0 false)
     .«last_sample_value»
 
 -- 1, 2, 4, 8

@@ -92,10 +92,11 @@ module _ (t : Tick) (m : List ℕ) (v : Voice) where
     pub speed : w .speed ≡ v .speed
     pub note : w .note ≡ v .note
     pub finished : w .finished ≡ v .finished
+    pub phrase : w .phrase ≡ v .phrase
 
   glided-holds : Held (glidedOf t m v)
   unfolding glidedAt
-  glided-holds = record { finished-at = refl; clip = refl; volume = refl; start = refl; speed = refl; note = refl; finished = refl }
+  glided-holds = record { finished-at = refl; clip = refl; volume = refl; start = refl; speed = refl; note = refl; finished = refl; phrase = refl }
 
   pub holds : glidesOf t m v ≡ true → Held (turnOf t m v)
   holds h = subst Held (sym (glides h .turn)) glided-holds
@@ -136,8 +137,9 @@ module _ (t : Tick) (m : List ℕ) (v : Voice) where
         go true e = ap (λ (i : ℕ). betweenOf (recordedValueOf m (p .index)) (recordedValueOf m i) (p .fraction)) e
         go false e = refl
 
-    pub answered : (w : Voice) (keeps goes : Bool) → w ≡ glidedAt t v (near .index) sample → keeps ≡ keepsOf (v .volume) (t .now) → goes ≡ goesOnOf t v w → keeps ≡ true → Quickly t m v (record { voice = w; glides = goes })
-    answered w keeps goes is k g kept so =
+    pub answered : (w : Voice) (keeps goes : Bool) → w ≡ glidedAt t v (near .index) sample → keeps ≡ keepsOf (v .volume) (t .now) → goes ≡ goesOnOf t v w → v .phrase ≡ t .phrase → keeps ≡ true → Quickly t m v (record { voice = w; glides = goes })
+    answered w keeps goes is k g phrase kept so =
         let at = found some in
         let same : w ≡ glidedOf t m v = is ∙ ap (λ (i : ℕ). glidedAt t v i sample) (at .1) ∙ ap (glidedAt t v (indexAt (v .clip2) (t .now))) valued in
-        going w (agrees t v (at .0)) same (sym k ∙ kept) (sym g ∙ so)
+        let goes-on = going w (agrees t v (at .0)) same (sym k ∙ kept) (sym g ∙ so) in
+        (phrase, goes-on .0, goes-on .1)

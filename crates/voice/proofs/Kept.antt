@@ -4,7 +4,7 @@ use Prim.Native.Nat.{ℕ, _^_, _≤_, _<_, zero-le}
 use native.Mathlib.Nat.{le-refl, le-trans}
 use mathlib.Core.Bool.{Bool, _&&_}
 use mathlib.Core.List.{List}
-use lib.Dec.{T, leb, leb→le, le→leb}
+use lib.Dec.{T, leb, ltb, leb→le, le→leb, lt→ltb}
 use lib.IntN.{pos}
 use lib.Ieee.{Float, binary32, fits, mul}
 use lib.Ieee.Bits.{is-true}
@@ -30,12 +30,14 @@ use Rattle.voice.specs.Voices.{clipModeOf, tickOf, shouldRemoveOf, moved
 use Rattle.voice.specs.Soundness.{Fits, SoundParams, SoundPosition, SoundVolume, SoundVoice}
 use Rattle.voice.specs.declared.Voice.{Voice}
 use Rattle.voice.specs.declared.Moment.{Moment}
+use Rattle.voice.proofs.PhraseKept.{good-phrase}
 use Rattle.voice.proofs.Volumes.{static-sound, volume-later, volume-stepped, volume-toward}
 use Rattle.voice.proofs.Starts.{start-low, start-top}
 use Rattle.voice.proofs.Moves.{loop-length-good, moved-sound, moved-data-length, moved-since}
 
 -- ---- a sound voice by its parts
 record Parts (now : ℕ) (v : Voice) : Type 0 where
+  phrase : v .phrase < 8
   since : v .clip2 .since ≤ now
   ended : v .«finished_at» ≤ now
   volume : SoundVolume now (v .volume)
@@ -49,9 +51,10 @@ parts {now} {v} h =
     let b : Bool = leb (v .«finished_at») now in
     let c : Bool = goodVolume now (v .volume) in
     let d : Bool = goodClip (v .clip2) in
-    let t : T (a && b && c && d) = yes (h .good) in
+    let t : T (a && b && c && d) = and-r (ltb (v .phrase) 8) (a && b && c && d) (yes (h .good)) in
     let f = h .fitting in
     record {
+      phrase = good-phrase now v (h .good);
       since = leb→le (v .clip2 .since) now (and-l a b (and-l (a && b) c (and-l (a && b && c) d t)));
       ended = leb→le (v .«finished_at») now (and-r a b (and-l (a && b) c (and-l (a && b && c) d t)));
       volume = record { good = and-r (a && b) c (and-l (a && b && c) d t); fitting = f .volume };
@@ -67,8 +70,9 @@ joined {now} {v} g =
     let c : Bool = goodVolume now (v .volume) in
     let d : Bool = goodClip (v .clip2) in
     record {
-      good = is-true (a && b && c && d)
-          (and-i (a && b && c) d (and-i (a && b) c (and-i a b (le→leb (v .clip2 .since) now (g .since)) (le→leb (v .«finished_at») now (g .ended))) (g .volume .good)) (g .clip .good));
+      good = is-true (ltb (v .phrase) 8 && (a && b && c && d))
+          (and-i (ltb (v .phrase) 8) (a && b && c && d) (lt→ltb (v .phrase) 8 (g .phrase))
+          (and-i (a && b && c) d (and-i (a && b) c (and-i a b (le→leb (v .clip2 .since) now (g .since)) (le→leb (v .«finished_at») now (g .ended))) (g .volume .good)) (g .clip .good)));
       fitting = record {
         clip = g .clip .fitting;
         volume = g .volume .fitting;
@@ -89,6 +93,7 @@ module _ (now : ℕ) (v : Voice) (h : SoundVoice now v) where
   voice-later then k =
       let g = parts h in
       joined (record {
+        phrase = g .phrase;
         since = le-trans (g .since) k;
         ended = le-trans (g .ended) k;
         volume = volume-later (v .volume) now (g .volume) then k;
@@ -101,6 +106,7 @@ module _ (now : ℕ) (v : Voice) (h : SoundVoice now v) where
   finish-sound decay a b =
       let g = parts h in
       joined (record {
+        phrase = g .phrase;
         since = g .since;
         ended = le-refl now;
         volume = volume-toward (v .volume) now (g .volume) decay zero32 a b tt;
@@ -113,6 +119,7 @@ module _ (now : ℕ) (v : Voice) (h : SoundVoice now v) where
   at-speed-sound speed t =
       let g = parts h in
       joined (record {
+        phrase = g .phrase;
         since = g .since;
         ended = g .ended;
         volume = g .volume;
@@ -125,6 +132,7 @@ module _ (now : ℕ) (v : Voice) (h : SoundVoice now v) where
   stepped-sound t =
       let g = parts h in
       joined (record {
+        phrase = g .phrase;
         since = g .since;
         ended = g .ended;
         volume = volume-stepped (v .volume) now (g .volume) t;
@@ -165,6 +173,7 @@ module _ (p : Params) (at : Moment) (ok : SoundParams p) (some : 1 ≤ at .«dat
           let g = parts h in
           let t = tickOf p at in
           joined {v = soundedOf t m v} (record {
+            phrase = g .phrase;
             since = moved-since p at ok some short v (g .clip) (g .since);
             ended = g .ended;
             volume = g .volume;
@@ -184,16 +193,17 @@ module _ (p : Params) (at : Moment) (ok : SoundParams p) (some : 1 ≤ at .«dat
           now
 
     -- a new voice, at a place from 0 to 1 of the recording
-    pub fresh-sound : (position : Float) (note : Note) (velocity : Float) → SoundPosition position → Fits velocity → SoundVoice now (freshOf p position note velocity now n)
+    pub fresh-sound : (position : Float) (note : Note) (velocity : Float) → at .phrase < 8 → SoundPosition position → Fits velocity → SoundVoice now (freshOf p position note velocity at)
     unfolding freshOf madeOf speedOf fits
-    fresh-sound position note velocity at u =
+    fresh-sound position note velocity numbered place u =
         let l = loopLengthOf p n in
         joined (record {
+          phrase = numbered;
           since = le-refl now;
           ended = zero-le;
           volume = volume-toward (Static zero32) now (static-sound zero32 now tt) (p .«attack_samples») velocity time (within p (ok .within) .attack) u;
           clip = made-sound now (mul binary32 position (asFloat n)) (speedOf p) l (asFloat n) (clipModeOf (p .«loop_mode»))
               (mul-fits binary32 position (asFloat n)) (mul-fits binary32 (p .speed) (p .«reverse_speed»)) (loop-length-fits p n (ok .fitting)) (ofInt-fits binary32 (pos n))
-              (start-low position n at short) (start-top position n at short) (loop-length-good p n ok short) (float-length n some short);
-          floats = (at .fitting, tt, tt, tt);
+              (start-low position n place short) (start-top position n place short) (loop-length-good p n ok short) (float-length n some short);
+          floats = (place .fitting, tt, tt, tt);
         })

@@ -1,8 +1,10 @@
 pub mod Volumes
 pub mod Starts
 pub mod Moves
+pub mod PhraseKept
 pub mod Kept
 pub mod Unmoved
 pub mod Values
 pub mod Gliding
 pub mod Examples
+pub mod Measured

@@ -53,7 +53,7 @@ QuickValue t m near next r =
     near .index < noIndex → near .index ≡ indexOf (near .offset) → T (le zero32 (near .offset))
     → r ≡ valueAt t m (positionOf (near .offset)) next
 
--- What a quick turn promises: where it answers that the voice glides, it does, and its voice is the voice after it.
--- Elsewhere its voice is not to be looked at.
+-- What a quick turn promises: where it answers that the voice glides, it is one of the tick's phrase, it does glide, and
+-- its voice is the voice after it. Elsewhere its voice is not to be looked at.
 abbrev pub Quickly : Tick → List ℕ → Voice → Quick → Type 0
-Quickly t m v r = r .glides ≡ true → (glidesOf t m v ≡ true) × (r .voice ≡ turnOf t m v)
+Quickly t m v r = r .glides ≡ true → (v .phrase ≡ t .phrase) × (glidesOf t m v ≡ true) × (r .voice ≡ turnOf t m v)

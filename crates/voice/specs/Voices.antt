@@ -4,7 +4,7 @@
 use Prim.Native.Nat.{ℕ, _-_}
 use mathlib.Core.Bool.{Bool, true, false, not, _&&_, _||_, cond}
 use mathlib.Core.List.{List}
-use lib.Dec.{leb}
+use lib.Dec.{leb, ltb}
 use lib.ListN.{getD}
 use lib.Ieee.{Float, binary32, add, sub, mul, le}
 use Rattle.binary32.specs.Leaves.{asFloat, floorOf, absOf, crossingOf, floatOf, zero32, one32}
@@ -14,7 +14,8 @@ use Rattle.common_types.specs.declared.NoteOffBehaviour.{NoteOffBehaviour}
 use Rattle.common_types.specs.declared.NoteOffBehaviour.the-variants as off
 use Rattle.common_types.specs.declared.Note.{Note}
 use Rattle.common_types.specs.declared.Params.{Params}
-use Rattle.common_types.specs.Settings.{speedOf, loopLengthOf}
+use Rattle.common_types.specs.declared.Measure.{Measure}
+use Rattle.common_types.specs.Settings.{speedOf, loopLengthOf, measuredOf}
 use Rattle.volume.specs.declared.Volume.{Volume}
 use Rattle.volume.specs.declared.Volume.the-variants.{Static}
 use Rattle.volume.specs.Levels.{isStaticAndMuteOf, levelOf, towardOf, steppedOf, goodVolume}
@@ -30,7 +31,7 @@ use Rattle.voice.specs.declared.Moment.{Moment}
 use Rattle.voice.specs.declared.Span.{Span}
 use Rattle.voice.specs.declared.Tick.{Tick}
 
--- ---- what the voices of a channel share in one sample
+-- ---- what the voices of one phrase share in one sample
 
 -- play-once moves as a loop does
 abbrev pub clipModeOf : LoopMode → Mode
@@ -51,17 +52,29 @@ spanOf p n = record {
   «data_length» = asFloat n;
 }
 
-unfoldable pub tickOf : Params → Moment → Tick
-tickOf p at = record {
+-- the same, by the measure of a loop length (the code's way: one measure serves every recording)
+unfoldable pub spanBy : Measure → ℕ → Span
+spanBy m n = record {
+  length = measuredOf m (asFloat n);
+  «whole_length» = floorOf (measuredOf m (asFloat n));
+  «data_length» = asFloat n;
+}
+
+abbrev pub tickWith : Span → Params → Moment → Tick
+tickWith span p at = record {
   now = at .now;
   «decay_samples» = p .«decay_samples»;
-  span = spanOf p (at .«data_len»);
+  span = span;
   speed = speedOf p;
   mode = clipModeOf (p .«loop_mode»);
   once = playsOnceOf (p .«loop_mode»);
   «note_off_behavior» = p .«note_off_behavior»;
   interpolates = at .interpolates;
+  phrase = at .phrase;
 }
+
+unfoldable pub tickOf : Params → Moment → Tick
+tickOf p at = tickWith (spanOf p (at .«data_len»)) p at
 
 -- ---- when a voice goes
 
@@ -84,7 +97,7 @@ unfoldable pub movedOf : Tick → Voice → Clip
 movedOf t v =
     withAll (v .clip2) (t .now) (t .span .length) (mul binary32 (v .speed) (t .speed)) (t .span .«data_length») (t .mode)
 
--- the value recorded at a place of the channel's memory
+-- the value recorded at a place of the phrase
 abbrev pub recordedValueOf : List ℕ → ℕ → Float
 recordedValueOf m i = floatOf (getD m i 0)
 
@@ -125,6 +138,7 @@ soundedAt t v clip index value = record {
   note = v .note;
   finished = v .finished;
   «is_at_zero_crossing» = crossingOf value (v .«last_sample_value»);
+  phrase = v .phrase;
 }
 
 unfoldable pub soundedOf : Tick → List ℕ → Voice → Voice
@@ -146,6 +160,7 @@ finishOf now decay v = record {
   note = v .note;
   finished = true;
   «is_at_zero_crossing» = v .«is_at_zero_crossing»;
+  phrase = v .phrase;
 }
 
 -- play-once has played a whole loop length
@@ -169,6 +184,7 @@ volumeStepped now v = record {
   note = v .note;
   finished = v .finished;
   «is_at_zero_crossing» = v .«is_at_zero_crossing»;
+  phrase = v .phrase;
 }
 
 -- the level after its step, on its way to 0 if the voice is played out
@@ -179,21 +195,21 @@ fadedOf volume out t = steppedOf (cond out (towardOf volume (t .now) (t .«decay
 unfoldable pub turnOf : Tick → List ℕ → Voice → Voice
 turnOf t m v = volumeStepped (t .now) (cond (shouldRemoveOf t v) v (endedOf t (soundedOf t m v)))
 
--- ---- a new voice, started at `now` with n samples recorded
-unfoldable pub freshOf : Params → Float → Note → Float → ℕ → ℕ → Voice
-freshOf p position note velocity now n = record {
+-- ---- a new voice, started at that moment, of its phrase
+unfoldable pub freshOf : Params → Float → Note → Float → Moment → Voice
+freshOf p position note velocity at = record {
   «finished_at» = 0;
   «last_sample_index» = 0;
   clip2 = record {
-    since = now;
-    start = mul binary32 position (asFloat n);
+    since = at .now;
+    start = mul binary32 position (asFloat (at .«data_len»));
     speed = speedOf p;
-    length = loopLengthOf p n;
-    «data_length» = asFloat n;
+    length = loopLengthOf p (at .«data_len»);
+    «data_length» = asFloat (at .«data_len»);
     shift = zero32;
     mode = clipModeOf (p .«loop_mode»);
   };
-  volume = towardOf (Static zero32) now (p .«attack_samples») velocity;
+  volume = towardOf (Static zero32) (at .now) (p .«attack_samples») velocity;
   «loop_start_percent» = position;
   played = zero32;
   «last_sample_value» = zero32;
@@ -201,6 +217,7 @@ freshOf p position note velocity now n = record {
   note = note;
   finished = false;
   «is_at_zero_crossing» = false;
+  phrase = at .phrase;
 }
 
 -- ---- other values of a voice
@@ -227,6 +244,7 @@ blankVoice = record {
   note = record { note = 0; channel = 0 };
   finished = true;
   «is_at_zero_crossing» = false;
+  phrase = 0;
 }
 
 -- the voice at another speed of its own
@@ -243,10 +261,11 @@ atSpeedOf speed v = record {
   note = v .note;
   finished = v .finished;
   «is_at_zero_crossing» = v .«is_at_zero_crossing»;
+  phrase = v .phrase;
 }
 
--- ---- a voice that may stand in a record whose clock is at `now`: no time of its lies after the clock,
--- its ramp is good, and so is its clip
+-- ---- a voice that may stand in a record whose clock is at `now`: "the number of its phrase .. is below eight" (request
+-- 11/12), no time of its lies after the clock, its ramp is good, and so is its clip
 unfoldable pub goodVoice : ℕ → Voice → Bool
-goodVoice now v = leb (v .clip2 .since) now && leb (v .«finished_at») now && goodVolume now (v .volume)
-    && goodClip (v .clip2)
+goodVoice now v = ltb (v .phrase) 8 && (leb (v .clip2 .since) now && leb (v .«finished_at») now
+    && goodVolume now (v .volume) && goodClip (v .clip2))

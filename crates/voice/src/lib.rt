@@ -4,7 +4,8 @@ ghost use mathlib.Core.Path.{_≡_};
 ghost use mathlib.Core.Bool.{cond};
 ghost use Rattle.clip.specs.Positions.{soundingOf};
 ghost use Rattle.voice.specs.Voices.{
-  spanOf,
+  spanBy,
+  tickWith,
   tickOf,
   clipModeOf,
   playsOnceOf,
@@ -34,6 +35,7 @@ use clip::Near;
 use clip::Position;
 use clip::Sounding;
 use common_types::LoopMode;
+use common_types::Measure;
 use common_types::Note;
 use common_types::NoteOffBehaviour;
 use common_types::Params;
@@ -53,13 +55,16 @@ pub struct Voice {
     pub note: Note,
     pub finished: bool,
     pub is_at_zero_crossing: bool,
+    pub phrase: u8,
 }
 
-// What a channel's voices go by in one sample: its clock, how many samples are recorded, and whether voices interpolate.
+// What the voices of one phrase go by in one sample: the channel's clock, how many samples the phrase has, whether voices
+// interpolate, and the phrase's number.
 pub struct Moment {
     pub now: usize,
     pub data_len: usize,
     pub interpolates: bool,
+    pub phrase: u8,
 }
 
 // What of a sample's settings depends on the recording: the loop length, that rounded down, and the recording's length.
@@ -69,7 +74,7 @@ pub struct Span {
     pub data_length: f32,
 }
 
-// What all voices of a channel share in one sample, worked out once.
+// What all voices of one phrase share in one sample, worked out once.
 pub struct Tick {
     pub now: usize,
     pub decay_samples: usize,
@@ -79,6 +84,7 @@ pub struct Tick {
     pub once: bool,
     pub note_off_behavior: NoteOffBehaviour,
     pub interpolates: bool,
+    pub phrase: u8,
 }
 
 // A turn taken the quick way, where the voice glides; elsewhere `voice` is not to be looked at.
@@ -88,14 +94,15 @@ pub struct Quick {
 }
 
 impl Span {
-    fn new(params: Params, data_len: usize) -> Self
-        ensures { λ r. ⌜ r ≡ spanOf params «data_len» ⌝ }
+    fn new(m: Measure, data_len: usize) -> Self
+        ensures { λ r. ⌜ r ≡ spanBy m «data_len» ⌝ }
     {
-        let length = params.loop_length(data_len);
+        let data_length = binary32::usize_to_f32(data_len);
+        let length = m.length(data_length);
         Self {
             length,
             whole_length: binary32::floor(length),
-            data_length: binary32::usize_to_f32(data_len),
+            data_length,
         }
     }
 }
@@ -104,17 +111,26 @@ impl Tick {
     pub fn new(params: Params, at: Moment) -> Self
         ensures { λ r. ⌜ r ≡ tickOf params at ⌝ }
     {
+        let m = params.measure();
+        Self::measured(params, m, at)
+    }
+
+    // By a measure of the loop length, which is the parameters' for every phrase: worked out once, it serves them all.
+    pub fn measured(params: Params, m: Measure, at: Moment) -> Self
+        ensures { λ r. ⌜ r ≡ tickWith (spanBy m (at .«data_len»)) params at ⌝ }
+    {
         let loop_mode = params.loop_mode;
         let note_off_behavior = params.note_off_behavior;
         Self {
             now: at.now,
             decay_samples: params.decay_samples,
-            span: Span::new(params, at.data_len),
+            span: Span::new(m, at.data_len),
             speed: params.speed(),
             mode: clip_mode(loop_mode),
             once: plays_once(loop_mode),
             note_off_behavior,
             interpolates: at.interpolates,
+            phrase: at.phrase,
         }
     }
 }
@@ -140,7 +156,7 @@ fn plays_once(mode: LoopMode) -> bool
     }
 }
 
-// The value recorded at a place of the channel's memory.
+// The value recorded at a place of the phrase.
 fn recorded(data: &[u32], index: usize) -> f32
     ensures { λ r. ⌜ r ≡ recordedValueOf (now («data» .entry)) index ⌝ }
 {
@@ -194,24 +210,17 @@ fn quick_beside(clip2: Clip, index: usize, t: Tick) -> usize
 }
 
 impl Voice {
-    // A voice that starts now, on a recording of `data_len` samples.
-    pub fn new(
-        params: Params,
-        position: f32,
-        note: Note,
-        velocity: f32,
-        now: usize,
-        data_len: usize,
-    ) -> Self
-        ensures { λ r. ⌜ r ≡ freshOf params position note velocity now «data_len» ⌝ }
+    // A voice that starts at that moment, of its phrase.
+    pub fn new(params: Params, position: f32, note: Note, velocity: f32, at: Moment) -> Self
+        ensures { λ r. ⌜ r ≡ freshOf params position note velocity at ⌝ }
     {
-        let data_length = binary32::usize_to_f32(data_len);
+        let data_length = binary32::usize_to_f32(at.data_len);
         let loop_mode = params.loop_mode;
         let clip2 = Clip::made(
-            now,
+            at.now,
             position * data_length,
             params.speed(),
-            params.loop_length(data_len),
+            params.loop_length(at.data_len),
             data_length,
             clip_mode(loop_mode),
         );
@@ -219,7 +228,7 @@ impl Voice {
             finished_at: 0,
             last_sample_index: 0,
             clip2,
-            volume: Volume::new(0.0).toward(now, params.attack_samples, velocity),
+            volume: Volume::new(0.0).toward(at.now, params.attack_samples, velocity),
             loop_start_percent: position,
             played: 0.0,
             last_sample_value: 0.0,
@@ -227,6 +236,7 @@ impl Voice {
             note,
             finished: false,
             is_at_zero_crossing: false,
+            phrase: at.phrase,
         }
     }
 
@@ -258,6 +268,7 @@ impl Voice {
             },
             finished: true,
             is_at_zero_crossing: false,
+            phrase: 0,
         }
     }
 
@@ -327,6 +338,7 @@ impl Voice {
             note,
             finished: self.finished,
             is_at_zero_crossing: binary32::crossing(value, self.last_sample_value),
+            phrase: self.phrase,
         }
     }
 
@@ -349,6 +361,7 @@ impl Voice {
             note,
             finished: true,
             is_at_zero_crossing: self.is_at_zero_crossing,
+            phrase: self.phrase,
         }
     }
 
@@ -387,6 +400,7 @@ impl Voice {
             note,
             finished: out | self.finished,
             is_at_zero_crossing: self.is_at_zero_crossing,
+            phrase: self.phrase,
         }
     }
 
@@ -408,6 +422,7 @@ impl Voice {
             note,
             finished: self.finished,
             is_at_zero_crossing: self.is_at_zero_crossing,
+            phrase: self.phrase,
         }
     }
 
@@ -443,6 +458,9 @@ impl Voice {
             voice: self,
             glides: false,
         };
+        if self.phrase != t.phrase {
+            return otherwise;
+        }
         let volume = self.volume;
         if !volume.keeps(t.now) {
             return otherwise;
@@ -475,6 +493,7 @@ impl Voice {
             note,
             finished: self.finished,
             is_at_zero_crossing: binary32::crossing(value, self.last_sample_value),
+            phrase: self.phrase,
         };
         Quick {
             voice: sounded,
@@ -486,6 +505,9 @@ impl Voice {
     pub fn good(self, now: usize) -> bool
         ensures { λ r. ⌜ r ≡ goodVoice now self ⌝ }
     {
+        if 8 <= self.phrase {
+            return false;
+        }
         let clip2 = self.clip2;
         if now < clip2.since {
             return false;

@@ -7,6 +7,9 @@ use Rattle.lent_changes.proofs.opened.Tie as tie
 enum-known-change : tie.Need-enum-known-change
 enum-known-change c = search needs
 
+moment-requires : tie.Need-moment-requires
+moment-requires c κs = search needs
+
 new-requires : tie.Need-new-requires
 new-requires c κs = search needs
 
@@ -36,7 +39,7 @@ blank-requires-4 c κs = search needs
 
 returns : tie.Need-returns
 unfolding openedOf
-returns c = simp (c .new .ensures, c .before .before .change .given .1)
+returns c = simp (c .new .ensures, c .before .moment .ensures, c .before .before .before .change .given .1)
 
 returns-2 : tie.Need-returns-2
 unfolding openedOf
@@ -59,6 +62,7 @@ opened-spec =
     tie.close
     (tie.spec
     enum-known-change
+    moment-requires
     new-requires
     enum-told
     blank-requires

@@ -1,5 +1,5 @@
 -- `with_sample` meets its contract: a walk of its MIR, by hand, of five calls, with a branch. The channel's borrow is opened once. The whole channel is lent on to `record`, `play` and `close`, and
--- shared with `any_unfinished`; between, its count is read, and of its head the clock and the recording's length. The memory is lent again to `record`, and then shared with `play`. A channel without
+-- shared with `any_unfinished`; between, its count is read. The memory is lent again to `record`, and then shared with `play`. A channel without
 -- voices isn't played: what stands there is what its play would give (`Turns`). Both branches end alike (`shuts`). Assumes nothing.
 use mathlib.Core.Path.{_≡_, refl, sym, _∙_, ap, subst}
 use Prim.Native.Nat.{ℕ, _<_, _^_}
@@ -55,33 +55,25 @@ use Rattle.walks.proofs.Steps.Inside.{opened}
 use Rattle.walks.proofs.Steps.Again.{LentAgain, lends-again, comes-back}
 use Rattle.walks.proofs.Steps.Shared.{LentShared, shares-again, is-back}
 use Rattle.walks.proofs.Tests.{denied}
-use Rattle.binary32.specs.Leaves.{bitsOf}
 use Rattle.common_types.specs.declared.Params.{Params}
 use Rattle.common_types.proofs.Params as P
 use Rattle.common_types.proofs.Params.Laws as P′
-use Rattle.recorder.proofs.Memory.{memory-length}
-use Rattle.voice.specs.declared.Moment.{Moment}
-use Rattle.voice.proofs.Moment as O
-use Rattle.voice.proofs.Moment.Laws as O′
 use Rattle.channel.specs.declared.Channel.{Channel}
 use Rattle.channel.specs.declared.Played.{Played}
-use Rattle.channel.specs.Heads.{momentOf, closedOf}
-use Rattle.channel.specs.Channels.{withHead, anyUnfinishedOf, playedIfOf, takenOf, memoryOf, processSampleOf}
-use Rattle.channel.proofs.Head as E
-use Rattle.channel.proofs.Head.Laws as E′
+use Rattle.channel.specs.Heads.{closedOf}
+use Rattle.channel.specs.Channels.{withHead, anyUnfinishedOf, Turning, playedOf, turningIn, takenOf, memoryOf, processSampleOf}
+use Rattle.channel.proofs.Samples.{memory-kept}
 use Rattle.channel.proofs.Channel as C
 use Rattle.channel.proofs.Channel.Laws as C′
-use Rattle.channel.proofs.Head.moment.Symbol as moment-def
-use Rattle.channel.proofs.Head.moment.Symbol.{name as #channel·moment}
-use Rattle.channel.proofs.Head.moment.Met as moment-thm
 use Rattle.lent_channel.specs.declared.Heard.{Heard}
 use Rattle.lent_channel.specs.Turns.{silent, heardOf, mixedWith}
-use Rattle.lent_channel.proofs.Bytes.{count-at, head-at}
+use Rattle.lent_channel.proofs.Bytes.{count-at}
 use Rattle.lent_channel.proofs.Turns.{sample-by, none-heard, none-gone, none-unfinished}
-use Rattle.walks.proofs.Steps.Data.{Datum, struct}
+use Rattle.walks.proofs.Steps.Tails.{after}
 use Rattle.walks.proofs.Steps.Locals.{over, its, held as holds, fills, refills, puts, arrives, arrives-last, now-holds, field-of, beyond, beyond-field, gives, leaves-only, stands, all-freed, Addresses, env, allocated, passed}
 use Rattle.walks.proofs.Steps.Calls.{Callee, Says, asks}
-use Rattle.lent_channel.proofs.Places.{cv, ev, yv}
+use Rattle.lent_channel.proofs.Places.{cv, yv}
+use Rattle.lent_channel.proofs.Holding.{params, sounded}
 use Rattle.lent_channel.proofs.Sharing.{question, answered-last}
 use Rattle.lent_channel.proofs.Heard as Y
 use Rattle.lent_channel.proofs.Heard.Laws as Y′
@@ -108,25 +100,9 @@ use Rattle.lent_channel.proofs.with_sample as sample
 use Rattle.lent_channel.proofs.with_sample.Statement as stated
 use Rattle.lent_channel.proofs.with_sample.Code as code
 
--- plain data
-abbrev params : Datum
-params = struct P.the-type P′.the-laws P′.the-plain
-
-abbrev sounded : Datum
-sounded = struct Y.the-type Y′.the-laws Y′.the-plain
-
-abbrev headed : Datum
-headed = struct E.the-type E′.the-laws E′.the-plain
-
-abbrev moment : Datum
-moment = struct O.the-type O′.the-laws O′.the-plain
-
--- `silence`, and `Head::moment`
+-- `silence`
 abbrev quiet : Callee
 quiet = record { takes = []; gives = sounded; says = λ _. silent }
-
-abbrev momented : Callee
-momented = record { takes = headed ∷ []; gives = moment; says = λ a. momentOf (a .0) }
 
 abbrev stayed : Stays (sample.ended .signature .params) (sample.ended .kept)
 stayed = (stay-ref (0 ∷ []) tt (plain (λ _. C.the-row)), (stay-none (λ _. P.the-row) yes, (stay-none (λ _. f32) yes, (stay-slice (1 ∷ []) tt (plain (λ _. u32)), tt))))
@@ -147,21 +123,21 @@ module _ {M : Type 1} (𝓤 : URA M) (H : Heap 𝓤) (A : Atoms 𝓤) (W : Given
   abbrev h₁ : Channel
   h₁ = takenOf ms h
 
-  abbrev here : Moment
-  here = momentOf (h₁ .head)
-
   abbrev ms′ : List ℕ
   ms′ = memoryOf x h ms
 
   long : length ms′ ≡ length ms
-  unfolding memoryOf
-  long = memory-length (h .head .recorder) (bitsOf x) ms
+  long = memory-kept x h ms
+
+  -- what a sample does with each voice
+  abbrev by-phrase : Turning
+  by-phrase = turningIn p h₁ ms′
 
   abbrev h₂ : Channel
-  h₂ = playedIfOf p here ms′ h₁ .channel
+  h₂ = playedOf by-phrase h₁ .channel
 
   abbrev sum : Heard
-  sum = heardOf (playedIfOf p here ms′ h₁)
+  sum = heardOf (playedOf by-phrase h₁)
 
   abbrev last : Channel
   last = withHead (closedOf p (anyUnfinishedOf h₂) (h₂ .head)) h₂
@@ -192,7 +168,7 @@ module _ {M : Type 1} (𝓤 : URA M) (H : Heap 𝓤) (A : Atoms 𝓤) (W : Given
 
   done-so : (out ≡ heardOf (processSampleOf p x h ms)) × (last ≡ processSampleOf p x h ms .channel) × (ms′ ≡ memoryOf x h ms)
   unfolding processSampleOf
-  done-so = (ap heardOf (sample-by p x ms′ h₁), ap (λ (r : Played). r .channel) (sample-by p x ms′ h₁), refl)
+  done-so = (ap heardOf (sample-by p x by-phrase h₁), ap (λ (r : Played). r .channel) (sample-by p x by-phrase h₁), refl)
 
   -- the borrow and the memory at the end
   abbrev Left : List (Item 𝓤)
@@ -222,15 +198,15 @@ module _ {M : Type 1} (𝓤 : URA M) (H : Heap 𝓤) (A : Atoms 𝓤) (W : Given
   Takes c l = (c ≡ h₁) × (l ≡ ms′)
 
   abbrev to-play : ℕ → ℕ → GName → GName → Play 𝓤 H A at-mem run .Ghost
-  to-play α β δ ε = (((α ∷ [], (β ∷ [], tt)), (fullShare, (fullShare, tt)), tt, (at-channel δ h₁, (here, (p, (xm ε ms′, tt)))), (vptr b o ∷ [], (moment .val here ∷ [], (params .val p ∷ [], (sl ∷ [], tt))))), tt)
+  to-play α β δ ε = (((α ∷ [], (β ∷ [], tt)), (fullShare, (fullShare, tt)), tt, (at-channel δ h₁, (p, (xm ε ms′, tt))), (vptr b o ∷ [], (params .val p ∷ [], (sl ∷ [], tt)))), tt)
 
-  goes-play : (α β : ℕ) (δ ε : GName) → Is O.the-row here (moment .val here ∷ [])
+  goes-play : (α β : ℕ) (δ ε : GName)
       → ent 𝓤 (sep 𝓤 (sep 𝓤 (A .lft (α ∷ []) fullShare) (A .lft (β ∷ []) fullShare)) (sep 𝓤 (sem 𝓤 H A (MutRef (named 0) (α ∷ []) C.the-row .own (at-channel δ h₁) (vptr b o ∷ []))) (sem 𝓤 H A (ShrSlice (named 1) (β ∷ []) u32 .own (xm ε ms′) (sl ∷ [])))))
       (Play 𝓤 H A at-mem run .pre (to-play α β δ ε))
-  goes-play α β δ ε ish =
+  goes-play α β δ ε =
       qed W ((‵ (flft (α ∷ []) fullShare) ⊛ ‵ (flft (β ∷ []) fullShare)) ∷ ‵ (MutRef (named 0) (α ∷ []) C.the-row .own (at-channel δ h₁) (vptr b o ∷ [])) ∷ ‵ (ShrSlice (named 1) (β ∷ []) u32 .own (xm ε ms′) (sl ∷ [])) ∷ []) ∵
       split ! $ nothing ! $ move ! (2 ∷ 0 ∷ []) $ join ! $ move ! (1 ∷ 0 ∷ []) $ join ! $ nothing ! $ move ! (3 ∷ 0 ∷ []) $ fjoin ! $
-      owned ! P.the-row (Is P.the-row) (LL.makes P.the-type P′.the-plain 𝓤 H A) p _ isp $ fjoin ! $ owned ! O.the-row (Is O.the-row) (LL.makes O.the-type O′.the-plain 𝓤 H A) here _ ish $ fjoin ! $ move ! (2 ∷ 0 ∷ []) $ fjoin ! $ move ! (1 ∷ 0 ∷ []) $ join ! $ nothing ! $ move ! (1 ∷ 0 ∷ []) $ join ! $ done !
+      owned ! P.the-row (Is P.the-row) (LL.makes P.the-type P′.the-plain 𝓤 H A) p _ isp $ fjoin ! $ move ! (2 ∷ 0 ∷ []) $ fjoin ! $ move ! (1 ∷ 0 ∷ []) $ join ! $ nothing ! $ move ! (1 ∷ 0 ∷ []) $ join ! $ done !
 
   abbrev Plays : Heard → Channel → Type 0
   Plays r c = (r ≡ sum) × (c ≡ h₂)
@@ -259,9 +235,9 @@ module _ {M : Type 1} (𝓤 : URA M) (H : Heap 𝓤) (A : Atoms 𝓤) (W : Given
     abbrev Meeting : List (Item 𝓤)
     Meeting = over (‵ (partAt C.the-row fullShare h₂ b o) ∷ ‵ (fobor κ q (Body (mem C.the-row) b o γ)) ∷ ‵ (fobs γ (C.the-row .coded .code h)) ∷ ‵ (fauth γ (C.the-row .coded .code h)) ∷ ‵ (flft κ₁ q₁) ∷ ‵ (MutSlice (named 1) κ₁ u32 .own (xm γ₁ ms′) (sl ∷ [])) ∷ []) En (none ∷ held)
 
-    shuts : ent 𝓤 (⋆ 𝓤 H A Meeting) (Wp 𝓤 H (𝓣 .C) (𝓣 .Λ) En code.Mir.t-10 (atReturn 𝓤 H En Post))
+    shuts : ent 𝓤 (⋆ 𝓤 H A Meeting) (Wp 𝓤 H (𝓣 .C) (𝓣 .Λ) En (after 9 (code.function .body)) (atReturn 𝓤 H En Post))
     shuts =
-        qed W Meeting ∵ exec ! (𝓣 .C) (𝓣 .Λ) En code.Mir.t-10 (atRet En Post) $
+        qed W Meeting ∵ exec ! (𝓣 .C) (𝓣 .Λ) En (after 9 (code.function .body)) (atRet En Post) $
         -- the sample is closed: the channel is lent on
         puts ! (addr ! (beyond ! (holds ! refl) (stop !))) (fills ! refl (tt, tt)) $
         lft-new ! tt (λ α. move ! (1 ∷ []) $ use1 W (later (any (λ (δ : GName). ‵ (MutRef (named 0) (α ∷ []) C.the-row .own (at-channel δ h₂) (vptr b o ∷ [])) ⊛ ‵ (flent (α ∷ []) (Body (mem C.the-row) b o δ))))) (lends-ref 𝓤 H A W C.the-row (named 0) (α ∷ []) h₂ b o) $ await ! tt $
@@ -275,7 +251,7 @@ module _ {M : Type 1} (𝓤 : URA M) (H : Heap 𝓤) (A : Atoms 𝓤) (W : Given
         move ! (1 ∷ []) $ drop ! $ close-ref ! tt (mem C.the-row) last {b = b} {o = o} $ gives ! refl $ all-freed ! refl $
         by ! (exits (subst (λ (y : Heard). Is Y.the-row y (yv y ∷ [])) (e .0) (subst (Is Y.the-row r) (sounded .tells r _ is) is))))))))))
 
-  module _ (𝓣 : Tables 𝓤 H) (known-Taken : Triple 𝓤 (𝓣 .C #lent-channel·record) (Taken 𝓤 H A at-mem run)) (known-Silence : Says 𝓤 H A 𝓣 #lent-channel·silence quiet) (known-Moment : Says 𝓤 H A 𝓣 #channel·moment momented) (known-Play : Triple 𝓤 (𝓣 .C #lent-channel·play) (Play 𝓤 H A at-mem run)) (known-Asked : Triple 𝓤 (𝓣 .C #lent-channel·any-unfinished) (question anyUnfinishedOf 𝓤 H A)) (known-Close : Triple 𝓤 (𝓣 .C #lent-channel·close) (Close 𝓤 H A at-mem run)) where
+  module _ (𝓣 : Tables 𝓤 H) (known-Taken : Triple 𝓤 (𝓣 .C #lent-channel·record) (Taken 𝓤 H A at-mem run)) (known-Silence : Says 𝓤 H A 𝓣 #lent-channel·silence quiet) (known-Play : Triple 𝓤 (𝓣 .C #lent-channel·play) (Play 𝓤 H A at-mem run)) (known-Asked : Triple 𝓤 (𝓣 .C #lent-channel·any-unfinished) (question anyUnfinishedOf 𝓤 H A)) (known-Close : Triple 𝓤 (𝓣 .C #lent-channel·close) (Close 𝓤 H A at-mem run)) where
     walk : ent 𝓤 (onEntry 𝓤 H A sample.signature (κ, (κ₁, tt)) (q, (q₁, tt)) a vals) (WpFn 𝓤 H (𝓣 .C) (𝓣 .Λ) code.function (vptr b o ∷ params .val p ∷ vfloat binary32 x ∷ sl ∷ []) Post)
     walk =
         qed W ((‵ (flft κ q) ⊛ ‵ (flft κ₁ q₁) ⊛ ‵ ftrue) ∷ ‵ (owns (MutRef (named 0) κ C.the-row ∷ P.the-row ∷ f32 ∷ MutSlice (named 1) κ₁ u32 ∷ []) a vals) ∷ []) ∵
@@ -307,18 +283,14 @@ module _ {M : Type 1} (𝓤 : URA M) (H : Heap 𝓤) (A : Atoms 𝓤) (W : Given
         leaves-only ! (env (code.function .locals) at) 5 refl $ stands ! (over (‵ (partAt C.the-row fullShare h₁ b o) ∷ ‵ (fobor κ q (Body (mem C.the-row) b o γ)) ∷ ‵ (fobs γ (C.the-row .coded .code h)) ∷ ‵ (fauth γ (C.the-row .coded .code h)) ∷ ‵ (flft κ₁ q₁) ∷ ‵ (MutSlice (named 1) κ₁ u32 .own (xm γ₁ ms′) (sl ∷ [])) ∷ []) (env (code.function .locals) at) (none ∷ some (vptr b o) ∷ some (params .val p) ∷ some (vfloat binary32 x) ∷ some sl ∷ [])) refl $
         asks ! known-Silence tt tt (no-more !) (fills ! refl) (λ is₀.
         puts ! (of-opd ! (false-lit !)) (fills ! refl (tt, tt)) $
-        opened ! fullShare C.the-row (Is C.the-row) (shows 𝓤 H A C.the-row) (LL.vals C.the-type C′.the-laws) (LL.tells C.the-type C′.the-laws) h₁ b o (λ g. let is-head : Is E.the-row (h₁ .head) (ev (h₁ .head) ∷ []) = LL.owed C.the-type C′.the-laws h₁ _ g .1 .1 .0 in
-        let count-fits : h₁ .count < 2 ^ 64 = LL.owed C.the-type C′.the-laws h₁ _ g .1 .0 .1 in
+        opened ! fullShare C.the-row (Is C.the-row) (shows 𝓤 H A C.the-row) (LL.vals C.the-type C′.the-laws) (LL.tells C.the-type C′.the-laws) h₁ b o (λ g. let count-fits : h₁ .count < 2 ^ 64 = LL.owed C.the-type C′.the-laws h₁ _ g .1 .0 .1 in
         use1 W (‵ (fat fullShare C′.mir b o (cv h₁))) (W .laws .raw-at fullShare C′.mir b o (cv h₁)) $
         puts ! (of-opd ! (load ! (beyond ! (holds ! refl) (fld ! {τ = tyInt w64} {d = count-at} refl (stop !))) (look-in ! 0 (sub ! 1 {τ = tyInt w64} {d = count-at} refl (whole !))))) (fills ! refl (tt, record { fits = count-fits })) $
         puts ! (bin ! (its ! refl) (lit ! tt) tt) (fills ! refl (tt, tt)) $
         first ! $ branches ! (its ! refl)
         (λ y.
-        -- the head is read, and the moment taken of it
         puts ! (addr ! (beyond ! (holds ! refl) (stop !))) (fills ! refl (tt, tt)) $
-        puts ! (of-opd ! (load ! (beyond ! (holds ! refl) (fld ! {τ = headed .ty} {d = head-at} refl (stop !))) (look-in ! 0 (sub ! 2 {τ = headed .ty} {d = head-at} refl (whole !))))) (fills ! refl (headed .typed 𝓤 H A W (h₁ .head) _ is-head)) $
         use2 W (‵ (partAt C.the-row fullShare h₁ b o)) (part-in 𝓤 H A W C.the-row refl fullShare h₁ b o (cv h₁)) $
-        asks ! known-Moment (h₁ .head, tt) (is-head, tt) (and-then ! (its ! refl) (no-more !)) (fills ! refl) (λ ish.
         -- the voices play: the channel is lent on, and the memory is shared
         puts ! (addr ! (beyond-field ! refl refl refl (stop !))) (fills ! refl (tt, tt)) $
         puts ! (agg ! (and-then ! (its ! refl) (and-then ! (field-of ! refl refl) (no-more !)))) (fills ! refl (tt, (tt, (record { fits = room .0 }, tt)))) $
@@ -326,10 +298,10 @@ module _ {M : Type 1} (𝓤 : URA M) (H : Heap 𝓤) (A : Atoms 𝓤) (W : Given
         pick ! (λ δ₁. split ! $ move ! (8 ∷ 7 ∷ []) $ rewrite ! 0 (λ (m : ℕ). ‵ (MutSlice (named 1) κ₁ u32 .own (xm γ₁ ms′) (sliceVal (b₁, o₁) m ∷ []))) (sym long) refl $
         use2 W (later (any (λ (ε : GName). ‵ (ShrSlice (named 1) (β₁ ∷ []) u32 .own (xm ε ms′) (sliceVal (b₁, o₁) (length ms′) ∷ [])) ⊛ ‵ (LentShared u32 κ₁ (β₁ ∷ []) q₁ γ₁ b₁ o₁ ms′)))) (shares-again u32 κ₁ (β₁ ∷ []) q₁ γ₁ b₁ o₁ ms′ 𝓤 H A W (named 1) (named 1)) $ await ! tt $
         pick ! (λ ε₁. split ! $ rewrite ! 0 (λ (m : ℕ). ‵ (ShrSlice (named 1) (β₁ ∷ []) u32 .own (xm ε₁ ms′) (sliceVal (b₁, o₁) m ∷ []))) long refl $ move ! (5 ∷ 4 ∷ 2 ∷ 0 ∷ []) $ join ! $
-        use3 W (raw (Play 𝓤 H A at-mem run .pre (to-play α₁ β₁ δ₁ ε₁))) (goes-play α₁ β₁ δ₁ ε₁ ish) $
-        calls-at ! (fmOf 𝓤 H (W .laws) 𝓣) (Play 𝓤 H A at-mem run) known-Play (to-play α₁ β₁ δ₁ ε₁) (and-then ! (its ! refl) (and-then ! (its ! refl) (and-then ! (its ! refl) (and-then ! (its ! refl) (no-more !))))) (λ w₁.
-        use1 W (later (any (λ (r₁ : Heard). ((‵ (flft (α₁ ∷ []) fullShare) ⊛ ‵ (flft (β₁ ∷ []) fullShare) ⊛ ‵ ftrue) ⊛ ‵ (Y.the-row .own r₁ (w₁ ∷ []))) ⊛ raw (ensured 𝓤 H A play.ended (play.clauses 𝓤 H A at-mem run) (α₁ ∷ [], (β₁ ∷ [], tt)) (at-channel δ₁ h₁, (here, (p, (xm ε₁ ms′, tt)))) tt r₁)))) (id⊢ 𝓤 _) $ await ! tt $ pick ! (λ r₁.
-        split ! $ move ! (1 ∷ []) $ use1 W (any (λ (zs : Channel × (Unit {0} × (Unit {0} × (Unit {0} × Unit {0})))). ‵ (lasts play.ended (α₁ ∷ [], (β₁ ∷ [], tt)) (at-channel δ₁ h₁, (here, (p, (xm ε₁ ms′, tt)))) zs) ⊛ raw (fact 𝓤 (Plays r₁ (zs .0))))) (id⊢ 𝓤 _) $ pick ! (λ ys.
+        use3 W (raw (Play 𝓤 H A at-mem run .pre (to-play α₁ β₁ δ₁ ε₁))) (goes-play α₁ β₁ δ₁ ε₁) $
+        calls-at ! (fmOf 𝓤 H (W .laws) 𝓣) (Play 𝓤 H A at-mem run) known-Play (to-play α₁ β₁ δ₁ ε₁) (and-then ! (its ! refl) (and-then ! (its ! refl) (and-then ! (its ! refl) (no-more !)))) (λ w₁.
+        use1 W (later (any (λ (r₁ : Heard). ((‵ (flft (α₁ ∷ []) fullShare) ⊛ ‵ (flft (β₁ ∷ []) fullShare) ⊛ ‵ ftrue) ⊛ ‵ (Y.the-row .own r₁ (w₁ ∷ []))) ⊛ raw (ensured 𝓤 H A play.ended (play.clauses 𝓤 H A at-mem run) (α₁ ∷ [], (β₁ ∷ [], tt)) (at-channel δ₁ h₁, (p, (xm ε₁ ms′, tt))) tt r₁)))) (id⊢ 𝓤 _) $ await ! tt $ pick ! (λ r₁.
+        split ! $ move ! (1 ∷ []) $ use1 W (any (λ (zs : Channel × (Unit {0} × (Unit {0} × Unit {0}))). ‵ (lasts play.ended (α₁ ∷ [], (β₁ ∷ [], tt)) (at-channel δ₁ h₁, (p, (xm ε₁ ms′, tt))) zs) ⊛ raw (fact 𝓤 (Plays r₁ (zs .0))))) (id⊢ 𝓤 _) $ pick ! (λ ys.
         split ! $ move ! (1 ∷ []) $ heard ! (Plays r₁ (ys .0)) (λ e₁. fsplit ! $ move ! (1 ∷ []) $ drop ! $ rewrite ! 0 (λ (y : Channel). ‵ (fres δ₁ (C.the-row .coded .code y))) (e₁ .1) refl $
         move ! (1 ∷ []) $ split ! $ move ! (1 ∷ []) $
         peeks ! Y.the-row (Is Y.the-row) (shows 𝓤 H A Y.the-row) r₁ (w₁ ∷ []) (λ is₁. drop ! $ let is-sum : Is Y.the-row sum (yv sum ∷ []) = subst (λ (y : Heard). Is Y.the-row y (yv y ∷ [])) (e₁ .0) (subst (Is Y.the-row r₁) (sounded .tells r₁ _ is₁) is₁) in
@@ -343,23 +315,23 @@ module _ {M : Type 1} (𝓤 : URA M) (H : Heap 𝓤) (A : Atoms 𝓤) (W : Given
         pick ! (λ δ₂. split ! $ move ! (2 ∷ 0 ∷ []) $ join ! $ answered-last anyUnfinishedOf ! (fmOf 𝓤 H (W .laws) 𝓣) known-Asked (α₂ ∷ []) fullShare (at-channel δ₂ h₂) (and-then ! (its ! refl) (no-more !)) (
         lft-end ! tt $ move ! (0 ∷ 1 ∷ []) $ lent-back ! tt $ arrives-last ! (refills ! refl (tt, tt)) $
         leaves-only ! (env (code.function .locals) at) 7 refl $
-        by ! (shuts 𝓣 known-Close is-sum at)))))))))))))))
+        by ! (shuts 𝓣 known-Close is-sum at))))))))))))))
         (λ y.
         -- there is no voice: the channel, what is heard of it and whether a voice is unfinished are as if it had played
         skips ! $ let none-plays : h₁ .count ≡ 0 = eqb-true (h₁ .count) 0 (not-false (eqb (h₁ .count) 0) (denied (not (eqb (h₁ .count) 0)) y)) in
-        use2 W (‵ (partAt C.the-row fullShare h₁ b o)) (part-in 𝓤 H A W C.the-row refl fullShare h₁ b o (cv h₁)) $ rewrite ! 0 (λ (c : Channel). ‵ (partAt C.the-row fullShare c b o)) (none-gone p here ms′ h₁ none-plays) refl $
-        now-holds ! 5 (ap yv (none-heard p here ms′ h₁ none-plays)) refl $ now-holds ! 6 (ap vbool (none-unfinished p here ms′ h₁ none-plays)) refl $
+        use2 W (‵ (partAt C.the-row fullShare h₁ b o)) (part-in 𝓤 H A W C.the-row refl fullShare h₁ b o (cv h₁)) $ rewrite ! 0 (λ (c : Channel). ‵ (partAt C.the-row fullShare c b o)) (none-gone by-phrase h₁ none-plays) refl $
+        now-holds ! 5 (ap yv (none-heard by-phrase h₁ none-plays)) refl $ now-holds ! 6 (ap vbool (none-unfinished by-phrase h₁ none-plays)) refl $
         leaves-only ! (env (code.function .locals) at) 7 refl $
-        by ! (shuts 𝓣 known-Close (subst (λ (y : Heard). Is Y.the-row y (yv y ∷ [])) (none-heard p here ms′ h₁ none-plays) is₀) at))))))))))))))))
+        by ! (shuts 𝓣 known-Close (subst (λ (y : Heard). Is Y.the-row y (yv y ∷ [])) (none-heard by-phrase h₁ none-plays) is₀) at))))))))))))))))
 
-module _ {M : Type 1} (𝓤 : URA M) (H : Heap 𝓤) (A : Atoms 𝓤) (W : Given 𝓤 H A) (at-mem : Memory → SProp 𝓤) (run : Routine → Fun 𝓤) (𝓣 : Tables 𝓤 H) (known-Taken : Triple 𝓤 (𝓣 .C #lent-channel·record) (Taken 𝓤 H A at-mem run)) (known-Silence : Says 𝓤 H A 𝓣 #lent-channel·silence quiet) (known-Moment : Says 𝓤 H A 𝓣 #channel·moment momented) (known-Play : Triple 𝓤 (𝓣 .C #lent-channel·play) (Play 𝓤 H A at-mem run)) (known-Asked : Triple 𝓤 (𝓣 .C #lent-channel·any-unfinished) (question anyUnfinishedOf 𝓤 H A)) (known-Close : Triple 𝓤 (𝓣 .C #lent-channel·close) (Close 𝓤 H A at-mem run)) where
+module _ {M : Type 1} (𝓤 : URA M) (H : Heap 𝓤) (A : Atoms 𝓤) (W : Given 𝓤 H A) (at-mem : Memory → SProp 𝓤) (run : Routine → Fun 𝓤) (𝓣 : Tables 𝓤 H) (known-Taken : Triple 𝓤 (𝓣 .C #lent-channel·record) (Taken 𝓤 H A at-mem run)) (known-Silence : Says 𝓤 H A 𝓣 #lent-channel·silence quiet) (known-Play : Triple 𝓤 (𝓣 .C #lent-channel·play) (Play 𝓤 H A at-mem run)) (known-Asked : Triple 𝓤 (𝓣 .C #lent-channel·any-unfinished) (question anyUnfinishedOf 𝓤 H A)) (known-Close : Triple 𝓤 (𝓣 .C #lent-channel·close) (Close 𝓤 H A at-mem run)) where
   sample-walks : Walks 𝓤 H A sample.ended stayed (WpFn 𝓤 H (𝓣 .C) (𝓣 .Λ) code.function) (sample.clauses 𝓤 H A at-mem run)
   sample-walks = walked 𝓤 H A sample.ended stayed (sample.clauses 𝓤 H A at-mem run) (WpFn 𝓤 H (𝓣 .C) (𝓣 .Λ) code.function)
       (λ κs. (ptr-vals, (LL.vals P.the-type P′.the-laws, (float-vals binary32, (slice-vals, tt)))))
       (λ κs. (mut-tells (named 0) (κs .0) C.the-row, (LL.tells P.the-type P′.the-laws, (float-tells binary32, (mut-slice-tells (named 1) (κs .1 .0) u32, tt)))))
       (λ κs qs bounds a _ are. via 𝓤 _ (fst∗ 𝓤 _ (emp 𝓤))
       (walk 𝓤 H A W at-mem run (κs .0) (κs .1 .0) (qs .0) (qs .1 .0) (a .0 .ptr .0) (a .0 .ptr .1) (a .0 .name) (a .0 .now) (a .1 .0) (a .1 .1 .0) (a .1 .1 .1 .0 .ptr .0) (a .1 .1 .1 .0 .ptr .1) (a .1 .1 .1 .0 .name) (a .1 .1 .1 .0 .now)
-      (are .1 .1 .1 .0 .0 .1) (are .1 .0) (are .1 .1 .0 .1) 𝓣 known-Taken known-Silence known-Moment known-Play known-Asked known-Close))
+      (are .1 .1 .1 .0 .0 .1) (are .1 .0) (are .1 .1 .0 .1) 𝓣 known-Taken known-Silence known-Play known-Asked known-Close))
 
   sample-meets : Meets 𝓤 H A sample.signature (WpFn 𝓤 H (𝓣 .C) (𝓣 .Λ) code.function) (sample.spec 𝓤 H A at-mem run)
   sample-meets =
@@ -383,7 +355,6 @@ with-sample-spec 𝓤 H 𝓜 𝓖 𝓡 =
     (sample-meets 𝓤 H (𝓖 .A) (givenOf 𝓤 H 𝓜 𝓖) (𝓜 .mem) (𝓡 .run) (tablesOf 𝓤 H 𝓜 (tables 𝓤 H 𝓜 𝓡 code.env))
     (cited 𝓤 H _ 𝓜 𝓡 code.env #lent-channel·record taken-def.routine code.calls-lent-channel·record (taken-thm.met 𝓤 H 𝓜 𝓖 𝓡))
     (record { met = cited 𝓤 H _ 𝓜 𝓡 code.env #lent-channel·silence silence-def.routine code.calls-lent-channel·silence (silence-thm.met 𝓤 H 𝓜 𝓖 𝓡) })
-    (record { met = cited 𝓤 H _ 𝓜 𝓡 code.env #channel·moment moment-def.routine code.calls-channel·Head·moment (moment-thm.met 𝓤 H 𝓜 𝓖 𝓡) })
     (cited 𝓤 H _ 𝓜 𝓡 code.env #lent-channel·play play-def.routine code.calls-lent-channel·play (play-thm.met 𝓤 H 𝓜 𝓖 𝓡))
     (cited 𝓤 H _ 𝓜 𝓡 code.env #lent-channel·any-unfinished asked-def.routine code.calls-lent-channel·any-unfinished (asked-thm.met 𝓤 H 𝓜 𝓖 𝓡))
     (cited 𝓤 H _ 𝓜 𝓡 code.env #lent-channel·close close-def.routine code.calls-lent-channel·close (close-thm.met 𝓤 H 𝓜 𝓖 𝓡)))

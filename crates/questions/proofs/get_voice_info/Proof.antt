@@ -30,15 +30,15 @@ returns c = simp (c .no-infos .ensures, ← (c .before .before .before .before .
 channel-at-requires-2 : tie.Need-channel-at-requires-2
 channel-at-requires-2 c κs = search needs
 
-loop-length-requires : tie.Need-loop-length-requires
-loop-length-requires c κs = search needs
-
 voice-infos-requires : tie.Need-voice-infos-requires
 voice-infos-requires c κs = search needs
 
 returns-2 : tie.Need-returns-2
 unfolding getVoiceInfoOf answered infoNumber
-returns-2 c = simp (c .voice-infos .ensures, c .before .loop-length .ensures, c .before .before .before .channel-at2 .ensures, ← (c .before .before .before .before .before .before .before .before .before .before .channel-at .ensures), ← (c .before .before .before .before .before .before .before .before .beyond-limits .ensures), ← (c .before .before .before .before .before .before .before .first-of .ensures), ← (c .before .before .before .before .before .before .first-of2 .ensures), ← (c .before .before .before .before .before .asked .ensures), c .before .before .before .before .if1 .left)
+returns-2 c =
+    let b = c .before .before .before in
+    let d = b .before .before in
+    simp (c .voice-infos .ensures, c .before .channel-at2 .ensures, ← (d .before .before .before .channel-at .ensures), ← (d .before .beyond-limits .ensures), ← (d .first-of .ensures), ← (b .before .first-of2 .ensures), ← (b .asked .ensures), c .before .before .if1 .left)
 
 pub get-voice-info-spec : {M : Type 1} → statement M
 get-voice-info-spec =
@@ -52,6 +52,5 @@ get-voice-info-spec =
     no-infos-requires
     returns
     channel-at-requires-2
-    loop-length-requires
     voice-infos-requires
     returns-2)

@@ -1,7 +1,7 @@
--- `get_waveform_summary` meets its contract: the table's rows in its order, and then the columns of the memory's front. Assumes nothing.
+-- `get_waveform_summary` meets its contract: the table's rows in its order, and then the columns of the recording's stretch of the memory. Assumes nothing.
 use mathlib.Core.Path.{sym, _∙_}
 use lib.Ieee.{ofBits}
-use Rattle.questions.proofs.Summaries.{waveform-refused, front-count, front-asked, room-left, taken-count, summary-done}
+use Rattle.questions.proofs.Summaries.{waveform-refused, ends-inside, end-few, asked-for, room-left, taken-count, summary-done}
 use borrow.Author.Needs.{needs}
 use Rattle.questions.proofs.get_waveform_summary.Statement.{statement}
 use Rattle.questions.proofs.get_waveform_summary.Tie as tie
@@ -16,27 +16,47 @@ returns c = waveform-refused _ _ _ _ _ (c .before .waveform-number .ensures) (c 
 channel-at-requires : tie.Need-channel-at-requires
 channel-at-requires c κs = search needs
 
-slice-aggregate-write-columns : tie.Need-slice-aggregate-write-columns
-slice-aggregate-write-columns c =
+add-end : tie.Need-add-end
+add-end c =
     let b = c .before .before in
     let a = b .before .before .before .before .before .args in
-    front-count (a .s) (a .columns) (a .list .now) (a .memory .now) _ (b .channel-at .ensures) (sym (b .before .before .waveform-number .ensures) ∙ b .before .if1 .left)
+    let few = end-few (a .s) (a .columns) (a .list .now) (a .memory .now) _ (b .channel-at .ensures) (sym (b .before .before .waveform-number .ensures) ∙ b .before .if1 .left) in
+    search needs
+
+mul-write-columns : tie.Need-mul-write-columns
+mul-write-columns c =
+    let b = c .before .before in
+    let a = b .before .before .before .before .before .args in
+    let few = end-few (a .s) (a .columns) (a .list .now) (a .memory .now) _ (b .channel-at .ensures) (sym (b .before .before .waveform-number .ensures) ∙ b .before .if1 .left) in
+    search needs
+
+sub-write-columns : tie.Need-sub-write-columns
+sub-write-columns c = search needs
+
+part-write-columns-start : tie.Need-part-write-columns-start
+part-write-columns-start c = search needs
+
+part-write-columns-end : tie.Need-part-write-columns-end
+part-write-columns-end c =
+    let b = c .before .before in
+    let a = b .before .before .before .before .before .args in
+    ends-inside (a .s) (a .columns) (a .list .now) (a .memory .now) _ (b .channel-at .ensures) (sym (b .before .before .waveform-number .ensures) ∙ b .before .if1 .left)
 
 write-columns-requires : tie.Need-write-columns-requires
 write-columns-requires c κs =
-    let b = c .before .before .before in
+    let b = c .before .before .before .before in
     let a = b .before .before .before .before .before .args in
-    front-asked (a .s) (a .columns) (a .list .now) (a .memory .now) _ (b .channel-at .ensures) (sym (b .before .before .waveform-number .ensures) ∙ b .before .if1 .left)
+    asked-for (a .s) (a .columns) (a .list .now) (a .memory .now) _ (b .channel-at .ensures) (sym (b .before .before .waveform-number .ensures) ∙ b .before .if1 .left)
 
 slice-reshare-prefix-largest : tie.Need-slice-reshare-prefix-largest
 slice-reshare-prefix-largest c =
-    let b = c .before .before .before .before .before .before in
+    let b = c .before .before .before .before .before .before .before in
     let a = b .before .before .before .before .before .args in
     room-left (a .s) (a .columns) (a .list .now) (a .memory .now) _ (b .channel-at .ensures) (sym (b .before .before .waveform-number .ensures) ∙ b .before .if1 .left) _ (c .before .before .write-columns .ensures)
 
 slice-aggregate-largest : tie.Need-slice-aggregate-largest
 slice-aggregate-largest c =
-    let b = c .before .before .before .before .before .before .before in
+    let b = c .before .before .before .before .before .before .before .before in
     let a = b .before .before .before .before .before .args in
     taken-count (a .s) (a .columns) (a .list .now) (a .memory .now) _ (b .channel-at .ensures) (sym (b .before .before .waveform-number .ensures) ∙ b .before .if1 .left) _ (c .before .before .before .write-columns .ensures)
 
@@ -49,7 +69,7 @@ same-length c = search needs
 returns-2 : tie.Need-returns-2
 unfolding ofBits
 returns-2 c =
-    let b = c .before .before .before .before .before .before .before .before in
+    let b = c .before .before .before .before .before .before .before .before .before in
     let a = b .before .before .before .before .before .args in
     summary-done (a .s) (a .columns) (a .list .now) (a .memory .now) _ (b .channel-at .ensures) (sym (b .before .before .waveform-number .ensures) ∙ b .before .if1 .left) _ (c .before .before .before .before .write-columns .ensures) _ (c .largest .ensures)
 
@@ -60,7 +80,11 @@ get-waveform-summary-spec =
     waveform-number-requires
     returns
     channel-at-requires
-    slice-aggregate-write-columns
+    add-end
+    mul-write-columns
+    sub-write-columns
+    part-write-columns-start
+    part-write-columns-end
     write-columns-requires
     slice-reshare-prefix-largest
     slice-aggregate-largest

@@ -4,20 +4,19 @@ use Prim.Native.Nat.{_-_}
 use Rattle.walks.proofs.Lists.Loops.{Walk, turns, ends, long, begins}
 use Rattle.channel.specs.Channels.{live}
 use Rattle.channel.proofs.Slots.{none}
-use Rattle.questions.specs.Questions.{voiceInfosOf}
-use Rattle.questions.proofs.Infos.{filled, filled-on, filled-front}
+use Rattle.questions.specs.Questions.{figuresOf, voiceInfosOf}
+use Rattle.questions.proofs.Infos.{figuresBy, figured, filled, filled-on, filled-front}
 use borrow.Author.Needs.{needs}
 use Rattle.questions.proofs.voice_infos.Statement.{statement}
 use Rattle.questions.proofs.voice_infos.Tie as tie
 
 abbrev Inv-loop : tie.InvT-loop
-Inv-loop length c data-length n answer₀ i₀ answer i = Walk (filled length data-length answer₀ 0 (live c)) (filled length data-length answer i) (c .voices) n i
+Inv-loop params c head other n answer₀ i₀ answer i =
+    let f = figuresBy params other head in
+    Walk (filled f answer₀ 0 (live c)) (filled f answer i) (c .voices) n i
 
 abbrev μ-loop : tie.MeasureT-loop
-μ-loop length c data-length n answer₀ i₀ answer i = n - i
-
-usize-to-f32-requires : tie.Need-usize-to-f32-requires Inv-loop μ-loop
-usize-to-f32-requires c κs = search needs
+μ-loop params c head other n answer₀ i₀ answer i = n - i
 
 places-requires : tie.Need-places-requires Inv-loop μ-loop
 places-requires c κs = search needs
@@ -26,7 +25,9 @@ no-infos-requires : tie.Need-no-infos-requires Inv-loop μ-loop
 no-infos-requires c κs = search needs
 
 loop-holds : tie.Need-loop-holds Inv-loop μ-loop
-loop-holds c = begins (filled (c .before .before .before .before .args .length) (c .before .before .usize-to-f32 .result) (c .no-infos .result) 0) (c .before .before .before .before .args .t1 .voices) (c .before .before .before .before .args .t1 .count) _ 32 (long _ (c .before .before .before .before .args .t1 .voices) 32 (c .before .before .before .before .good .0 .1 .1 .0 .1 .0 .1)) (c .before .places .ensures)
+loop-holds c =
+    let at = c .before .before .before .before in
+    begins (filled _ (c .no-infos .result) 0) (at .args .t1 .voices) (at .args .t1 .count) _ 32 (long _ (at .args .t1 .voices) 32 (at .good .0 .1 .1 .0 .1 .0 .1)) (c .before .places .ensures)
 
 mul-v : tie.Need-mul-v Inv-loop μ-loop
 mul-v c = search needs
@@ -34,11 +35,23 @@ mul-v c = search needs
 element-copy-out-v : tie.Need-element-copy-out-v Inv-loop μ-loop
 element-copy-out-v c = search needs
 
+phrase-at-requires : tie.Need-phrase-at-requires Inv-loop μ-loop
+phrase-at-requires c κs = search needs
+
+phrase-at-requires-2 : tie.Need-phrase-at-requires-2 Inv-loop μ-loop
+phrase-at-requires-2 c κs = search needs
+
+loop-length-requires : tie.Need-loop-length-requires Inv-loop μ-loop
+loop-length-requires c κs = search needs
+
+usize-to-f32-requires : tie.Need-usize-to-f32-requires Inv-loop μ-loop
+usize-to-f32-requires c κs = search needs
+
 voice-info-requires : tie.Need-voice-info-requires Inv-loop μ-loop
 voice-info-requires c κs = search needs
 
-mul-t13 : tie.Need-mul-t13 Inv-loop μ-loop
-mul-t13 c = search needs
+mul-t17 : tie.Need-mul-t17 Inv-loop μ-loop
+mul-t17 c = search needs
 
 element-set-from-answer : tie.Need-element-set-from-answer Inv-loop μ-loop
 element-set-from-answer c = search needs
@@ -50,15 +63,20 @@ loop-less : tie.Need-loop-less Inv-loop μ-loop
 loop-less c = search needs
 
 loop-again : tie.Need-loop-again Inv-loop μ-loop
-loop-again c = turns none (c .before .before .before .loop .inv) (search needs) (λ vs. filled-on _ _ (c .before .before .before .loop .answer) (c .before .before .before .loop .i) _ _ vs (c .voice-info .ensures))
+loop-again c =
+    let b = c .before .before .before .before in
+    let at = b .before .before .before .loop in
+    turns none (at .inv) (search needs)
+    (λ vs. filled-on _ (at .answer) (at .i) _ _ vs
+    (figured _ _ _ _ _ _ _ _ _ (b .phrase-at .ensures) (c .before .before .before .phrase-at2 .ensures) (c .before .before .loop-length .ensures) (c .before .usize-to-f32 .ensures) (c .voice-info .ensures)))
 
 returns : tie.Need-returns Inv-loop μ-loop
-unfolding voiceInfosOf
+unfolding voiceInfosOf figuresOf
 returns c =
     let at = c .before .before .before .before .before .before in
     ends (c .before .loop .inv) (c .loop-test .left)
-    ∙ simp (c .before .before .no-infos .ensures, c .before .before .before .before .usize-to-f32 .ensures)
-    (filled-front _ _ (at .args .t1) (long _ (at .args .t1 .voices) 32 (at .good .0 .1 .1 .0 .1 .0 .1)))
+    ∙ simp (c .before .before .no-infos .ensures)
+    (filled-front _ (at .args .t1) (long _ (at .args .t1 .voices) 32 (at .good .0 .1 .1 .0 .1 .0 .1)))
 
 pub voice-infos-spec : {M : Type 1} → statement M
 voice-infos-spec =
@@ -66,14 +84,17 @@ voice-infos-spec =
     (tie.spec
     Inv-loop
     μ-loop
-    usize-to-f32-requires
     places-requires
     no-infos-requires
     loop-holds
     mul-v
     element-copy-out-v
+    phrase-at-requires
+    phrase-at-requires-2
+    loop-length-requires
+    usize-to-f32-requires
     voice-info-requires
-    mul-t13
+    mul-t17
     element-set-from-answer
     add-i
     loop-less

@@ -14,15 +14,16 @@ use Rattle.recordings.proofs.layout.Tie as tie
 element-copy-out-c : tie.Need-element-copy-out-c
 element-copy-out-c c = search needs
 
-starts-requires : tie.Need-starts-requires
-starts-requires c κs = search needs
+second-start-requires : tie.Need-second-start-requires
+second-start-requires c κs = search needs
 
 returns : tie.Need-returns
 returns c =
     let at = c .before .before .before in
-    rw (c .starts .ensures)
-    (ap (λ (d : Channel). record { channels = at .args .t1 .count; samples = d .head .«data_len»; starts = startsIn (at .args .t1) })
-    (getD-any (at .args .t1 .channels) 0 none (channelOf (record { «auto_passthru» = false })) (omega (arith, long _ (at .args .t1 .channels) 2 (at .good .0 .1 .1 .0 .1 .0 .1)))))
+    let s = at .args .t1 in
+    rw (c .second-start .ensures)
+    (ap (λ (d : Channel). record { channels = s .count; samples = d .head .«data_len»; starts = record { first = d .head .start; second = startsIn s .second } })
+    (getD-any (s .channels) 0 none (channelOf (record { «auto_passthru» = false })) (omega (arith, long _ (s .channels) 2 (at .good .0 .1 .1 .0 .1 .0 .1)))))
 
 pub layout-spec : {M : Type 1} → statement M
-layout-spec = tie.close (tie.spec element-copy-out-c starts-requires returns)
+layout-spec = tie.close (tie.spec element-copy-out-c second-start-requires returns)

@@ -13,8 +13,8 @@ read-number-requires c κs = search needs
 returns : tie.Need-returns
 returns c = let a = c .before .before .before .before .before .args in read-refused (a .s) (a .file .now) (a .memory .now) _ (c .before .before .judge .ensures) _ (c .before .read-number .ensures) (c .if1 .taken)
 
-starts-requires : tie.Need-starts-requires
-starts-requires c κs = search needs
+fronts-requires : tie.Need-fronts-requires
+fronts-requires c κs = search needs
 
 load-requires : tie.Need-load-requires
 load-requires c κs = search needs
@@ -33,7 +33,7 @@ returns-2 c =
     let b = c .before .before .before .before in
     let d = b .before .before .before in
     let a = d .before .before .before .before .before .args in
-    read-done (a .s) (a .file .now) (a .memory .now) _ (d .before .before .judge .ensures) _ (d .before .read-number .ensures) (d .if1 .left) _ (b .before .before .starts .ensures) _ (b .load .ensures .1) _ (c .before .held .ensures) _ (c .loaded .ensures)
+    read-done (a .s) (a .file .now) (a .memory .now) _ (d .before .before .judge .ensures) _ (d .before .read-number .ensures) (d .if1 .left) _ (b .before .before .fronts .ensures) _ (b .load .ensures .1) _ (c .before .held .ensures) _ (c .loaded .ensures)
 
 pub read-wave-spec : {M : Type 1} → statement M
 read-wave-spec =
@@ -42,7 +42,7 @@ read-wave-spec =
     judge-requires
     read-number-requires
     returns
-    starts-requires
+    fronts-requires
     load-requires
     held-requires
     loaded-requires

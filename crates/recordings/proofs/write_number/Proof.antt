@@ -1,7 +1,7 @@
 -- `write_number` meets its contract: the request's rows in their order. Assumes nothing.
 use mathlib.Core.Path.{sym, _∙_}
 use native.Mathlib.Omega.{arith}
-use Rattle.sampler.proofs.Rows.{is-true}
+use Rattle.sampler.proofs.Rows.{is-true, fitting}
 use Rattle.recordings.specs.Waves.{writeNumber}
 use Rattle.recordings.proofs.Numbers.{words-few}
 use borrow.Author.Needs.{needs}
@@ -16,7 +16,7 @@ unfolding writeNumber
 returns c = simp (← (c .before .good-with .ensures), c .if1 .taken)
 
 layout-requires : tie.Need-layout-requires
-layout-requires c κs = search needs
+layout-requires c κs = fitting _ _ (sym (c .before .good-with .ensures) ∙ is-true _ (c .if1 .left)) .good
 
 mul-first-of : tie.Need-mul-first-of
 mul-first-of c = omega (arith, words-few _ _ (sym (c .before .before .before .good-with .ensures) ∙ is-true _ (c .before .before .if1 .left)) _ (c .before .layout .ensures))

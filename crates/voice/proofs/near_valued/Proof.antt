@@ -1,5 +1,4 @@
 -- `near_valued` meets its contract: its test is that of `valueAt`, and an index and what remains are a position. Assumes nothing.
-use mathlib.Core.Path.{sym, ap}
 use borrow.Author.Needs.{needs}
 use borrow.Author.Tests.{not-true, not-false}
 use Rattle.clip.specs.Positions.{positionOf}

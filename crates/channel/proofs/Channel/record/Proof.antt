@@ -1,8 +1,23 @@
--- `Channel::record` meets its contract. Assumes nothing.
-use Rattle.channel.specs.Channels.{takenOf, memoryOf}
+-- `Channel::record` meets its contract: what is recorded is recorded in the recorder's part of the memory. Assumes nothing.
+use Rattle.channel.proofs.Rooms.{taken-there, memory-there}
 use borrow.Author.Needs.{needs}
 use Rattle.channel.proofs.Channel.record.Statement.{statement}
 use Rattle.channel.proofs.Channel.record.Tie as tie
+
+room-requires : tie.Need-room-requires
+room-requires c κs = search needs
+
+mul-recorded : tie.Need-mul-recorded
+mul-recorded c = search needs
+
+sub-recorded : tie.Need-sub-recorded
+sub-recorded c = search needs
+
+part-recorded-start : tie.Need-part-recorded-start
+part-recorded-start c = search needs
+
+part-recorded-end : tie.Need-part-recorded-end
+part-recorded-end c = search needs
 
 recorded-requires : tie.Need-recorded-requires
 recorded-requires c κs = search needs
@@ -11,8 +26,23 @@ same-length : tie.Need-same-length
 same-length c = search needs
 
 returns : tie.Need-returns
-unfolding takenOf memoryOf
-returns c = (simp (c .before .before .recorded .ensures .0), c .before .before .recorded .ensures .1)
+returns c =
+    let a = c .before .before .before .before .before .before .before .args in
+    let room = c .before .before .before .before .room in
+    let recorded = c .before .before .recorded in (
+      taken-there (a .self) (a .«data» .now) (room .result) (room .ensures .0) (recorded .result) (recorded .ensures .0),
+      memory-there (a .self) (a .«data» .now) (room .result) (room .ensures .0) (a .input) _ (recorded .ensures .1),
+    )
 
 pub record-spec : {M : Type 1} → statement M
-record-spec = tie.close (tie.spec recorded-requires same-length returns)
+record-spec =
+    tie.close
+    (tie.spec
+    room-requires
+    mul-recorded
+    sub-recorded
+    part-recorded-start
+    part-recorded-end
+    recorded-requires
+    same-length
+    returns)

@@ -7,8 +7,8 @@ use Rattle.channel.proofs.Channel.with_sample.Tie as tie
 record-requires : tie.Need-record-requires
 record-requires c κs = search needs
 
-play-voices-requires : tie.Need-play-voices-requires
-play-voices-requires c κs = search needs
+play-requires : tie.Need-play-requires
+play-requires c κs = search needs
 
 mixed-requires : tie.Need-mixed-requires
 mixed-requires c κs = search needs
@@ -26,15 +26,15 @@ returns : tie.Need-returns
 unfolding processSampleOf
 returns c =
     let e = c .before .before .before .before .before .before .before .before .before .«record» .ensures .1 in
-    let plays = rw e at (c .before .before .before .before .play-voices .ensures .0) in
-    (simp (c .closed .ensures, c .before .any-unfinished .ensures, c .before .before .before .mixed .ensures, plays, c .before .before .before .before .before .before .before .before .before .«record» .ensures .0), (e, c .before .before .before .before .play-voices .ensures .1))
+    let plays = rw e at (c .before .before .before .before .play .ensures .0) in
+    (simp (c .closed .ensures, c .before .any-unfinished .ensures, c .before .before .before .mixed .ensures, plays, c .before .before .before .before .before .before .before .before .before .«record» .ensures .0), (e, c .before .before .before .before .play .ensures .1))
 
 pub with-sample-spec : {M : Type 1} → statement M
 with-sample-spec =
     tie.close
     (tie.spec
     record-requires
-    play-voices-requires
+    play-requires
     mixed-requires
     any-unfinished-requires
     closed-requires

@@ -1,4 +1,4 @@
--- `Head::loaded` meets its contract. Assumes nothing.
+-- `Head::loaded` meets its contract, by those of the copies that it is made of. Assumes nothing.
 use Rattle.channel.specs.Heads.{headChangedOf}
 use borrow.Author.Needs.{needs}
 use Rattle.channel.proofs.Head.loaded.Statement.{statement}
@@ -7,12 +7,12 @@ use Rattle.channel.proofs.Head.loaded.Tie as tie
 copied-requires : tie.Need-copied-requires
 copied-requires c κs = search needs
 
-with-recorded-requires : tie.Need-with-recorded-requires
-with-recorded-requires c κs = search needs
+copied-requires-2 : tie.Need-copied-requires-2
+copied-requires-2 c κs = search needs
 
 returns : tie.Need-returns
 unfolding headChangedOf
-returns c = simp (c .with-recorded .ensures, c .before .copied .ensures)
+returns c = simp (c .before .copied .ensures, c .copied2 .ensures)
 
 pub loaded-spec : {M : Type 1} → statement M
-loaded-spec = tie.close (tie.spec copied-requires with-recorded-requires returns)
+loaded-spec = tie.close (tie.spec copied-requires copied-requires-2 returns)

@@ -1,24 +1,18 @@
--- `Tick::new` meets its contract. Assumes nothing.
-use Rattle.voice.specs.Voices.{tickOf}
+-- `Tick::new` meets its contract: by their measure the parameters give the same length. Assumes nothing.
+use mathlib.Core.Path.{_∙_}
+use Rattle.voice.proofs.Measured.{tick-measured}
 use borrow.Author.Needs.{needs}
 use Rattle.voice.proofs.Tick.new.Statement.{statement}
 use Rattle.voice.proofs.Tick.new.Tie as tie
 
-new-requires : tie.Need-new-requires
-new-requires c κs = search needs
+measure-requires : tie.Need-measure-requires
+measure-requires c κs = search needs
 
-speed-requires : tie.Need-speed-requires
-speed-requires c κs = search needs
-
-clip-mode-requires : tie.Need-clip-mode-requires
-clip-mode-requires c κs = search needs
-
-plays-once-requires : tie.Need-plays-once-requires
-plays-once-requires c κs = search needs
+measured-requires : tie.Need-measured-requires
+measured-requires c κs = search needs
 
 returns : tie.Need-returns
-unfolding tickOf
-returns c = simp (c .plays-once .ensures, c .before .clip-mode .ensures, c .before .before .speed .ensures, c .before .before .before .new .ensures)
+returns c = c .measured .ensures ∙ tick-measured (c .before .before .args .params) _ (c .before .measure .ensures) (c .before .before .args .at)
 
 pub new-spec : {M : Type 1} → statement M
-new-spec = tie.close (tie.spec new-requires speed-requires clip-mode-requires plays-once-requires returns)
+new-spec = tie.close (tie.spec measure-requires measured-requires returns)

@@ -29,6 +29,9 @@ quick-beside-requires c κs = search needs
 returns-3 : tie.Need-returns-3
 returns-3 c glides = absurd (true≢false (sym glides))
 
+returns-4 : tie.Need-returns-4
+returns-4 c glides = absurd (true≢false (sym glides))
+
 near-valued-requires : tie.Need-near-valued-requires
 near-valued-requires c κs = search needs
 
@@ -38,29 +41,30 @@ crossing-requires c κs = search needs
 goes-on-requires : tie.Need-goes-on-requires
 goes-on-requires c κs = search needs
 
-returns-4 : tie.Need-returns-4
+returns-5 : tie.Need-returns-5
 unfolding glidedAt
-returns-4 c =
-    let a = c .before .before .before .before .before .before .before .before .before .before .before .before .before .before .before .before .before .args in
+returns-5 c =
+    let a = c .before .before .before .before .before .before .before .before .before .before .before .before .before .before .before .before .before .before .before .before .args in
     let found = c .before .before .before .before .before .before .before .before .before .quick-index in
     let keeps = c .before .before .before .before .before .before .before .before .before .before .before .before .before .before .before .keeps in
     let valued = c .before .before .before .near-valued in
     answered (a .t) (a .«data» .now) (a .self) (found .result) (c .before .before .before .before .before .before .quick-beside .result) (valued .result) (found .ensures) (c .before .before .before .before .before .before .quick-beside .ensures) (valued .ensures)
-    (c .before .before .before .before .before .before .before .before .if2 .left) (c .before .before .before .before .before .if3 .left) _ (keeps .result) (c .goes-on .result) (simp (c .before .crossing .ensures, c .before .before .before .before .before .before .before .level .ensures)) (keeps .ensures) (c .goes-on .ensures)
-    (not-false (keeps .result) (c .before .before .before .before .before .before .before .before .before .before .before .before .before .before .if1 .left))
+    (c .before .before .before .before .before .before .before .before .if3 .left) (c .before .before .before .before .before .if4 .left) _ (keeps .result) (c .goes-on .result) (simp (c .before .crossing .ensures, c .before .before .before .before .before .before .before .level .ensures)) (keeps .ensures) (c .goes-on .ensures)
+    (c .before .before .before .before .before .before .before .before .before .before .before .before .before .before .before .before .if1 .left) (not-false (keeps .result) (c .before .before .before .before .before .before .before .before .before .before .before .before .before .before .if2 .left))
 
 pub quick-spec : {M : Type 1} → statement M
 quick-spec =
     tie.close
     (tie.spec
-    keeps-requires
     returns
-    quick-index-requires
+    keeps-requires
     returns-2
+    quick-index-requires
+    returns-3
     level-requires
     quick-beside-requires
-    returns-3
+    returns-4
     near-valued-requires
     crossing-requires
     goes-on-requires
-    returns-4)
+    returns-5)

@@ -1,5 +1,5 @@
 -- `Voice::settled` meets its contract: played out or not, its fields are those of the voice ended and stepped. Assumes nothing.
-use mathlib.Core.Path.{_≡_, refl, sym}
+use mathlib.Core.Path.{_≡_, sym}
 use mathlib.Core.Bool.{Bool, true, false, cond, _||_}
 use borrow.Author.Needs.{needs}
 use Rattle.voice.specs.declared.Voice.{Voice}
@@ -31,6 +31,7 @@ settledBy t v out = record {
   note = v .note;
   finished = out || v .finished;
   «is_at_zero_crossing» = v .«is_at_zero_crossing»;
+  phrase = v .phrase;
 }
 
 by-case : (t : Tick) (v : Voice) (out : Bool) → playedOutOf t v ≡ out → settledBy t v out ≡ volumeStepped (t .now) (endedOf t v)
