@@ -66,6 +66,7 @@ ghost use Rattle.channel.specs.Channels.{
 use common_types::InitParams;
 use common_types::Note;
 use common_types::Params;
+use phrases::Beside;
 use phrases::Phrase;
 use phrases::Room;
 use recorder::Recorded;
@@ -78,8 +79,8 @@ use volume::Volume;
 // The clock's end: a sample then is refused.
 pub const LAST_TIME: usize = 0x1_0000_0000_0000;
 
-// What of a channel is not its voices. It holds the enums, and is stored whole. The recording is the phrase of the number
-// `chosen`: `data_len` samples from `start` on. Every other phrase is empty.
+// What of a channel is not its voices and not its table. It holds the enums, and is stored whole. The recording is the
+// phrase of the number `chosen`: `data_len` samples from `start` on.
 pub struct Head {
     pub now: usize,
     pub data_len: usize,
@@ -91,11 +92,14 @@ pub struct Head {
     pub chosen: u8,
 }
 
-// The voices are the first `count` of the 32.
+// The voices are the first `count` of the 32. The table has the phrases that aren't chosen; all of them are empty unless
+// there are several, and then it isn't looked at. The chosen one's entry never is.
 pub struct Channel {
     pub voices: [Voice; 32],
+    pub table: [Phrase; 8],
     pub count: usize,
     pub head: Head,
+    pub several: bool,
 }
 
 // What a sample leaves and what is heard of it, and how many voices moved up as others left.
@@ -136,6 +140,22 @@ pub enum HeadChange {
     StopRecording,
     Interpolate(bool),
     Load(usize),
+    Choose(u8),
+    Delete(u8),
+}
+
+// What a change stores in the table: one entry at a place, all others emptied before it if it clears.
+pub struct Entry {
+    pub place: usize,
+    pub phrase: Phrase,
+    pub clears: bool,
+    pub several: bool,
+}
+
+// What a channel has against a change: something in its way, or too little room.
+pub struct Against {
+    pub blocked: bool,
+    pub short: bool,
 }
 
 impl Head {
@@ -171,25 +191,61 @@ impl Head {
         }
     }
 
-    fn start_recording(self) -> Self
-        ensures { λ r. ⌜ r ≡ headChangedOf StartRecording self ⌝ }
+    // Another phrase is chosen, or the chosen one is another.
+    fn on_phrase(self, chosen: u8, phrase: Phrase) -> Self
+        ensures { λ r. ⌜ r ≡ onPhrase chosen phrase self ⌝ }
+    {
+        let volume = self.passthru_volume;
+        let recorder = self.recorder;
+        Self {
+            now: self.now,
+            data_len: phrase.length,
+            start: phrase.start,
+            passthru_volume: volume.copied(),
+            recorder: recorder.copied(),
+            passthru_on: self.passthru_on,
+            interpolates: self.interpolates,
+            chosen,
+        }
+    }
+
+    // Where a recording that starts begins: one that is empty behind the other phrases.
+    pub fn begins(self, behind: usize) -> usize
+        ensures { λ r. ⌜ r ≡ beginsAt behind self ⌝ }
+    {
+        if (self.data_len == 0) & !self.is_recording() {
+            behind
+        } else {
+            self.start
+        }
+    }
+
+    fn start_recording(self, behind: usize) -> Self
+        ensures { λ r. ⌜ r ≡ headChangedOf StartRecording (emptyFrom behind) self ⌝ }
     {
         let recorder = self.recorder;
-        self.with_recorded(Recorded {
-            recorder: recorder.start(),
+        let volume = self.passthru_volume;
+        Self {
+            now: self.now,
             data_len: self.data_len,
-        })
+            start: self.begins(behind),
+            passthru_volume: volume.copied(),
+            recorder: recorder.start(),
+            passthru_on: self.passthru_on,
+            interpolates: self.interpolates,
+            chosen: self.chosen,
+        }
     }
 
     fn stop_recording(self) -> Self
-        ensures { λ r. ⌜ r ≡ headChangedOf StopRecording self ⌝ }
+        ensures { λ r. ⌜ r ≡ headChangedOf StopRecording noPhrase self ⌝ }
     {
         let recorder = self.recorder;
         self.with_recorded(recorder.stop(self.data_len))
     }
 
     fn interpolating(self, on: bool) -> Self
-        ensures { λ r. ⌜ r ≡ headChangedOf (Interpolate on) self ⌝ }
+        ensures { λ r. ⌜ r ≡ headChangedOf (Interpolate on) noPhrase self ⌝ }
     {
         let volume = self.passthru_volume;
         let recorder = self.recorder;
@@ -205,32 +261,46 @@ impl Head {
         }
     }
 
-    // The first `samples` words of the channel's part are its recording.
-    fn loaded(self, samples: usize) -> Self
-        ensures { λ r. ⌜ r ≡ headChangedOf (Load samples) self ⌝ }
+    // The recording is what stands where it begins, so many samples.
+    fn loaded(self, samples: usize, behind: usize) -> Self
+        ensures { λ r. ⌜ r ≡ headChangedOf (Load samples) (emptyFrom behind) self ⌝ }
     {
-        let volume = self.passthru_volume;
-        let recorder = self.recorder;
-        Self {
-            now: self.now,
-            data_len: samples,
-            start: 0,
-            passthru_volume: volume.copied(),
-            recorder: recorder.copied(),
-            passthru_on: self.passthru_on,
-            interpolates: self.interpolates,
-            chosen: self.chosen,
-        }
+        let own = Phrase {
+            start: self.begins(behind),
+            length: samples,
+        };
+        self.on_phrase(self.chosen, own)
     }
 
-    pub fn changed(self, change: HeadChange) -> Self
-        ensures { λ r. ⌜ r ≡ headChangedOf change self ⌝ }
+    fn choosing(self, k: u8, found: Phrase) -> Self
+        ensures { λ r. ⌜ r ≡ headChangedOf (Choose k) found self ⌝ }
+    {
+        if k == self.chosen {
+            return self;
+        }
+        self.on_phrase(k, found)
+    }
+
+    fn deleting(self, k: u8) -> Self
+        ensures { λ r. ⌜ r ≡ headChangedOf (Delete k) noPhrase self ⌝ }
+    {
+        if k == self.chosen {
+            return self.on_phrase(k, Phrase::empty(self.start));
+        }
+        self
+    }
+
+    // The head after a change that finds this of the other phrases: the one that is chosen next, or where they end.
+    pub fn changed(self, change: HeadChange, found: Phrase) -> Self
+        ensures { λ r. ⌜ r ≡ headChangedOf change found self ⌝ }
     {
         match change {
-            HeadChange::StartRecording => self.start_recording(),
+            HeadChange::StartRecording => self.start_recording(found.start),
             HeadChange::StopRecording => self.stop_recording(),
             HeadChange::Interpolate(on) => self.interpolating(on),
-            HeadChange::Load(samples) => self.loaded(samples),
+            HeadChange::Load(samples) => self.loaded(samples, found.start),
+            HeadChange::Choose(k) => self.choosing(k, found),
+            HeadChange::Delete(k) => self.deleting(k),
         }
     }
 
@@ -354,12 +424,15 @@ impl Head {
         }
     }
 
-    // The phrase of that number.
-    pub fn phrase_at(self, k: u8) -> Phrase
-        ensures { λ r. ⌜ r ≡ phraseIn self k ⌝ }
+    // The phrase of that number, by its entry of the table.
+    pub fn phrase_by(self, k: u8, several: bool, entry: Phrase) -> Phrase
+        ensures { λ r. ⌜ r ≡ phraseBy self k several entry ⌝ }
     {
         if k == self.chosen {
             return self.recording();
+        }
+        if several & (k < 8) {
+            return entry;
         }
         Phrase::none()
     }
@@ -383,14 +456,50 @@ impl Head {
         self.moment_on(self.chosen, self.data_len)
     }
 
-    // The part of a memory of that size that the recorder writes to: from the recording's start on.
-    pub fn room(self, size: usize) -> Room
-        ensures { λ r. ⌜ r ≡ writtenIn self size ⌝ }
+    // The part of a memory of that size that the recorder writes to, where the other phrases reach so far: from the
+    // recording's start on if it is behind them, else its own.
+    pub fn room(self, behind: usize, size: usize) -> Room
+        ensures { λ r. ⌜ r ≡ writtenIn behind self size ⌝ }
         ensures { λ r. ⌜ (r .from ≤ r .to) × (r .to ≤ size) ⌝ }
     {
-        Room {
-            from: phrases::smaller(self.start, size),
-            to: size,
+        if behind <= self.start {
+            return Room {
+                from: phrases::smaller(self.start, size),
+                to: size,
+            };
+        }
+        let recording = self.recording();
+        recording.room(size)
+    }
+
+    // How many samples a recording that begins anew may have without another phrase in its way.
+    pub fn holds(self, b: Beside) -> usize
+        ensures { λ r. ⌜ r ≡ holdsOf b self ⌝ }
+    {
+        let from = self.begins(b.behind);
+        if from < b.next { b.next - from } else { 0 }
+    }
+
+    // What of a channel with that head is against a change of heads; `used` says that a voice has the phrase that it names.
+    fn against(self, change: HeadChange, used: bool, b: Beside) -> Against
+        ensures { λ r. ⌜ r ≡ headAgainst change self used b ⌝ }
+    {
+        match change {
+            HeadChange::StartRecording => nothing(),
+            HeadChange::StopRecording => nothing(),
+            HeadChange::Interpolate(_) => nothing(),
+            HeadChange::Load(samples) => Against {
+                blocked: self.is_recording(),
+                short: self.holds(b) < samples,
+            },
+            HeadChange::Choose(k) => Against {
+                blocked: self.is_recording() & (k != self.chosen),
+                short: false,
+            },
+            HeadChange::Delete(k) => Against {
+                blocked: used | (self.is_recording() & (k == self.chosen)),
+                short: false,
+            },
         }
     }
 
@@ -410,6 +519,139 @@ impl Head {
     }
 }
 
+fn nothing() -> Against
+    ensures { λ r. ⌜ r ≡ nothingAgainst ⌝ }
+{
+    Against {
+        blocked: false,
+        short: false,
+    }
+}
+
+// What a channel of so many voices has against a change.
+pub fn against(change: Change, head: Head, count: usize, used: bool, b: Beside) -> Against
+    ensures { λ r. ⌜ r ≡ againstBy change head count used b ⌝ }
+{
+    match change {
+        Change::Start { .. } => Against {
+            blocked: (head.data_len != 0) & (32 <= count),
+            short: false,
+        },
+        Change::Stop { .. } => nothing(),
+        Change::Speed { .. } => nothing(),
+        Change::Head(change) => head.against(change, used, b),
+        Change::Reset => nothing(),
+    }
+}
+
+// The place in the table of the phrase of that number; past the last it is the last.
+pub fn place_of(k: u8) -> usize
+    ensures { λ r. ⌜ r ≡ placeOf k ⌝ }
+    ensures { λ r. ⌜ r < 8 ⌝ }
+{
+    if k < 8 { k as usize } else { 7 }
+}
+
+fn head_names(change: HeadChange) -> u8
+    ensures { λ r. ⌜ r ≡ headNames change ⌝ }
+{
+    match change {
+        HeadChange::StartRecording => 0,
+        HeadChange::StopRecording => 0,
+        HeadChange::Interpolate(_) => 0,
+        HeadChange::Load(_) => 0,
+        HeadChange::Choose(k) => k,
+        HeadChange::Delete(k) => k,
+    }
+}
+
+// The number of the phrase that a change names; 0 where it names none.
+pub fn names(change: Change) -> u8
+    ensures { λ r. ⌜ r ≡ namesOf change ⌝ }
+{
+    match change {
+        Change::Start { .. } => 0,
+        Change::Stop { .. } => 0,
+        Change::Speed { .. } => 0,
+        Change::Head(change) => head_names(change),
+        Change::Reset => 0,
+    }
+}
+
+// What a change of heads finds of the other phrases, of which `entry` is the one it names.
+pub fn found(change: HeadChange, several: bool, entry: Phrase, behind: usize) -> Phrase
+    ensures { λ r. ⌜ r ≡ foundBy change several entry behind ⌝ }
+{
+    match change {
+        HeadChange::StartRecording => Phrase::empty(behind),
+        HeadChange::StopRecording => Phrase::none(),
+        HeadChange::Interpolate(_) => Phrase::none(),
+        HeadChange::Load(_) => Phrase::empty(behind),
+        HeadChange::Choose(k) => {
+            if several & (k < 8) {
+                return entry;
+            }
+            Phrase::none()
+        }
+        HeadChange::Delete(_) => Phrase::none(),
+    }
+}
+
+// The table as it is.
+fn kept(several: bool, place: usize, entry: Phrase) -> Entry
+    ensures { λ r. ⌜ r ≡ entryKept several place entry ⌝ }
+{
+    Entry {
+        place,
+        phrase: entry,
+        clears: false,
+        several,
+    }
+}
+
+fn head_entry(change: HeadChange, head: Head, several: bool, entry: Phrase) -> Entry
+    ensures { λ r. ⌜ r ≡ headEntry change head several entry ⌝ }
+{
+    let place = place_of(head_names(change));
+    match change {
+        HeadChange::StartRecording => kept(several, place, entry),
+        HeadChange::StopRecording => kept(several, place, entry),
+        HeadChange::Interpolate(_) => kept(several, place, entry),
+        HeadChange::Load(_) => kept(several, place, entry),
+        HeadChange::Choose(k) => {
+            if (k == head.chosen) | (8 <= head.chosen) {
+                return kept(several, place, entry);
+            }
+            Entry {
+                place: place_of(head.chosen),
+                phrase: head.recording(),
+                clears: !several,
+                several: true,
+            }
+        }
+        HeadChange::Delete(k) => {
+            if 8 <= k {
+                return kept(several, place, entry);
+            }
+            kept(several, place, Phrase::empty(entry.start))
+        }
+    }
+}
+
+// What a change stores in the table, where `entry` is the one of the number that it names.
+pub fn entry_of(change: Change, head: Head, several: bool, entry: Phrase) -> Entry
+    ensures { λ r. ⌜ r ≡ entryOf change head several entry ⌝ }
+    ensures { λ r. ⌜ r .place < 8 ⌝ }
+{
+    match change {
+        Change::Start { .. } => kept(several, 0, entry),
+        Change::Stop { .. } => kept(several, 0, entry),
+        Change::Speed { .. } => kept(several, 0, entry),
+        Change::Head(change) => head_entry(change, head, several, entry),
+        Change::Reset => kept(false, 0, entry),
+    }
+}
+
 pub fn passes(params: Params, unfinished: bool) -> bool
     ensures { λ r. ⌜ r ≡ passesOf params unfinished ⌝ }
 {
@@ -424,6 +666,16 @@ fn ramp(volume: Volume, now: usize, params: Params, wanted: bool) -> Volume
     } else {
         volume.toward(now, params.decay_samples, 0.0)
     }
+}
+
+// Whether the phrases of a table lie within the capacity, and no two have a sample in common.
+pub fn good_table(head: Head, several: bool, table: [Phrase; 8], capacity: usize) -> bool
+    ensures { λ r. ⌜ r ≡ goodTable capacity head several table ⌝ }
+{
+    if !several {
+        return true;
+    }
+    phrases::good(phrases::with(table, head.chosen, head.recording()), capacity)
 }
 
 fn first_level(params: InitParams) -> f32
@@ -473,15 +725,70 @@ impl Channel {
         let blank = Voice::blank();
         Self {
             voices: [blank; 32],
+            table: phrases::none(),
             count: 0,
             head: Head::new(first_level(params), false),
+            several: false,
         }
+    }
+
+    // The phrases that aren't chosen, by their numbers.
+    fn others(self) -> [Phrase; 8]
+        ensures { λ r. ⌜ r ≡ othersIn self ⌝ }
+    {
+        phrases::others(self.table, self.several, self.head.chosen)
+    }
+
+    // The phrase of that number.
+    pub fn phrase_at(self, k: u8) -> Phrase
+        ensures { λ r. ⌜ r ≡ phraseAt self k ⌝ }
+    {
+        let head = self.head;
+        head.phrase_by(k, self.several, self.table[place_of(k)])
+    }
+
+    fn beside(self, capacity: usize) -> Beside
+        ensures { λ r. ⌜ r ≡ besideIn capacity self ⌝ }
+    {
+        let head = self.head;
+        phrases::beside(self.others(), head.start, capacity)
+    }
+
+    fn good_phrases(self, capacity: usize) -> bool
+        ensures { λ r. ⌜ r ≡ goodTable capacity (self .head) (self .several) (self .table) ⌝ }
+    {
+        good_table(self.head, self.several, self.table, capacity)
+    }
+
+    // Whether a voice has the phrase of that number.
+    fn uses(self, k: u8) -> bool
+        ensures { λ r. ⌜ r ≡ usesOf k self ⌝ }
+    {
+        let n = places(self.count);
+        let mut i = 0;
+        while i < n {
+            if self.voices[i].phrase == k {
+                return true;
+            }
+            i += 1;
+        }
+        false
+    }
+
+    // What the channel has against a change, in a record of that capacity.
+    pub fn against(self, change: Change, capacity: usize) -> Against
+        ensures { λ r. ⌜ r ≡ againstOf capacity change self ⌝ }
+    {
+        let used = self.uses(names(change));
+        let b = self.beside(capacity);
+        against(change, self.head, self.count, used, b)
     }
 
     pub fn reset(mut self) -> Self
         ensures { λ r. ⌜ r ≡ resetOf self ⌝ }
     {
         self.count = 0;
+        self.several = false;
         self.head = Head::new(0.0, self.head.interpolates);
         self
     }
@@ -591,10 +898,18 @@ impl Channel {
 
     // A change that touches no voice.
     pub fn head_changed(mut self, change: HeadChange) -> Self
-        ensures { λ r. ⌜ r ≡ withHead (headChangedOf change (self .head)) self ⌝ }
+        ensures { λ r. ⌜ r ≡ headChangedIn change self ⌝ }
     {
         let head = self.head;
-        self.head = head.changed(change);
+        let entry = self.table[place_of(head_names(change))];
+        let found = found(change, self.several, entry, self.beside(0).behind);
+        let e = head_entry(change, head, self.several, entry);
+        if e.clears {
+            self.table = phrases::none();
+        }
+        self.table[e.place] = e.phrase;
+        self.several = e.several;
+        self.head = head.changed(change, found);
         self
     }
 
@@ -616,7 +931,8 @@ impl Channel {
         ensures { λ r. ⌜ now («data» .exit) ≡ memoryOf input self (now («data» .entry)) ⌝ }
     {
         let head = self.head;
-        let room = head.room(data.len());
+        let b = self.beside(0);
+        let room = head.room(b.behind, data.len());
         let from = room.from;
         let to = room.to;
         self.head = head.recorded(input, &mut data[from..to]);
@@ -636,7 +952,7 @@ impl Channel {
         let mut i = 0;
         while i < n {
             let v = self.voices[i];
-            let phrase = head.phrase_at(v.phrase);
+            let phrase = self.phrase_at(v.phrase);
             let room = phrase.room(data.len());
             let at = head.moment_on(v.phrase, phrase.length);
             let from = room.from;
@@ -731,6 +1047,9 @@ impl Channel {
         }
         let head = self.head;
         if !head.good(capacity) {
+            return false;
+        }
+        if !self.good_phrases(capacity) {
             return false;
         }
         self.good_voices()

@@ -40,10 +40,14 @@ ghost use Rattle.lent_channel.specs.Turns.{
   conditionOf,
   judgedOf,
 };
+use channel::Against;
+use channel::Change;
 use channel::Channel;
 use channel::Head;
 use common_types::Measure;
 use common_types::Params;
+use phrases::Beside;
+use phrases::Phrase;
 use voice::Tick;
 use voice::Voice;
 
@@ -111,39 +115,95 @@ fn any_unfinished(c: &Channel) -> bool
     false
 }
 
+// Whether the phrases lie within the capacity, and no two have a sample in common.
+fn good_phrases(c: &Channel, capacity: usize) -> bool
+    ensures { λ r. ⌜ r ≡ goodTable capacity (now (c .entry) .head) (now (c .entry) .several) (now (c .entry) .table) ⌝ }
+{
+    if c.several {
+        return channel::good_table(c.head, true, c.table, capacity);
+    }
+    true
+}
+
 // Whether the channel may stand in a record of that capacity.
 pub fn good(c: &Channel, capacity: usize) -> bool
     ensures { λ r. ⌜ r ≡ goodChannel capacity (now (c .entry)) ⌝ }
 {
     if head_good(c.head, c.count, capacity) {
-        return good_voices(c);
+        if good_phrases(c, capacity) {
+            return good_voices(c);
+        }
     }
     false
 }
 
-// What the rows of a change ask of a channel: whether it is good, takes no further voice, and is recording.
+// Whether a voice has the phrase of that number.
+fn uses(c: &Channel, k: u8) -> bool
+    ensures { λ r. ⌜ r ≡ usesOf k (now (c .entry)) ⌝ }
+{
+    let n = channel::places(c.count);
+    let mut i: usize = 0;
+    while i < n {
+        if c.voices[i].phrase == k {
+            return true;
+        }
+        i = i + 1;
+    }
+    false
+}
+
+// How many entries of the table are looked at.
+fn entries(several: bool) -> usize
+    ensures { λ r. ⌜ r ≡ cond several 8 0 ⌝ }
+{
+    if several { 8 } else { 0 }
+}
+
+// What the phrases looked at so far say to a head's, with one more.
+fn beside_next(b: Beside, head: Head, k: usize, p: Phrase) -> Beside
+    ensures { λ r. ⌜ r ≡ besideNext b head k p ⌝ }
+{
+    if k == head.chosen as usize {
+        return b;
+    }
+    b.with(head.start, p)
+}
+
+// What the phrases that aren't chosen say to the one that is.
+pub fn beside(c: &Channel, capacity: usize) -> Beside
+    ensures { λ r. ⌜ r ≡ besideIn capacity (now (c .entry)) ⌝ }
+{
+    let n = entries(c.several);
+    let mut b = Beside::none(capacity);
+    let mut k: usize = 0;
+    while k < n {
+        b = beside_next(b, c.head, k, c.table[k]);
+        k = k + 1;
+    }
+    b
+}
+
+// What the rows of a change ask of a channel: whether it is good, and what it has against the change.
 pub struct Condition {
     pub good: bool,
-    pub full: bool,
-    pub recording: bool,
+    pub against: Against,
 }
 
-fn condition_of(head: Head, count: usize, good: bool) -> Condition
-    ensures { λ r. ⌜ r ≡ conditionOf head count good ⌝ }
+fn condition_of(change: Change, head: Head, count: usize, good: bool, used: bool, b: Beside) -> Condition
+    ensures { λ r. ⌜ r ≡ conditionOf change head count good used b ⌝ }
 {
-    Condition {
-        good,
-        full: (head.data_len != 0) & (32 <= count),
-        recording: head.is_recording(),
-    }
+    let against = channel::against(change, head, count, used, b);
+    Condition { good, against }
 }
 
-// A channel judged, in a record of that capacity.
-pub fn judged(c: &Channel, capacity: usize) -> Condition
-    ensures { λ r. ⌜ r ≡ judgedOf capacity (now (c .entry)) ⌝ }
+// A channel judged for a change, in a record of that capacity.
+pub fn judged(c: &Channel, capacity: usize, change: Change) -> Condition
+    ensures { λ r. ⌜ r ≡ judgedOf capacity change (now (c .entry)) ⌝ }
 {
     let good = good(c, capacity);
-    condition_of(c.head, c.count, good)
+    let used = uses(c, channel::names(change));
+    let b = beside(c, capacity);
+    condition_of(change, c.head, c.count, good, used, b)
 }
 
 fn added(output: f32, w: Voice) -> f32
@@ -314,7 +374,7 @@ fn go_on(c: &mut Channel, g: Going, n: usize, params: Params, m: Measure, data: 
         × Onward (turningIn params (now (c .entry)) (now («data» .entry))) n (now (c .entry)) g (now (c .exit)) r ⌝ }
 {
     let k = c.voices[g.place].phrase;
-    let phrase = c.head.phrase_at(k);
+    let phrase = c.head.phrase_by(k, c.several, c.table[channel::place_of(k)]);
     if phrase.length == 0 {
         return rest_next(c, g);
     }
@@ -361,7 +421,8 @@ fn record(c: &mut Channel, input: f32, data: &mut [u32])
 {
     let head = c.head;
     if head.is_recording() {
-        let room = head.room(data.len());
+        let b = beside(c, 0);
+        let room = head.room(b.behind, data.len());
         let after = head.recorded(input, &mut data[room.from..room.to]);
         c.head.data_len = after.data_len;
         c.head.recorder = after.recorder;

@@ -57,6 +57,7 @@ ghost use Rattle.lent_sampler.specs.Numbers.{
   runSeat,
 };
 ghost use Rattle.lent_sampler.specs.Hearing.{atVolume};
+use channel::Against;
 use channel::Change;
 use channel::Channel;
 use channel::HeadChange;
@@ -150,11 +151,15 @@ fn change_of(
 ) -> u8
     ensures { λ r. ⌜ r ≡ changeRows (askedBy count capacity first second) change ⌝ }
 {
+    let one = first.against;
+    let other = second.against;
+    let against = Against {
+        blocked: any_of(count, one.blocked, other.blocked),
+        short: any_of(count, one.short, other.short),
+    };
     let asked = Asked {
         good: good(count, capacity, first.good, second.good),
-        full: any_of(count, first.full, second.full),
-        recording: any_of(count, first.recording, second.recording),
-        capacity,
+        against,
     };
     sampler::change_rows(asked, change)
 }
@@ -164,8 +169,8 @@ fn change_number(s: &Sampler, change: Change) -> u8
     ensures { λ r. ⌜ r ≡ changeNumber (now (s .entry)) change ⌝ }
 {
     let capacity = s.capacity;
-    let first = lent_channel::judged(&s.channels[0], capacity);
-    let second = lent_channel::judged(&s.channels[1], capacity);
+    let first = lent_channel::judged(&s.channels[0], capacity, change);
+    let second = lent_channel::judged(&s.channels[1], capacity, change);
     change_of(s.count, capacity, first, second, change)
 }
 
@@ -228,6 +233,18 @@ fn interpolation_set(on: bool) -> Change
     Change::Head(HeadChange::Interpolate(on))
 }
 
+fn phrase_chosen(phrase: u8) -> Change
+    ensures { λ r. ⌜ r ≡ Change.Head (HeadChange.Choose phrase) ⌝ }
+{
+    Change::Head(HeadChange::Choose(phrase))
+}
+
+fn phrase_deleted(phrase: u8) -> Change
+    ensures { λ r. ⌜ r ≡ Change.Head (HeadChange.Delete phrase) ⌝ }
+{
+    Change::Head(HeadChange::Delete(phrase))
+}
+
 fn all_reset() -> Change
     ensures { λ r. ⌜ r ≡ Change.Reset ⌝ }
 {
@@ -276,6 +293,20 @@ pub fn set_interpolation(s: &mut Sampler, on: bool) -> u8
     ensures { λ r. ⌜ record { sampler = now (s .exit); number = r } ≡ setInterpolationOf (now (s .entry)) on ⌝ }
 {
     change(s, interpolation_set(on))
+}
+
+// The phrase of that number is recorded and started from here on.
+pub fn choose_phrase(s: &mut Sampler, phrase: u8) -> u8
+    ensures { λ r. ⌜ record { sampler = now (s .exit); number = r } ≡ choosePhraseOf (now (s .entry)) phrase ⌝ }
+{
+    change(s, phrase_chosen(phrase))
+}
+
+// Empties a phrase that nothing uses.
+pub fn delete_phrase(s: &mut Sampler, phrase: u8) -> u8
+    ensures { λ r. ⌜ record { sampler = now (s .exit); number = r } ≡ deletePhraseOf (now (s .entry)) phrase ⌝ }
+{
+    change(s, phrase_deleted(phrase))
 }
 
 pub fn reset(s: &mut Sampler) -> u8

@@ -70,6 +70,7 @@ ghost use Rattle.sampler.specs.Samplers.{
   ranOf,
   runAnswer,
 };
+use channel::Against;
 use channel::Change;
 use channel::Channel;
 use channel::HeadChange;
@@ -125,9 +126,7 @@ pub struct RunAnswer {
 // records, and how many samples a channel holds. Each engine answers in its own way, and the rows stand once.
 pub struct Asked {
     pub good: bool,
-    pub full: bool,
-    pub recording: bool,
-    pub capacity: usize,
+    pub against: Against,
 }
 
 // What those of a frame ask: whether record and memory are good, how many channels there are, and whether the clock of
@@ -248,19 +247,23 @@ impl Sampler {
         }
     }
 
-    fn any_full(self) -> bool
-        ensures { λ r. ⌜ r ≡ any fullOf (present self) ⌝ }
+    // What the channels in use have against a change.
+    fn against(self, change: Change) -> Against
+        ensures { λ r. ⌜ r ≡ againstAny change self ⌝ }
     {
+        let capacity = self.capacity;
         let n = places(self.count);
+        let mut blocked = false;
+        let mut short = false;
         let mut j = 0;
         while j < n {
             let c = self.channels[j];
-            if c.full() {
-                return true;
-            }
+            let a = c.against(change, capacity);
+            blocked = blocked | a.blocked;
+            short = short | a.short;
             j += 1;
         }
-        false
+        Against { blocked, short }
     }
 
     // Whether one of the channels in use records.
@@ -367,16 +370,13 @@ impl Sampler {
     }
 
     // What the rows of a change ask of the record.
-    fn asked(self) -> Asked
-        ensures { λ r. ⌜ r ≡ askedOf self ⌝ }
+    fn asked(self, change: Change) -> Asked
+        ensures { λ r. ⌜ r ≡ askedOf self change ⌝ }
     {
-        let full = self.any_full();
-        let recording = self.any_recording();
+        let against = self.against(change);
         Asked {
             good: self.good(),
-            full,
-            recording,
-            capacity: self.capacity,
+            against,
         }
     }
 
@@ -439,7 +439,7 @@ impl Sampler {
     pub fn changed(self, change: Change) -> Answer
         ensures { λ r. ⌜ r ≡ changeOf self change ⌝ }
     {
-        let number = change_rows(self.asked(), change);
+        let number = change_rows(self.asked(change), change);
         self.answer(number, change)
     }
 
@@ -482,6 +482,20 @@ impl Sampler {
         ensures { λ r. ⌜ r ≡ stopRecordingOf self ⌝ }
     {
         self.changed(Change::Head(HeadChange::StopRecording))
+    }
+
+    // The phrase of that number is recorded and started from here on.
+    pub fn choose_phrase(self, phrase: u8) -> Answer
+        ensures { λ r. ⌜ r ≡ choosePhraseOf self phrase ⌝ }
+    {
+        self.changed(Change::Head(HeadChange::Choose(phrase)))
+    }
+
+    // Empties a phrase that nothing uses.
+    pub fn delete_phrase(self, phrase: u8) -> Answer
+        ensures { λ r. ⌜ r ≡ deletePhraseOf self phrase ⌝ }
+    {
+        self.changed(Change::Head(HeadChange::Delete(phrase)))
     }
 
     pub fn reset(self) -> Answer
@@ -647,7 +661,8 @@ pub fn first_of(test: bool, number: u8, rest: u8) -> u8
 fn start_rows(asked: Asked, position: f32, note: Note, params: Params) -> u8
     ensures { λ r. ⌜ r ≡ startRows asked position note params ⌝ }
 {
-    let full = first_of(asked.full, 5, 0);
+    let against = asked.against;
+    let full = first_of(against.blocked, 5, 0);
     let beyond = first_of(params.beyond_limits(), 4, full);
     let position = first_of(!in_range(position), 3, beyond);
     first_of(!asked.good, 9, first_of(note.channel > 15, 2, position))
@@ -670,17 +685,14 @@ fn speed_rows(asked: Asked, note: Note) -> u8
 fn head_rows(asked: Asked, change: HeadChange) -> u8
     ensures { λ r. ⌜ r ≡ headRows asked change ⌝ }
 {
+    let against = asked.against;
     match change {
         HeadChange::StartRecording => 0,
         HeadChange::StopRecording => 0,
         HeadChange::Interpolate(_) => 0,
-        HeadChange::Load(samples) => {
-            first_of(
-                asked.recording,
-                15,
-                first_of(asked.capacity < samples, 18, 0),
-            )
-        }
+        HeadChange::Load(_) => first_of(against.blocked, 15, first_of(against.short, 18, 0)),
+        HeadChange::Choose(k) => first_of(8 <= k, 19, first_of(against.blocked, 21, 0)),
+        HeadChange::Delete(k) => first_of(8 <= k, 19, first_of(against.blocked, 20, 0)),
     }
 }
 
