@@ -191,24 +191,6 @@ impl Head {
         }
     }
 
-    // Another phrase is chosen, or the chosen one is another.
-    fn on_phrase(self, chosen: u8, phrase: Phrase) -> Self
-        ensures { λ r. ⌜ r ≡ onPhrase chosen phrase self ⌝ }
-    {
-        let volume = self.passthru_volume;
-        let recorder = self.recorder;
-        Self {
-            now: self.now,
-            data_len: phrase.length,
-            start: phrase.start,
-            passthru_volume: volume.copied(),
-            recorder: recorder.copied(),
-            passthru_on: self.passthru_on,
-            interpolates: self.interpolates,
-            chosen,
-        }
-    }
-
     // Where a recording that starts begins: one that is empty behind the other phrases.
     pub fn begins(self, behind: usize) -> usize
         ensures { λ r. ⌜ r ≡ beginsAt behind self ⌝ }
@@ -220,87 +202,75 @@ impl Head {
         }
     }
 
-    fn start_recording(self, behind: usize) -> Self
-        ensures { λ r. ⌜ r ≡ headChangedOf StartRecording (emptyFrom behind) self ⌝ }
+    // The chosen phrase after a change that finds this of the others: the one that is chosen next, or where they end.
+    fn phrase_after(self, change: HeadChange, found: Phrase) -> Phrase
+        ensures { λ r. ⌜ r ≡ phraseAfter change found self ⌝ }
+    {
+        match change {
+            HeadChange::StartRecording => Phrase {
+                start: self.begins(found.start),
+                length: self.data_len,
+            },
+            HeadChange::StopRecording => {
+                let recorder = self.recorder;
+                let r = recorder.stop(self.data_len);
+                Phrase {
+                    start: self.start,
+                    length: r.data_len,
+                }
+            }
+            HeadChange::Interpolate(_) => self.recording(),
+            HeadChange::Load(samples) => Phrase {
+                start: self.begins(found.start),
+                length: samples,
+            },
+            HeadChange::Choose(k) => {
+                if k == self.chosen {
+                    return self.recording();
+                }
+                found
+            }
+            HeadChange::Delete(k) => {
+                if k == self.chosen {
+                    return Phrase::empty(self.start);
+                }
+                self.recording()
+            }
+        }
+    }
+
+    fn recorder_after(self, change: HeadChange) -> Recorder
+        ensures { λ r. ⌜ r ≡ recorderAfter change self ⌝ }
     {
         let recorder = self.recorder;
-        let volume = self.passthru_volume;
-        Self {
-            now: self.now,
-            data_len: self.data_len,
-            start: self.begins(behind),
-            passthru_volume: volume.copied(),
-            recorder: recorder.start(),
-            passthru_on: self.passthru_on,
-            interpolates: self.interpolates,
-            chosen: self.chosen,
+        match change {
+            HeadChange::StartRecording => recorder.start(),
+            HeadChange::StopRecording => {
+                let r = recorder.stop(self.data_len);
+                r.recorder
+            }
+            HeadChange::Interpolate(_) => recorder,
+            HeadChange::Load(_) => recorder,
+            HeadChange::Choose(_) => recorder,
+            HeadChange::Delete(_) => recorder,
         }
     }
 
-    fn stop_recording(self) -> Self
-        ensures { λ r. ⌜ r ≡ headChangedOf StopRecording noPhrase self ⌝ }
-    {
-        let recorder = self.recorder;
-        self.with_recorded(recorder.stop(self.data_len))
-    }
-
-    fn interpolating(self, on: bool) -> Self
-        ensures { λ r. ⌜ r ≡ headChangedOf (Interpolate on) noPhrase self ⌝ }
-    {
-        let volume = self.passthru_volume;
-        let recorder = self.recorder;
-        Self {
-            now: self.now,
-            data_len: self.data_len,
-            start: self.start,
-            passthru_volume: volume.copied(),
-            recorder: recorder.copied(),
-            passthru_on: self.passthru_on,
-            interpolates: on,
-            chosen: self.chosen,
-        }
-    }
-
-    // The recording is what stands where it begins, so many samples.
-    fn loaded(self, samples: usize, behind: usize) -> Self
-        ensures { λ r. ⌜ r ≡ headChangedOf (Load samples) (emptyFrom behind) self ⌝ }
-    {
-        let own = Phrase {
-            start: self.begins(behind),
-            length: samples,
-        };
-        self.on_phrase(self.chosen, own)
-    }
-
-    fn choosing(self, k: u8, found: Phrase) -> Self
-        ensures { λ r. ⌜ r ≡ headChangedOf (Choose k) found self ⌝ }
-    {
-        if k == self.chosen {
-            return self;
-        }
-        self.on_phrase(k, found)
-    }
-
-    fn deleting(self, k: u8) -> Self
-        ensures { λ r. ⌜ r ≡ headChangedOf (Delete k) noPhrase self ⌝ }
-    {
-        if k == self.chosen {
-            return self.on_phrase(k, Phrase::empty(self.start));
-        }
-        self
-    }
-
-    // The head after a change that finds this of the other phrases: the one that is chosen next, or where they end.
     pub fn changed(self, change: HeadChange, found: Phrase) -> Self
         ensures { λ r. ⌜ r ≡ headChangedOf change found self ⌝ }
     {
-        match change {
-            HeadChange::StartRecording => self.start_recording(found.start),
-            HeadChange::StopRecording => self.stop_recording(),
-            HeadChange::Interpolate(on) => self.interpolating(on),
-            HeadChange::Load(samples) => self.loaded(samples, found.start),
-            HeadChange::Choose(k) => self.choosing(k, found),
-            HeadChange::Delete(k) => self.deleting(k),
+        let phrase = self.phrase_after(change, found);
+        let recorder = self.recorder_after(change);
+        let volume = self.passthru_volume;
+        Self {
+            now: self.now,
+            data_len: phrase.length,
+            start: phrase.start,
+            passthru_volume: volume.copied(),
+            recorder: recorder.copied(),
+            passthru_on: self.passthru_on,
+            interpolates: interpolates_after(change, self.interpolates),
+            chosen: chosen_after(change, self.chosen),
         }
     }
 
@@ -480,29 +450,6 @@ impl Head {
         if from < b.next { b.next - from } else { 0 }
     }
 
-    // What of a channel with that head is against a change of heads; `used` says that a voice has the phrase that it names.
-    fn against(self, change: HeadChange, used: bool, b: Beside) -> Against
-        ensures { λ r. ⌜ r ≡ headAgainst change self used b ⌝ }
-    {
-        match change {
-            HeadChange::StartRecording => nothing(),
-            HeadChange::StopRecording => nothing(),
-            HeadChange::Interpolate(_) => nothing(),
-            HeadChange::Load(samples) => Against {
-                blocked: self.is_recording(),
-                short: self.holds(b) < samples,
-            },
-            HeadChange::Choose(k) => Against {
-                blocked: self.is_recording() & (k != self.chosen),
-                short: false,
-            },
-            HeadChange::Delete(k) => Against {
-                blocked: used | (self.is_recording() & (k == self.chosen)),
-                short: false,
-            },
-        }
-    }
-
     pub fn good(self, capacity: usize) -> bool
         ensures { λ r. ⌜ r ≡ goodHead capacity self ⌝ }
     {
@@ -519,28 +466,70 @@ impl Head {
     }
 }
 
-fn nothing() -> Against
-    ensures { λ r. ⌜ r ≡ nothingAgainst ⌝ }
+// What the rows of a change ask of each channel: room for one more voice, for so many samples, that another phrase may be
+// chosen, that one may be deleted, or nothing.
+pub enum Ask {
+    Voice,
+    Samples(usize),
+    Choice(u8),
+    Delete(u8),
+    Nothing,
+}
+
+fn head_asks(change: HeadChange) -> Ask
+    ensures { λ r. ⌜ r ≡ headAsks change ⌝ }
 {
-    Against {
-        blocked: false,
-        short: false,
+    match change {
+        HeadChange::StartRecording => Ask::Nothing,
+        HeadChange::StopRecording => Ask::Nothing,
+        HeadChange::Interpolate(_) => Ask::Nothing,
+        HeadChange::Load(samples) => Ask::Samples(samples),
+        HeadChange::Choose(k) => Ask::Choice(k),
+        HeadChange::Delete(k) => Ask::Delete(k),
     }
 }
 
-// What a channel of so many voices has against a change.
-pub fn against(change: Change, head: Head, count: usize, used: bool, b: Beside) -> Against
-    ensures { λ r. ⌜ r ≡ againstBy change head count used b ⌝ }
+pub fn asks(change: Change) -> Ask
+    ensures { λ r. ⌜ r ≡ asksOf change ⌝ }
 {
     match change {
-        Change::Start { .. } => Against {
-            blocked: (head.data_len != 0) & (32 <= count),
-            short: false,
-        },
-        Change::Stop { .. } => nothing(),
-        Change::Speed { .. } => nothing(),
-        Change::Head(change) => head.against(change, used, b),
-        Change::Reset => nothing(),
+        Change::Start { .. } => Ask::Voice,
+        Change::Stop { .. } => Ask::Nothing,
+        Change::Speed { .. } => Ask::Nothing,
+        Change::Head(change) => head_asks(change),
+        Change::Reset => Ask::Nothing,
+    }
+}
+
+// What a channel of so many voices has against that; `used` says that one has the phrase that is asked for.
+pub fn against(ask: Ask, head: Head, count: usize, used: bool, b: Beside) -> Against
+    ensures { λ r. ⌜ r ≡ againstBy ask head count used b ⌝ }
+{
+    let blocked = match ask {
+        Ask::Voice => (head.data_len != 0) & (32 <= count),
+        Ask::Samples(_) => head.is_recording(),
+        Ask::Choice(k) => head.is_recording() & (k != head.chosen),
+        Ask::Delete(k) => used | (head.is_recording() & (k == head.chosen)),
+        Ask::Nothing => false,
+    };
+    let short = match ask {
+        Ask::Voice => false,
+        Ask::Samples(samples) => head.holds(b) < samples,
+        Ask::Choice(_) => false,
+        Ask::Delete(_) => false,
+        Ask::Nothing => false,
+    };
+    Against { blocked, short }
+}
+
+pub fn asked_phrase(ask: Ask) -> u8
+{
+    match ask {
+        Ask::Voice => 8,
+        Ask::Samples(_) => 8,
+        Ask::Choice(_) => 8,
+        Ask::Delete(k) => k,
+        Ask::Nothing => 8,
     }
 }
 
@@ -649,6 +638,32 @@ pub fn entry_of(change: Change, head: Head, several: bool, entry: Phrase) -> Ent
         Change::Speed { .. } => kept(several, 0, entry),
         Change::Head(change) => head_entry(change, head, several, entry),
         Change::Reset => kept(false, 0, entry),
+    }
+}
+
+fn interpolates_after(change: HeadChange, on: bool) -> bool
+    ensures { λ r. ⌜ r ≡ interpolatesAfter change on ⌝ }
+{
+    match change {
+        HeadChange::StartRecording => on,
+        HeadChange::StopRecording => on,
+        HeadChange::Interpolate(new) => new,
+        HeadChange::Load(_) => on,
+        HeadChange::Choose(_) => on,
+        HeadChange::Delete(_) => on,
+    }
+}
+
+fn chosen_after(change: HeadChange, chosen: u8) -> u8
+    ensures { λ r. ⌜ r ≡ chosenAfter change chosen ⌝ }
+{
+    match change {
+        HeadChange::StartRecording => chosen,
+        HeadChange::StopRecording => chosen,
+        HeadChange::Interpolate(_) => chosen,
+        HeadChange::Load(_) => chosen,
+        HeadChange::Choose(k) => k,
+        HeadChange::Delete(_) => chosen,
     }
 }
 
@@ -779,9 +794,10 @@ impl Channel {
     pub fn against(self, change: Change, capacity: usize) -> Against
         ensures { λ r. ⌜ r ≡ againstOf capacity change self ⌝ }
     {
-        let used = self.uses(names(change));
+        let ask = asks(change);
+        let used = self.uses(asked_phrase(ask));
         let b = self.beside(capacity);
-        against(change, self.head, self.count, used, b)
+        against(ask, self.head, self.count, used, b)
     }
 
     pub fn reset(mut self) -> Self

@@ -41,7 +41,7 @@ ghost use Rattle.lent_channel.specs.Turns.{
   judgedOf,
 };
 use channel::Against;
-use channel::Change;
+use channel::Ask;
 use channel::Channel;
 use channel::Head;
 use common_types::Measure;
@@ -119,10 +119,30 @@ fn any_unfinished(c: &Channel) -> bool
 fn good_phrases(c: &Channel, capacity: usize) -> bool
     ensures { λ r. ⌜ r ≡ goodTable capacity (now (c .entry) .head) (now (c .entry) .several) (now (c .entry) .table) ⌝ }
 {
-    if c.several {
-        return channel::good_table(c.head, true, c.table, capacity);
+    let n = entries(c.several);
+    let mut ok = true;
+    let mut k: usize = 0;
+    while k < n {
+        ok = ok & entry_good(c, k, capacity);
+        k = k + 1;
     }
-    true
+    ok
+}
+
+fn looked_at(p: Phrase, k: usize, head: Head) -> Phrase {
+    if k == head.chosen as usize { head.recording() } else { p }
+}
+
+fn entry_good(c: &Channel, k: usize, capacity: usize) -> bool {
+    let p = looked_at(c.table[k], k, c.head);
+    let mut ok = p.ends_by(capacity);
+    let mut j: usize = 0;
+    while j < k {
+        let q = looked_at(c.table[j], j, c.head);
+        ok = ok & p.apart(q);
+        j = j + 1;
+    }
+    ok
 }
 
 // Whether the channel may stand in a record of that capacity.
@@ -130,8 +150,8 @@ pub fn good(c: &Channel, capacity: usize) -> bool
     ensures { λ r. ⌜ r ≡ goodChannel capacity (now (c .entry)) ⌝ }
 {
     if head_good(c.head, c.count, capacity) {
-        if good_phrases(c, capacity) {
-            return good_voices(c);
+        if good_voices(c) {
+            return good_phrases(c, capacity);
         }
     }
     false
@@ -183,27 +203,13 @@ pub fn beside(c: &Channel, capacity: usize) -> Beside
     b
 }
 
-// What the rows of a change ask of a channel: whether it is good, and what it has against the change.
-pub struct Condition {
-    pub good: bool,
-    pub against: Against,
-}
-
-fn condition_of(change: Change, head: Head, count: usize, good: bool, used: bool, b: Beside) -> Condition
-    ensures { λ r. ⌜ r ≡ conditionOf change head count good used b ⌝ }
+// What a channel has against what a change asks, in a record of that capacity.
+pub fn against(c: &Channel, capacity: usize, ask: Ask) -> Against
+    ensures { λ r. ⌜ r ≡ againstOf capacity ask (now (c .entry)) ⌝ }
 {
-    let against = channel::against(change, head, count, used, b);
-    Condition { good, against }
-}
-
-// A channel judged for a change, in a record of that capacity.
-pub fn judged(c: &Channel, capacity: usize, change: Change) -> Condition
-    ensures { λ r. ⌜ r ≡ judgedOf capacity change (now (c .entry)) ⌝ }
-{
-    let good = good(c, capacity);
-    let used = uses(c, channel::names(change));
+    let used = uses(c, channel::asked_phrase(ask));
     let b = beside(c, capacity);
-    condition_of(change, c.head, c.count, good, used, b)
+    channel::against(ask, c.head, c.count, used, b)
 }
 
 fn added(output: f32, w: Voice) -> f32

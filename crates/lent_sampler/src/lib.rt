@@ -63,7 +63,6 @@ use channel::Channel;
 use channel::HeadChange;
 use common_types::Note;
 use common_types::Params;
-use lent_channel::Condition;
 use lent_channel::Heard;
 use questions::Counted;
 use questions::OffsetAnswer;
@@ -141,24 +140,15 @@ fn good(count: usize, capacity: usize, first: bool, second: bool) -> bool
     sampler::good_sizes(count, capacity) & all_of(count, first, second)
 }
 
-// The number of a change, from what each channel was judged to be.
-fn change_of(
-    count: usize,
-    capacity: usize,
-    first: Condition,
-    second: Condition,
-    change: Change,
-) -> u8
-    ensures { λ r. ⌜ r ≡ changeRows (askedBy count capacity first second) change ⌝ }
+// The number of a change, from what was asked of each channel.
+fn change_of(good: bool, count: usize, one: Against, other: Against, change: Change) -> u8
 {
-    let one = first.against;
-    let other = second.against;
     let against = Against {
         blocked: any_of(count, one.blocked, other.blocked),
         short: any_of(count, one.short, other.short),
     };
     let asked = Asked {
-        good: good(count, capacity, first.good, second.good),
+        good,
         against,
     };
     sampler::change_rows(asked, change)
@@ -169,9 +159,12 @@ fn change_number(s: &Sampler, change: Change) -> u8
     ensures { λ r. ⌜ r ≡ changeNumber (now (s .entry)) change ⌝ }
 {
     let capacity = s.capacity;
-    let first = lent_channel::judged(&s.channels[0], capacity, change);
-    let second = lent_channel::judged(&s.channels[1], capacity, change);
-    change_of(s.count, capacity, first, second, change)
+    let first = lent_channel::good(&s.channels[0], capacity);
+    let second = lent_channel::good(&s.channels[1], capacity);
+    let ask = channel::asks(change);
+    let one = lent_channel::against(&s.channels[0], capacity, ask);
+    let other = lent_channel::against(&s.channels[1], capacity, ask);
+    change_of(good(s.count, capacity, first, second), s.count, one, other, change)
 }
 
 // The call that makes a change of every channel, all or none, where the record stands. The names below are it, each at
