@@ -442,12 +442,14 @@ impl Head {
         recording.room(size)
     }
 
-    // How many samples a recording that begins anew may have without another phrase in its way.
-    pub fn holds(self, b: Beside) -> usize
-        ensures { λ r. ⌜ r ≡ holdsOf b self ⌝ }
+    // How many samples the recording may have without another phrase in its way.
+    fn holds(self, b: Beside, capacity: usize) -> usize
+        ensures { λ r. ⌜ r ≡ holdsOf b capacity self ⌝ }
     {
-        let from = self.begins(b.behind);
-        if from < b.next { b.next - from } else { 0 }
+        if self.data_len == 0 {
+            return less(capacity, b.behind);
+        }
+        less(b.next, self.start)
     }
 
     pub fn good(self, capacity: usize) -> bool
@@ -502,8 +504,15 @@ pub fn asks(change: Change) -> Ask
 }
 
 // What a channel of so many voices has against that; `used` says that one has the phrase that is asked for.
-pub fn against(ask: Ask, head: Head, count: usize, used: bool, b: Beside) -> Against
-    ensures { λ r. ⌜ r ≡ againstBy ask head count used b ⌝ }
+pub fn held_against(
+    ask: Ask,
+    head: Head,
+    count: usize,
+    used: bool,
+    b: Beside,
+    capacity: usize,
+) -> Against
+    ensures { λ r. ⌜ r ≡ againstBy ask head count used b capacity ⌝ }
 {
     let blocked = match ask {
         Ask::Voice => (head.data_len != 0) & (32 <= count),
@@ -514,7 +523,7 @@ pub fn against(ask: Ask, head: Head, count: usize, used: bool, b: Beside) -> Aga
     };
     let short = match ask {
         Ask::Voice => false,
-        Ask::Samples(samples) => head.holds(b) < samples,
+        Ask::Samples(samples) => head.holds(b, capacity) < samples,
         Ask::Choice(_) => false,
         Ask::Delete(_) => false,
         Ask::Nothing => false,
@@ -522,7 +531,9 @@ pub fn against(ask: Ask, head: Head, count: usize, used: bool, b: Beside) -> Aga
     Against { blocked, short }
 }
 
-pub fn asked_phrase(ask: Ask) -> u8
+// The number of the phrase that is to be deleted; 8 where none is.
+pub fn leaving(ask: Ask) -> u8
+    ensures { λ r. ⌜ r ≡ leavingOf ask ⌝ }
 {
     match ask {
         Ask::Voice => 8,
@@ -705,6 +716,12 @@ pub fn next_time(now: usize) -> usize
     if now < LAST_TIME { now + 1 } else { now }
 }
 
+fn less(a: usize, b: usize) -> usize
+    ensures { λ r. ⌜ r ≡ a - b ⌝ }
+{
+    if a < b { 0 } else { a - b }
+}
+
 pub fn same_note(a: Note, b: Note) -> bool
     ensures { λ r. ⌜ r ≡ sameNote a b ⌝ }
 {
@@ -766,7 +783,7 @@ impl Channel {
         ensures { λ r. ⌜ r ≡ besideIn capacity self ⌝ }
     {
         let head = self.head;
-        phrases::beside(self.others(), head.start, capacity)
+        phrases::around(self.others(), head.start, capacity)
     }
 
     fn good_phrases(self, capacity: usize) -> bool
@@ -790,14 +807,13 @@ impl Channel {
         false
     }
 
-    // What the channel has against a change, in a record of that capacity.
-    pub fn against(self, change: Change, capacity: usize) -> Against
-        ensures { λ r. ⌜ r ≡ againstOf capacity change self ⌝ }
+    // What the channel has against what a change asks, in a record of that capacity.
+    pub fn against(self, ask: Ask, capacity: usize) -> Against
+        ensures { λ r. ⌜ r ≡ againstOf capacity ask self ⌝ }
     {
-        let ask = asks(change);
-        let used = self.uses(asked_phrase(ask));
+        let used = self.uses(leaving(ask));
         let b = self.beside(capacity);
-        against(ask, self.head, self.count, used, b)
+        held_against(ask, self.head, self.count, used, b, capacity)
     }
 
     pub fn reset(mut self) -> Self
@@ -908,6 +924,37 @@ impl Channel {
             let v = self.voices[i];
             self.voices[i] = sped(v, note, speed);
             i += 1;
+        }
+        self
+    }
+
+    // All eight phrases, by their numbers.
+    fn all(self) -> [Phrase; 8]
+        ensures { λ r. ⌜ r ≡ phrasesIn self ⌝ }
+    {
+        let head = self.head;
+        phrases::with(self.others(), head.chosen, head.recording())
+    }
+
+    // Where a recording that is read begins.
+    pub fn begins(self) -> usize
+        ensures { λ r. ⌜ r ≡ beginsIn self ⌝ }
+    {
+        let head = self.head;
+        head.begins(self.beside(0).behind)
+    }
+
+    // Moves the phrases down in the channel's part of the memory, so that all free room is behind them.
+    pub fn gathered(mut self, data: &mut [u32]) -> Self
+        ensures { λ r. ⌜ r ≡ gatheredIn self (now («data» .entry)) ⌝ }
+        ensures { λ r. ⌜ now («data» .exit) ≡ gatheredMemory self (now («data» .entry)) ⌝ }
+    {
+        let all = phrases::gather(self.all(), data);
+        let head = self.head;
+        let own = all[place_of(head.chosen)];
+        self.head.start = own.start;
+        if self.several {
+            self.table = all;
         }
         self
     }

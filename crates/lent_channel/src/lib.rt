@@ -207,9 +207,9 @@ pub fn beside(c: &Channel, capacity: usize) -> Beside
 pub fn against(c: &Channel, capacity: usize, ask: Ask) -> Against
     ensures { λ r. ⌜ r ≡ againstOf capacity ask (now (c .entry)) ⌝ }
 {
-    let used = uses(c, channel::asked_phrase(ask));
+    let used = uses(c, channel::leaving(ask));
     let b = beside(c, capacity);
-    channel::against(ask, c.head, c.count, used, b)
+    channel::held_against(ask, c.head, c.count, used, b, capacity)
 }
 
 fn added(output: f32, w: Voice) -> f32

@@ -308,6 +308,16 @@ pub fn reset(s: &mut Sampler) -> u8
     change(s, all_reset())
 }
 
+// Moves the phrases of each channel down, so that all free room of its part is behind them.
+pub fn gather(s: &mut Sampler, memory: &mut [u32]) -> u8
+    ensures { λ r. ⌜ (record { sampler = now (s .exit); number = r } ≡ gatherOf (now (s .entry)) (now (memory .entry)))
+        × (now (memory .exit) ≡ gatherMemory (now (s .entry)) (now (memory .entry))) ⌝ }
+{
+    let r = s.gather(memory);
+    *s = r.sampler;
+    r.number
+}
+
 // What a sample of one channel answers: its output, the number of document 01, and how many voices moved up as others
 // left.
 pub struct Sampled {

@@ -1,8 +1,25 @@
 // A phrase: a stretch of a channel's part of the lent memory (request 11/12). Each function takes every value of its
 // arguments, and equals a definition in specs/Phrases.antt.
 ghost use mathlib.Core.Path.{_≡_};
-ghost use Prim.Native.Nat.{_≤_, min};
-ghost use Rattle.phrases.specs.Phrases.{noPhrase, endsBy, roomOf};
+ghost use Prim.Native.Nat.{_+_, _≤_, min, max};
+ghost use lib.ListN.{length, getD, set};
+ghost use Rattle.phrases.specs.Phrases.{
+  noPhrase,
+  emptyFrom,
+  noSamples,
+  endsBy,
+  reachOf,
+  apartOf,
+  roomOf,
+  noPhrases,
+  othersOf,
+  everyBelow,
+  goodPhrases,
+  besideNone,
+  besideWith,
+  besideOf,
+};
+ghost use Rattle.phrases.specs.Gathering.{firstFrom, movedDown, gatheringOf};
 
 // Where it begins, and how many samples it has.
 pub struct Phrase {
@@ -37,7 +54,7 @@ impl Phrase {
     }
 
     pub fn is_empty(self) -> bool
-        ensures { λ r. ⌜ r ≡ isEmpty self ⌝ }
+        ensures { λ r. ⌜ r ≡ noSamples self ⌝ }
     {
         self.length == 0
     }
@@ -148,7 +165,7 @@ pub fn with(table: [Phrase; 8], k: u8, p: Phrase) -> [Phrase; 8]
     all
 }
 
-pub fn beside(others: [Phrase; 8], place: usize, capacity: usize) -> Beside
+pub fn around(others: [Phrase; 8], place: usize, capacity: usize) -> Beside
     ensures { λ r. ⌜ r ≡ besideOf place capacity others ⌝ }
 {
     let mut b = Beside::none(capacity);
@@ -164,35 +181,88 @@ pub fn beside(others: [Phrase; 8], place: usize, capacity: usize) -> Beside
 // Whether a phrase has no sample in common with those before the i-th.
 fn apart_from(all: [Phrase; 8], p: Phrase, i: usize) -> bool
     requires { ⌜ i ≤ 8 ⌝ }
-    ensures { λ r. ⌜ r ≡ every (apartOf p) (take i all) ⌝ }
+    ensures { λ r. ⌜ r ≡ everyBelow i (λ j. apartOf p (getD all j noPhrase)) ⌝ }
 {
+    let mut ok = true;
     let mut j = 0;
     while j < i {
         let q = all[j];
-        if !p.apart(q) {
-            return false;
-        }
+        ok = ok & p.apart(q);
         j += 1;
     }
-    true
+    ok
 }
 
 // Whether phrases lie within the capacity, and no two have a sample in common.
 pub fn good(all: [Phrase; 8], capacity: usize) -> bool
     ensures { λ r. ⌜ r ≡ goodPhrases capacity all ⌝ }
 {
+    let mut ok = true;
     let mut i = 0;
     while i < PHRASES {
         let p = all[i];
-        if !p.ends_by(capacity) {
-            return false;
-        }
-        if !apart_from(all, p, i) {
-            return false;
+        ok = ok & (p.ends_by(capacity) & apart_from(all, p, i));
+        i += 1;
+    }
+    ok
+}
+
+// The number of the phrase that begins first of those that begin at a place or behind it; 8 where none does.
+fn first_from(all: [Phrase; 8], place: usize) -> usize
+    ensures { λ r. ⌜ r ≡ firstFrom place all ⌝ }
+{
+    let mut found = PHRASES;
+    let mut start = 0;
+    let mut i = 0;
+    while i < PHRASES {
+        let p = all[i];
+        if !p.is_empty() & (place <= p.start) & ((found == PHRASES) | (p.start < start)) {
+            found = i;
+            start = p.start;
         }
         i += 1;
     }
-    true
+    found
+}
+
+// Moves n words down, from one place to another that is not above it.
+fn move_down(data: &mut [u32], from: usize, to: usize, n: usize)
+    requires { ⌜ (to ≤ from) × (from + n ≤ length (now «data»)) ⌝ }
+    ensures { λ r. ⌜ now («data» .exit) ≡ movedDown from to n (now («data» .entry)) ⌝ }
+{
+    let mut i = 0;
+    while i < n {
+        data[to + i] = data[from + i];
+        i += 1;
+    }
+}
+
+// Moves the phrases down, in the order of their places, until no room is between them. An empty one stays.
+pub fn gather(all: [Phrase; 8], data: &mut [u32]) -> [Phrase; 8]
+    ensures { λ r. ⌜ r ≡ gatheringOf all (now («data» .entry)) .phrases ⌝ }
+    ensures { λ r. ⌜ now («data» .exit) ≡ gatheringOf all (now («data» .entry)) .memory ⌝ }
+{
+    let mut moved = all;
+    let mut from = 0;
+    let mut to = 0;
+    let mut turn = 0;
+    while turn < PHRASES {
+        let k = first_from(moved, from);
+        if k < PHRASES {
+            let p = moved[k];
+            let room = p.room(data.len());
+            let n = room.to - room.from;
+            move_down(data, room.from, to, n);
+            moved[k] = Phrase {
+                start: to,
+                length: p.length,
+            };
+            from = room.to;
+            to += n;
+        }
+        turn += 1;
+    }
+    moved
 }
 
 fn larger(a: usize, b: usize) -> usize

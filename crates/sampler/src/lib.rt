@@ -71,6 +71,7 @@ ghost use Rattle.sampler.specs.Samplers.{
   runAnswer,
 };
 use channel::Against;
+use channel::Ask;
 use channel::Change;
 use channel::Channel;
 use channel::HeadChange;
@@ -247,9 +248,9 @@ impl Sampler {
         }
     }
 
-    // What the channels in use have against a change.
-    fn against(self, change: Change) -> Against
-        ensures { λ r. ⌜ r ≡ againstAny change self ⌝ }
+    // What the channels in use have against what a change asks.
+    pub fn against(self, ask: Ask) -> Against
+        ensures { λ r. ⌜ r ≡ againstAny ask self ⌝ }
     {
         let capacity = self.capacity;
         let n = places(self.count);
@@ -258,7 +259,7 @@ impl Sampler {
         let mut j = 0;
         while j < n {
             let c = self.channels[j];
-            let a = c.against(change, capacity);
+            let a = c.against(ask, capacity);
             blocked = blocked | a.blocked;
             short = short | a.short;
             j += 1;
@@ -352,6 +353,48 @@ impl Sampler {
         self
     }
 
+    fn gather_number(self, size: usize) -> u8
+        ensures { λ r. ⌜ r ≡ gatherNumber self size ⌝ }
+    {
+        let recording = first_of(self.any_recording(), 21, 0);
+        first_of(!self.good_with(size), 9, recording)
+    }
+
+    // Moves the phrases of each channel down, so that all free room of its part is behind them.
+    pub fn gather(mut self, memory: &mut [u32]) -> Answer
+        ensures { λ r. ⌜ r ≡ gatherOf self (now (memory .entry)) ⌝ }
+        ensures { λ r. ⌜ now (memory .exit) ≡ gatherMemory self (now (memory .entry)) ⌝ }
+    {
+        let number = self.gather_number(memory.len());
+        if number != 0 {
+            return Answer {
+                sampler: self,
+                number,
+            };
+        }
+        let sampler = self.gathered(memory);
+        Answer { sampler, number: 0 }
+    }
+
+    // Each channel in use gathered on its part of the memory.
+    fn gathered(mut self, memory: &mut [u32]) -> Sampler
+        requires { ⌜ Steps self (self .count) (length (now memory)) ⌝ }
+        ensures { λ r. ⌜ r ≡ gatheredOf self (now (memory .entry)) ⌝ }
+        ensures { λ r. ⌜ now (memory .exit) ≡ gatheredMemory self (now (memory .entry)) ⌝ }
+    {
+        let capacity = self.capacity;
+        let n = self.count;
+        let mut j = 0;
+        while j < n {
+            let c = self.channels[j];
+            let start = part_start(j, capacity);
+            let end = start + capacity;
+            self.channels[j] = c.gathered(&mut memory[start..end]);
+            j += 1;
+        }
+        self
+    }
+
     // The change where the number is 0.
     fn answer(self, number: u8, change: Change) -> Answer
         ensures { λ r. ⌜ r ≡ answerOf number change self ⌝ }
@@ -373,7 +416,7 @@ impl Sampler {
     fn asked(self, change: Change) -> Asked
         ensures { λ r. ⌜ r ≡ askedOf self change ⌝ }
     {
-        let against = self.against(change);
+        let against = self.against(channel::asks(change));
         Asked {
             good: self.good(),
             against,
