@@ -579,7 +579,7 @@ pub fn names(change: Change) -> u8
 }
 
 // What a change of heads finds of the other phrases, of which `entry` is the one it names.
-pub fn found(change: HeadChange, several: bool, entry: Phrase, behind: usize) -> Phrase
+pub fn finds(change: HeadChange, several: bool, entry: Phrase, behind: usize) -> Phrase
     ensures { λ r. ⌜ r ≡ foundBy change several entry behind ⌝ }
 {
     match change {
@@ -965,7 +965,7 @@ impl Channel {
     {
         let head = self.head;
         let entry = self.table[place_of(head_names(change))];
-        let found = found(change, self.several, entry, self.beside(0).behind);
+        let found = finds(change, self.several, entry, self.beside(0).behind);
         let e = head_entry(change, head, self.several, entry);
         if e.clears {
             self.table = phrases::none();

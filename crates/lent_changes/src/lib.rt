@@ -223,7 +223,7 @@ fn ending(p: Pass, change: Change, head: Head, aside: Aside) -> Head
         Change::Speed { .. } => head,
         Change::Head(change) => head.changed(
             change,
-            channel::found(change, aside.several, aside.entry, aside.behind),
+            channel::finds(change, aside.several, aside.entry, aside.behind),
         ),
         Change::Reset => Head::new(0.0, head.interpolates),
     }
