@@ -4,22 +4,27 @@
 // calls, under the Rust's names, refuse first. A sample is its 32-bit pattern, and `data` is the channel's part of the
 // lent memory.
 ghost use mathlib.Core.Path.{_≡_};
-ghost use Prim.Native.Nat.{_+_, _≤_, _<_, min};
+ghost use Prim.Native.Nat.{_+_, _-_, _≤_, _<_, min};
 ghost use mathlib.Core.Bool.{cond};
 ghost use lib.Dec.{ltb};
 ghost use lib.ListN.{length};
 ghost use Rattle.binary32.specs.Leaves.{bitsOf, zero32, one32};
 ghost use Rattle.recorder.specs.Recording.{recordedOf, dataAfter, isRecordingOf};
 ghost use Rattle.voice.specs.Voices.{shouldRemoveOf};
-ghost use Rattle.channel.specs.declared.HeadChange.the-variants.{StartRecording, StopRecording, Interpolate, Load};
 ghost use Rattle.channel.specs.Heads.{
   nextTime,
   recordingIn,
-  phraseIn,
+  phraseBy,
+  beginsAt,
   writtenIn,
+  holdsOf,
   headOf,
   momentOn,
   momentOf,
+  phraseAfter,
+  recorderAfter,
+  interpolatesAfter,
+  chosenAfter,
   headChangedOf,
   clockedOf,
   passesOf,
@@ -32,8 +37,31 @@ ghost use Rattle.channel.specs.Heads.{
   closedOf,
   goodHead,
 };
+ghost use Rattle.channel.specs.Tables.{
+  placeOf,
+  goodTable,
+  headNames,
+  namesOf,
+  foundBy,
+  entryKept,
+  headEntry,
+  entryOf,
+  headAsks,
+  asksOf,
+  leavingOf,
+  againstBy,
+};
 ghost use Rattle.channel.specs.Channels.{
-  withHead,
+  othersIn,
+  phrasesIn,
+  phraseAt,
+  besideIn,
+  beginsIn,
+  usesOf,
+  againstOf,
+  headChangedIn,
+  gatheredIn,
+  gatheredMemory,
   sameNote,
   anyUnfinishedOf,
   channelOf,
@@ -598,7 +626,7 @@ pub fn finds(change: HeadChange, several: bool, entry: Phrase, behind: usize) ->
 }
 
 // The table as it is.
-fn kept(several: bool, place: usize, entry: Phrase) -> Entry
+fn as_is(several: bool, place: usize, entry: Phrase) -> Entry
     ensures { λ r. ⌜ r ≡ entryKept several place entry ⌝ }
 {
     Entry {
@@ -612,15 +640,14 @@ fn kept(several: bool, place: usize, entry: Phrase) -> Entry
 fn head_entry(change: HeadChange, head: Head, several: bool, entry: Phrase) -> Entry
     ensures { λ r. ⌜ r ≡ headEntry change head several entry ⌝ }
 {
-    let place = place_of(head_names(change));
     match change {
-        HeadChange::StartRecording => kept(several, place, entry),
-        HeadChange::StopRecording => kept(several, place, entry),
-        HeadChange::Interpolate(_) => kept(several, place, entry),
-        HeadChange::Load(_) => kept(several, place, entry),
+        HeadChange::StartRecording => as_is(several, 0, entry),
+        HeadChange::StopRecording => as_is(several, 0, entry),
+        HeadChange::Interpolate(_) => as_is(several, 0, entry),
+        HeadChange::Load(_) => as_is(several, 0, entry),
         HeadChange::Choose(k) => {
             if (k == head.chosen) | (8 <= head.chosen) {
-                return kept(several, place, entry);
+                return as_is(several, place_of(k), entry);
             }
             Entry {
                 place: place_of(head.chosen),
@@ -631,9 +658,9 @@ fn head_entry(change: HeadChange, head: Head, several: bool, entry: Phrase) -> E
         }
         HeadChange::Delete(k) => {
             if 8 <= k {
-                return kept(several, place, entry);
+                return as_is(several, place_of(k), entry);
             }
-            kept(several, place, Phrase::empty(entry.start))
+            as_is(several, place_of(k), Phrase::empty(entry.start))
         }
     }
 }
@@ -644,11 +671,11 @@ pub fn entry_of(change: Change, head: Head, several: bool, entry: Phrase) -> Ent
     ensures { λ r. ⌜ r .place < 8 ⌝ }
 {
     match change {
-        Change::Start { .. } => kept(several, 0, entry),
-        Change::Stop { .. } => kept(several, 0, entry),
-        Change::Speed { .. } => kept(several, 0, entry),
+        Change::Start { .. } => as_is(several, 0, entry),
+        Change::Stop { .. } => as_is(several, 0, entry),
+        Change::Speed { .. } => as_is(several, 0, entry),
         Change::Head(change) => head_entry(change, head, several, entry),
-        Change::Reset => kept(false, 0, entry),
+        Change::Reset => as_is(false, 0, entry),
     }
 }
 
@@ -701,7 +728,10 @@ pub fn good_table(head: Head, several: bool, table: [Phrase; 8], capacity: usize
     if !several {
         return true;
     }
-    phrases::good(phrases::with(table, head.chosen, head.recording()), capacity)
+    phrases::good(
+        phrases::with(table, head.chosen, head.recording()),
+        capacity,
+    )
 }
 
 fn first_level(params: InitParams) -> f32

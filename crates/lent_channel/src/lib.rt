@@ -130,7 +130,11 @@ fn good_phrases(c: &Channel, capacity: usize) -> bool
 }
 
 fn looked_at(p: Phrase, k: usize, head: Head) -> Phrase {
-    if k == head.chosen as usize { head.recording() } else { p }
+    if k == head.chosen as usize {
+        head.recording()
+    } else {
+        p
+    }
 }
 
 fn entry_good(c: &Channel, k: usize, capacity: usize) -> bool {
@@ -380,7 +384,8 @@ fn go_on(c: &mut Channel, g: Going, n: usize, params: Params, m: Measure, data: 
         × Onward (turningIn params (now (c .entry)) (now («data» .entry))) n (now (c .entry)) g (now (c .exit)) r ⌝ }
 {
     let k = c.voices[g.place].phrase;
-    let phrase = c.head.phrase_by(k, c.several, c.table[channel::place_of(k)]);
+    let phrase = c.head
+        .phrase_by(k, c.several, c.table[channel::place_of(k)]);
     if phrase.length == 0 {
         return rest_next(c, g);
     }

@@ -141,16 +141,12 @@ fn good(count: usize, capacity: usize, first: bool, second: bool) -> bool
 }
 
 // The number of a change, from what was asked of each channel.
-fn change_of(good: bool, count: usize, one: Against, other: Against, change: Change) -> u8
-{
+fn change_of(good: bool, count: usize, one: Against, other: Against, change: Change) -> u8 {
     let against = Against {
         blocked: any_of(count, one.blocked, other.blocked),
         short: any_of(count, one.short, other.short),
     };
-    let asked = Asked {
-        good,
-        against,
-    };
+    let asked = Asked { good, against };
     sampler::change_rows(asked, change)
 }
 
@@ -164,7 +160,13 @@ fn change_number(s: &Sampler, change: Change) -> u8
     let ask = channel::asks(change);
     let one = lent_channel::against(&s.channels[0], capacity, ask);
     let other = lent_channel::against(&s.channels[1], capacity, ask);
-    change_of(good(s.count, capacity, first, second), s.count, one, other, change)
+    change_of(
+        good(s.count, capacity, first, second),
+        s.count,
+        one,
+        other,
+        change,
+    )
 }
 
 // The call that makes a change of every channel, all or none, where the record stands. The names below are it, each at
