@@ -15,6 +15,7 @@ ghost use Rattle.lent_changes.specs.Changes.{
   passedOf,
   openedOf,
   handledIf,
+  asideOf,
   endedOf,
 };
 use channel::Change;

@@ -3,11 +3,13 @@
 // are proved by hand.
 ghost use mathlib.Core.Path.{_≡_};
 ghost use Prim.Native.Nat.{_≤_, _<_};
-ghost use mathlib.Core.Bool.{_&&_};
+ghost use mathlib.Core.Bool.{_&&_, cond};
 ghost use lib.Ieee.{binary32, add};
 ghost use Rattle.common_types.specs.Settings.{measureOf};
 ghost use Rattle.voice.specs.Voices.{goodVoice};
+ghost use Rattle.phrases.specs.Phrases.{apartOf, goodAt};
 ghost use Rattle.channel.specs.Heads.{closedOf};
+ghost use Rattle.channel.specs.Tables.{withRecording, goodTable, againstBy};
 ghost use Rattle.channel.specs.Channels.{
   anyUnfinishedOf,
   withHead,
@@ -16,6 +18,9 @@ ghost use Rattle.channel.specs.Channels.{
   takenOf,
   memoryOf,
   processSampleOf,
+  besideIn,
+  usesOf,
+  againstOf,
   goodVoicesOf,
   goodChannel,
 };
@@ -37,8 +42,8 @@ ghost use Rattle.lent_channel.specs.Turns.{
   headGoodOf,
   heardOf,
   mixedWith,
-  conditionOf,
-  judgedOf,
+  lookedAt,
+  besideNext,
 };
 use channel::Against;
 use channel::Ask;
@@ -115,36 +120,62 @@ fn any_unfinished(c: &Channel) -> bool
     false
 }
 
+// The phrase of a number, by its entry of the table: the chosen one is the recording.
+fn looked_at(p: Phrase, k: usize, head: Head) -> Phrase
+    ensures { λ r. ⌜ r ≡ lookedAt p k head ⌝ }
+{
+    if k == head.chosen as usize {
+        return head.recording();
+    }
+    p
+}
+
+// Whether a phrase has no sample in common with those so far, and with one more.
+fn still_apart(ok: bool, p: Phrase, q: Phrase) -> bool
+    ensures { λ r. ⌜ r ≡ (ok && apartOf p q) ⌝ }
+{
+    ok & p.apart(q)
+}
+
+// Whether the k-th phrase lies within the capacity, and has no sample in common with those before it.
+fn phrase_good(c: &Channel, k: usize, capacity: usize) -> bool
+    requires { ⌜ k < 8 ⌝ }
+    ensures { λ r. ⌜ r ≡ goodAt capacity (withRecording (now (c .entry) .head) (now (c .entry) .table)) k ⌝ }
+{
+    let p = looked_at(c.table[k], k, c.head);
+    let mut ok = p.ends_by(capacity);
+    let mut j: usize = 0;
+    while j < k {
+        ok = still_apart(ok, p, looked_at(c.table[j], j, c.head));
+        j = j + 1;
+    }
+    ok
+}
+
+fn both(a: bool, b: bool) -> bool
+    ensures { λ r. ⌜ r ≡ (a && b) ⌝ }
+{
+    a & b
+}
+
+// How many entries of the table are looked at.
+fn entries(several: bool) -> usize
+    ensures { λ r. ⌜ r ≡ cond several 8 0 ⌝ }
+{
+    if several { 8 } else { 0 }
+}
+
 // Whether the phrases lie within the capacity, and no two have a sample in common.
 fn good_phrases(c: &Channel, capacity: usize) -> bool
-    ensures { λ r. ⌜ r ≡ goodTable capacity (now (c .entry) .head) (now (c .entry) .several) (now (c .entry) .table) ⌝ }
+    ensures { λ r. ⌜ r
+        ≡ goodTable capacity (now (c .entry) .head) (now (c .entry) .several) (now (c .entry) .table) ⌝ }
 {
     let n = entries(c.several);
     let mut ok = true;
     let mut k: usize = 0;
     while k < n {
-        ok = ok & entry_good(c, k, capacity);
+        ok = both(ok, phrase_good(c, k, capacity));
         k = k + 1;
-    }
-    ok
-}
-
-fn looked_at(p: Phrase, k: usize, head: Head) -> Phrase {
-    if k == head.chosen as usize {
-        head.recording()
-    } else {
-        p
-    }
-}
-
-fn entry_good(c: &Channel, k: usize, capacity: usize) -> bool {
-    let p = looked_at(c.table[k], k, c.head);
-    let mut ok = p.ends_by(capacity);
-    let mut j: usize = 0;
-    while j < k {
-        let q = looked_at(c.table[j], j, c.head);
-        ok = ok & p.apart(q);
-        j = j + 1;
     }
     ok
 }
@@ -176,14 +207,7 @@ fn uses(c: &Channel, k: u8) -> bool
     false
 }
 
-// How many entries of the table are looked at.
-fn entries(several: bool) -> usize
-    ensures { λ r. ⌜ r ≡ cond several 8 0 ⌝ }
-{
-    if several { 8 } else { 0 }
-}
-
-// What the phrases looked at so far say to a head's, with one more.
+// What the phrases looked at so far say to a head's own, with one more.
 fn beside_next(b: Beside, head: Head, k: usize, p: Phrase) -> Beside
     ensures { λ r. ⌜ r ≡ besideNext b head k p ⌝ }
 {
@@ -207,13 +231,25 @@ pub fn beside(c: &Channel, capacity: usize) -> Beside
     b
 }
 
-// What a channel has against what a change asks, in a record of that capacity.
-pub fn against(c: &Channel, capacity: usize, ask: Ask) -> Against
-    ensures { λ r. ⌜ r ≡ againstOf capacity ask (now (c .entry)) ⌝ }
+// What a change asks of a channel in a record of that capacity.
+pub struct Asking {
+    pub ask: Ask,
+    pub capacity: usize,
+}
+
+fn answered(a: Asking, head: Head, count: usize, used: bool, b: Beside) -> Against
+    ensures { λ r. ⌜ r ≡ againstBy (a .ask) head count used b (a .capacity) ⌝ }
 {
-    let used = uses(c, channel::leaving(ask));
-    let b = beside(c, capacity);
-    channel::held_against(ask, c.head, c.count, used, b, capacity)
+    channel::held_against(a.ask, head, count, used, b, a.capacity)
+}
+
+// What the channel has against it.
+pub fn against(c: &Channel, a: Asking) -> Against
+    ensures { λ r. ⌜ r ≡ againstOf (a .capacity) (a .ask) (now (c .entry)) ⌝ }
+{
+    let used = uses(c, channel::leaving(a.ask));
+    let b = beside(c, a.capacity);
+    answered(a, c.head, c.count, used, b)
 }
 
 fn added(output: f32, w: Voice) -> f32

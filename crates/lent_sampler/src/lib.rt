@@ -9,6 +9,10 @@ ghost use Rattle.sampler.specs.Samplers.{
   startRecordingOf,
   stopRecordingOf,
   setInterpolationOf,
+  choosePhraseOf,
+  deletePhraseOf,
+  gatherOf,
+  gatherMemory,
   resetOf,
   changeOf,
   sampleMemory,
@@ -48,6 +52,7 @@ ghost use Rattle.lent_sampler.specs.Numbers.{
   goodBy,
   goodWithBy,
   askedBy,
+  askingOf,
   frameAskedBy,
   framing,
   latestTime,
@@ -63,6 +68,7 @@ use channel::Channel;
 use channel::HeadChange;
 use common_types::Note;
 use common_types::Params;
+use lent_channel::Asking;
 use lent_channel::Heard;
 use questions::Counted;
 use questions::OffsetAnswer;
@@ -140,14 +146,25 @@ fn good(count: usize, capacity: usize, first: bool, second: bool) -> bool
     sampler::good_sizes(count, capacity) & all_of(count, first, second)
 }
 
-// The number of a change, from what was asked of each channel.
-fn change_of(good: bool, count: usize, one: Against, other: Against, change: Change) -> u8 {
+// The number of a change, from whether the record is good and what each channel has against it.
+fn change_of(good: bool, count: usize, one: Against, other: Against, change: Change) -> u8
+    ensures { λ r. ⌜ r ≡ changeRows (askedBy good count one other) change ⌝ }
+{
     let against = Against {
         blocked: any_of(count, one.blocked, other.blocked),
         short: any_of(count, one.short, other.short),
     };
     let asked = Asked { good, against };
     sampler::change_rows(asked, change)
+}
+
+fn asking_of(change: Change, capacity: usize) -> Asking
+    ensures { λ r. ⌜ r ≡ askingOf change capacity ⌝ }
+{
+    Asking {
+        ask: channel::asks(change),
+        capacity,
+    }
 }
 
 // The number of a change, with no channel copied.
@@ -157,16 +174,11 @@ fn change_number(s: &Sampler, change: Change) -> u8
     let capacity = s.capacity;
     let first = lent_channel::good(&s.channels[0], capacity);
     let second = lent_channel::good(&s.channels[1], capacity);
-    let ask = channel::asks(change);
-    let one = lent_channel::against(&s.channels[0], capacity, ask);
-    let other = lent_channel::against(&s.channels[1], capacity, ask);
-    change_of(
-        good(s.count, capacity, first, second),
-        s.count,
-        one,
-        other,
-        change,
-    )
+    let asking = asking_of(change, capacity);
+    let one = lent_channel::against(&s.channels[0], asking);
+    let other = lent_channel::against(&s.channels[1], asking);
+    let good = good(s.count, capacity, first, second);
+    change_of(good, s.count, one, other, change)
 }
 
 // The call that makes a change of every channel, all or none, where the record stands. The names below are it, each at

@@ -18,7 +18,7 @@ ghost use Rattle.recordings.specs.Waves.{
   heldIn,
   readNumber,
   readWaveOf,
-  frontsIn,
+  beginningsIn,
   readMemory,
 };
 use channel::Ask;

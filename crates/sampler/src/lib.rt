@@ -10,7 +10,7 @@ ghost use Rattle.binary32.specs.Leaves.{zero32, one32};
 ghost use Rattle.walks.specs.Walks.{any, every};
 ghost use Rattle.channel.specs.declared.Change.the-variants.{Head};
 ghost use Rattle.channel.specs.declared.HeadChange.the-variants.{Load};
-ghost use Rattle.channel.specs.Channels.{fullOf, goodChannel};
+ghost use Rattle.channel.specs.Channels.{goodChannel};
 ghost use Rattle.sampler.specs.Refusals.{
   present,
   channelAt,
@@ -20,6 +20,7 @@ ghost use Rattle.sampler.specs.Refusals.{
   capacityOf,
   goodWith,
   anyRecording,
+  againstAny,
   atEnd,
   setUpNumber,
   askedOf,
@@ -28,6 +29,7 @@ ghost use Rattle.sampler.specs.Refusals.{
   speedRows,
   headRows,
   changeRows,
+  gatherNumber,
   sampleNumber,
   frameAskedOf,
   frameRows,
@@ -50,7 +52,12 @@ ghost use Rattle.sampler.specs.Samplers.{
   startRecordingOf,
   stopRecordingOf,
   setInterpolationOf,
+  choosePhraseOf,
+  deletePhraseOf,
   resetOf,
+  gatheredAll,
+  gatherOf,
+  gatherMemory,
   channelSteppedOf,
   outputOf,
   movedAt,
@@ -361,7 +368,7 @@ impl Sampler {
     }
 
     // Moves the phrases of each channel down, so that all free room of its part is behind them.
-    pub fn gather(mut self, memory: &mut [u32]) -> Answer
+    pub fn gather(self, memory: &mut [u32]) -> Answer
         ensures { λ r. ⌜ r ≡ gatherOf self (now (memory .entry)) ⌝ }
         ensures { λ r. ⌜ now (memory .exit) ≡ gatherMemory self (now (memory .entry)) ⌝ }
     {
@@ -379,8 +386,8 @@ impl Sampler {
     // Each channel in use gathered on its part of the memory.
     fn gathered(mut self, memory: &mut [u32]) -> Sampler
         requires { ⌜ Steps self (self .count) (length (now memory)) ⌝ }
-        ensures { λ r. ⌜ r ≡ gatheredOf self (now (memory .entry)) ⌝ }
-        ensures { λ r. ⌜ now (memory .exit) ≡ gatheredMemory self (now (memory .entry)) ⌝ }
+        ensures { λ r. ⌜ r ≡ gatheredAll self (now (memory .entry)) .sampler ⌝ }
+        ensures { λ r. ⌜ now (memory .exit) ≡ gatheredAll self (now (memory .entry)) .memory ⌝ }
     {
         let capacity = self.capacity;
         let n = self.count;
