@@ -4,7 +4,7 @@ use Prim.Native.Nat.{ℕ, zero, suc, _+_, _-_, _≤_, _<_}
 use native.Mathlib.Omega.{arith}
 use mathlib.Core.List.{List, _++_, append-assoc}
 use lib.ListN.{length, take, drop, length-take, length-drop, take-append-drop}
-use lib.Seq.{paste, length-paste, drop-paste, drop-at, take-at, length-take-le, take-append-le, drop-append-le, drop-drop}
+use lib.Seq.{paste, length-paste, drop-paste, take-paste, drop-at, take-at, length-take-le, take-append-le, drop-append-le, drop-drop}
 use Rattle.phrases.specs.Gathering.{movedDown}
 
 -- a part that ends within the front
@@ -46,3 +46,14 @@ module _ (from to n : ℕ) (m : List ℕ) (low : to ≤ from) (inside : from + n
       front-part (take to m) (take n (drop from m) ++ drop (to + n) m) a b k
       ∙ sym (front-part (take to m) (drop to m) a b k)
       ∙ ap (λ (l : List ℕ). take b (drop a l)) (take-append-drop to m)
+
+  pub moved-front : take (to + n) (movedDown from to n m) ≡ take to m ++ take n (drop from m)
+  moved-front = ap (take (to + n)) as-paste ∙ take-paste m to (drop from m) n (omega arith) enough
+
+-- what stays where it stands
+pub moved-same : (at n : ℕ) (m : List ℕ) → movedDown at at n m ≡ m
+unfolding movedDown
+moved-same at n m =
+    ap (λ (r : List ℕ). take at m ++ (take n (drop at m) ++ r)) (sym (drop-drop n at m))
+    ∙ ap (λ (r : List ℕ). take at m ++ r) (take-append-drop n (drop at m))
+    ∙ take-append-drop at m

@@ -5,20 +5,24 @@ use native.Mathlib.Nat.{add-sub-cancel-left}
 use native.Mathlib.Omega.{arith}
 use mathlib.Core.Bool.{Bool, true, false, _||_, cond}
 use mathlib.Core.Logic.{_⊎_, inl, inr, _≢_}
-use mathlib.Core.List.{List}
+use mathlib.Core.List.{List, [], _∷_, _++_, append-assoc, append-nil}
+use mathlib.Core.Option.{some}
 use lib.Dec.{ltb, leb}
-use lib.ListN.{length, take, drop, getD, set, length-set}
+use lib.ListN.{length, take, drop, getD, getElem?, set, length-set}
 use lib.Seq.{getD-set-same, getD-set-other}
 use borrow.Author.Tests.{ltb-true, ltb-false, lt-ltb, le-ltb, eq-eqb}
+use Rattle.walks.specs.Each.{Each}
 use Rattle.walks.proofs.Tests.{either}
+use Rattle.walks.proofs.Lists.Each.{each-weaker}
+use Rattle.walks.proofs.Lists.Looks.{look-front, look-last}
 use Rattle.phrases.specs.declared.Phrase.{Phrase}
 use Rattle.phrases.specs.Phrases.{noPhrase, noSamples, storedIn, roomOf}
 use Rattle.phrases.specs.Gathering.{Gathering, movedDown, firstFrom, gatherPhrase, gatherNext, gatherTurns, gatheringOf}
 use Rattle.phrases.proofs.Rooms.{room-from, room-to, ends-inside}
-use Rattle.phrases.proofs.Gathered.Places.{sumBelow, samplesIf, samplesBefore, gatheredPhrase}
+use Rattle.phrases.proofs.Gathered.Places.{sumBelow, samplesIf, samplesBefore, gatheredPhrase, storedAll, Rising}
 use Rattle.phrases.proofs.Gathered.Sums.{same-or, sum-same, sum-at, sum-most, sum-larger, sum-one}
 use Rattle.phrases.proofs.Gathered.Firsts.{holds-some, some-holds, holds-none, Good, Over, First, first}
-use Rattle.phrases.proofs.Gathered.Moved.{drop-further, moved-length, moved-rest, moved-there, moved-below}
+use Rattle.phrases.proofs.Gathered.Moved.{drop-further, moved-length, moved-rest, moved-there, moved-below, moved-front, moved-same}
 
 -- ---- samples of those that begin before a place
 module _ (place : ℕ) (p : Phrase) where
@@ -142,6 +146,28 @@ waits-fewer a b p h = go (some-or p) (before-or (p .start) b)
 waiting : ℕ → List Phrase → ℕ
 waiting place ps = sumBelow 8 (λ (i : ℕ). waits place (nth ps i))
 
+-- ---- one more, behind the others
+each-last : (P : ℕ → Type 0) (ks : List ℕ) (k : ℕ) → Each P ks → P k → Each P (ks ++ (k ∷ []))
+unfolding Each
+each-last P [] k h e = (e, tt)
+each-last P (j ∷ ks) k h e = (h .0, each-last P ks k (h .1) e)
+
+rising-last : (ps : List Phrase) (ks : List ℕ) (k : ℕ) → Rising ps ks → Each (λ (j : ℕ). nth ps j .start < nth ps k .start) ks → Rising ps (ks ++ (k ∷ []))
+unfolding Each
+rising-last ps [] k h e = (tt, tt)
+rising-last ps (j ∷ ks) k h e = (each-last (λ (i : ℕ). nth ps j .start < nth ps i .start) ks k (h .0) (e .0), rising-last ps ks k (h .1) (e .1))
+
+stored-last : (ps : List Phrase) (m ks : List ℕ) (k : ℕ) → storedAll ps m (ks ++ (k ∷ [])) ≡ storedAll ps m ks ++ storedIn (nth ps k) m
+unfolding storedAll
+stored-last ps m [] k = append-nil (storedIn (nth ps k) m)
+stored-last ps m (j ∷ ks) k =
+    ap (λ (r : List ℕ). storedIn (nth ps j) m ++ r) (stored-last ps m ks k)
+    ∙ sym (append-assoc (storedIn (nth ps j) m) (storedAll ps m ks) (storedIn (nth ps k) m))
+
+-- each with samples stands where the samples before it end
+abbrev pub Settled : List Phrase → Type 0
+Settled ps = (i : ℕ) → i < 8 → 0 < getD ps i noPhrase .length → samplesBefore (getD ps i noPhrase .start) ps ≡ getD ps i noPhrase .start
+
 -- ---- what holds between turns
 pub record Turned (ps : List Phrase) (m : List ℕ) (g : Gathering) : Type 0 where
   pub many : length (g .phrases) ≡ 8
@@ -155,6 +181,13 @@ pub record Turned (ps : List Phrase) (m : List ℕ) (g : Gathering) : Type 0 whe
       → take (getD ps i noPhrase .length) (drop (samplesBefore (getD ps i noPhrase .start) ps) (g .memory)) ≡ storedIn (getD ps i noPhrase) m
   pub reached : (g .to ≡ 0) ⊎ ((k : ℕ) × (k < 8) × (0 < getD ps k noPhrase .length) × (getD ps k noPhrase .start < g .from)
       × (samplesBefore (getD ps k noPhrase .start) ps + getD ps k noPhrase .length ≡ g .to))
+  -- the numbers of those moved
+  pub order : List ℕ
+  pub those : Each (λ (k : ℕ). (k < 8) × (0 < getD ps k noPhrase .length) × (getD ps k noPhrase .start < g .from)) order
+  pub every : (k : ℕ) → k < 8 → 0 < getD ps k noPhrase .length → getD ps k noPhrase .start < g .from → (j : ℕ) × (getElem? order j ≡ some k)
+  pub rising : Rising ps order
+  pub joined : take (g .to) (g .memory) ≡ storedAll ps m order
+  pub settled : Settled ps → g .memory ≡ m
 
 module _ (ps : List Phrase) (m : List ℕ) (good : Good (length m) ps) where
   module _ (g : Gathering) (t : Turned ps m g) where
@@ -335,8 +368,19 @@ module _ (ps : List Phrase) (m : List ℕ) (good : Good (length m) ps) where
           go (inl e) = subst (λ (j : ℕ). take (nth ps j .length) (drop (samplesBefore (nth ps j .start) ps) memory) ≡ storedIn (nth ps j) m) (sym e) this
           go (inr d) = other (else i l s d)
 
+      moves-every : (i : ℕ) → i < 8 → 0 < nth ps i .length → nth ps i .start < end → (j : ℕ) × (getElem? (t .order ++ (k ∷ [])) j ≡ some i)
+      moves-every i l s h = go (same-or i k)
+        where
+          other : (nth ps i .start < g .from) ⊎ (end ≤ nth ps i .start) → (j : ℕ) × (getElem? (t .order ++ (k ∷ [])) j ≡ some i)
+          other (inl b) = let e = t .every i l s b in (e .0, look-front (t .order) (k ∷ []) (e .0) i (e .1))
+          other (inr b) = absurd (omega arith)
+
+          go : (i ≡ k) ⊎ (i ≢ k) → (j : ℕ) × (getElem? (t .order ++ (k ∷ [])) j ≡ some i)
+          go (inl e) = (length (t .order), look-last (t .order) k ∙ ap some (sym e))
+          go (inr d) = other (else i l s d)
+
       moves-turned : Turned ps m moves
-      unfolding moves end gone-to memory
+      unfolding moves end gone-to memory storedIn
       moves-turned = record {
         many = length-set (g .phrases) k (record { start = g .to; length = nth ps k .length }) ∙ t .many;
         size = moved-length (nth ps k .start) (g .to) (nth ps k .length) (g .memory) down fits ∙ t .size;
@@ -349,6 +393,34 @@ module _ (ps : List Phrase) (m : List ℕ) (good : Good (length m) ps) where
             ∙ drop-further (g .memory) m (g .to) (g .to + nth ps k .length) (t .rest) (omega arith);
         kept = moves-kept;
         reached = inr (k, f .below, f .some, omega (arith, f .some), ap (λ (n : ℕ). n + nth ps k .length) goes-to);
+        order = t .order ++ (k ∷ []);
+        those =
+            each-last (λ (j : ℕ). (j < 8) × (0 < nth ps j .length) × (nth ps j .start < end)) (t .order) k
+            (each-weaker
+            (λ (j : ℕ). (j < 8) × (0 < nth ps j .length) × (nth ps j .start < g .from))
+            (λ (j : ℕ). (j < 8) × (0 < nth ps j .length) × (nth ps j .start < end))
+            (λ j h. (h .0, h .1, omega (arith, h .2, f .behind)))
+            (t .order)
+            (t .those))
+            (f .below, f .some, omega (arith, f .some));
+        every = moves-every;
+        rising =
+            rising-last ps (t .order) k (t .rising)
+            (each-weaker
+            (λ (j : ℕ). (j < 8) × (0 < nth ps j .length) × (nth ps j .start < g .from))
+            (λ (j : ℕ). nth ps j .start < nth ps k .start)
+            (λ j h. omega (arith, h .2, f .behind))
+            (t .order)
+            (t .those));
+        joined =
+            moved-front (nth ps k .start) (g .to) (nth ps k .length) (g .memory) down fits
+            ∙ ap (λ (r : List ℕ). r ++ take (nth ps k .length) (drop (nth ps k .start) (g .memory))) (t .joined)
+            ∙ ap (λ (r : List ℕ). storedAll ps m (t .order) ++ take (nth ps k .length) r) (drop-further (g .memory) m (g .to) (nth ps k .start) (t .rest) down)
+            ∙ sym (stored-last ps m (t .order) k);
+        settled = λ h.
+            ap (λ (n : ℕ). movedDown (nth ps k .start) n (nth ps k .length) (g .memory)) (sym goes-to ∙ h k (f .below) (f .some))
+            ∙ moved-same (nth ps k .start) (nth ps k .length) (g .memory)
+            ∙ t .settled h;
       }
 
       moves-fewer : waiting end ps + 1 ≤ waiting (g .from) ps
@@ -404,7 +476,7 @@ module _ (ps : List Phrase) (m : List ℕ) (good : Good (length m) ps) where
 
   -- none is moved yet
   begins : length ps ≡ 8 → Turned ps m (record { phrases = ps; memory = m; from = 0; to = 0 })
-  unfolding samplesBefore sumBelow
+  unfolding samplesBefore sumBelow storedAll Each
   begins many = record {
     many = many;
     size = refl;
@@ -415,6 +487,12 @@ module _ (ps : List Phrase) (m : List ℕ) (good : Good (length m) ps) where
     rest = refl;
     kept = λ i l s h. absurd (omega arith);
     reached = inl refl;
+    order = [];
+    those = tt;
+    every = λ k l s h. absurd (omega arith);
+    rising = tt;
+    joined = refl;
+    settled = λ h. refl;
   }
 
   pub all-turned : length ps ≡ 8 → Turned ps m (gatheringOf ps m) × Over (gatheringOf ps m .from) ps 8
