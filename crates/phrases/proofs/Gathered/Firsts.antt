@@ -7,7 +7,7 @@ use mathlib.Core.Logic.{_⊎_, inl, inr, _≢_}
 use mathlib.Core.List.{List}
 use lib.Dec.{leb, ltb, eqb}
 use lib.ListN.{getD}
-use borrow.Author.Tests.{leb-true, leb-false, ltb-true, ltb-false, le-leb, eqb-true, eqb-false, eq-eqb, ne-eqb, not-true, not-false}
+use borrow.Author.Tests.{leb-true, leb-false, ltb-true, ltb-false, le-leb, eqb-true, eqb-false, ne-eqb, not-true}
 use Rattle.walks.proofs.Lists.Every.{both}
 use Rattle.walks.proofs.Tests.{neither, joined}
 use Rattle.phrases.specs.declared.Phrase.{Phrase}

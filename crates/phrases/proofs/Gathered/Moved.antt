@@ -1,9 +1,9 @@
 -- What words moved down are: those that stood there before, in front of the rest, behind what stood below. Assumes nothing.
-use mathlib.Core.Path.{_≡_, refl, sym, ap, _∙_, subst}
-use Prim.Native.Nat.{ℕ, zero, suc, _+_, _-_, _≤_, _<_}
+use mathlib.Core.Path.{_≡_, sym, ap, _∙_}
+use Prim.Native.Nat.{ℕ, _+_, _-_, _≤_}
 use native.Mathlib.Omega.{arith}
 use mathlib.Core.List.{List, _++_, append-assoc}
-use lib.ListN.{length, take, drop, length-take, length-drop, take-append-drop}
+use lib.ListN.{length, take, drop, length-drop, take-append-drop}
 use lib.Seq.{paste, length-paste, drop-paste, take-paste, drop-at, take-at, length-take-le, take-append-le, drop-append-le, drop-drop}
 use Rattle.phrases.specs.Gathering.{movedDown}
 

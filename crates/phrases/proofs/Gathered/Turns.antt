@@ -1,4 +1,5 @@
--- Each turn of gathering moves the next phrase down. Assumes nothing.
+-- Each turn of gathering moves the next phrase down: what holds between turns, `Turned`, and that eight turns move all.
+-- Assumes nothing.
 use mathlib.Core.Path.{_≡_, refl, sym, ap, _∙_, subst}
 use Prim.Native.Nat.{ℕ, zero, suc, _+_, _-_, _≤_, _<_}
 use native.Mathlib.Nat.{add-sub-cancel-left}
@@ -7,7 +8,7 @@ use mathlib.Core.Bool.{Bool, true, false, _||_, cond}
 use mathlib.Core.Logic.{_⊎_, inl, inr, _≢_}
 use mathlib.Core.List.{List, [], _∷_, _++_, append-assoc, append-nil}
 use mathlib.Core.Option.{some}
-use lib.Dec.{ltb, leb}
+use lib.Dec.{ltb}
 use lib.ListN.{length, take, drop, getD, getElem?, set, length-set}
 use lib.Seq.{getD-set-same, getD-set-other}
 use borrow.Author.Tests.{ltb-true, ltb-false, lt-ltb, le-ltb, eq-eqb}
@@ -21,7 +22,7 @@ use Rattle.phrases.specs.Gathering.{Gathering, movedDown, firstFrom, gat
 use Rattle.phrases.proofs.Rooms.{room-from, room-to, ends-inside}
 use Rattle.phrases.proofs.Gathered.Places.{sumBelow, samplesIf, samplesBefore, gatheredPhrase, storedAll, Rising}
 use Rattle.phrases.proofs.Gathered.Sums.{same-or, sum-same, sum-at, sum-most, sum-larger, sum-one}
-use Rattle.phrases.proofs.Gathered.Firsts.{holds-some, some-holds, holds-none, Good, Over, First, first}
+use Rattle.phrases.proofs.Gathered.Firsts.{holds-some, some-holds, Good, Over, First, first}
 use Rattle.phrases.proofs.Gathered.Moved.{drop-further, moved-length, moved-rest, moved-there, moved-below, moved-front, moved-same}
 
 -- ---- samples of those that begin before a place
@@ -216,8 +217,12 @@ module _ (ps : List Phrase) (m : List ℕ) (good : Good (length m) ps) where
       some = some;
       behind = behind (before-or (nth ps k .start) (g .from));
       least = λ i l s h.
-          omega (arith, f .least i l (omega (arith, s, same-length i l)) (omega (arith, h, ap (λ (p : Phrase). p .start) (left i l h))),
-          ap (λ (p : Phrase). p .start) (left i l h), ap (λ (p : Phrase). p .start) (left k (f .below) (behind (before-or (nth ps k .start) (g .from)))));
+          omega (
+            arith,
+            f .least i l (omega (arith, s, same-length i l)) (omega (arith, h, ap (λ (p : Phrase). p .start) (left i l h))),
+            ap (λ (p : Phrase). p .start) (left i l h),
+            ap (λ (p : Phrase). p .start) (left k (f .below) (behind (before-or (nth ps k .start) (g .from)))),
+          );
     }
       where
         some : 0 < nth ps k .length
