@@ -1,2 +1,6 @@
+pub mod Below
 pub mod Rooms
 pub mod Gathered
+pub mod Table
+pub mod Apart
+pub mod Reaches
