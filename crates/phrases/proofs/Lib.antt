@@ -3,3 +3,5 @@ pub mod Rooms
 pub mod Table
 pub mod Apart
 pub mod Reaches
+pub mod Moves
+pub mod Turns
