@@ -4,3 +4,5 @@ pub mod Gathered
 pub mod Table
 pub mod Apart
 pub mod Reaches
+pub mod Moves
+pub mod Turns
