@@ -6,3 +6,4 @@ pub mod Resting
 pub mod Parts
 pub mod Kept
 pub mod Samples
+pub mod Entries
