@@ -76,7 +76,7 @@ put d c s e h eight is stores changes =
 returns : tie.Need-returns
 returns c =
     let a = c .before .before .before .before .before .before .before .before .before .before .args in
-    let eight = long _ (a .t1 .table) 8 (c .before .before .before .before .before .before .before .before .before .before .good .0 .1 .1 .0 .1 .1 .0 .1) in
+    let eight = long _ (a .t1 .table) 8 (c .before .before .before .before .before .before .before .before .before .before .good .0 .1 .1 .1 .0 .1 .0 .1) in
     put (a .change) (a .t1) (c .before .before .if1 .self) (c .before .before .before .head-entry .result) (c .changed .result) eight (cleared (c .before .before)) (simp (c .before .before .before .head-entry .ensures, c .before .before .before .before .before .before .before .place-of .ensures .0, c .before .before .before .before .before .before .before .before .head-names .ensures))
     (simp (c .changed .ensures, c .before .before .before .before .finds .ensures, c .before .before .before .before .before .beside .ensures, c .before .before .before .before .before .before .before .place-of .ensures .0, c .before .before .before .before .before .before .before .before .head-names .ensures))
 
