@@ -12,11 +12,10 @@ use Rattle.phrases.specs.Phrases.{noPhrase, endsBy, apartOf, othersOf, goodPhra
 use Rattle.phrases.proofs.Rooms.{ends-inside, inside-ends}
 use Rattle.phrases.proofs.Table.{others-length, others-chosen}
 use Rattle.phrases.proofs.Apart.{good-within, good-apart, good-set, good-set-empty, good-shorter}
-use Rattle.phrases.proofs.Reaches.{behind-same, behind-within, behind-apart, next-within, next-apart}
+use Rattle.phrases.proofs.Reaches.{behind-within, behind-apart, next-within, next-most, next-apart}
 use Rattle.recorder.specs.declared.Recorded.{Recorded}
 use Rattle.recorder.specs.Recording.{goodRecorded}
 use Rattle.channel.specs.Heads.{recordingIn, withRecorded}
-use Rattle.channel.specs.Tables.{goodTable}
 use Rattle.channel.specs.Channels.{withHead, othersIn, phrasesIn, besideIn, behindIn}
 use Rattle.channel.specs.Soundness.{SoundChannel}
 use Rattle.channel.specs.declared.Head.{Head}
@@ -94,14 +93,20 @@ module _ (capacity : ℕ) (c : Channel) (s : SoundChannel capacity c) where
       let p : Phrase = record { start = c .head .start; length = n } in
       anew-apart p (inside-ends p capacity (omega (arith, fits, next-within (c .head .start) capacity (othersIn c)))) (next-other n some fits)
 
+  -- which begins no earlier than it
+  pub next-later : c .head .start ≤ besideIn capacity c .next
+  next-later = next-most (c .head .start) capacity (othersIn c) (c .head .start) (omega (arith, parts s .head .inside)) (λ k l some at. at)
+
   -- ---- a head with such a recording
+  pub phrases-anew : (h : Head) → h .chosen ≡ chosen → phrasesIn (withHead h c) ≡ anew (recordingIn h)
+  phrases-anew h same =
+      ap (λ (k : ℕ). set (othersOf (c .several) k (c .table)) k (recordingIn h)) same
+      ∙ sym (all-anew (c .head) (c .several) (c .table) (recordingIn h))
+
   pub anew-sound : (h : Head) → SoundHead capacity h → c .head .now ≤ h .now → h .chosen ≡ chosen → goodPhrases capacity (anew (recordingIn h)) ≡ true → SoundChannel capacity (withHead h c)
   anew-sound h sound later same good =
-      let whole : anew (recordingIn h) ≡ set (othersOf (c .several) (h .chosen) (c .table)) (h .chosen) (recordingIn h) =
-      all-anew (c .head) (c .several) (c .table) (recordingIn h)
-      ∙ ap (λ (k : ℕ). set (othersOf (c .several) k (c .table)) k (recordingIn h)) (sym same) in
       head-changed capacity c s h sound later
-      (table-good h (c .several) (c .table) capacity (subst (λ (l : List Phrase). goodPhrases capacity l ≡ true) whole good))
+      (table-good h (c .several) (c .table) capacity (subst (λ (l : List Phrase). goodPhrases capacity l ≡ true) (sym (phrases-anew h same)) good))
 
   pub recording-changed : (r : Recorded) → goodRecorded r (capacity - c .head .start) ≡ true
       → goodPhrases capacity (anew (record { start = c .head .start; length = r .«data_len» })) ≡ true → SoundChannel capacity (withHead (withRecorded r (c .head)) c)

@@ -4,6 +4,7 @@ pub mod Heads
 pub mod Rooms
 pub mod Tables
 pub mod Resting
+pub mod Choices
 pub mod Parts
 pub mod Anew
 pub mod Kept

@@ -16,7 +16,9 @@ use Rattle.walks.specs.Walks.{without}
 use Rattle.walks.specs.Each.{Each}
 use Rattle.walks.proofs.Lists.Each.{each-without, each-map, front-sets, fewer, behind-fewer}
 use Rattle.common_types.specs.declared.Params.{Params}
+use Rattle.phrases.specs.declared.Phrase.{Phrase}
 use Rattle.phrases.specs.Phrases.{storedIn, goodPhrases}
+use Rattle.phrases.proofs.Rooms.{inside-ends}
 use Rattle.clip.specs.Positions.{indexAt}
 use Rattle.recorder.specs.Recording.{recordedOf, dataAfter, goodRecorded}
 use Rattle.recorder.proofs.Good.{sample-good}
@@ -26,11 +28,12 @@ use Rattle.voice.specs.Voices.{tickOf, movedOf}
 use Rattle.voice.specs.Soundness.{SoundParams, SoundVoice}
 use Rattle.voice.proofs.Kept.{index-recorded, turn-sound}
 use Rattle.channel.specs.Heads.{writtenIn, closedOf}
+use Rattle.channel.specs.Tables.{goodTable}
 use Rattle.channel.specs.Channels.{live, behindIn, anyUnfinishedOf, Turning, keptOf, tidiedOf, playedOf, turningBy, resting, turningAt, turningOf, phraseAt, momentFor, turningIn, takenOf, memoryOf, processSampleOf}
 use Rattle.channel.specs.Soundness.{SoundChannel}
 use Rattle.channel.specs.declared.Head.{Head}
 use Rattle.channel.specs.declared.Channel.{Channel}
-use Rattle.channel.proofs.Heads.{grown, grown-left, grown-own, next-later, closed-now, closed-table, closed-sound}
+use Rattle.channel.proofs.Heads.{recorded-sound, grown, grown-left, grown-own, next-later, closed-now, closed-table, closed-sound}
 use Rattle.channel.proofs.Parts.{parts, head-changed, voices-changed, phrase-within, room, live-count, voice-at, some}
 use Rattle.channel.proofs.Anew.{anew, anew-shorter, anew-behind, recording-changed}
 use Rattle.channel.proofs.Rooms.{written-length}
@@ -47,8 +50,11 @@ taken-sound capacity c s small m size =
     n = grown capacity (c .head) (parts s .head) (behindIn c) .«data_len»
 
     go : (b : Bool) → leb (behindIn c) (c .head .start) ≡ b → goodPhrases capacity (anew capacity c s (record { start = c .head .start; length = n })) ≡ true
-    go true e = ?
-    go false e = ?
+    go true e =
+        let k = recorded-sound capacity (c .head) (parts s .head) (grown capacity (c .head) (parts s .head) (behindIn c)) (grown-left capacity (c .head) (parts s .head) (behindIn c)) in
+        let p : Phrase = record { start = c .head .start; length = n } in
+        anew-behind capacity c s small p (inside-ends p capacity (k .inside)) (leb-true (behindIn c) (c .head .start) e)
+    go false e = anew-shorter capacity c s n (grown-own capacity (c .head) (parts s .head) (behindIn c) (leb-false (behindIn c) (c .head .start) e))
 
 pub memory-kept : (x : Float) (c : Channel) (m : List ℕ) → length (memoryOf x c m) ≡ length m
 unfolding memoryOf
@@ -115,7 +121,8 @@ module _ (capacity : ℕ) (c : Channel) (sound : SoundChannel capacity c) (p : P
       let s = turningIn p d (memoryOf x c m) in
       let r = playedOf s d .channel in
       let u = anyUnfinishedOf r in
-      head-changed capacity r (turned-sound capacity d k p ok small (memoryOf x c m)) (closedOf p u (d .head)) (closed-sound p u (d .head) capacity ok (parts k .head))
+      let t = turned-sound capacity d k p ok small (memoryOf x c m) in
+      head-changed capacity r t (closedOf p u (d .head)) (closed-sound p u (d .head) capacity ok (parts k .head))
       (subst (λ (h : Head). h .now ≤ closedOf p u (d .head) .now) (sym (played-head s d))
       (subst (λ (n : ℕ). d .head .now ≤ n) (sym (closed-now p u (d .head))) (next-later (d .head .now))))
-      ?
+      (closed-table p u (d .head) capacity (r .several) (r .table) ∙ ap (λ (h : Head). goodTable capacity h (r .several) (r .table)) (sym (played-head s d)) ∙ parts t .table)
