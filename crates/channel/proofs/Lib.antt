@@ -7,5 +7,6 @@ pub mod Resting
 pub mod Choices
 pub mod Parts
 pub mod Anew
+pub mod Changes
 pub mod Kept
 pub mod Samples
