@@ -5,3 +5,4 @@ pub mod Apart
 pub mod Reaches
 pub mod Moves
 pub mod Turns
+pub mod Gathered
