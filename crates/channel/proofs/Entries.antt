@@ -3,7 +3,7 @@ use mathlib.Core.Path.{_≡_, refl, sym, ap, _∙_}
 use mathlib.Core.Bool.{Bool, true, false, not, _||_, cond}
 use mathlib.Core.List.{List}
 use Prim.Native.Nat.{ℕ, _+_, _<_}
-use native.Mathlib.Nat.{min-eq-left, min-le-right}
+use native.Mathlib.Nat.{min-le-right}
 use native.Mathlib.Omega.{arith}
 use lib.Dec.{leb, ltb, eqb}
 use lib.Ieee.{Float}
@@ -30,15 +30,16 @@ use Rattle.channel.specs.declared.Change.{Change}
 use Rattle.channel.specs.declared.Change.the-variants as change
 use Rattle.channel.specs.declared.HeadChange.{HeadChange}
 use Rattle.channel.specs.declared.HeadChange.the-variants.{StartRecording, StopRecording, Interpolate, Load, Choose, Delete}
+use Rattle.channel.proofs.Tables.{place-below}
 
--- ---- where a number's entry stands
+-- what a choice of another phrase stores
+abbrev put : Head → Bool → Entry
+put h several = record { place = placeOf (h .chosen); phrase = recordingIn h; clears = not several; several = true }
+
+-- ---- the place that is stored to
 pub placed-below : (k : ℕ) → placeOf k < 8
 placed-below k = omega (arith, min-le-right k 7)
 
-own : (k : ℕ) → k < 8 → placeOf k ≡ k
-own k h = min-eq-left (omega (arith, h))
-
--- ---- the place that is stored to
 pub head-entry-below : (d : HeadChange) (h : Head) (several : Bool) (entry : Phrase) → headEntry d h several entry .place < 8
 unfolding headEntry
 head-entry-below StartRecording h several entry = omega arith
@@ -46,8 +47,7 @@ head-entry-below StopRecording h several entry = omega arith
 head-entry-below (Interpolate on) h several entry = omega arith
 head-entry-below (Load samples) h several entry = omega arith
 head-entry-below (Choose k) h several entry =
-    cond-split (λ (e : Entry). e .place < 8) (staysChosen k h) (entryKept several (placeOf k) entry)
-    (record { place = placeOf (h .chosen); phrase = recordingIn h; clears = not several; several = true }) (λ t. placed-below k) (λ t. placed-below (h .chosen))
+    cond-split (λ (e : Entry). e .place < 8) (staysChosen k h) (entryKept several (placeOf k) entry) (put h several) (λ t. placed-below k) (λ t. placed-below (h .chosen))
 head-entry-below (Delete k) h several entry = placed-below k
 
 pub entry-below : (x : Change) (h : Head) (several : Bool) (entry : Phrase) → entryOf x h several entry .place < 8
@@ -78,10 +78,10 @@ head-stored (Choose k) h several table eight = go (staysChosen k h) refl
     other false = refl
 
     go : (b : Bool) → staysChosen k h ≡ b
-        → storedBy (cond b (entryKept several (placeOf k) (getD table (placeOf k) noPhrase)) (record { place = placeOf (h .chosen); phrase = recordingIn h; clears = not several; several = true })) table ≡ cond b table (withRecording h (cond several table noPhrases))
+        → storedBy (cond b (entryKept several (placeOf k) (getD table (placeOf k) noPhrase)) (put h several)) table ≡ cond b table (withRecording h (cond several table noPhrases))
     go true e = kept several (placeOf k) table
     go false e =
-        ap (λ (n : ℕ). set (cond (not several) noPhrases table) n (recordingIn h)) (own (h .chosen) (leb-false 8 (h .chosen) (neither (eqb k (h .chosen)) (leb 8 (h .chosen)) e .1)))
+        ap (λ (n : ℕ). set (cond (not several) noPhrases table) n (recordingIn h)) (place-below (h .chosen) (leb-false 8 (h .chosen) (neither (eqb k (h .chosen)) (leb 8 (h .chosen)) e .1)))
         ∙ other several
 head-stored (Delete k) h several table eight = go (leb 8 k) refl
   where
@@ -91,7 +91,7 @@ head-stored (Delete k) h several table eight = go (leb 8 k) refl
     go true e =
         let past = leb-true 8 k e in
         kept several (placeOf k) table ∙ sym (set-out table k (emptyFrom (getD table k noPhrase .start)) (omega (arith, past, eight)))
-    go false e = ap (λ (n : ℕ). set table n (emptyFrom (getD table n noPhrase .start))) (own k (leb-false 8 k e))
+    go false e = ap (λ (n : ℕ). set table n (emptyFrom (getD table n noPhrase .start))) (place-below k (leb-false 8 k e))
 
 -- whether there are several then
 pub head-several : (d : HeadChange) (h : Head) (several : Bool) (entry : Phrase) → headEntry d h several entry .several ≡ severalAfter d h several
@@ -102,7 +102,7 @@ head-several (Interpolate on) h several entry = refl
 head-several (Load samples) h several entry = refl
 head-several (Choose k) h several entry = go several (staysChosen k h)
   where
-    go : (s b : Bool) → cond b (entryKept s (placeOf k) entry) (record { place = placeOf (h .chosen); phrase = recordingIn h; clears = not several; several = true }) .several ≡ (s || not b)
+    go : (s b : Bool) → cond b (entryKept s (placeOf k) entry) (put h several) .several ≡ (s || not b)
     go true true = refl
     go true false = refl
     go false true = refl
@@ -110,7 +110,8 @@ head-several (Choose k) h several entry = go several (staysChosen k h)
 head-several (Delete k) h several entry = refl
 
 -- ---- what heads and voices don't touch, the changes of voices hold
-module _ {A : Type 0} (f : Channel → A) (heads : (h : Head) (c : Channel) → f (withHead h c) ≡ f c) (voices : (vs : List Voice) (n : ℕ) (c : Channel) → f (withVoices vs n c) ≡ f c) where
+module _ {A : Type 0} (f : Channel → A) (heads : (h : Head) (c : Channel) → f (withHead h c) ≡ f c)
+    (voices : (vs : List Voice) (n : ℕ) (c : Channel) → f (withVoices vs n c) ≡ f c) where
   handled-holds : (p : Params) (c : Channel) → f (handledOf p c) ≡ f c
   unfolding handledOf
   handled-holds p c = heads _ c

@@ -48,23 +48,23 @@ as-is-requires-4 c κs = search needs
 
 returns : tie.Need-returns
 unfolding entryOf
-returns c = placed (c .before .before .before .args .change) (c .before .before .before .args .head) (c .before .before .before .args .several) (c .before .before .before .args .entry) _ (simp (c .as-is .ensures, c .before .enum-told .given .1))
+returns c = let a = c .before .before .before .args in placed (a .change) (a .head) (a .several) (a .entry) _ (simp (c .as-is .ensures, c .before .enum-told .given .1))
 
 returns-2 : tie.Need-returns-2
 unfolding entryOf
-returns-2 c = placed (c .before .before .before .args .change) (c .before .before .before .args .head) (c .before .before .before .args .several) (c .before .before .before .args .entry) _ (simp (c .as-is2 .ensures, c .before .enum-told2 .given .1))
+returns-2 c = let a = c .before .before .before .args in placed (a .change) (a .head) (a .several) (a .entry) _ (simp (c .as-is2 .ensures, c .before .enum-told2 .given .1))
 
 returns-3 : tie.Need-returns-3
 unfolding entryOf
-returns-3 c = placed (c .before .before .before .args .change) (c .before .before .before .args .head) (c .before .before .before .args .several) (c .before .before .before .args .entry) _ (simp (c .as-is3 .ensures, c .before .enum-told3 .given .1))
+returns-3 c = let a = c .before .before .before .args in placed (a .change) (a .head) (a .several) (a .entry) _ (simp (c .as-is3 .ensures, c .before .enum-told3 .given .1))
 
 returns-4 : tie.Need-returns-4
 unfolding entryOf
-returns-4 c = placed (c .before .before .before .before .args .change) (c .before .before .before .before .args .head) (c .before .before .before .before .args .several) (c .before .before .before .before .args .entry) _ (simp (c .head-entry .ensures, c .before .before .change .given .1))
+returns-4 c = let a = c .before .before .before .before .args in placed (a .change) (a .head) (a .several) (a .entry) _ (simp (c .head-entry .ensures, c .before .before .change .given .1))
 
 returns-5 : tie.Need-returns-5
 unfolding entryOf
-returns-5 c = placed (c .before .before .before .args .change) (c .before .before .before .args .head) (c .before .before .before .args .several) (c .before .before .before .args .entry) _ (simp (c .as-is4 .ensures, c .before .enum-told4 .given .1))
+returns-5 c = let a = c .before .before .before .args in placed (a .change) (a .head) (a .several) (a .entry) _ (simp (c .as-is4 .ensures, c .before .enum-told4 .given .1))
 
 pub entry-of-spec : {M : Type 1} → statement M
 entry-of-spec =

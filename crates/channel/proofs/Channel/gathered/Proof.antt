@@ -60,13 +60,25 @@ same-length : tie.Need-same-length
 same-length c = search needs
 
 returns : tie.Need-returns
-returns c = (moved (c .before .before .before .before .before .before .before .before .before .before .before .args .self) (now (c .before .before .before .before .before .before .before .before .before .before .before .args .«data»)) (c .before .before .before .before .before .before .before .before .before .all .result) (c .before .before .before .before .before .before .before .gather .result) (c .before .before .before .place-of .result) true (c .before .before .before .before .before .before .before .before .before .all .ensures) (c .before .before .before .before .before .before .before .gather .ensures .0) (c .before .before .before .place-of .ensures .0) (c .if1 .taken), kept (c .before .before .before .before .before .before .before .before .before .before .before .args .self) (now (c .before .before .before .before .before .before .before .before .before .before .before .args .«data»)) (c .before .before .before .before .before .before .before .before .before .all .result) _ (c .before .before .before .before .before .before .before .before .before .all .ensures) (c .before .before .before .before .before .before .before .gather .ensures .1))
+returns c =
+    let a = c .before .before .before .before .before .before .before .before .before .before .before .args in
+    let m = now (a .«data») in
+    let all = c .before .before .before .before .before .before .before .before .before .all in
+    let gather = c .before .before .before .before .before .before .before .gather in
+    let place = c .before .before .before .place-of in
+    (moved (a .self) m (all .result) (gather .result) (place .result) true (all .ensures) (gather .ensures .0) (place .ensures .0) (c .if1 .taken), kept (a .self) m (all .result) _ (all .ensures) (gather .ensures .1))
 
 same-length-2 : tie.Need-same-length-2
 same-length-2 c = search needs
 
 returns-2 : tie.Need-returns-2
-returns-2 c = (moved (c .before .before .before .before .before .before .before .before .before .before .before .args .self) (now (c .before .before .before .before .before .before .before .before .before .before .before .args .«data»)) (c .before .before .before .before .before .before .before .before .before .all .result) (c .before .before .before .before .before .before .before .gather .result) (c .before .before .before .place-of .result) false (c .before .before .before .before .before .before .before .before .before .all .ensures) (c .before .before .before .before .before .before .before .gather .ensures .0) (c .before .before .before .place-of .ensures .0) (c .if1 .left), kept (c .before .before .before .before .before .before .before .before .before .before .before .args .self) (now (c .before .before .before .before .before .before .before .before .before .before .before .args .«data»)) (c .before .before .before .before .before .before .before .before .before .all .result) _ (c .before .before .before .before .before .before .before .before .before .all .ensures) (c .before .before .before .before .before .before .before .gather .ensures .1))
+returns-2 c =
+    let a = c .before .before .before .before .before .before .before .before .before .before .before .args in
+    let m = now (a .«data») in
+    let all = c .before .before .before .before .before .before .before .before .before .all in
+    let gather = c .before .before .before .before .before .before .before .gather in
+    let place = c .before .before .before .place-of in
+    (moved (a .self) m (all .result) (gather .result) (place .result) false (all .ensures) (gather .ensures .0) (place .ensures .0) (c .if1 .left), kept (a .self) m (all .result) _ (all .ensures) (gather .ensures .1))
 
 pub gathered-spec : {M : Type 1} → statement M
 gathered-spec =

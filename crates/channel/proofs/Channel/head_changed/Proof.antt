@@ -75,10 +75,13 @@ put d c s e h eight is stores changes =
 
 returns : tie.Need-returns
 returns c =
-    let a = c .before .before .before .before .before .before .before .before .before .before .args in
-    let eight = long _ (a .t1 .table) 8 (c .before .before .before .before .before .before .before .before .before .before .good .0 .1 .1 .1 .0 .1 .0 .1) in
-    put (a .change) (a .t1) (c .before .before .if1 .self) (c .before .before .before .head-entry .result) (c .changed .result) eight (cleared (c .before .before)) (simp (c .before .before .before .head-entry .ensures, c .before .before .before .before .before .before .before .place-of .ensures .0, c .before .before .before .before .before .before .before .before .head-names .ensures))
-    (simp (c .changed .ensures, c .before .before .before .before .finds .ensures, c .before .before .before .before .before .beside .ensures, c .before .before .before .before .before .before .before .place-of .ensures .0, c .before .before .before .before .before .before .before .before .head-names .ensures))
+    let b = c .before .before .before .before .before .before .before .before .before .before in
+    let e = c .before .before .before .head-entry in
+    let place = c .before .before .before .before .before .before .before .place-of .ensures .0 in
+    let names = c .before .before .before .before .before .before .before .before .head-names .ensures in
+    let eight = long _ (b .args .t1 .table) 8 (b .good .0 .1 .1 .1 .0 .1 .0 .1) in
+    put (b .args .change) (b .args .t1) (c .before .before .if1 .self) (e .result) (c .changed .result) eight (cleared (c .before .before)) (simp (e .ensures, place, names))
+    (simp (c .changed .ensures, c .before .before .before .before .finds .ensures, c .before .before .before .before .before .beside .ensures, place, names))
 
 pub head-changed-spec : {M : Type 1} → statement M
 head-changed-spec =
