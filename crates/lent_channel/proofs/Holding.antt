@@ -3,7 +3,8 @@
 --     points           a pointer to voice i is made: i times a voice's bytes, the address of the first voice, and that many bytes on. It asks what each local holds and takes, in the order of the three statements
 --     visits           the walk goes to voice i, takes a step of its own there, which leaves w in the voice's place, and comes out again
 --     copies-voice     so the voice is copied
---     points-entry, copies-entry               the same for entry i of the table
+--     points-entry, copies-entry               the same for entry k of the table
+--     phrase-fits      the number of a voice's phrase
 --     reads-count, reads-head, reads-time, reads-several      the channel's parts, read through the reference
 -- Assumes `Given`.
 use mathlib.Core.Path.{_≡_, refl, sym, subst}
@@ -26,6 +27,7 @@ use denote.Memory.{cellAt, partAt}
 use denote.Laws.{Is, shows}
 use denote.Index.{place-is, place as stands}
 use denote.Steps.{owned}
+use denote.Struct.Laws as LL
 use Rattle.walks.proofs.Steps.Inside.{Inside, Back, goes-in, comes-out}
 use Rattle.phrases.specs.declared.Phrase.{Phrase}
 use Rattle.phrases.specs.Phrases.{noPhrase}
@@ -204,6 +206,9 @@ IsPhrase p = Is F.the-row p (pv p ∷ [])
 abbrev Entry : {M : Type 1} (𝓤 : URA M) (H : Heap 𝓤) (A : Atoms 𝓤) (q : Share) (k b o : ℕ) (h : Channel) → List (Item 𝓤) → List (Item 𝓤)
 Entry 𝓤 H A q k b o h Γ =
     ‵ (cellAt q (F.the-row .mir) (pv (entry h k) ∷ []) b (entry-spot o k)) ∷ ‵ (F.the-row .own (entry h k) (pv (entry h k) ∷ [])) ∷ raw (Back 𝓤 H A q C.the-row F.the-row h (entry h k) b o (entry-spot o k)) ∷ Γ
+
+pub phrase-fits : (v : Voice) → IsVoice v → v .phrase < 2 ^ 8
+phrase-fits v is = LL.owed R.the-type R′.the-laws v _ is .1 .1 .1 .1 .1 .1 .1 .1 .1 .1 .1 .0 .1
 
 module _ {M : Type 1} {𝓤 : URA M} {H : Heap 𝓤} {A : Atoms 𝓤} {K : Type 0} {W : Given 𝓤 H A} (k b o : ℕ) where
   pub points-entry : K → {E : Env 𝓤 H} {Cs : Calls 𝓤 H} {Λ : Loops 𝓤 H} {Q : Post 𝓤 H} {x : Operand} {m r p t : ℕ} {rest : Body} {Γ Γ₁ Γ₂ Γ₃ : List (Item 𝓤)} → k * phrase-bytes < 2 ^ 64

@@ -3,6 +3,8 @@ pub mod Places
 pub mod Holding
 pub mod Sharing
 pub mod Viewing
+pub mod Weighing
+pub mod Besides
 pub mod Saying
 pub mod Taking
 pub mod Parts
