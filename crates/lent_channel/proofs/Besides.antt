@@ -7,9 +7,12 @@ use mathlib.Core.List.{List, [], _∷_}
 use lib.Dec.{eqb}
 use lib.ListN.{length, getD, take, set, length-set}
 use lib.Seq.{take-all}
+use mir.Syntax.{w64}
 use borrow.Author.Tests.{eq-eqb, ne-eqb}
 use Rattle.walks.specs.Walks.{fold}
-use Rattle.walks.proofs.Tests.{one-more, and-assoc}
+use Rattle.walks.proofs.Tests.{one-more, and-true, and-assoc}
+use Rattle.walks.proofs.Steps.Data.{word, truth}
+use Rattle.walks.proofs.Steps.Calls.{Callee}
 use Rattle.phrases.specs.declared.Phrase.{Phrase}
 use Rattle.phrases.specs.declared.Beside.{Beside}
 use Rattle.phrases.specs.Phrases.{noPhrase, noSamples, endsBy, reachOf, apartOf, othersOf, everyBelow, goodAt, goodPhrases, besideNone, besideWith, besideOf}
@@ -17,6 +20,7 @@ use Rattle.phrases.proofs.Below.{below-next}
 use Rattle.phrases.proofs.Table.{set-entry}
 use Rattle.phrases.proofs.Reaches.{beside-alone}
 use Rattle.channel.specs.declared.Head.{Head}
+use Rattle.channel.specs.declared.Channel.{Channel}
 use Rattle.channel.specs.Heads.{recordingIn}
 use Rattle.channel.specs.Tables.{withRecording, goodTable}
 use Rattle.lent_channel.specs.Turns.{lookedAt, besideNext}
@@ -24,6 +28,23 @@ use Rattle.lent_channel.specs.Turns.{lookedAt, besideNext}
 -- how many entries are looked at
 abbrev pub entries : Bool → ℕ
 entries several = cond several 8 0
+
+pub few : (several : Bool) (k : ℕ) → k < entries several → k < 8
+few true k lt = lt
+few false k lt = absurd (not-suc-le-zero lt)
+
+-- the functions of a channel's table as walks call them: `entries`, `phrase_good` and `good_phrases`
+abbrev pub counting : Callee
+counting = record { takes = truth ∷ []; gives = word w64; says = λ a. entries (a .0) }
+
+abbrev pub Within : ℕ → ℕ → Type 0
+Within k capacity = k < 8
+
+abbrev pub goodAs : ℕ → ℕ → Channel → Bool
+goodAs k capacity c = goodAt capacity (withRecording (c .head) (c .table)) k
+
+abbrev pub goodTableIn : ℕ → Channel → Bool
+goodTableIn capacity c = goodTable capacity (c .head) (c .several) (c .table)
 
 fold-next : {A S : Type 0} (f : S → A → S) (d : A) (s : S) (i : ℕ) (l : List A) → i < length l → f (fold f s (take i l)) (getD l i d) ≡ fold f s (take (suc i) l)
 unfolding fold
@@ -53,11 +74,7 @@ module _ (h : Head) (table : List Phrase) where
 
     pub good-none : endsBy capacity p ≡ good-upto 0
     unfolding everyBelow
-    good-none = sym (and-true (endsBy capacity p))
-      where
-        and-true : (a : Bool) → (a && true) ≡ a
-        and-true true = refl
-        and-true false = refl
+    good-none = and-true (endsBy capacity p)
 
     pub good-one-more : (j : ℕ) → j < length table → (good-upto j && apartOf p (lookedAt (getD table j noPhrase) j h)) ≡ good-upto (j + 1)
     good-one-more j lt =

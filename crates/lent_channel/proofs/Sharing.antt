@@ -118,10 +118,10 @@ abbrev Spelt : {M : Type 1} {𝓤 : URA M} → Share → (b o : ℕ) → Channel
 Spelt q b o h Γ = ‵ (fat q C′.mir b o (cv h)) ∷ ‵ (C.the-row .own h (cv h ∷ [])) ∷ Γ
 
 module _ {M : Type 1} {𝓤 : URA M} {H : Heap 𝓤} {A : Atoms 𝓤} {K : Type 0} {W : Given 𝓤 H A} (b o : ℕ) (q : Share) (h : Channel) where
-  pub copies-head : K → {E : Env 𝓤 H} {Cs : Calls 𝓤 H} {Λ : Loops 𝓤 H} {Q : Kit.Post 𝓤 H} {c d : ℕ} {rest : Body} {Γ Γ′ : List (Item 𝓤)} → Held K W E (Spelt q b o h Γ) c (vptr b o)
-      → (Typed E′.mir (ev (h .head)) → Taken K W E (Spelt q b o h Γ) d (ev (h .head)) (Spelt q b o h Γ′))
-      → (Is E.the-row (h .head) (ev (h .head) ∷ []) → Seq K W (‵ (partAt C.the-row q h b o) ∷ Γ′) (runs Cs Λ E rest Q))
-      → Seq K W (‵ (partAt C.the-row q h b o) ∷ Γ) (runs Cs Λ E (seq (assign (place d []) (rvOpd (copy (place c (deref C′.mir ∷ field 3 ∷ []))))) rest) Q)
+  pub copies-head : K → {En : Env 𝓤 H} {Cs : Calls 𝓤 H} {Λ : Loops 𝓤 H} {Q : Kit.Post 𝓤 H} {c d : ℕ} {rest : Body} {Γ Γ′ : List (Item 𝓤)} → Held K W En (Spelt q b o h Γ) c (vptr b o)
+      → (Typed E′.mir (ev (h .head)) → Taken K W En (Spelt q b o h Γ) d (ev (h .head)) (Spelt q b o h Γ′))
+      → (Is E.the-row (h .head) (ev (h .head) ∷ []) → Seq K W (‵ (partAt C.the-row q h b o) ∷ Γ′) (runs Cs Λ En rest Q))
+      → Seq K W (‵ (partAt C.the-row q h b o) ∷ Γ) (runs Cs Λ En (seq (assign (place d []) (rvOpd (copy (place c (deref C′.mir ∷ field 3 ∷ []))))) rest) Q)
   copies-head z c₁ d₂ k =
       opened z q C.the-row (Is C.the-row) (shows 𝓤 H A C.the-row) (LL.vals C.the-type C′.the-laws) (LL.tells C.the-type C′.the-laws) h b o (λ g.
       use1 W (‵ (fat q C′.mir b o (cv h))) (W .laws .raw-at q C′.mir b o (cv h)) $
