@@ -24,7 +24,7 @@ use denote.Triple.Statement.{Triple}
 use denote.Triple.Table.{entered, cited}
 use denote.Triple.Walked.{says}
 use borrow.Table.OneValue.{part-in}
-use Rattle.walks.proofs.Tests.{holds, denied, and-comm}
+use Rattle.walks.proofs.Tests.{holds, denied, and-true}
 use Rattle.channel.specs.declared.Channel.{Channel}
 use Rattle.channel.specs.Channels.{goodVoicesOf, goodChannel}
 use Rattle.channel.proofs.Head as E
@@ -58,11 +58,17 @@ use Rattle.lent_channel.proofs.good.Code as code
 abbrev judging : Callee
 judging = record { takes = struct E.the-type E′.the-laws E′.the-plain ∷ word w64 ∷ word w64 ∷ []; gives = truth; says = λ a. headGoodOf (a .1 .1 .0) (a .0) (a .1 .0) }
 
+either-first : (a b : Bool) → (a && b) ≡ (b && a)
+either-first true b = and-true b
+either-first false true = refl
+either-first false false = refl
+
 -- the parts in the order in which they are judged
 by-parts : (size : ℕ) (h : Channel) → (headGoodOf size (h .head) (h .count) && (goodVoicesOf h && goodTableIn size h)) ≡ goodChannel size h
 unfolding goodChannel headGoodOf
-by-parts size h = ap (λ (t : Bool). headGoodOf size (h .head) (h .count) && t) (and-comm (goodVoicesOf h) (goodTableIn size h))
+by-parts size h = ap (λ (t : Bool). headGoodOf size (h .head) (h .count) && t) (either-first (goodVoicesOf h) (goodTableIn size h))
 
+-- what the parts come to
 last : (a b c : Bool) → a ≡ true → b ≡ true → c ≡ (a && (b && c))
 last a b c e d = rw (e, d)
 
@@ -85,8 +91,8 @@ module _ {M : Type 1} (𝓤 : URA M) (H : Heap 𝓤) (A : Atoms 𝓤) (W : Given
   abbrev ok : Bool
   ok = headGoodOf size (h .head) (h .count)
 
-  abbrev sound : Bool
-  sound = goodVoicesOf h
+  abbrev fine : Bool
+  fine = goodVoicesOf h
 
   abbrev Shared : Fml
   Shared = ShrRef (named 0) κ C.the-row .own x (ptr-vals x)
@@ -112,12 +118,12 @@ module _ {M : Type 1} (𝓤 : URA M) (H : Heap 𝓤) (A : Atoms 𝓤) (W : Given
       -- and handed on
       (λ z. asks-of channel (word w64) truth goodTableIn κ q x size ! 𝓣 known-phrases (refl, size-fits) (and-then ! (its ! refl) (and-then ! (its ! refl) (no-more !))) (λ _.
       arrives ! refl (fills ! refl (tt, tt)) $ gives-within ! Ends refl refl $
-      all-freed ! refl $ by ! (leaves (goodTableIn size h) (last ok sound (goodTableIn size h) (holds ok y) (holds sound z) ∙ by-parts size h))))
+      all-freed ! refl $ by ! (leaves (goodTableIn size h) (last ok fine (goodTableIn size h) (holds ok y) (holds fine z) ∙ by-parts size h))))
       -- or let go
       (λ z. skips ! $ exec ! (𝓣 .C) (𝓣 .Λ) En code.Mir.t-5 (atRet En Ends) $ move ! (1 ∷ []) $ drop ! $ puts ! (of-opd ! (false-lit !)) (fills ! refl (tt, tt)) $ gives ! refl $
-      all-freed ! refl $ by ! (leaves false (none-second ok sound (goodTableIn size h) (holds ok y) (denied sound z) ∙ by-parts size h)))))
+      all-freed ! refl $ by ! (leaves false (none-second ok fine (goodTableIn size h) (holds ok y) (denied fine z) ∙ by-parts size h)))))
       (λ y. skips ! $ exec ! (𝓣 .C) (𝓣 .Λ) En code.Mir.t-5 (atRet En Ends) $ move ! (1 ∷ []) $ drop ! $ puts ! (of-opd ! (false-lit !)) (fills ! refl (tt, tt)) $ gives ! refl $
-      all-freed ! refl $ by ! (leaves false (none-first ok (sound && goodTableIn size h) (denied ok y) ∙ by-parts size h))))))
+      all-freed ! refl $ by ! (leaves false (none-first ok (fine && goodTableIn size h) (denied ok y) ∙ by-parts size h))))))
 
 pub good-spec : {M : Type 1} → stated.statement M
 unfolding code.routine tablesOf
