@@ -2,7 +2,7 @@ pub mod Bytes
 pub mod Places
 pub mod Holding
 pub mod Sharing
-pub mod Asking
+pub mod Viewing
 pub mod Saying
 pub mod Taking
 pub mod Parts

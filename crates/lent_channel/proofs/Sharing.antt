@@ -57,10 +57,10 @@ places = record { takes = word w64 ∷ []; gives = word w64; says = λ a. min (a
 
 module _ (h : Channel) (g : Is C.the-row h (cv h ∷ [])) where
   pub head-is : Is E.the-row (h .head) (ev (h .head) ∷ [])
-  head-is = LL.owed C.the-type C′.the-laws h _ g .1 .1 .0
+  head-is = LL.owed C.the-type C′.the-laws h _ g .1 .1 .1 .0
 
   pub count-fits : h .count < 2 ^ 64
-  count-fits = LL.owed C.the-type C′.the-laws h _ g .1 .0 .1
+  count-fits = LL.owed C.the-type C′.the-laws h _ g .1 .1 .0 .1
 
   pub time-fits : h .head .now < 2 ^ 64
   time-fits = LL.owed E.the-type E′.the-laws (h .head) _ head-is .0 .1

@@ -37,7 +37,7 @@ use Rattle.walks.proofs.Steps.Calls.{Callee, Says, asks}
 use Rattle.walks.proofs.Steps.Locals.{its, held, fills, puts, arrives, gives, gives-within, all-freed, env, allocated, passed}
 use Rattle.lent_channel.proofs.Holding.{channel, reads-count, reads-head}
 use Rattle.lent_channel.proofs.Sharing.{head-is, count-fits, Whole, looked, question, answered}
-use Rattle.lent_channel.proofs.Asking.{Entry, Post, exits, meets}
+use Rattle.lent_channel.proofs.Viewing.{Entry, Post, exits, meets}
 use Rattle.lent_channel.proofs.head_good.Symbol as head-good-def
 use Rattle.lent_channel.proofs.head_good.Symbol.{name as #head-good}
 use Rattle.lent_channel.proofs.head_good.Met as head-good-thm
