@@ -3,6 +3,7 @@ pub mod Places
 pub mod Holding
 pub mod Sharing
 pub mod Viewing
+pub mod Showing
 pub mod Saying
 pub mod Taking
 pub mod Parts
