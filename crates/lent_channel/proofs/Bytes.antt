@@ -1,4 +1,4 @@
--- How many bytes a voice, a phrase and a channel take, at which byte of a voice its phrase stands, at which byte of a channel its table, its count and its head stand, and at which byte of a head its clock, its memory's length and its recorder, as the declared records are laid out.
+-- How many bytes a voice, a phrase and a channel take, at which byte of a voice its phrase stands, at which byte of a channel its table, its count, its head and whether there are several phrases stand, and at which byte of a head its clock, its memory's length and its recorder, as the declared records are laid out.
 -- Assumes nothing.
 use Prim.Native.Nat.{ℕ}
 use mathlib.Core.Option.{Option, none, some}
@@ -36,6 +36,9 @@ count-at = at (fieldOf (lone (C.the-row .mir)) 2)
 
 abbrev pub head-at : ℕ
 head-at = at (fieldOf (lone (C.the-row .mir)) 3)
+
+abbrev pub several-at : ℕ
+several-at = at (fieldOf (lone (C.the-row .mir)) 4)
 
 abbrev pub time-at : ℕ
 time-at = at (fieldOf (lone (E.the-row .mir)) 0)

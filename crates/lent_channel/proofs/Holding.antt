@@ -3,8 +3,8 @@
 --     points           a pointer to voice i is made: i times a voice's bytes, the address of the first voice, and that many bytes on. It asks what each local holds and takes, in the order of the three statements
 --     visits           the walk goes to voice i, takes a step of its own there, which leaves w in the voice's place, and comes out again
 --     copies-voice     so the voice is copied
---     points-entry, copies-entry               the same for entry k of the table
 --     phrase-fits      the number of a voice's phrase
+--     points-entry, visits-entry, copies-entry                the same for entry k of the table
 --     reads-count, reads-head, reads-time, reads-several      the channel's parts, read through the reference
 -- Assumes `Given`.
 use mathlib.Core.Path.{_≡_, refl, sym, subst}
@@ -171,6 +171,9 @@ at h i = getD (h .voices) i none
 abbrev IsVoice : Voice → Type 0
 IsVoice v = Is R.the-row v (vv v ∷ [])
 
+pub phrase-fits : (v : Voice) → IsVoice v → v .phrase < 2 ^ 8
+phrase-fits v is = LL.owed R.the-type R′.the-laws v _ is .1 .1 .1 .1 .1 .1 .1 .1 .1 .1 .1 .0 .1
+
 -- voice i of h taken out: its cell with u, what it owns, and the way back with w, which makes h′
 abbrev Out : {M : Type 1} (𝓤 : URA M) (H : Heap 𝓤) (A : Atoms 𝓤) (q : Share) (i b o : ℕ) (h h′ : Channel) (u w : Voice) → List (Item 𝓤) → List (Item 𝓤)
 Out 𝓤 H A q i b o h h′ u w Γ =
@@ -202,13 +205,10 @@ entry h k = getD (h .table) k noPhrase
 abbrev IsPhrase : Phrase → Type 0
 IsPhrase p = Is F.the-row p (pv p ∷ [])
 
--- entry k of h taken out
-abbrev Entry : {M : Type 1} (𝓤 : URA M) (H : Heap 𝓤) (A : Atoms 𝓤) (q : Share) (k b o : ℕ) (h : Channel) → List (Item 𝓤) → List (Item 𝓤)
-Entry 𝓤 H A q k b o h Γ =
-    ‵ (cellAt q (F.the-row .mir) (pv (entry h k) ∷ []) b (entry-spot o k)) ∷ ‵ (F.the-row .own (entry h k) (pv (entry h k) ∷ [])) ∷ raw (Back 𝓤 H A q C.the-row F.the-row h (entry h k) b o (entry-spot o k)) ∷ Γ
-
-pub phrase-fits : (v : Voice) → IsVoice v → v .phrase < 2 ^ 8
-phrase-fits v is = LL.owed R.the-type R′.the-laws v _ is .1 .1 .1 .1 .1 .1 .1 .1 .1 .1 .1 .0 .1
+-- entry k of h taken out, as a voice is
+abbrev Entry : {M : Type 1} (𝓤 : URA M) (H : Heap 𝓤) (A : Atoms 𝓤) (q : Share) (k b o : ℕ) (h h′ : Channel) (u w : Phrase) → List (Item 𝓤) → List (Item 𝓤)
+Entry 𝓤 H A q k b o h h′ u w Γ =
+    ‵ (cellAt q (F.the-row .mir) (pv u ∷ []) b (entry-spot o k)) ∷ ‵ (F.the-row .own (entry h k) (pv (entry h k) ∷ [])) ∷ raw (Back 𝓤 H A q C.the-row F.the-row h′ w b o (entry-spot o k)) ∷ Γ
 
 module _ {M : Type 1} {𝓤 : URA M} {H : Heap 𝓤} {A : Atoms 𝓤} {K : Type 0} {W : Given 𝓤 H A} (k b o : ℕ) where
   pub points-entry : K → {E : Env 𝓤 H} {Cs : Calls 𝓤 H} {Λ : Loops 𝓤 H} {Q : Post 𝓤 H} {x : Operand} {m r p t : ℕ} {rest : Body} {Γ Γ₁ Γ₂ Γ₃ : List (Item 𝓤)} → k * phrase-bytes < 2 ^ 64
@@ -217,9 +217,14 @@ module _ {M : Type 1} {𝓤 : URA M} {H : Heap 𝓤} {A : Atoms 𝓤} {K : Type 
       → Step K W Γ₃ (runs Cs Λ E rest Q) Γ (runs Cs Λ E (pointing table x m r p t rest) Q)
   points-entry z = points-to table k b o z
 
+  pub visits-entry : (q : Share) (h h′ : Channel) (w : Phrase) → K → {Γ Γ′ : List (Item 𝓤)} {G G′ : Goal 𝓤 H} → Inside 𝓤 H A q C.the-row F.the-row h h′ (entry h k) w b o (entry-spot o k)
+      → (IsPhrase (entry h k) → IsPhrase w) → (IsPhrase (entry h k) → Step K W (Entry 𝓤 H A q k b o h h′ w w Γ′) G′ (Entry 𝓤 H A q k b o h h′ (entry h k) w Γ) G)
+      → (IsPhrase (entry h k) → Seq K W (‵ (partAt C.the-row q h′ b o) ∷ Γ′) G′) → Seq K W (‵ (partAt C.the-row q h b o) ∷ Γ) G
+  visits-entry q h h′ w z = visits-at phrase b o (entry-spot o k) q h h′ (entry h k) w z
+
   pub copies-entry : (q : Share) (h : Channel) → K → {E : Env 𝓤 H} {Cs : Calls 𝓤 H} {Λ : Loops 𝓤 H} {Q : Post 𝓤 H} {t d : ℕ} {rest : Body} {Γ Γ′ : List (Item 𝓤)} → k < length (h .table)
-      → Held K W E (Entry 𝓤 H A q k b o h Γ) t (vptr b (entry-spot o k))
-      → (Typed F′.mir (pv (entry h k)) → Taken K W E (Entry 𝓤 H A q k b o h Γ) d (pv (entry h k)) (Entry 𝓤 H A q k b o h Γ′))
+      → Held K W E (Entry 𝓤 H A q k b o h h (entry h k) (entry h k) Γ) t (vptr b (entry-spot o k))
+      → (Typed F′.mir (pv (entry h k)) → Taken K W E (Entry 𝓤 H A q k b o h h (entry h k) (entry h k) Γ) d (pv (entry h k)) (Entry 𝓤 H A q k b o h h (entry h k) (entry h k) Γ′))
       → (IsPhrase (entry h k) → Seq K W (‵ (partAt C.the-row q h b o) ∷ Γ′) (runs Cs Λ E rest Q))
       → Seq K W (‵ (partAt C.the-row q h b o) ∷ Γ) (runs Cs Λ E (seq (assign (place d []) (rvOpd (copy (place t (deref F′.mir ∷ []))))) rest) Q)
   copies-entry q h z lt = copies-at phrase b o (entry-spot o k) q h (entry h k) z (reads-entry 𝓤 H A W q h k noPhrase b o lt)

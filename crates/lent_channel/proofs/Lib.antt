@@ -3,6 +3,7 @@ pub mod Places
 pub mod Holding
 pub mod Sharing
 pub mod Viewing
+pub mod Showing
 pub mod Weighing
 pub mod Besides
 pub mod Saying
