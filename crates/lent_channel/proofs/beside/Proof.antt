@@ -42,7 +42,7 @@ use Rattle.lent_channel.specs.Turns.{besideNext}
 use Rattle.lent_channel.proofs.Bytes.{phrase-bytes}
 use Rattle.lent_channel.proofs.Places.{cv, entries-are}
 use Rattle.lent_channel.proofs.Holding.{channel, headed, phrase, beside, points-entry, copies-entry, reads-several}
-use Rattle.lent_channel.proofs.Sharing.{Whole, Shut, looked, copies-head}
+use Rattle.lent_channel.proofs.Sharing.{Whole, Opened, looked, copies-head}
 use Rattle.lent_channel.proofs.Viewing.{Entry, Post, exits, meets}
 use Rattle.lent_channel.proofs.Besides.{entries, counting, few, beside-upto, beside-nothing, beside-one-more, beside-all}
 use Rattle.lent_channel.proofs.entries.Symbol as entries-def
@@ -92,7 +92,7 @@ module _ {M : Type 1} (𝓤 : URA M) (H : Heap 𝓤) (A : Atoms 𝓤) (W : Given
 
     -- where k entries are looked at
     abbrev At : ℕ → List (Item 𝓤)
-    At k = over (Shut κ q q′ x) En (room ∷ some (vptr b o) ∷ some (vint w64 size) ∷ some (vint w64 n) ∷ some (beside .val (upto k)) ∷ some (vint w64 k) ∷ [])
+    At k = over (Opened κ q q′ x) En (room ∷ some (vptr b o) ∷ some (vint w64 size) ∷ some (vint w64 n) ∷ some (beside .val (upto k)) ∷ some (vint w64 k) ∷ [])
 
     abbrev Left : Out → SProp 𝓤
     Left = afterBlock 𝓤 H (afterSeq 𝓤 H (Wp 𝓤 H (𝓣 .C) (𝓣 .Λ) En code.Mir.t-6 (atReturn 𝓤 H En Ends)) (atReturn 𝓤 H En Ends))

@@ -41,7 +41,7 @@ use Rattle.lent_channel.specs.Turns.{lookedAt}
 use Rattle.lent_channel.proofs.Bytes.{phrase-bytes}
 use Rattle.lent_channel.proofs.Places.{cv, entries-are}
 use Rattle.lent_channel.proofs.Holding.{channel, headed, phrase, points-entry, copies-entry}
-use Rattle.lent_channel.proofs.Sharing.{Whole, Shut, looked, copies-head}
+use Rattle.lent_channel.proofs.Sharing.{Whole, Opened, looked, copies-head}
 use Rattle.lent_channel.proofs.Views.{Entry, Post, exits, meets}
 use Rattle.lent_channel.proofs.Besides.{judging, good-upto, good-none, good-one-more, good-all}
 use Rattle.lent_channel.proofs.looked_at.Symbol as look-def
@@ -95,7 +95,7 @@ module _ {M : Type 1} (𝓤 : URA M) (H : Heap 𝓤) (A : Atoms 𝓤) (W : Given
 
     -- where j entries are looked at
     abbrev At : ℕ → List (Item 𝓤)
-    At j = over (Shut κ q q′ x) En (room ∷ some (vptr b o) ∷ some (vint w64 k) ∷ some (vint w64 size) ∷ some (phrase .val (at-entry k)) ∷ some (vbool (upto j)) ∷ some (vint w64 j) ∷ [])
+    At j = over (Opened κ q q′ x) En (room ∷ some (vptr b o) ∷ some (vint w64 k) ∷ some (vint w64 size) ∷ some (phrase .val (at-entry k)) ∷ some (vbool (upto j)) ∷ some (vint w64 j) ∷ [])
 
     abbrev Left : Out → SProp 𝓤
     Left = afterBlock 𝓤 H (afterSeq 𝓤 H (Wp 𝓤 H (𝓣 .C) (𝓣 .Λ) En code.Mir.t-10 (atReturn 𝓤 H En Ends)) (atReturn 𝓤 H En Ends))
