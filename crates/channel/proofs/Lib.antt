@@ -2,7 +2,10 @@ pub mod Slots
 pub mod Turns
 pub mod Heads
 pub mod Rooms
+pub mod Tables
 pub mod Resting
+pub mod Choices
 pub mod Parts
+pub mod Anew
 pub mod Kept
 pub mod Samples
