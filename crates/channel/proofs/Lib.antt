@@ -7,5 +7,8 @@ pub mod Resting
 pub mod Choices
 pub mod Parts
 pub mod Anew
+pub mod Changes
+pub mod Gathers
+pub mod Phrases
 pub mod Kept
 pub mod Samples
