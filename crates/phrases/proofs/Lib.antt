@@ -1,1 +1,5 @@
+pub mod Below
 pub mod Rooms
+pub mod Table
+pub mod Apart
+pub mod Reaches
