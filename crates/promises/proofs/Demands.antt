@@ -35,8 +35,9 @@ use Rattle.sampler.specs.declared.Sampler.{Sampler}
 use Rattle.sampler.specs.declared.Answer.{Answer}
 use Rattle.sampler.specs.declared.Ran.{Ran}
 use Rattle.sampler.specs.Refusals.{channelAt, goodSizes, goodSampler, capacityOf, goodWith, noChannel, row, setUpNumber, startRows, stopRows, speedRows, sampleNumber, frameNumber, runNumber, gatherNumber, channelNumber}
-use Rattle.sampler.specs.Samplers.{samplerOf, setUpOf, eachOf, answerOf, processSampleOf, sampleMemory, channelSteppedOf, memoryAt, gatheredAll, gatherOf, gatherMemory, Framed, framed, entriesOf, framedOf, runAnswer}
+use Rattle.sampler.specs.Samplers.{samplerOf, setUpOf, eachOf, answerOf, processSampleOf, sampleMemory, channelSteppedOf, memoryAt, Framed, framed, entriesOf, framedOf, runAnswer}
 use Rattle.sampler.proofs.Against.{against-voice}
+use Rattle.sampler.proofs.Gathered.{gather-refused, gather-leaves}
 use Rattle.questions.specs.Questions.{recorderAt, notesOf, inFront, listNumber, listAfter, infoNumber, answered, noInfos, infosWith, getVoiceInfoOf}
 use Rattle.questions.specs.declared.VoiceInfos.{VoiceInfos}
 use Rattle.questions.specs.Waveforms.{columnOf, columnsFrom, smallestOf, largestOf, summaryWith, waveformNumber, waveformOf, getWaveformSummaryOf, waveformAfter}
@@ -124,7 +125,7 @@ sample-held w j x y p h =
     λ t. record { sampler = other n (channelSteppedOf (w .sampler) j p x (w .memory)) (w .sampler) h t; memory = other n (memoryAt (w .sampler) j y (w .memory)) (w .memory) h t }
 
 after-held : (w : World) (c : Call) → code w c ≢ 0 → after w c ≡ w
-unfolding after code framedOf readWaveOf readMemory answerOf gatherOf gatherMemory
+unfolding after code framedOf readWaveOf readMemory answerOf
 after-held w (change d) h = answer-held w _ _ h
 after-held w (sample j x p) h = sample-held w j x _ p h
 after-held w (frame xs p) h =
@@ -134,9 +135,7 @@ after-held w (frame xs p) h =
 after-held w (readWave f) h =
     let n = readNumber (w .sampler) (judgedOf f) (length (w .memory)) in
     λ t. record { sampler = other n (eachOf (Head (Load (heldIn (judgedOf f) .samples))) (w .sampler)) (w .sampler) h t; memory = other n (loadedOf f (beginningsIn (w .sampler)) (w .memory)) (w .memory) h t }
-after-held w gather h =
-    let n = gatherNumber (w .sampler) (length (w .memory)) in
-    λ t. record { sampler = other n (gatheredAll (w .sampler) (w .memory) .sampler) (w .sampler) h t; memory = other n (gatheredAll (w .sampler) (w .memory) .memory) (w .memory) h t }
+after-held w gather h = λ t. record { sampler = gather-refused (w .sampler) (w .memory) h t; memory = gather-leaves (w .sampler) (w .memory) h t }
 after-held w (asks q) h = refl
 
 untouched : (w : World) (c : Call) (r : Outcome (on w c)) → Allows (on w c) r → code w c ≢ 0 → Untouched w c r

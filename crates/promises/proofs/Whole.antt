@@ -37,7 +37,7 @@ use Rattle.channel.specs.Soundness.{FittingChange, SoundChannel}
 use Rattle.channel.proofs.Parts.{phrase-inside, phrase-within, voice-at}
 use Rattle.channel.proofs.Samples.{taken-sound}
 use Rattle.sampler.specs.declared.Sampler.{Sampler}
-use Rattle.sampler.specs.Refusals.{channelAt, goodSampler, goodWith, anyRecording, againstAny, noChannel, setUpNumber, frameNumber, channelNumber, row, roomOf, runNumber}
+use Rattle.sampler.specs.Refusals.{channelAt, goodSampler, goodWith, anyRecording, againstAny, noChannel, setUpNumber, frameNumber, gatherNumber, channelNumber, row, roomOf, runNumber}
 use Rattle.sampler.specs.Soundness.{SoundSampler, Reached, Unbroken}
 use Rattle.sampler.proofs.Entries.{part-length, sample-memory-length, frame-memory-length}
 use Rattle.sampler.proofs.Gathered.{gather-memory-length}
@@ -119,7 +119,7 @@ asked-nine w g m (writeWave rate out) =
     (another (anyRecording (w .sampler)) 15 _ tt (another (lengthsDiffer (w .sampler)) 16 _ tt (another (ltb (length out) (bytesOf (layoutIn (w .sampler)))) 8 0 tt none)))
 
 no-nine : (w : World) → SoundSampler (w .sampler) → Unbroken (w .sampler) (length (w .memory)) → (c : Call) → code w c ≢ 9
-unfolding code readNumber
+unfolding code readNumber gatherNumber
 no-nine w h u (change d) = u .change d
 no-nine w h u (sample j x p) = u .sample j p
 no-nine w h u (frame xs p) = u .frame (length xs) p
