@@ -3,3 +3,4 @@ pub mod Rooms
 pub mod Table
 pub mod Apart
 pub mod Reaches
+pub mod Gathered
