@@ -13,3 +13,4 @@ pub mod Phrases
 pub mod One
 pub mod Kept
 pub mod Samples
+pub mod Entries

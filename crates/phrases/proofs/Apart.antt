@@ -102,7 +102,7 @@ module _ (capacity : ℕ) (ps : List Phrase) where
   good-made within apart =
       below-all (goodAt capacity ps) 8
       (λ (k : ℕ) (l : k < 8). joined (endsBy capacity (getD ps k noPhrase)) (everyBelow k (λ (j : ℕ). apartOf (getD ps k noPhrase) (getD ps j noPhrase)))
-        (within k l) (below-all (λ (j : ℕ). apartOf (getD ps k noPhrase) (getD ps j noPhrase)) k (λ (j : ℕ) (m : j < k). apart j k m l)))
+      (within k l) (below-all (λ (j : ℕ). apartOf (getD ps k noPhrase) (getD ps j noPhrase)) k (λ (j : ℕ) (m : j < k). apart j k m l)))
 
 -- a larger capacity
 pub good-larger : (capacity more : ℕ) (ps : List Phrase) → capacity ≤ more → goodPhrases capacity ps ≡ true → goodPhrases more ps ≡ true
@@ -125,10 +125,10 @@ module _ (capacity : ℕ) (ps : List Phrase) (eight : length ps ≡ 8) (k : ℕ)
       good-made capacity (set ps k q)
       (λ i l. set-entry (λ (r : Phrase). endsBy capacity r ≡ true) ps k i q (omega arith) (λ e. ends) (λ d. good-within capacity ps good i l))
       (λ j i m l. set-entry (λ (r : Phrase). apartOf r (getD (set ps k q) j noPhrase) ≡ true) ps k i q (omega arith)
-        (λ e. let d : j ≡ k → ⊥ = λ f. omega arith in rw (getD-set-other ps k j q noPhrase d) (apart j (omega arith) d))
-        (λ d. set-entry (λ (r : Phrase). apartOf (getD ps i noPhrase) r ≡ true) ps k j q (omega arith)
-          (λ e. apart-sym (getD ps i noPhrase) q ∙ apart i l d)
-          (λ f. good-apart capacity ps good i j l (omega arith) (omega arith))))
+      (λ e. let d : j ≡ k → ⊥ = λ f. omega arith in rw (getD-set-other ps k j q noPhrase d) (apart j (omega arith) d))
+      (λ d. set-entry (λ (r : Phrase). apartOf (getD ps i noPhrase) r ≡ true) ps k j q (omega arith)
+      (λ e. apart-sym (getD ps i noPhrase) q ∙ apart i l d)
+      (λ f. good-apart capacity ps good i j l (omega arith) (omega arith))))
 
   pub good-set-empty : endsBy capacity q ≡ true → q .length ≡ 0 → goodPhrases capacity (set ps k q) ≡ true
   good-set-empty ends none = good-set ends (λ j l d. apart-empty q (getD ps j noPhrase) none)

@@ -163,7 +163,7 @@ module _ (place capacity : ℕ) (ps : List Phrase) where
   next-free size within small h =
       le-antisymm next-within
       (next-most capacity (le-refl capacity)
-        (λ k l some at. absurd (omega (arith, behind-reach k, reach-end (getD ps k noPhrase) size (within k l) small some))))
+      (λ k l some at. absurd (omega (arith, behind-reach k, reach-end (getD ps k noPhrase) size (within k l) small some))))
 
   -- one that ends by the next is apart from each that one with samples at its place is apart from
   pub next-apart : (k n some : ℕ) → 0 < some → apartOf (record { start = place; length = some }) (getD ps k noPhrase) ≡ true

@@ -9,7 +9,7 @@ use native.Mathlib.Omega.{arith}
 use lib.Dec.{leb, ltb, eqb}
 use lib.ListN.{getD}
 use borrow.Author.Needs.{needs}
-use borrow.Author.Tests.{eqb-true, eqb-false}
+use borrow.Author.Tests.{eqb-false}
 use Rattle.phrases.specs.Phrases.{noPhrase, noSamples}
 use Rattle.phrases.specs.Gathering.{firstBelow}
 use Rattle.phrases.specs.declared.Phrase.{Phrase}
