@@ -3,7 +3,7 @@ use mathlib.Core.Path.{_≡_, refl, sym, ap, _∙_, subst}
 use mathlib.Core.Bool.{Bool, true, false, cond}
 use mathlib.Core.Logic.{_≢_, ⊎-elim}
 use mathlib.Core.List.{List}
-use Prim.Native.Nat.{ℕ, zero, suc, _+_, _*_, _≤_, _<_}
+use Prim.Native.Nat.{ℕ, zero, suc, _+_, _*_, _≤_, _<_, zero-le}
 use native.Mathlib.Nat.{le-refl, le-trans, le-of-eq, mul-le-mul-right, suc-mul, zero-add, eq-or-lt-of-le}
 use native.Mathlib.Omega.{arith}
 use native.Mathlib.Numerals.{add-one}
@@ -12,8 +12,9 @@ use lib.Dec.{eqb}
 use lib.ListN.{length, take, drop, set, length-set}
 use lib.Seq.{drop-drop, getD-set-same, getD-set-other}
 use Rattle.channel.specs.declared.Channel.{Channel}
-use Rattle.channel.specs.Channels.{gatheredIn, gatheredMemory}
-use Rattle.channel.proofs.Kept.{gathered-long}
+use Rattle.phrases.specs.Gathering.{Gathering, gatherNext, gatherTurns, gatheringOf}
+use Rattle.phrases.proofs.Turns.{Fits, turn-length, turn-fits}
+use Rattle.channel.specs.Channels.{phrasesIn, gatheredIn, gatheredMemory}
 use Rattle.sampler.specs.Refusals.{channelAt, gatherNumber}
 use Rattle.sampler.specs.Samplers.{withChannels, partOf, Gathered, gatherChannel, gatherChannels, gatheredAll, gatherOf, gatherMemory}
 use Rattle.sampler.specs.declared.Sampler.{Sampler}
@@ -22,7 +23,16 @@ use Rattle.sampler.proofs.Replaced.{replaced, replaced-length, replaced
 use Rattle.sampler.proofs.Entries.{Kept, kept-refl, kept-trans, Reaches, part-length}
 use Rattle.sampler.proofs.Gathers.{gathered}
 
--- ---- a channel's gather keeps the memory's length
+-- ---- a gather keeps the memory's length, whatever the channel
+turns-length : (n : ℕ) (g : Gathering) → Fits g → length (gatherTurns n g .memory) ≡ length (g .memory)
+unfolding gatherTurns
+turns-length zero g f = refl
+turns-length (suc n) g f = turns-length n (gatherNext g) (turn-fits g f) ∙ turn-length g f
+
+gathered-long : (c : Channel) (m : List ℕ) → length (gatheredMemory c m) ≡ length m
+unfolding gatheredMemory gatheringOf
+gathered-long c m = turns-length 8 (record { phrases = phrasesIn c; memory = m; from = 0; to = 0 }) (record { down = le-refl 0; inside = zero-le })
+
 module _ (s : Sampler) (j : ℕ) (m : List ℕ) (within : j * s .capacity + s .capacity ≤ length m) (c : Channel) where
   part-long : length (gatheredMemory c (partOf s j m)) ≡ s .capacity
   part-long = gathered-long c (partOf s j m) ∙ part-length s j m within

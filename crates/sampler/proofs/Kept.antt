@@ -28,7 +28,8 @@ use Rattle.channel.specs.declared.Ask.the-variants.{Samples, Choice}
 use Rattle.channel.specs.Tables.{asksOf, headAsks, leavingOf, blockedBy, shortBy}
 use Rattle.channel.specs.Channels.{channelOf, againstOf, changedOf, gatheredIn, goodChannel}
 use Rattle.channel.specs.Soundness.{FittingChannel, SoundChannel, FittingChange, SoundHeadChange, SoundChange}
-use Rattle.channel.proofs.Kept.{new-channel-sound, change-sound, gathered-sound}
+use Rattle.channel.proofs.Kept.{new-channel-sound, change-sound}
+use Rattle.channel.proofs.Gathers.{gathered-sound}
 use Rattle.channel.proofs.Samples.{sample-sound}
 use Rattle.sampler.specs.Refusals.{present, channelAt, goodSizes, goodSampler, badNote, badPosition, againstAny, startRows, stopRows, changeNumber, setUpNumber, sampleNumber, capacityOf}
 use Rattle.sampler.specs.Samplers.{withChannels, samplerOf, setUpOf, eachOf, answerOf, changeOf, partOf, playedAt, channelSteppedOf, processSampleOf, Gathered, gatherChannel, gatherOf, Framed, entryOf, framedOf}
@@ -190,9 +191,11 @@ gathers-kept j g r h =
     let s = g .sampler in
     let part = partOf s j (g .memory) in
     let c = gatheredIn (channelAt s j) part in
+    let long = part-length s j (g .memory) (r .part) in
     channels-changed s h (set (s .channels) j c) (length-set (s .channels) j c)
     (each-set (SoundChannel (s .capacity)) (s .channels) (s .count) j c (parts h .channels)
-    (gathered-sound (s .capacity) (channelAt s j) (channel-sound s h j (r .below)) part (part-length s j (g .memory) (r .part))))
+    (subst (λ (n : ℕ). SoundChannel n c) long
+    (gathered-sound (channelAt s j) part (subst (λ (n : ℕ). SoundChannel n (channelAt s j)) (sym long) (channel-sound s h j (r .below))))))
 
 pub gather-kept : (s : Sampler) → SoundSampler s → (m : List ℕ) → SoundSampler (gatherOf s m .sampler)
 gather-kept s h m = gather-keeps (λ (g : Gathered). SoundSampler (g .sampler)) gathers-kept s m h
