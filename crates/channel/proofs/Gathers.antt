@@ -1,5 +1,5 @@
 -- A channel whose phrases are gathered: it stays sound, and each phrase keeps its samples and its length. Assumes nothing.
-use mathlib.Core.Path.{_≡_, refl, sym, ap, _∙_, subst}
+use mathlib.Core.Path.{_≡_, refl, sym, ap, _∙_}
 use mathlib.Core.Bool.{Bool, true, false, cond}
 use mathlib.Core.List.{List}
 use Prim.Native.Nat.{ℕ, _<_}
@@ -62,8 +62,8 @@ module _ (c : Channel) (m : List ℕ) (s : SoundChannel (length m) c) where
           let eight : length (set noPhrases (h .chosen) p) ≡ 8 = length-set noPhrases (h .chosen) p ∙ length-replicate 8 noPhrase in
           ext-getD noPhrase (set noPhrases (h .chosen) p) ps (eight ∙ sym (gather-many (phrasesIn c) m many fine))
           (λ i l. set-entry (λ (q : Phrase). q ≡ getD ps i noPhrase) noPhrases (h .chosen) i p (omega (arith, eight, length-replicate 8 noPhrase)) (λ a. ap (λ (j : ℕ). getD ps j noPhrase) (sym a))
-            (λ d. let none : getD (phrasesIn c) i noPhrase ≡ noPhrase = other-of-all (length m) c s i d ∙ others-at (h .chosen) (c .table) (c .several) i d ∙ ap (λ (b : Bool). cond b (getD (c .table) i noPhrase) noPhrase) e in
-            none-at i ∙ sym (gather-empty (phrasesIn c) m many fine i (omega (arith, eight)) (ap noSamples none) ∙ none)))
+          (λ d. let none : getD (phrasesIn c) i noPhrase ≡ noPhrase = other-of-all (length m) c s i d ∙ others-at (h .chosen) (c .table) (c .several) i d ∙ ap (λ (b : Bool). cond b (getD (c .table) i noPhrase) noPhrase) e in
+          none-at i ∙ sym (gather-empty (phrasesIn c) m many fine i (omega (arith, eight)) (ap noSamples none) ∙ none)))
 
   pub gathered-sound : SoundChannel (length m) (gatheredIn c m)
   unfolding gatheredIn

@@ -10,5 +10,7 @@ pub mod Anew
 pub mod Changes
 pub mod Gathers
 pub mod Phrases
+pub mod One
 pub mod Kept
 pub mod Samples
+pub mod Entries

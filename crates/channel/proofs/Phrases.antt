@@ -1,28 +1,25 @@
--- A channel's phrases stay out of each other's way (request 11/12): a sample, a change of the head and a read touch no phrase but the one they are about; and a channel that has had one phrase only is as it was before there were eight. Assumes nothing.
+-- A channel's phrases stay out of each other's way (request 11/12): a sample, a change of the head and a read touch no phrase but the one they are about. Assumes nothing.
 use mathlib.Core.Path.{_≡_, refl, sym, ap, _∙_, subst}
-use mathlib.Core.Bool.{Bool, true, false, not, _&&_, cond}
+use mathlib.Core.Bool.{Bool, true, false, cond}
 use mathlib.Core.List.{List, [], _∷_, _++_, append-assoc}
-use Prim.Native.Nat.{ℕ, zero, suc, _+_, _-_, _^_, _≤_, _<_, min}
+use Prim.Native.Nat.{ℕ, _+_, _-_, _^_, _≤_, _<_}
 use native.Mathlib.Nat.{add-zero}
 use native.Mathlib.Omega.{arith}
-use lib.Dec.{eqb}
 use lib.ListN.{length, take, drop, getD, length-set, length-replicate, length-append, take-append-drop}
 use lib.Seq.{getD-set-same, getD-set-other, length-take-le, drop-at}
 use lib.Ieee.{Float}
-use borrow.Author.Tests.{ne-eqb, eq-eqb, le-leb}
+use borrow.Author.Tests.{ne-eqb}
 use Rattle.binary32.specs.Leaves.{bitsOf}
 use Rattle.phrases.specs.declared.Phrase.{Phrase}
-use Rattle.phrases.specs.declared.Beside.{Beside}
-use Rattle.phrases.specs.Phrases.{noPhrase, noPhrases, emptyFrom, storedIn, apartOf, reachOf, noSamples, othersOf, besideWith, besideOf}
+use Rattle.phrases.specs.Phrases.{noPhrase, noPhrases, emptyFrom, storedIn, apartOf}
 use Rattle.phrases.proofs.Apart.{apart-cases}
 use Rattle.phrases.proofs.Gathered.Moved.{front-part, drop-further}
 use Rattle.recorder.specs.Recording.{dataAfter, isRecordingOf}
 use Rattle.recorder.proofs.Memory.{memory-length}
-use Rattle.walks.specs.Walks.{fold}
 use Rattle.walks.proofs.Tests.{either}
-use Rattle.channel.specs.Heads.{recordingIn, phraseBy, beginsAt, writtenIn, holdsOf, phraseAfter, chosenAfter, headChangedOf}
+use Rattle.channel.specs.Heads.{recordingIn, phraseBy, writtenIn, holdsOf, phraseAfter, chosenAfter, headChangedOf}
 use Rattle.channel.specs.Tables.{placeOf, withRecording, staysChosen, tableAfter, severalAfter, foundBy}
-use Rattle.channel.specs.Channels.{othersIn, phrasesIn, phraseAt, besideIn, behindIn, beginsIn, headChangedIn, takenOf, memoryOf}
+use Rattle.channel.specs.Channels.{phrasesIn, phraseAt, besideIn, behindIn, beginsIn, headChangedIn, takenOf, memoryOf}
 use Rattle.channel.specs.Soundness.{SoundChannel, SoundHeadChange}
 use Rattle.channel.specs.declared.Head.{Head}
 use Rattle.channel.specs.declared.Channel.{Channel}
@@ -52,8 +49,8 @@ module _ (m words : List ℕ) (w q : Phrase) (inside : w .start + w .length ≤ 
       (λ none. rw none)
       (λ before. ap (take (q .length)) (drop-further writtenAt m end (q .start) behind before))
       (λ after. front-part (take (w .start) m) (words ++ drop end m) (q .start) (q .length) (omega (arith, front))
-        ∙ sym (front-part (take (w .start) m) (drop (w .start) m) (q .start) (q .length) (omega (arith, front)))
-        ∙ ap (λ (l : List ℕ). take (q .length) (drop (q .start) l)) (take-append-drop (w .start) m))
+      ∙ sym (front-part (take (w .start) m) (drop (w .start) m) (q .start) (q .length) (omega (arith, front)))
+      ∙ ap (λ (l : List ℕ). take (q .length) (drop (q .start) l)) (take-append-drop (w .start) m))
     where
       end : ℕ
       end = w .start + w .length
@@ -180,38 +177,3 @@ module _ (capacity : ℕ) (c : Channel) (s : SoundChannel capacity c) where
       pub read-leaves : (m words : List ℕ) → length m ≡ capacity → length words ≡ n → (k : ℕ) → k < 8 → (k ≡ c .head .chosen → ⊥)
           → storedIn (phraseAt c k) (take (beginsIn c) m ++ (words ++ drop (beginsIn c + n) m)) ≡ storedIn (phraseAt c k) m
       read-leaves m words size many k l d = stored-beside m words (record { start = beginsIn c; length = n }) (phraseAt c k) (omega (arith, size, read-inside)) many (read-apart k l d)
-
--- ---- one phrase only, from the start on
-module _ (c : Channel) (one : c .several ≡ false) where
-  pub one-others : (k : ℕ) → (k ≡ c .head .chosen → ⊥) → phraseAt c k ≡ noPhrase
-  unfolding phraseBy
-  one-others k d = rw (ne-eqb k (c .head .chosen) d, one)
-
-  pub one-recording : (k : ℕ) → k ≡ c .head .chosen → phraseAt c k ≡ recordingIn (c .head)
-  unfolding phraseBy
-  one-recording k e = rw (eq-eqb k (c .head .chosen) e)
-
-  pub one-beside : (capacity : ℕ) → besideIn capacity c ≡ record { behind = 0; next = capacity }
-  unfolding othersOf besideOf besideWith reachOf noSamples fold
-  one-beside capacity = rw one
-
-  module _ (zero : c .head .start ≡ 0) where
-    one-behind : behindIn c ≡ 0
-    one-behind = ap (λ (b : Beside). b .behind) (one-beside 0)
-
-    pub one-begins : beginsIn c ≡ 0
-    unfolding beginsAt
-    one-begins = either (λ (n : ℕ). n) (eqb (c .head .«data_len») 0 && not (isRecordingOf (c .head .recorder))) (behindIn c) (c .head .start) 0 one-behind zero
-
-    pub one-written : (size : ℕ) → writtenIn (behindIn c) (c .head) size ≡ record { from = 0; to = size }
-    unfolding writtenIn
-    one-written size =
-        let low : min (c .head .start) size ≡ 0 = omega arith in
-        rw (le-leb (behindIn c) (c .head .start) (omega (arith, one-behind))) (ap (λ (n : ℕ). record { from = n; to = size }) low)
-
-    pub one-holds : (capacity : ℕ) → holdsOf (besideIn capacity c) capacity (c .head) ≡ capacity
-    unfolding holdsOf
-    one-holds capacity =
-        let behind : besideIn capacity c .behind ≡ 0 = ap (λ (b : Beside). b .behind) (one-beside capacity) in
-        let next : besideIn capacity c .next ≡ capacity = ap (λ (b : Beside). b .next) (one-beside capacity) in
-        either (λ (n : ℕ). n) (eqb (c .head .«data_len») 0) (capacity - besideIn capacity c .behind) (besideIn capacity c .next - c .head .start) capacity (omega arith) (omega arith)

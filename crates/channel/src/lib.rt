@@ -798,7 +798,9 @@ impl Channel {
     fn others(self) -> [Phrase; 8]
         ensures { λ r. ⌜ r ≡ othersIn self ⌝ }
     {
-        phrases::others(self.table, self.several, self.head.chosen)
+        let table = self.table;
+        let head = self.head;
+        phrases::others(table, self.several, head.chosen)
     }
 
     // The phrase of that number.
@@ -819,7 +821,8 @@ impl Channel {
     fn good_phrases(self, capacity: usize) -> bool
         ensures { λ r. ⌜ r ≡ goodTable capacity (self .head) (self .several) (self .table) ⌝ }
     {
-        good_table(self.head, self.several, self.table, capacity)
+        let table = self.table;
+        good_table(self.head, self.several, table, capacity)
     }
 
     // Whether a voice has the phrase of that number.
@@ -1000,7 +1003,9 @@ impl Channel {
         if e.clears {
             self.table = phrases::none();
         }
-        self.table[e.place] = e.phrase;
+        let place = e.place;
+        let phrase = e.phrase;
+        self.table[place] = phrase;
         self.several = e.several;
         self.head = head.changed(change, found);
         self

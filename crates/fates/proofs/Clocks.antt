@@ -95,7 +95,7 @@ unfolding act
 clock-moves p x m c h = sounded-clock p x m c ∙ next-one (c .head .now) h
 
 clock-up : (e : Event) (c : Channel) → isReset e ≡ false → c .head .now ≤ act e c .head .now
-unfolding act isSample
+unfolding act isSample gatheredIn
 clock-up idle c r = le-refl (c .head .now)
 clock-up (changes d) c r = le-of-eq (sym (clock-still (changes d) c r refl))
 clock-up (gathers m) c r = le-refl (c .head .now)

@@ -15,6 +15,7 @@ use Rattle.recorder.specs.Recording.{goodRecorder}
 use Rattle.phrases.specs.Phrases.{endsBy}
 use Rattle.phrases.proofs.Rooms.{ends-inside}
 use Rattle.channel.specs.Heads.{lastTime, recordingIn, goodHead}
+use Rattle.channel.specs.Tables.{goodTable}
 use Rattle.channel.specs.Channels.{live, channelOf, goodVoicesOf, goodChannel}
 use Rattle.channel.proofs.Kept.{new-channel-sound}
 use Rattle.sampler.specs.Refusals.{present, channelAt, goodSizes, goodSampler}
@@ -39,7 +40,9 @@ good-at s j good k = go (ltb j (length (s .channels))) refl
 
 pub head-and-count : (capacity : ℕ) (c : Channel) → goodChannel capacity c ≡ true → (leb (c .count) 32 ≡ true) × (goodHead capacity (c .head) ≡ true)
 unfolding goodChannel
-head-and-count capacity c h = both (leb (c .count) 32) (goodHead capacity (c .head)) (both (leb (c .count) 32 && goodHead capacity (c .head)) (goodVoicesOf c) h .0)
+head-and-count capacity c h =
+    both (leb (c .count) 32) (goodHead capacity (c .head))
+    (both (leb (c .count) 32 && goodHead capacity (c .head)) (goodTable capacity (c .head) (c .several) (c .table) && goodVoicesOf c) h .0)
 
 pub few-voices : (s : Sampler) (j : ℕ) → goodSampler s ≡ true → j < s .count → channelAt s j .count ≤ 32
 few-voices s j good k = leb-true _ 32 (head-and-count (s .capacity) (channelAt s j) (good-at s j good k) .0)
