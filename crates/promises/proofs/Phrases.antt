@@ -1,5 +1,5 @@
 -- Eight phrases a channel are what request 11/12 says: `specs/Phrases.antt`. Assumes nothing.
---     phrases      what calls do with them.          Chosen: eight      one number is chosen on all channels.          One: one-phrase      with one phrase all is as before
+--     phrases      what calls do with them.          Number: eight      one number is chosen on all channels.          One: one-phrase      with one phrase all is as before
 use mathlib.Core.Path.{_≡_, refl, sym, ap, _∙_, subst}
 use mathlib.Core.Bool.{Bool, true, false, not, cond, true≢false}
 use mathlib.Core.Logic.{_⊎_, inl, inr, _≢_}
@@ -7,8 +7,8 @@ use mathlib.Core.List.{List, [], _∷_, _++_}
 use Prim.Native.Nat.{ℕ, zero, suc, _+_, _-_, _*_, _^_, _≤_, _<_, max}
 use native.Mathlib.Nat.{le-trans, le-of-eq, mul-le-mul-right, suc-mul}
 use native.Mathlib.Omega.{arith}
-use borrow.Author.Tests.{eq-eqb, ne-eqb, eqb-true, eqb-false, leb-true, leb-false, ltb-true, ltb-false}
-use lib.Dec.{eqb, leb, ltb}
+use borrow.Author.Tests.{eq-eqb, ne-eqb, eqb-true, eqb-false, leb-true, leb-false}
+use lib.Dec.{eqb, leb}
 use lib.ListN.{length, take, drop, getD, length-drop, take-append-drop}
 use lib.Seq.{ext-getD, drop-drop, length-take-le}
 use lib.Ieee.{Float}
@@ -16,29 +16,27 @@ use Rattle.walks.specs.Walks.{any, fold}
 use Rattle.common_types.specs.declared.Params.{Params}
 use Rattle.phrases.specs.declared.Phrase.{Phrase}
 use Rattle.phrases.specs.declared.Beside.{Beside}
-use Rattle.phrases.specs.Phrases.{noPhrase, noSamples, endsBy, reachOf, storedIn, goodPhrases, besideNone, besideWith, besideOf}
-use Rattle.phrases.specs.Gathering.{gatheringOf, samplesOf, samplesBefore}
+use Rattle.phrases.specs.Phrases.{noPhrase, noSamples, reachOf, storedIn, goodPhrases, besideNone, besideWith, besideOf}
+use Rattle.phrases.specs.Gathering.{samplesOf, samplesBefore}
 use Rattle.phrases.proofs.Table.{others-chosen}
 use Rattle.phrases.proofs.Reaches.{reach-empty, reach-end, behind-reach}
 use Rattle.phrases.proofs.Gathered.{gather-start, gather-empty, gather-rest}
-use Rattle.recorder.specs.declared.State.{State}
-use Rattle.recorder.specs.declared.State.the-variants.{Triggered, Idle}
 use Rattle.recorder.specs.declared.Recorder.{Recorder}
-use Rattle.recorder.specs.Recording.{recordedOf, inState, skippedOf}
-use Rattle.recorder.proofs.Cases.{not-recording}
+use Rattle.recorder.specs.declared.Recorded.{Recorded}
+use Rattle.recorder.specs.Recording.{recordedOf}
+use Rattle.recorder.proofs.Cases.{by-room, not-recording, sample-idle, sample-next, sample-dropped}
 use Rattle.wave.specs.declared.Wave.{Wave}
 use Rattle.wave.specs.declared.Judged.{Judged}
 use Rattle.wave.specs.declared.Judged.the-variants.{Is, Refused}
 use Rattle.wave.specs.Reader.{judgedOf}
 use Rattle.channel.specs.declared.Head.{Head}
 use Rattle.channel.specs.declared.Channel.{Channel}
-use Rattle.channel.specs.declared.Change.{Change}
 use Rattle.channel.specs.declared.Change.the-variants as change
 use Rattle.channel.specs.declared.HeadChange.{HeadChange}
 use Rattle.channel.specs.declared.HeadChange.the-variants.{StartRecording, Choose, Delete}
 use Rattle.channel.specs.Heads.{phraseBy, beginsAt, writtenIn, holdsOf, phraseAfter, recorderAfter, chosenAfter, headChangedOf, closedOf}
-use Rattle.channel.specs.Tables.{placeOf, foundBy, headAsks, asksOf, leavingOf, blockedBy, tableAfter, severalAfter}
-use Rattle.channel.specs.Channels.{withHead, othersIn, phrasesIn as phrasesOf, phraseAt, besideIn, behindIn, beginsIn, headChangedIn, gatheredIn, gatheredMemory, playedOf, takenOf, memoryOf}
+use Rattle.channel.specs.Tables.{placeOf, foundBy, headAsks, asksOf, leavingOf, blockedBy}
+use Rattle.channel.specs.Channels.{othersIn, phrasesIn as phrasesOf, phraseAt, besideIn, behindIn, beginsIn, headChangedIn, gatheredIn, gatheredMemory, playedOf, takenOf, memoryOf}
 use Rattle.channel.specs.Soundness.{SoundChannel}
 use Rattle.channel.proofs.Heads.{passthru-holds, room-own}
 use Rattle.channel.proofs.Parts.{parts, phrases-good, phrases-length, phrase-of-all, phrase-inside}
@@ -47,28 +45,29 @@ use Rattle.channel.proofs.Gathers.{gathered-phrase, gathered-phrase-length, gat
 use Rattle.channel.proofs.Phrases.{choose-leaves, delete-leaves, delete-empties, memory-leaves, read-inside, read-leaves}
 use Rattle.sampler.specs.declared.Sampler.{Sampler}
 use Rattle.sampler.specs.declared.Answer.{Answer}
-use Rattle.sampler.specs.Refusals.{row, present, channelAt, goodSampler, goodWith, records, anyRecording, againstAny, gatherNumber, sampleNumber, frameNumber}
-use Rattle.sampler.specs.Samplers.{partOf}
+use Rattle.sampler.specs.Refusals.{row, present, goodSampler, goodWith, records, againstAny, gatherNumber, sampleNumber, frameNumber}
+use Rattle.sampler.specs.Samplers.{partOf, gatherMemory}
 use Rattle.sampler.specs.Soundness.{FittingSampler, SoundSampler}
 use Rattle.sampler.proofs.Rows.{passed, is-true, good-sizes, sizes-count, Fitting, fitting}
 use Rattle.sampler.proofs.Entries.{part-length}
+use Rattle.sampler.proofs.Gathered.{gather-part}
 use Rattle.sampler.proofs.Kept.{small, channel-sound}
-use Rattle.recordings.specs.Waves.{badFile, heldIn}
+use Rattle.recordings.specs.Waves.{badFile}
 use Rattle.recordings.proofs.Numbers.{Loads, read-says}
 use Rattle.fates.specs.Engine.{stepOf}
-use Rattle.fates.specs.Events.{Event, idle, changes, sounds, act, isSample}
+use Rattle.fates.specs.Events.{Event, idle, sounds, act, isSample}
 use Rattle.promises.specs.Runs.{World, Call, change, sample, frame, readWave, gather, asks, choosePhrase, deletePhrase, startRecording, code, after, chan, ownPart, doneTo, event}
 use Rattle.promises.specs.Outcomes.{on, Outcome, ReadOutcome, GatherOutcome, Allows, leftBy}
 use Rattle.promises.specs.Recordings.{writePlaceOf, beginning}
-use Rattle.promises.specs.Phrases.{phrase, samplesIn, chosen, endOf, recordsOther, inUse, OnlyPhrases, Chosen, Deleted, phrasesIn, Gathered, OthersKept, Behind, Phrases}
-use Rattle.promises.proofs.Calls.{Standing, chan-after}
+use Rattle.promises.specs.Phrases.{phrase, chosen, endOf, recordsOther, inUse, OnlyPhrases, Chosen, Deleted, phrasesIn, Gathered, OthersKept, Behind, Phrases}
+use Rattle.promises.proofs.Calls.{Standing, chan-after, kept}
 use Rattle.promises.proofs.Memory.{part-written}
 use Rattle.promises.proofs.Accepted.{Heard, heard}
 use Rattle.promises.proofs.Outcomes.{left-after}
 use Rattle.promises.proofs.Recordings.{at-end, counts, idle as not-recorded, room, else-kept, before, rest, size-kept}
 use Rattle.promises.proofs.Broken.{phrase-chosen}
-use Rattle.promises.proofs.Phrases.Chosen.{numberAfter, number-after}
-pub mod Chosen
+use Rattle.promises.proofs.Phrases.Number.{numberAfter, number-after}
+pub mod Number
 pub mod One
 
 -- ---- rows
@@ -90,26 +89,15 @@ phrase-other h g same k d several entry = rw (same, ne-eqb k (h .chosen) d)
 
 -- while nothing is recorded the write place is the chosen one's end
 place-chosen : (c : Channel) → records c ≡ false → writePlaceOf (c .head) ≡ phraseAt c (c .head .chosen) .length
-place-chosen c idle = at-end (c .head) (not-recording (c .head .recorder) idle) ∙ ap (λ (p : Phrase). p .length) (sym (phrase-chosen c))
+place-chosen c stops = at-end (c .head) (not-recording (c .head .recorder) stops) ∙ ap (λ (p : Phrase). p .length) (sym (phrase-chosen c))
 
 -- handed no more than its own samples, the recorder leaves it as long as it was
 recorded-own : (r : Recorder) (n : ℕ) → recordedOf r n n .«data_len» ≡ n
-unfolding recordedOf
-recorded-own r n = go (r .state)
-  where
-    inner : (write : ℕ) (b : Bool) → ltb write n ≡ b
-        → cond b (record { recorder = inState (Triggered (write + 1)) r; «data_len» = max n (write + 1) }) (record { recorder = skippedOf r; «data_len» = n }) .«data_len» ≡ n
-    inner write true e = let l = ltb-true write n e in omega arith
-    inner write false e = refl
-
-    go : (s : State) → (elim s [
-      | Triggered write ↦ cond (ltb write n)
-          (record { recorder = inState (Triggered (write + 1)) r; «data_len» = max n (write + 1) })
-          (record { recorder = skippedOf r; «data_len» = n })
-      | Idle ↦ record { recorder = r; «data_len» = n }
-    ]) .«data_len» ≡ n
-    go (Triggered write) = inner write (ltb write n) refl
-    go Idle = refl
+recorded-own r n =
+    by-room r n
+    (λ stops. ap (λ (d : Recorded). d .«data_len») (sample-idle r stops n n))
+    (λ write at less. ap (λ (d : Recorded). d .«data_len») (sample-next r write at n n less) ∙ omega arith)
+    (λ write at over. ap (λ (d : Recorded). d .«data_len») (sample-dropped r write at n n over))
 
 -- ---- how far phrases reach: as one of them does
 module _ (place : ℕ) where
@@ -180,8 +168,12 @@ without-samples p none = eq-eqb (p .length) 0 none
 part-inside : (s : Sampler) (size : ℕ) → Fitting s size → (j : ℕ) → j < s .count → j * s .capacity + s .capacity ≤ size
 part-inside s size g j l = le-trans (le-of-eq (sym (suc-mul j (s .capacity)))) (le-trans (mul-le-mul-right (s .capacity) l) (g .fits))
 
-gather-part : (w : World) → FittingSampler (w .sampler) → code w gather ≡ 0 → (j : ℕ) → j < w .sampler .count → ownPart (after w gather) j ≡ gatheredMemory (chan w j) (ownPart w j)
-gather-part w fit z j l = ?
+-- and a gather leaves its phrases there moved down
+part-gathered : (w : World) → code w gather ≡ 0 → (j : ℕ) → j < w .sampler .count → ownPart (after w gather) j ≡ gatheredMemory (chan w j) (ownPart w j)
+unfolding code after partOf
+part-gathered w z j l =
+    ap (λ (n : ℕ). take n (drop (j * n) (gatherMemory (w .sampler) (w .memory)))) (kept w gather .capacity)
+    ∙ gather-part (w .sampler) (w .memory) z j l
 
 module _ (w : World) (fit : FittingSampler (w .sampler)) where
   abbrev s : Sampler
@@ -219,7 +211,7 @@ module _ (w : World) (fit : FittingSampler (w .sampler)) where
   choice k r a z j l = record {
     number = number;
     phrases = phrases;
-    write-place = λ idle. place-chosen d (recorder idle) ∙ ap (λ (i : ℕ). phraseAt d i .length) number ∙ ap (λ (p : Phrase). p .length) (phrases k below);
+    write-place = λ stops. place-chosen d (recorder stops) ∙ ap (λ (i : ℕ). phraseAt d i .length) number ∙ ap (λ (p : Phrase). p .length) (phrases k below);
     else-kept = subst (OnlyPhrases (chan w j)) (sym e) only;
   }
     where
@@ -239,7 +231,7 @@ module _ (w : World) (fit : FittingSampler (w .sampler)) where
       phrases i b = ap (λ (x : Channel). phraseAt x i) e ∙ choose-leaves (s .capacity) (chan w j) (channel (head-good (Choose k) r a z) j l) k below i b
 
       recorder : records (chan w j) ≡ false → records d ≡ false
-      recorder idle = ap records e ∙ idle
+      recorder stops = ap records e ∙ stops
 
       only : OnlyPhrases (chan w j) (headChangedIn (Choose k) (chan w j))
       only = record { voices = refl; count = refl; clock = refl; recorder = refl; passthru = refl }
@@ -250,7 +242,7 @@ module _ (w : World) (fit : FittingSampler (w .sampler)) where
     empty = ap (λ (x : Channel). phraseAt x k .length) e ∙ ap (λ (p : Phrase). p .length) (delete-empties (s .capacity) (chan w j) sounds-so k below);
     others = λ i b n. ap (λ (x : Channel). phraseAt x i) e ∙ delete-leaves (s .capacity) (chan w j) sounds-so k i b n;
     number = number;
-    write-place = λ idle. place-chosen d (recorder idle);
+    write-place = λ stops. place-chosen d (recorder stops);
     else-kept = subst (OnlyPhrases (chan w j)) (sym e) only;
   }
     where
@@ -270,7 +262,7 @@ module _ (w : World) (fit : FittingSampler (w .sampler)) where
       number = ap (λ (x : Channel). x .head .chosen) e
 
       recorder : records (chan w j) ≡ false → records d ≡ false
-      recorder idle = ap records e ∙ idle
+      recorder stops = ap records e ∙ stops
 
       only : OnlyPhrases (chan w j) (headChangedIn (Delete k) (chan w j))
       only = record { voices = refl; count = refl; clock = refl; recorder = refl; passthru = refl }
@@ -278,7 +270,7 @@ module _ (w : World) (fit : FittingSampler (w .sampler)) where
   begins : (r : Answer) → Allows (on w startRecording) r → code w startRecording ≡ 0 → (j : ℕ) → j < s .count → phrase w j (chosen w j) .length ≡ 0 → records (chan w j) ≡ false
       → Behind w j (phrase (leftBy w startRecording r) j (chosen w j) .start)
   unfolding beginsAt headChangedIn headChangedOf chosenAfter phraseAfter foundBy
-  begins r a z j l none idle = subst (Behind w j) (sym there) (record { behind = behind-all (s .capacity) c known few; there = behind-one (s .capacity) c known few })
+  begins r a z j l none stops = subst (Behind w j) (sym there) (record { behind = behind-all (s .capacity) c known few; there = behind-one (s .capacity) c known few })
     where
       c : Channel
       c = chan w j
@@ -296,7 +288,7 @@ module _ (w : World) (fit : FittingSampler (w .sampler)) where
       empty = ap (λ (p : Phrase). p .length) (sym (phrase-chosen (chan w j))) ∙ none
 
       behind : beginsIn c ≡ behindIn c
-      behind = rw (eq-eqb (chan w j .head .«data_len») 0 empty, idle)
+      behind = rw (eq-eqb (chan w j .head .«data_len») 0 empty, stops)
 
       there : phrase (leftBy w startRecording r) j (chosen w j) .start ≡ behindIn c
       there =
@@ -327,7 +319,7 @@ module _ (w : World) (fit : FittingSampler (w .sampler)) where
     sampled (asks q) f z = absurd (true≢false (sym f))
 
     good : goodSampler s ≡ true
-    unfolding event
+    unfolding event isSample
     good = sampled c (sym (ap (λ (b : Bool). isSample (cond b (doneTo w c j) idle)) (eq-eqb (code w c) 0 accepted)) ∙ ap isSample h) accepted
 
     known : SoundChannel (s .capacity) now
@@ -461,8 +453,8 @@ module _ (w : World) (fit : FittingSampler (w .sampler)) where
 
   -- ---- a gather
   module _ (r : GatherOutcome) (a : Allows (on w gather) r) (z : code w gather ≡ 0) (j : ℕ) (l : j < s .count) where
-    abbrev c : Channel
-    c = chan w j
+    abbrev here : Channel
+    here = chan w j
 
     abbrev m : List ℕ
     m = ownPart w j
@@ -471,64 +463,64 @@ module _ (w : World) (fit : FittingSampler (w .sampler)) where
     unfolding code gatherNumber
     whole = fitting s (length (w .memory)) (is-true (goodWith s (length (w .memory))) (passed (not (goodWith s (length (w .memory)))) 8 _ z .0))
 
-    known : SoundChannel (length m) c
-    known = subst (λ (n : ℕ). SoundChannel n c) (sym (part-length s j (w .memory) (part-inside s (length (w .memory)) whole j l))) (channel (whole .good) j l)
+    judged : SoundChannel (length m) here
+    judged = subst (λ (n : ℕ). SoundChannel n here) (sym (part-length s j (w .memory) (part-inside s (length (w .memory)) whole j l))) (channel (whole .good) j l)
 
-    left : chan (leftBy w gather r) j ≡ gatheredIn c m
+    moved : chan (leftBy w gather r) j ≡ gatheredIn here m
     unfolding event doneTo act
-    left = ap (λ (u : World). chan u j) (left-after w gather r a) ∙ chan-after w (fit .seats) (at-most (whole .good)) j l gather ∙ rw z refl
+    moved = ap (λ (u : World). chan u j) (left-after w gather r a) ∙ chan-after w (fit .seats) (at-most (whole .good)) j l gather ∙ rw z refl
 
-    part : ownPart (leftBy w gather r) j ≡ gatheredMemory c m
-    part = ap (λ (u : World). ownPart u j) (left-after w gather r a) ∙ gather-part w fit z j l
+    moved-part : ownPart (leftBy w gather r) j ≡ gatheredMemory here m
+    moved-part = ap (λ (u : World). ownPart u j) (left-after w gather r a) ∙ part-gathered w z j l
 
     -- all phrases, by their numbers
-    all : phrasesIn w j ≡ phrasesOf c
-    all = ext-getD noPhrase (phrasesIn w j) (phrasesOf c) (sym (phrases-length (length m) c known)) (λ i b. at i b ∙ phrase-of-all (length m) c known i b)
+    all : phrasesIn w j ≡ phrasesOf here
+    all = ext-getD noPhrase (phrasesIn w j) (phrasesOf here) (sym (phrases-length (length m) here judged)) (λ i b. at i b ∙ phrase-of-all (length m) here judged i b)
       where
-        at : (i : ℕ) → i < 8 → getD (phrasesIn w j) i noPhrase ≡ phraseAt c i
-        at 0 b = refl
-        at 1 b = refl
-        at 2 b = refl
-        at 3 b = refl
-        at 4 b = refl
-        at 5 b = refl
-        at 6 b = refl
-        at 7 b = refl
+        at : (i : ℕ) → i < 8 → getD (phrasesIn w j) i noPhrase ≡ phraseAt here i
+        at zero b = refl
+        at (suc zero) b = refl
+        at (suc (suc zero)) b = refl
+        at (suc (suc (suc zero))) b = refl
+        at (suc (suc (suc (suc zero)))) b = refl
+        at (suc (suc (suc (suc (suc zero))))) b = refl
+        at (suc (suc (suc (suc (suc (suc zero)))))) b = refl
+        at (suc (suc (suc (suc (suc (suc (suc zero))))))) b = refl
         at (suc (suc (suc (suc (suc (suc (suc (suc i)))))))) b = absurd (omega arith)
 
-    many : length (phrasesOf c) ≡ 8
-    many = phrases-length (length m) c known
+    many : length (phrasesOf here) ≡ 8
+    many = phrases-length (length m) here judged
 
-    fine : goodPhrases (length m) (phrasesOf c) ≡ true
-    fine = phrases-good (length m) c known
+    fine : goodPhrases (length m) (phrasesOf here) ≡ true
+    fine = phrases-good (length m) here judged
 
     gathering : Gathered w (leftBy w gather r) j
     unfolding gatheredMemory gatheredIn
     gathering = record {
-      keeps = λ k b. (λ i. storedIn (phraseAt (left i) k) (part i)) ∙ gathered-stored c m known k b;
-      lengths = λ k b. ap (λ (x : Channel). phraseAt x k .length) left ∙ gathered-phrase-length c m known k b;
-      down = λ k b some. let own = phrase-of-all (length m) c known k b in
-          ap (λ (x : Channel). phraseAt x k .start) left
-          ∙ ap (λ (p : Phrase). p .start) (gathered-phrase c m known k b)
-          ∙ gather-start (phrasesOf c) m many fine k b (ap noSamples (sym own) ∙ with-samples (phraseAt c k) some)
+      keeps = λ k b. (λ i. storedIn (phraseAt (moved i) k) (moved-part i)) ∙ gathered-stored here m judged k b;
+      lengths = λ k b. ap (λ (x : Channel). phraseAt x k .length) moved ∙ gathered-phrase-length here m judged k b;
+      down = λ k b some. let own = phrase-of-all (length m) here judged k b in
+          ap (λ (x : Channel). phraseAt x k .start) moved
+          ∙ ap (λ (p : Phrase). p .start) (gathered-phrase here m judged k b)
+          ∙ gather-start (phrasesOf here) m many fine k b (ap noSamples (sym own) ∙ with-samples (phraseAt here k) some)
           ∙ (λ i. samplesBefore (sym own i .start) (sym all i));
-      empty = λ k b none. let own = phrase-of-all (length m) c known k b in
-          ap (λ (x : Channel). phraseAt x k) left
-          ∙ gathered-phrase c m known k b
-          ∙ gather-empty (phrasesOf c) m many fine k b (ap noSamples (sym own) ∙ without-samples (phraseAt c k) none)
+      empty = λ k b none. let own = phrase-of-all (length m) here judged k b in
+          ap (λ (x : Channel). phraseAt x k) moved
+          ∙ gathered-phrase here m judged k b
+          ∙ gather-empty (phrasesOf here) m many fine k b (ap noSamples (sym own) ∙ without-samples (phraseAt here k) none)
           ∙ sym own;
-      free = (λ i. drop (samplesOf (all i)) (part i)) ∙ free ∙ sym (ap (λ (ps : List Phrase). drop (samplesOf ps) m) all);
+      free = (λ i. drop (samplesOf (all i)) (moved-part i)) ∙ free ∙ sym (ap (λ (ps : List Phrase). drop (samplesOf ps) m) all);
       number = number;
-      else-kept = subst (OnlyPhrases c) (sym left) only;
+      else-kept = subst (OnlyPhrases here) (sym moved) only;
     }
       where
-        free : drop (samplesOf (phrasesOf c)) (gatheredMemory c m) ≡ drop (samplesOf (phrasesOf c)) m
-        free = gather-rest (phrasesOf c) m many fine
+        free : drop (samplesOf (phrasesOf here)) (gatheredMemory here m) ≡ drop (samplesOf (phrasesOf here)) m
+        free = gather-rest (phrasesOf here) m many fine
 
         number : chosen (leftBy w gather r) j ≡ chosen w j
-        number = ap (λ (x : Channel). x .head .chosen) left
+        number = ap (λ (x : Channel). x .head .chosen) moved
 
-        only : OnlyPhrases c (gatheredIn c m)
+        only : OnlyPhrases here (gatheredIn here m)
         only = record { voices = refl; count = refl; clock = refl; recorder = refl; passthru = refl }
 
 pub phrases : (w : World) → Phrases w
@@ -542,6 +534,6 @@ phrases w = record {
   gathering = λ r a z fit j l. gathering w fit r a z j l;
   sample-apart = λ c r a fit j l p x m h. sample-apart w fit c r a j l p x m h;
   read-apart = λ f r a z fit j l. read-apart w fit f r a z j l;
-  begins = λ r a z fit j l none idle. begins w fit r a z j l none idle;
+  begins = λ r a z fit j l none stops. begins w fit r a z j l none stops;
   not-lengthened = λ c r a fit j l p x m h. not-lengthened w fit c r a j l p x m h;
 }

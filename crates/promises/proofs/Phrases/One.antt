@@ -32,11 +32,11 @@ use Rattle.channel.specs.declared.HeadChange.{HeadChange}
 use Rattle.channel.specs.declared.HeadChange.the-variants.{StartRecording, StopRecording, Interpolate, Load, Choose, Delete}
 use Rattle.channel.specs.declared.Found.{Found}
 use Rattle.channel.specs.declared.Found.the-variants.{At, Nothing}
-use Rattle.channel.specs.Heads.{withRecorded, recordingIn, headOf, momentOn, momentOf, phraseAfter, chosenAfter, headChangedOf, closedOf}
-use Rattle.channel.specs.Tables.{placeOf, severalAfter, foundBy}
+use Rattle.channel.specs.Heads.{withRecorded, recordingIn, headOf, momentOn, momentOf, chosenAfter, headChangedOf, closedOf}
+use Rattle.channel.specs.Tables.{placeOf}
 use Rattle.channel.specs.Channels.{withHead, withVoices, live, phrasesIn, phraseAt, momentFor, handledOf, pushedOf, findOf, finishedAtOf, stopPlayingOf, spedOf, setNoteSpeedOf, headChangedIn, resetOf, gatheredIn, keptOf, playedOf, takenOf, memoryOf}
 use Rattle.channel.proofs.Heads.{passthru-holds}
-use Rattle.channel.proofs.Phrases.{one-recording, one-begins, one-written, one-holds}
+use Rattle.channel.proofs.One.{one-recording, one-written, one-holds, one-stays}
 use Rattle.fates.specs.Engine.{bornOf, begunOf, turnsIn, stepOf}
 use Rattle.fates.specs.Events.{Event, idle, changes, gathers, sounds, act}
 use Rattle.fates.specs.Places.{becomes}
@@ -202,13 +202,19 @@ module _ (c : Channel) (o : OnePhrase c) where
   }
 
   head-changed : (d : HeadChange) → ((k : ℕ) → d ≢ Choose k) → OnePhrase (headChangedIn d c)
-  unfolding headChangedIn headChangedOf phraseAfter chosenAfter severalAfter foundBy
-  head-changed StartRecording not = record { number = o .number; start = one-begins c (o .alone) (o .start); alone = o .alone; voices = o .voices }
-  head-changed StopRecording not = record { number = o .number; start = o .start; alone = o .alone; voices = o .voices }
-  head-changed (Interpolate on) not = record { number = o .number; start = o .start; alone = o .alone; voices = o .voices }
-  head-changed (Load samples) not = record { number = o .number; start = one-begins c (o .alone) (o .start); alone = o .alone; voices = o .voices }
-  head-changed (Choose k) not = absurd (not k refl)
-  head-changed (Delete k) not = record { number = o .number; start = either (λ (p : Phrase). p .start) (eqb k (c .head .chosen)) _ (recordingIn (c .head)) 0 (o .start) (o .start); alone = o .alone; voices = o .voices }
+  unfolding headChangedIn headChangedOf chosenAfter
+  head-changed d not = record { number = same d not ∙ o .number; start = stays .1; alone = stays .0; voices = o .voices }
+    where
+      same : (d : HeadChange) → ((k : ℕ) → d ≢ Choose k) → chosenAfter d (c .head .chosen) ≡ c .head .chosen
+      same StartRecording not = refl
+      same StopRecording not = refl
+      same (Interpolate on) not = refl
+      same (Load samples) not = refl
+      same (Choose k) not = absurd (not k refl)
+      same (Delete k) not = refl
+
+      stays : (headChangedIn d c .several ≡ false) × (headChangedIn d c .head .start ≡ 0)
+      stays = one-stays c (o .alone) (o .start) d (same d not)
 
   gathered : (m : List ℕ) → OnePhrase (gatheredIn c m)
   unfolding gatheredIn othersOf
