@@ -3,23 +3,22 @@
 use mathlib.Core.Path.{_≡_, refl, sym, ap, _∙_, subst}
 use mathlib.Core.Bool.{Bool, true, false, not, cond, true≢false}
 use mathlib.Core.Logic.{_⊎_, inl, inr, _≢_}
-use mathlib.Core.List.{List, [], _∷_, _++_}
-use Prim.Native.Nat.{ℕ, zero, suc, _+_, _-_, _*_, _^_, _≤_, _<_, max}
+use mathlib.Core.List.{List, _++_}
+use Prim.Native.Nat.{ℕ, zero, suc, _+_, _-_, _*_, _^_, _≤_, _<_}
 use native.Mathlib.Nat.{le-trans, le-of-eq, mul-le-mul-right, suc-mul}
 use native.Mathlib.Omega.{arith}
-use borrow.Author.Tests.{eq-eqb, ne-eqb, eqb-true, eqb-false, leb-true, leb-false}
+use borrow.Author.Tests.{eq-eqb, ne-eqb, eqb-true, eqb-false, leb-false}
 use lib.Dec.{eqb, leb}
 use lib.ListN.{length, take, drop, getD, length-drop, take-append-drop}
 use lib.Seq.{ext-getD, drop-drop, length-take-le}
 use lib.Ieee.{Float}
-use Rattle.walks.specs.Walks.{any, fold}
+use Rattle.walks.specs.Walks.{any}
 use Rattle.common_types.specs.declared.Params.{Params}
 use Rattle.phrases.specs.declared.Phrase.{Phrase}
-use Rattle.phrases.specs.declared.Beside.{Beside}
-use Rattle.phrases.specs.Phrases.{noPhrase, noSamples, reachOf, storedIn, goodPhrases, besideNone, besideWith, besideOf}
+use Rattle.phrases.specs.Phrases.{noPhrase, noSamples, reachOf, storedIn, goodPhrases}
 use Rattle.phrases.specs.Gathering.{samplesOf, samplesBefore}
 use Rattle.phrases.proofs.Table.{others-chosen}
-use Rattle.phrases.proofs.Reaches.{reach-empty, reach-end, behind-reach}
+use Rattle.phrases.proofs.Reaches.{reach-empty, reach-end, behind-reach, behind-there}
 use Rattle.phrases.proofs.Gathered.{gather-start, gather-empty, gather-rest}
 use Rattle.recorder.specs.declared.Recorder.{Recorder}
 use Rattle.recorder.specs.declared.Recorded.{Recorded}
@@ -28,7 +27,7 @@ use Rattle.recorder.proofs.Cases.{by-room, not-recording, sample-idle, sample-n
 use Rattle.wave.specs.declared.Wave.{Wave}
 use Rattle.wave.specs.declared.Judged.{Judged}
 use Rattle.wave.specs.declared.Judged.the-variants.{Is, Refused}
-use Rattle.wave.specs.Reader.{judgedOf}
+use Rattle.wave.specs.Reader.{wordsIn, judgedOf}
 use Rattle.channel.specs.declared.Head.{Head}
 use Rattle.channel.specs.declared.Channel.{Channel}
 use Rattle.channel.specs.declared.Change.the-variants as change
@@ -64,7 +63,7 @@ use Rattle.promises.proofs.Calls.{Standing, chan-after, kept}
 use Rattle.promises.proofs.Memory.{part-written}
 use Rattle.promises.proofs.Accepted.{Heard, heard}
 use Rattle.promises.proofs.Outcomes.{left-after}
-use Rattle.promises.proofs.Recordings.{at-end, counts, idle as not-recorded, room, else-kept, before, rest, size-kept}
+use Rattle.promises.proofs.Recordings.{at-end, Loaded, loaded}
 use Rattle.promises.proofs.Broken.{phrase-chosen}
 use Rattle.promises.proofs.Phrases.Number.{numberAfter, number-after}
 pub mod Number
@@ -99,25 +98,7 @@ recorded-own r n =
     (λ write at less. ap (λ (d : Recorded). d .«data_len») (sample-next r write at n n less) ∙ omega arith)
     (λ write at over. ap (λ (d : Recorded). d .«data_len») (sample-dropped r write at n n over))
 
--- ---- how far phrases reach: as one of them does
-module _ (place : ℕ) where
-  reached-from : (b : Beside) (ps : List Phrase)
-      → (fold (besideWith place) b ps .behind ≡ b .behind) ⊎ ((k : ℕ) × (k < length ps) × (fold (besideWith place) b ps .behind ≡ reachOf (getD ps k noPhrase)))
-  unfolding fold besideWith
-  reached-from b [] = inl refl
-  reached-from b (p ∷ ps) = go (reached-from (besideWith place b p) ps)
-    where
-      larger : (t : Bool) → leb (reachOf p) (b .behind) ≡ t → fold (besideWith place) (besideWith place b p) ps .behind ≡ max (b .behind) (reachOf p)
-          → (fold (besideWith place) (besideWith place b p) ps .behind ≡ b .behind) ⊎ ((k : ℕ) × (k < suc (length ps)) × (fold (besideWith place) (besideWith place b p) ps .behind ≡ reachOf (getD (p ∷ ps) k noPhrase)))
-      larger true e f = inl (let l = leb-true (reachOf p) (b .behind) e in omega arith)
-      larger false e f = inr (0, omega arith, let l = leb-false (reachOf p) (b .behind) e in omega arith)
-
-      go : (fold (besideWith place) (besideWith place b p) ps .behind ≡ max (b .behind) (reachOf p))
-          ⊎ ((k : ℕ) × (k < length ps) × (fold (besideWith place) (besideWith place b p) ps .behind ≡ reachOf (getD ps k noPhrase)))
-          → (fold (besideWith place) (besideWith place b p) ps .behind ≡ b .behind) ⊎ ((k : ℕ) × (k < suc (length ps)) × (fold (besideWith place) (besideWith place b p) ps .behind ≡ reachOf (getD (p ∷ ps) k noPhrase)))
-      go (inl e) = larger (leb (reachOf p) (b .behind)) refl e
-      go (inr r) = inr (suc (r .0), omega (arith, r .1), r .2)
-
+-- ---- how far the others reach
 module _ (capacity : ℕ) (c : Channel) (s : SoundChannel capacity c) (few : capacity ≤ 2 ^ 22) where
   other : (k : ℕ) → k < 8 → k ≢ c .head .chosen → phraseAt c k ≡ getD (othersIn c) k noPhrase
   other k l d = phrase-of-all capacity c s k l ∙ other-of-all capacity c s k d
@@ -132,8 +113,7 @@ module _ (capacity : ℕ) (c : Channel) (s : SoundChannel capacity c) (few : cap
   There place = (k : ℕ) × (k < 8) × (k ≢ c .head .chosen) × (phraseAt c k .length ≢ 0) × (place ≡ endOf (phraseAt c k))
 
   behind-one : (behindIn c ≡ 0) ⊎ There (behindIn c)
-  unfolding besideOf
-  behind-one = go (reached-from (c .head .start) (besideNone 0) (othersIn c))
+  behind-one = go (behind-there (c .head .start) 0 (othersIn c))
     where
       empty : (k : ℕ) → getD (othersIn c) k noPhrase .length ≡ 0 → behindIn c ≡ reachOf (getD (othersIn c) k noPhrase) → behindIn c ≡ 0
       empty k none e = e ∙ reach-empty (getD (othersIn c) k noPhrase) none
@@ -385,29 +365,32 @@ module _ (w : World) (fit : FittingSampler (w .sampler)) where
     of-wave : (v : Wave) → judgedOf f ≡ Is v → (j : ℕ) → j < s .count → OthersKept w (leftBy w (readWave f) r) j
     of-wave v e j l k b d = (same, (λ i. storedIn (same i) (stands i)) ∙ read-leaves (s .capacity) now known few n quiet fits m words size many k b d)
       where
-        g : goodSampler s ≡ true
-        g = fitting s (length (w .memory)) (loads .good) .good
+        n : ℕ
+        n = v .samples
+
+        t : Loaded w (leftBy w (readWave f) r) (v .channels) n (wordsIn f v)
+        t = loaded w f r a z (fit .seats) v e (v .channels) n refl refl
+
+        g : Fitting s (length (w .memory))
+        g = fitting s (length (w .memory)) (loads .good)
 
         now : Channel
         now = chan w j
 
         known : SoundChannel (s .capacity) now
-        known = channel g j l
+        known = channel (g .good) j l
 
         few : s .capacity ≤ 2 ^ 22
-        few = small s (sound g)
-
-        n : ℕ
-        n = v .samples
+        few = small s (sound (g .good))
 
         h : j < v .channels
-        h = omega (arith, counts w f r a z (fit .seats) v e (v .channels) (v .samples) refl refl)
+        h = omega (arith, t .counts)
 
         quiet : records now ≡ false
-        quiet = not-recorded w f r a z (fit .seats) v e (v .channels) (v .samples) refl refl j h
+        quiet = t .idle j h
 
         fits : n ≤ holdsOf (besideIn (s .capacity) now) (s .capacity) (now .head)
-        fits = room w f r a z (fit .seats) v e (v .channels) (v .samples) refl refl j h
+        fits = t .room j h
 
         m : List ℕ
         m = ownPart w j
@@ -416,33 +399,25 @@ module _ (w : World) (fit : FittingSampler (w .sampler)) where
         after = ownPart (leftBy w (readWave f) r) j
 
         size : length m ≡ s .capacity
-        size = part-length s j (w .memory) (part-inside s (length (w .memory)) (fitting s (length (w .memory)) (loads .good)) j l)
+        size = part-length s j (w .memory) (part-inside s (length (w .memory)) g j l)
 
         words : List ℕ
         words = take n (drop (beginsIn now) after)
 
         many : length words ≡ n
-        many =
-            let inside = read-inside (s .capacity) now known few n quiet fits in
-            let same-size : length after ≡ length m = size-kept w f r a z (fit .seats) v e (v .channels) (v .samples) refl refl j in
-            length-take-le n (drop (beginsIn now) after) (omega (arith, inside, same-size, size, length-drop (beginsIn now) after))
+        many = length-take-le n (drop (beginsIn now) after) (omega (arith, read-inside (s .capacity) now known few n quiet fits, t .size j, size, length-drop (beginsIn now) after))
 
-        front : take (beginsIn now) after ≡ take (beginsIn now) m
-        front = before w f r a z (fit .seats) v e (v .channels) (v .samples) refl refl j h
-
-        back : drop (beginsIn now + n) after ≡ drop (beginsIn now + n) m
-        back = rest w f r a z (fit .seats) v e (v .channels) (v .samples) refl refl j h
-
+        -- the part is as it was but for them
         stands : after ≡ take (beginsIn now) m ++ (words ++ drop (beginsIn now + n) m)
         stands =
             sym (take-append-drop (beginsIn now) after)
-            ∙ (λ i. front i ++ (sym (take-append-drop n (drop (beginsIn now) after)) i))
-            ∙ ap (λ (q : List ℕ). take (beginsIn now) m ++ (take n (drop (beginsIn now) after) ++ q)) (drop-drop n (beginsIn now) after ∙ back)
+            ∙ (λ i. t .before j h i ++ (sym (take-append-drop n (drop (beginsIn now) after)) i))
+            ∙ ap (λ (q : List ℕ). take (beginsIn now) m ++ (words ++ q)) (drop-drop n (beginsIn now) after ∙ t .rest j h)
 
         same : phrase (leftBy w (readWave f) r) j k ≡ phrase w j k
         same =
-            ap (λ (y : Channel). phraseAt y k) (else-kept w f r a z (fit .seats) v e (v .channels) (v .samples) refl refl j h)
-            ∙ phrase-other (chan w j .head) (beginning (beginsIn (chan w j)) (v .samples) (chan w j .head)) refl k d (chan w j .several) (getD (chan w j .table) (placeOf k) noPhrase)
+            ap (λ (y : Channel). phraseAt y k) (t .head j h)
+            ∙ phrase-other (now .head) (beginning (beginsIn now) n (now .head)) refl k d (now .several) (getD (now .table) (placeOf k) noPhrase)
 
     read-apart : (j : ℕ) → j < s .count → OthersKept w (leftBy w (readWave f) r) j
     read-apart = go (judgedOf f) refl

@@ -261,7 +261,18 @@ begins-inside capacity c n idle few some = rw idle (go (eqb (c .head .«data_len
     go true l = omega (arith, behind-same (c .head .start) (c .head .start) capacity 0 (othersIn c))
     go false l = omega (arith, next-within (c .head .start) capacity (othersIn c))
 
--- a file that is read: n samples for each of so many channels
+-- a file of n samples for each of so many channels that is read, from w to u: what lets it through, and what it leaves
+pub record Loaded (w u : World) (channels n : ℕ) (words : List ℕ) : Type 0 where
+  pub counts : channels ≡ w .sampler .count
+  pub idle : (j : ℕ) → j < channels → records (chan w j) ≡ false
+  pub room : (j : ℕ) → j < channels → n ≤ holdsOf (besideIn (w .sampler .capacity) (chan w j)) (w .sampler .capacity) (chan w j .head)
+  pub head : (j : ℕ) → j < channels → chan u j ≡ withHead (beginning (beginsIn (chan w j)) n (chan w j .head)) (chan w j)
+  pub size : (j : ℕ) → length (ownPart u j) ≡ length (ownPart w j)
+  pub before : (j : ℕ) → j < channels → take (beginsIn (chan w j)) (ownPart u j) ≡ take (beginsIn (chan w j)) (ownPart w j)
+  pub stored : (j : ℕ) → j < channels → storedIn (record { start = beginsIn (chan w j); length = n }) (ownPart u j) ≡ channelOf channels n j words
+  pub rest : (j : ℕ) → j < channels → drop (beginsIn (chan w j) + n) (ownPart u j) ≡ drop (beginsIn (chan w j) + n) (ownPart w j)
+  pub behind : drop (channels * w .sampler .capacity) (u .memory) ≡ drop (channels * w .sampler .capacity) (w .memory)
+
 module _ (w : World) (f : List ℕ) (r : ReadOutcome) (a : Allows (on w (readWave f)) r) (z : code w (readWave f) ≡ 0) (two : length (w .sampler .channels) ≡ 2)
     (v : Wave) (judged : judgedOf f ≡ Is v) (channels n : ℕ) (channels-are : v .channels ≡ channels) (samples-are : v .samples ≡ n) where
   abbrev u : World
@@ -277,7 +288,7 @@ module _ (w : World) (f : List ℕ) (r : ReadOutcome) (a : Allows (on w (readWav
   fit : Fitting (w .sampler) (length (w .memory))
   fit = fitting (w .sampler) (length (w .memory)) (loads .good)
 
-  pub counts : channels ≡ w .sampler .count
+  counts : channels ≡ w .sampler .count
   counts = sym channels-are ∙ sym (ap (λ (x : Wave). x .channels) held) ∙ loads .counts
 
   left : u ≡ after w (readWave f)
@@ -287,11 +298,11 @@ module _ (w : World) (f : List ℕ) (r : ReadOutcome) (a : Allows (on w (readWav
   none-of : (p : Channel → Bool) → any p (present (w .sampler)) ≡ false → (j : ℕ) → j < channels → p (chan w j) ≡ false
   none-of p h j k = any-front p (w .sampler .channels) (w .sampler .count) j new h (omega (arith, counts)) (omega (arith, fit .few, two))
 
-  pub idle : (j : ℕ) → j < channels → records (chan w j) ≡ false
+  idle : (j : ℕ) → j < channels → records (chan w j) ≡ false
   unfolding againstAny blockedBy
   idle = none-of records (loads .idle)
 
-  pub room : (j : ℕ) → j < channels → n ≤ holdsOf (besideIn (w .sampler .capacity) (chan w j)) (w .sampler .capacity) (chan w j .head)
+  room : (j : ℕ) → j < channels → n ≤ holdsOf (besideIn (w .sampler .capacity) (chan w j)) (w .sampler .capacity) (chan w j .head)
   unfolding againstAny shortBy
   room j h =
       let short : Channel → Bool = λ c. ltb (holdsOf (besideIn (w .sampler .capacity) c) (w .sampler .capacity) (c .head)) (heldIn (judgedOf f) .samples) in
@@ -299,9 +310,9 @@ module _ (w : World) (f : List ℕ) (r : ReadOutcome) (a : Allows (on w (readWav
       (ltb-false _ _ (none-of short (loads .room) j h))
 
   -- the record
-  pub else-kept : (j : ℕ) → j < channels → chan u j ≡ withHead (beginning (beginsIn (chan w j)) n (chan w j .head)) (chan w j)
+  head-is : (j : ℕ) → j < channels → chan u j ≡ withHead (beginning (beginsIn (chan w j)) n (chan w j .head)) (chan w j)
   unfolding event doneTo act headChangedIn headChangedOf tableAfter severalAfter foundBy phraseAfter recorderAfter interpolatesAfter chosenAfter
-  else-kept j h =
+  head-is j h =
       ap (λ (x : World). chan x j) left ∙ chan-after w two (fit .few) j (omega (arith, counts)) (readWave f) ∙ rw (z, held, samples-are) refl
 
   capacity-same : u .sampler .capacity ≡ w .sampler .capacity
@@ -314,14 +325,14 @@ module _ (w : World) (f : List ℕ) (r : ReadOutcome) (a : Allows (on w (readWav
   abbrev at : ℕ → ℕ
   at j = beginsIn (chan w j)
 
-  abbrev loaded : List ℕ
-  loaded = loadedOf f starts (w .memory)
+  abbrev memory-read : List ℕ
+  memory-read = loadedOf f starts (w .memory)
 
-  memory-is : u .memory ≡ loaded
+  memory-is : u .memory ≡ memory-read
   unfolding code readMemory
   memory-is = a .1 ∙ rw z refl
 
-  own-part : (j : ℕ) → ownPart u j ≡ partOf (w .sampler) j loaded
+  own-part : (j : ℕ) → ownPart u j ≡ partOf (w .sampler) j memory-read
   unfolding partOf
   own-part j = rw (capacity-same, memory-is) refl
 
@@ -332,69 +343,69 @@ module _ (w : World) (f : List ℕ) (r : ReadOutcome) (a : Allows (on w (readWav
   inside some j h = begins-inside (w .sampler .capacity) (chan w j) n (idle j h) (room j h) some
 
   -- every word beside what is read
-  words-kept : Kept (w .sampler) at channels n loaded (w .memory)
+  words-kept : Kept (w .sampler) at channels n memory-read (w .memory)
   words-kept = go (ltb 0 n) refl
     where
-      else-is : (x : ℕ) → ((j : ℕ) → j < channels → (x < startAt starts j) ⊎ (startAt starts j + n ≤ x)) → getD loaded x 0 ≡ getD (w .memory) x 0
+      else-is : (x : ℕ) → ((j : ℕ) → j < channels → (x < startAt starts j) ⊎ (startAt starts j + n ≤ x)) → getD memory-read x 0 ≡ getD (w .memory) x 0
       else-is x beside = promised .loaded-else f v starts (w .memory) judged x (rw (channels-are, samples-are) beside)
 
-      go : (b : Bool) → ltb 0 n ≡ b → Kept (w .sampler) at channels n loaded (w .memory)
-      go true e = kept-beside (w .sampler) starts at channels n placed loaded (w .memory) (length-loaded f starts (w .memory)) else-is (inside (ltb-true 0 n e))
-      go false e = kept-all (w .sampler) starts at channels n placed loaded (w .memory) (length-loaded f starts (w .memory)) else-is (omega (arith, ltb-false 0 n e))
-
-  pub before : (j : ℕ) → j < channels → take (at j) (ownPart u j) ≡ take (at j) (ownPart w j)
-  before j h = rw (own-part j) (words-kept .before j h)
-
-  pub rest : (j : ℕ) → j < channels → drop (at j + n) (ownPart u j) ≡ drop (at j + n) (ownPart w j)
-  rest j h = rw (own-part j) (words-kept .rest j h)
-
-  pub behind : drop (channels * w .sampler .capacity) (u .memory) ≡ drop (channels * w .sampler .capacity) (w .memory)
-  behind = rw memory-is (words-kept .behind)
-
-  pub size-kept : (j : ℕ) → length (ownPart u j) ≡ length (ownPart w j)
-  unfolding partOf
-  size-kept j = rw (own-part j) (simp (length-take, length-drop) (rw (length-loaded f starts (w .memory))))
+      go : (b : Bool) → ltb 0 n ≡ b → Kept (w .sampler) at channels n memory-read (w .memory)
+      go true e = kept-beside (w .sampler) starts at channels n placed memory-read (w .memory) (length-loaded f starts (w .memory)) else-is (inside (ltb-true 0 n e))
+      go false e = kept-all (w .sampler) starts at channels n placed memory-read (w .memory) (length-loaded f starts (w .memory)) else-is (omega (arith, ltb-false 0 n e))
 
   -- what is read
-  pub read-is : (j : ℕ) → j < channels → storedIn (record { start = at j; length = n }) (ownPart u j) ≡ channelOf channels n j (wordsIn f v)
+  stored-is : (j : ℕ) → j < channels → storedIn (record { start = at j; length = n }) (ownPart u j) ≡ channelOf channels n j (wordsIn f v)
   unfolding storedIn listed
-  read-is j h = rw (own-part j) (go (ltb 0 n) refl)
+  stored-is j h = rw (own-part j) (go (ltb 0 n) refl)
     where
-      none : (k : ℕ) → k ≡ 0 → storedIn (record { start = at j; length = k }) (partOf (w .sampler) j loaded) ≡ channelOf channels k j (wordsIn f v)
+      none : (k : ℕ) → k ≡ 0 → storedIn (record { start = at j; length = k }) (partOf (w .sampler) j memory-read) ≡ channelOf channels k j (wordsIn f v)
       none k e = rw e refl
 
-      go : (b : Bool) → ltb 0 n ≡ b → storedIn (record { start = at j; length = n }) (partOf (w .sampler) j loaded) ≡ channelOf channels n j (wordsIn f v)
+      go : (b : Bool) → ltb 0 n ≡ b → storedIn (record { start = at j; length = n }) (partOf (w .sampler) j memory-read) ≡ channelOf channels n j (wordsIn f v)
       go false e = none n (omega (arith, ltb-false 0 n e))
       go true e =
           let within = inside (ltb-true 0 n e) in
           let fits : fitsMemory (layoutOf v starts) (length (w .memory)) ≡ true = rw (channels-are, samples-are) (fits-parts (w .sampler) starts at channels n placed within (length (w .memory)) fit counts) in
           let known = promised .loaded-recording f v starts (w .memory) judged fits j (omega (arith, channels-are)) in
-          stored-there (w .sampler) starts at channels n placed within j h loaded
-          ∙ ap (λ (k : ℕ). recordingAt starts k j loaded) (sym samples-are)
+          stored-there (w .sampler) starts at channels n placed within j h memory-read
+          ∙ ap (λ (k : ℕ). recordingAt starts k j memory-read) (sym samples-are)
           ∙ known
           ∙ (λ i. channelOf (channels-are i) (samples-are i) j (wordsIn f v))
+
+  pub loaded : Loaded w u channels n (wordsIn f v)
+  unfolding partOf
+  loaded = record {
+    counts = counts;
+    idle = idle;
+    room = room;
+    head = head-is;
+    size = λ j. rw (own-part j) (simp (length-take, length-drop) (rw (length-loaded f starts (w .memory))));
+    before = λ j h. rw (own-part j) (words-kept .before j h);
+    stored = stored-is;
+    rest = λ j h. rw (own-part j) (words-kept .rest j h);
+    behind = rw memory-is (words-kept .behind);
+  }
 
 module _ (w : World) (f : List ℕ) (rate channels : ℕ) (words : List ℕ) (g : IsWave f rate channels words) (r : ReadOutcome) (a : Allows (on w (readWave f)) r)
     (z : code w (readWave f) ≡ 0) (two : length (w .sampler .channels) ≡ 2) where
   k : Known f rate channels words g
   k = good-known f rate channels words g
 
+  t : Loaded w (leftBy w (readWave f) r) channels (g .samples) (wordsIn f (k .wave))
+  t = loaded w f r a z two (k .wave) (k .judged) channels (g .samples) (k .same-channels) (k .same-samples)
+
   pub read : Read w (leftBy w (readWave f) r) rate channels (g .samples) words (r .answer .read)
   unfolding code readWaveOf
   read = record {
     rated = ap (λ (b : ReadAnswer). b .read) (a .0) ∙ rw (z, k .judged, k .same-rate) refl;
-    recordings = λ j h. rw (kept-else j h) (read-is w f r a z two (k .wave) (k .judged) channels (g .samples) (k .same-channels) (k .same-samples) j h ∙ ap (channelOf channels (g .samples) j) (k .same-words));
-    before = before w f r a z two (k .wave) (k .judged) channels (g .samples) (k .same-channels) (k .same-samples);
-    rest = rest w f r a z two (k .wave) (k .judged) channels (g .samples) (k .same-channels) (k .same-samples);
-    behind = behind w f r a z two (k .wave) (k .judged) channels (g .samples) (k .same-channels) (k .same-samples);
-    write-place = λ j h. ap (λ (c : Channel). writePlaceOf (c .head)) (kept-else j h)
-        ∙ at-end (beginning (beginsIn (chan w j)) (g .samples) (chan w j .head))
-        (not-recording (chan w j .head .recorder) (idle w f r a z two (k .wave) (k .judged) channels (g .samples) (k .same-channels) (k .same-samples) j h));
-    else-kept = kept-else;
+    recordings = λ j h. rw (t .head j h) (t .stored j h ∙ ap (channelOf channels (g .samples) j) (k .same-words));
+    before = t .before;
+    rest = t .rest;
+    behind = t .behind;
+    write-place = λ j h. ap (λ (c : Channel). writePlaceOf (c .head)) (t .head j h)
+        ∙ at-end (beginning (beginsIn (chan w j)) (g .samples) (chan w j .head)) (not-recording (chan w j .head .recorder) (t .idle j h));
+    else-kept = t .head;
   }
-    where
-      kept-else : (j : ℕ) → j < channels → chan (leftBy w (readWave f) r) j ≡ withHead (beginning (beginsIn (chan w j)) (g .samples) (chan w j .head)) (chan w j)
-      kept-else = else-kept w f r a z two (k .wave) (k .judged) channels (g .samples) (k .same-channels) (k .same-samples)
 
 -- ---- and back
 module _ (w : World) (rate : ℕ) (out : List ℕ) (r : ListOutcome) (a : Allows (on w (asks (writeWave rate out))) r) (z : code w (asks (writeWave rate out)) ≡ 0)
