@@ -1,11 +1,13 @@
 -- What the channels in use have against a change, as a walk over them finds it, and what it comes to for each call that asks. Assumes nothing.
 use mathlib.Core.Path.{_≡_, refl, sym}
-use mathlib.Core.Bool.{Bool, not, _&&_, _||_, or-assoc}
+use mathlib.Core.Bool.{Bool, false, not, _&&_, _||_, or-assoc}
 use mathlib.Core.List.{List, [], _∷_}
-use Prim.Native.Nat.{ℕ}
+use Prim.Native.Nat.{ℕ, zero, suc, _<_}
+use native.Mathlib.Omega.{arith}
 use lib.Dec.{ltb, eqb}
+use lib.ListN.{length, take, getD}
 use Rattle.walks.specs.Walks.{any}
-use Rattle.walks.proofs.Tests.{or-false}
+use Rattle.walks.proofs.Tests.{neither, or-false}
 use Rattle.channel.specs.declared.Channel.{Channel}
 use Rattle.channel.specs.declared.Ask.{Ask}
 use Rattle.channel.specs.declared.Ask.the-variants.{Voice, Samples, Choice, Delete}
@@ -13,7 +15,7 @@ use Rattle.channel.specs.declared.Against.{Against}
 use Rattle.channel.specs.Heads.{holdsOf}
 use Rattle.channel.specs.Tables.{leavingOf, blockedBy, shortBy}
 use Rattle.channel.specs.Channels.{besideIn, usesOf, againstOf, fullOf}
-use Rattle.sampler.specs.Refusals.{present, records, anyFull, anyRecording, againstAny}
+use Rattle.sampler.specs.Refusals.{present, channelAt, records, anyFull, anyRecording, againstAny}
 use Rattle.sampler.specs.declared.Sampler.{Sampler}
 
 -- ---- the walk: what has been found so far, and what the channels left add to it
@@ -61,3 +63,15 @@ module _ (s : Sampler) where
   pub against-delete : (k : ℕ) → againstAny (Delete k) s .blocked ≡ any (λ (c : Channel). usesOf k c || (records c && eqb k (c .head .chosen))) (present s)
   unfolding againstAny blockedBy leavingOf
   against-delete k = refl
+
+-- ---- what holds of none of the channels in use holds of none of them by its number
+module _ (s : Sampler) (p : Channel → Bool) (none : any p (present s) ≡ false) (j : ℕ) (below : j < s .count) (seated : j < length (s .channels)) where
+  any-front : (l : List Channel) (n i : ℕ) (d : Channel) → any p (take n l) ≡ false → i < n → i < length l → p (getD l i d) ≡ false
+  unfolding any
+  any-front [] n i d h a b = absurd (omega arith)
+  any-front (c ∷ l) zero i d h a b = absurd (omega arith)
+  any-front (c ∷ l) (suc n) zero d h a b = neither (p c) (any p (take n l)) h .0
+  any-front (c ∷ l) (suc n) (suc i) d h a b = any-front l n i d (neither (p c) (any p (take n l)) h .1) (omega arith) (omega arith)
+
+  pub none-at : p (channelAt s j) ≡ false
+  none-at = any-front (s .channels) (s .count) j _ none below seated
