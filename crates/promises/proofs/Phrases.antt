@@ -368,8 +368,8 @@ module _ (w : World) (fit : FittingSampler (w .sampler)) where
         n : ℕ
         n = v .samples
 
-        t : Loaded w (leftBy w (readWave f) r) (v .channels) n (wordsIn f v)
-        t = loaded w f r a z (fit .seats) v e (v .channels) n refl refl
+        t : Loaded w (leftBy w (readWave f) r) n (wordsIn f v)
+        t = loaded w f r a z (fit .seats) v e n refl
 
         g : Fitting s (length (w .memory))
         g = fitting s (length (w .memory)) (loads .good)
@@ -383,14 +383,11 @@ module _ (w : World) (fit : FittingSampler (w .sampler)) where
         few : s .capacity ≤ 2 ^ 22
         few = small s (sound (g .good))
 
-        h : j < v .channels
-        h = omega (arith, t .counts)
-
         quiet : records now ≡ false
-        quiet = t .idle j h
+        quiet = t .idle j l
 
         fits : n ≤ holdsOf (besideIn (s .capacity) now) (s .capacity) (now .head)
-        fits = t .room j h
+        fits = t .room j l
 
         m : List ℕ
         m = ownPart w j
@@ -411,12 +408,12 @@ module _ (w : World) (fit : FittingSampler (w .sampler)) where
         stands : after ≡ take (beginsIn now) m ++ (words ++ drop (beginsIn now + n) m)
         stands =
             sym (take-append-drop (beginsIn now) after)
-            ∙ (λ i. t .before j h i ++ (sym (take-append-drop n (drop (beginsIn now) after)) i))
-            ∙ ap (λ (q : List ℕ). take (beginsIn now) m ++ (words ++ q)) (drop-drop n (beginsIn now) after ∙ t .rest j h)
+            ∙ (λ i. t .before j l i ++ (sym (take-append-drop n (drop (beginsIn now) after)) i))
+            ∙ ap (λ (q : List ℕ). take (beginsIn now) m ++ (words ++ q)) (drop-drop n (beginsIn now) after ∙ t .rest j l)
 
         same : phrase (leftBy w (readWave f) r) j k ≡ phrase w j k
         same =
-            ap (λ (y : Channel). phraseAt y k) (t .head j h)
+            ap (λ (y : Channel). phraseAt y k) (t .head j l)
             ∙ phrase-other (now .head) (beginning (beginsIn now) n (now .head)) refl k d (now .several) (getD (now .table) (placeOf k) noPhrase)
 
     read-apart : (j : ℕ) → j < s .count → OthersKept w (leftBy w (readWave f) r) j

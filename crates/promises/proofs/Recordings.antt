@@ -2,15 +2,14 @@
 use mathlib.Core.Path.{_≡_, refl, sym, ap, _∙_, subst}
 use mathlib.Core.Bool.{Bool, true, false, not, _&&_, cond}
 use mathlib.Core.List.{List, _++_}
-use mathlib.Core.Logic.{_⊎_, inl, inr, ⊎-elim}
-use Prim.Native.Nat.{ℕ, zero, suc, _+_, _-_, _*_, _^_, _≤_, _<_}
-use native.Mathlib.Nat.{le-refl, le-trans, mul-le-mul-right, zero-mul, one-mul, add-mul}
+use mathlib.Core.Logic.{_⊎_, inl, inr}
+use Prim.Native.Nat.{ℕ, _+_, _-_, _*_, _^_, _≤_, _<_}
+use native.Mathlib.Nat.{le-refl}
 use native.Mathlib.Omega.{arith}
 use borrow.Author.Tests.{ltb-true, ltb-false}
 use lib.Dec.{eqb, ltb}
 use lib.ListN.{length, take, drop, getD, length-take, length-drop}
-use lib.Seq.{take-at, drop-at, ext-getD, getD-take, getD-drop}
-use Rattle.walks.specs.Walks.{any}
+use lib.Seq.{take-at, drop-at, ext-getD}
 use Rattle.octets.specs.Octets.{Bytes}
 use Rattle.wave.specs.declared.Starts.{Starts}
 use Rattle.wave.specs.declared.Wave.{Wave}
@@ -23,7 +22,7 @@ use Rattle.wave.specs.Grammar.{IsWave}
 use Rattle.wave.specs.Memory.{startAt, fitsMemory, framesOf, channelOf, bytesOf, layoutOf, loadedOf}
 use Rattle.wave.specs.Promised.{Sized, recordingAt}
 use Rattle.wave.proofs.Answers.{Known, good-known, answer-good}
-use Rattle.wave.proofs.Layouts.{fits-true, fits-made}
+use Rattle.wave.proofs.Layouts.{fits-true}
 use Rattle.wave.proofs.Promised.{promised, file-good, file-samples, frames-recording, sized}
 use Rattle.wave.proofs.Calls.{length-frames, length-file, length-loaded}
 use Rattle.phrases.specs.Phrases.{storedIn}
@@ -35,29 +34,24 @@ use Rattle.channel.specs.declared.Head.{Head}
 use Rattle.channel.specs.declared.Channel.{Channel}
 use Rattle.channel.specs.Heads.{beginsAt, holdsOf, phraseAfter, recorderAfter, interpolatesAfter, chosenAfter, headChangedOf}
 use Rattle.channel.specs.Tables.{tableAfter, severalAfter, foundBy, blockedBy, shortBy}
-use Rattle.channel.specs.Channels.{withHead, channelOf as newChannel, othersIn, besideIn, behindIn, beginsIn, headChangedIn}
+use Rattle.channel.specs.Channels.{withHead, othersIn, besideIn, behindIn, beginsIn, headChangedIn}
 use Rattle.sampler.specs.declared.Sampler.{Sampler}
-use Rattle.sampler.specs.Refusals.{row, present, channelAt, goodWith, records, anyRecording, againstAny}
+use Rattle.sampler.specs.Refusals.{row, goodWith, records, anyRecording, againstAny}
 use Rattle.sampler.specs.Samplers.{partOf}
 use Rattle.sampler.proofs.Rows.{Fitting, fitting}
+use Rattle.sampler.proofs.Against.{none-at}
 use Rattle.questions.specs.Questions.{answered}
-use Rattle.questions.proofs.Stored.{stored-at}
 use Rattle.recordings.specs.Waves.{samplesOf, startsIn, beginningsIn, layoutIn, writeNumber, writeWaveOf, waveAfter, badFile, heldIn, readNumber, readWaveOf, readMemory}
 use Rattle.recordings.specs.declared.ReadAnswer.{ReadAnswer}
 use Rattle.recordings.specs.declared.WaveRead.{WaveRead}
-use Rattle.recordings.proofs.Parts.{recording-there, alike-at}
-use Rattle.recordings.proofs.Numbers.{layout-fits, file-fits, Writes, write-says, Loads, read-says}
+use Rattle.recordings.proofs.Parts.{Roomy, beginnings-fit, part-read, part-before, part-rest, parts-rest, recording-there, alike-at}
+use Rattle.recordings.proofs.Numbers.{layout-fits, file-fits, Writes, write-says, Loads, read-says, loads-few}
 use Rattle.fates.specs.Events.{act}
 use Rattle.promises.specs.Runs.{World, readWave, asks, writeWave, questionNumber, code, after, chan, ownPart, doneTo, event}
 use Rattle.promises.specs.Outcomes.{on, ListOutcome, ReadOutcome, Allows, leftBy}
-use Rattle.promises.proofs.Accepted.{any-front}
 use Rattle.promises.proofs.Calls.{chan-after, kept}
 use Rattle.promises.proofs.Outcomes.{left-after}
 use Rattle.promises.specs.Recordings.{recording, Words, bytesIn, noRoom, Written, beginning, Read, Recordings, writePlaceOf}
-
--- what stands past the last channel
-abbrev new : Channel
-new = newChannel (record { «auto_passthru» = false })
 
 -- ---- rows
 module _ (w : World) where
@@ -146,113 +140,13 @@ module _ (w : World) where
       rest = ap (drop (bytesIn w)) lent ∙ drop-at file _ (bytesIn w) long;
     }
 
--- ---- words beside recordings of n samples, of which the one of part j begins at `at j` in it: if each is kept, a part keeps what stands before and behind its recording, and the memory what stands behind the parts
-record Kept (s : Sampler) (at : ℕ → ℕ) (channels n : ℕ) (x y : List ℕ) : Type 0 where
-  before : (j : ℕ) → j < channels → take (at j) (partOf s j x) ≡ take (at j) (partOf s j y)
-  rest : (j : ℕ) → j < channels → drop (at j + n) (partOf s j x) ≡ drop (at j + n) (partOf s j y)
-  behind : drop (channels * s .capacity) x ≡ drop (channels * s .capacity) y
-
-module _ (s : Sampler) (starts : Starts) (at : ℕ → ℕ) (channels n : ℕ) (there : (j : ℕ) → j < channels → startAt starts j ≡ j * s .capacity + at j) where
-  -- where they are
-  abbrev Inside : Type 0
-  Inside = (j : ℕ) → j < channels → at j + n ≤ s .capacity
-
-  module _ (within : Inside) where
-    fits-parts : (size : ℕ) → Fitting s size → channels ≡ s .count → fitsMemory (record { channels = channels; samples = n; starts = starts }) size ≡ true
-    fits-parts size g counts =
-        let parts : (k : ℕ) → k ≤ s .count → k * s .capacity ≤ size = λ k h. le-trans (mul-le-mul-right (s .capacity) h) (g .fits) in
-        let one : 0 < channels = omega (arith, counts, g .some) in
-        fits-made (record { channels = channels; samples = n; starts = starts }) size (record {
-          some = one;
-          few = omega (arith, counts, g .few);
-          first-fits = omega (arith, there 0 one, within 0 one, parts 1 (g .some));
-          apart = λ two. let h : 1 < channels = omega arith in omega (arith, there 0 one, within 0 one, there 1 h);
-          second-fits = λ two. let h : 1 < channels = omega arith in omega (arith, there 1 h, within 1 h, parts 2 (omega (arith, counts)));
-        })
-
-    stored-there : (j : ℕ) → j < channels → (m : List ℕ) → storedIn (record { start = at j; length = n }) (partOf s j m) ≡ recordingAt starts n j m
-    stored-there j h m =
-        stored-at s j m (record { start = at j; length = n }) (within j h)
-        ∙ ap (λ (k : ℕ). take n (drop k m)) (sym (there j h))
-
-  module _ (x y : List ℕ) (long : length x ≡ length y) (kept : (z : ℕ) → ((j : ℕ) → j < channels → (z < startAt starts j) ⊎ (startAt starts j + n ≤ z)) → getD x z 0 ≡ getD y z 0) where
-    -- none has a sample
-    kept-all : n ≡ 0 → Kept s at channels n x y
-    kept-all none = subst (Kept s at channels n x) same (record { before = λ j h. refl; rest = λ j h. refl; behind = refl })
-      where
-        beside : (z k : ℕ) (b : Bool) → ltb z k ≡ b → (z < k) ⊎ (k + n ≤ z)
-        beside z k true e = inl (ltb-true z k e)
-        beside z k false e = inr (omega (arith, ltb-false z k e))
-
-        same : x ≡ y
-        same = ext-getD 0 x y long (λ z less. kept z (λ j h. beside z (startAt starts j) (ltb z (startAt starts j)) refl))
-
-    kept-beside : Inside → Kept s at channels n x y
-    unfolding partOf
-    kept-beside within = record { before = before; rest = rest; behind = behind }
-      where
-        size : ℕ
-        size = s .capacity
-
-        word : (l : List ℕ) (j i : ℕ) → i < size → getD (partOf s j l) i 0 ≡ getD l (j * size + i) 0
-        word l j i less = getD-take (s .capacity) (drop (j * s .capacity) l) i 0 less ∙ getD-drop (j * s .capacity) l i 0
-
-        -- word i of part j is beside the recording of each part k
-        beside : (j i : ℕ) → i < size → (i < at j) ⊎ (at j + n ≤ i) → (k : ℕ) → k < channels → (a b : Bool) → ltb k j ≡ a → ltb j k ≡ b
-            → (j * size + i < startAt starts k) ⊎ (startAt starts k + n ≤ j * size + i)
-        beside j i less own k h true b e f =
-            inr (omega (arith, there k h, within k h, add-mul k 1 (s .capacity), one-mul (s .capacity), mul-le-mul-right {m = k + 1} {n = j} (s .capacity) (omega (arith, ltb-true k j e))))
-        beside j i less own k h false true e f =
-            inl (omega (arith, there k h, add-mul j 1 (s .capacity), one-mul (s .capacity), mul-le-mul-right {m = j + 1} {n = k} (s .capacity) (omega (arith, ltb-true j k f))))
-        beside j i less own k h false false e f =
-            let same : k ≡ j = omega (arith, ltb-false k j e, ltb-false j k f) in
-            ⊎-elim (λ l. inl (omega (arith, there k h, ap (λ (q : ℕ). q * s .capacity) same, ap at same))) (λ l. inr (omega (arith, there k h, ap (λ (q : ℕ). q * s .capacity) same, ap at same))) own
-
-        kept-word : (j i : ℕ) → i < size → (i < at j) ⊎ (at j + n ≤ i) → getD (partOf s j x) i 0 ≡ getD (partOf s j y) i 0
-        kept-word j i less own = word x j i less ∙ kept (j * size + i) (λ k h. beside j i less own k h (ltb k j) (ltb j k) refl refl) ∙ sym (word y j i less)
-
-        part-size : (j : ℕ) → length (partOf s j x) ≡ length (partOf s j y)
-        part-size j = simp (length-take, length-drop) (rw long)
-
-        part-short : (j : ℕ) → length (partOf s j x) ≤ size
-        part-short j = omega (arith, length-take (s .capacity) (drop (j * s .capacity) x))
-
-        before : (j : ℕ) → j < channels → take (at j) (partOf s j x) ≡ take (at j) (partOf s j y)
-        before j h =
-            ext-getD 0 _ _ (omega (arith, part-size j, length-take (at j) (partOf s j x), length-take (at j) (partOf s j y)))
-            (λ i less. let front : i < at j = omega (arith, length-take (at j) (partOf s j x)) in
-            let inside : i < size = omega (arith, length-take (at j) (partOf s j x), part-short j) in
-            getD-take (at j) (partOf s j x) i 0 front ∙ kept-word j i inside (inl front) ∙ sym (getD-take (at j) (partOf s j y) i 0 front))
-
-        rest : (j : ℕ) → j < channels → drop (at j + n) (partOf s j x) ≡ drop (at j + n) (partOf s j y)
-        rest j h =
-            ext-getD 0 _ _ (omega (arith, part-size j, length-drop (at j + n) (partOf s j x), length-drop (at j + n) (partOf s j y)))
-            (λ i less. let inside : at j + n + i < size = omega (arith, length-drop (at j + n) (partOf s j x), part-short j) in
-            getD-drop (at j + n) (partOf s j x) i 0 ∙ kept-word j (at j + n + i) inside (inr (omega arith)) ∙ sym (getD-drop (at j + n) (partOf s j y) i 0))
-
-        behind : drop (channels * s .capacity) x ≡ drop (channels * s .capacity) y
-        behind =
-            let all = channels * s .capacity in
-            ext-getD 0 _ _ (simp length-drop (rw long))
-            (λ i less. getD-drop all x i 0
-            ∙ kept (all + i) (λ j h. inr (omega (arith, there j h, within j h, add-mul j 1 (s .capacity), one-mul (s .capacity), mul-le-mul-right {m = j + 1} {n = channels} (s .capacity) (omega arith))))
-            ∙ sym (getD-drop all y i 0))
-
 -- ---- reading
 
 -- while nothing is recorded the write place is the end of the data
 pub at-end : (h : Head) → h .recorder .state ≡ Idle → writePlaceOf h ≡ h .«data_len»
 at-end h e = subst (λ (x : State). elim x [ Triggered write ↦ write | Idle ↦ h .«data_len» ] ≡ h .«data_len») (sym e) refl
 
--- where each channel's recording begins that is read
-begins-there : (s : Sampler) → s .count ≤ 2 → (j : ℕ) → j < s .count → startAt (beginningsIn s) j ≡ j * s .capacity + beginsIn (channelAt s j)
-begins-there s few zero h = omega (arith, zero-mul (s .capacity))
-begins-there s few (suc j) h =
-    let one : suc j ≡ 1 = omega arith in
-    let two : s .count ≡ 2 = omega arith in
-    rw (one, two) (omega (arith, one-mul (s .capacity)))
-
--- as many samples as it may hold lie within the capacity from there on
+-- as many samples as it may hold lie within the capacity from where it begins on; if there are none, it may begin anywhere
 begins-inside : (capacity : ℕ) (c : Channel) (n : ℕ) → records c ≡ false → n ≤ holdsOf (besideIn capacity c) capacity (c .head) → 0 < n → beginsIn c + n ≤ capacity
 unfolding beginsAt holdsOf
 begins-inside capacity c n idle few some = rw idle (go (eqb (c .head .«data_len») 0) few)
@@ -261,129 +155,124 @@ begins-inside capacity c n idle few some = rw idle (go (eqb (c .head .«data_len
     go true l = omega (arith, behind-same (c .head .start) (c .head .start) capacity 0 (othersIn c))
     go false l = omega (arith, next-within (c .head .start) capacity (othersIn c))
 
--- a file of n samples for each of so many channels that is read, from w to u: what lets it through, and what it leaves
-pub record Loaded (w u : World) (channels n : ℕ) (words : List ℕ) : Type 0 where
-  pub counts : channels ≡ w .sampler .count
-  pub idle : (j : ℕ) → j < channels → records (chan w j) ≡ false
-  pub room : (j : ℕ) → j < channels → n ≤ holdsOf (besideIn (w .sampler .capacity) (chan w j)) (w .sampler .capacity) (chan w j .head)
-  pub head : (j : ℕ) → j < channels → chan u j ≡ withHead (beginning (beginsIn (chan w j)) n (chan w j .head)) (chan w j)
+-- a file of n samples a channel that is read, from w to u: what lets it through, and what it leaves
+pub record Loaded (w u : World) (n : ℕ) (words : List ℕ) : Type 0 where
+  pub idle : (j : ℕ) → j < w .sampler .count → records (chan w j) ≡ false
+  pub room : (j : ℕ) → j < w .sampler .count → n ≤ holdsOf (besideIn (w .sampler .capacity) (chan w j)) (w .sampler .capacity) (chan w j .head)
+  pub head : (j : ℕ) → j < w .sampler .count → chan u j ≡ withHead (beginning (beginsIn (chan w j)) n (chan w j .head)) (chan w j)
   pub size : (j : ℕ) → length (ownPart u j) ≡ length (ownPart w j)
-  pub before : (j : ℕ) → j < channels → take (beginsIn (chan w j)) (ownPart u j) ≡ take (beginsIn (chan w j)) (ownPart w j)
-  pub stored : (j : ℕ) → j < channels → storedIn (record { start = beginsIn (chan w j); length = n }) (ownPart u j) ≡ channelOf channels n j words
-  pub rest : (j : ℕ) → j < channels → drop (beginsIn (chan w j) + n) (ownPart u j) ≡ drop (beginsIn (chan w j) + n) (ownPart w j)
-  pub behind : drop (channels * w .sampler .capacity) (u .memory) ≡ drop (channels * w .sampler .capacity) (w .memory)
+  pub before : (j : ℕ) → j < w .sampler .count → take (beginsIn (chan w j)) (ownPart u j) ≡ take (beginsIn (chan w j)) (ownPart w j)
+  pub stored : (j : ℕ) → j < w .sampler .count → storedIn (record { start = beginsIn (chan w j); length = n }) (ownPart u j) ≡ channelOf (w .sampler .count) n j words
+  pub rest : (j : ℕ) → j < w .sampler .count → drop (beginsIn (chan w j) + n) (ownPart u j) ≡ drop (beginsIn (chan w j) + n) (ownPart w j)
+  pub behind : drop (w .sampler .count * w .sampler .capacity) (u .memory) ≡ drop (w .sampler .count * w .sampler .capacity) (w .memory)
 
 module _ (w : World) (f : List ℕ) (r : ReadOutcome) (a : Allows (on w (readWave f)) r) (z : code w (readWave f) ≡ 0) (two : length (w .sampler .channels) ≡ 2)
-    (v : Wave) (judged : judgedOf f ≡ Is v) (channels n : ℕ) (channels-are : v .channels ≡ channels) (samples-are : v .samples ≡ n) where
+    (v : Wave) (judged : judgedOf f ≡ Is v) (n : ℕ) (samples-are : v .samples ≡ n) where
+  abbrev rec : Sampler
+  rec = w .sampler
+
   abbrev u : World
   u = leftBy w (readWave f) r
 
   held : heldIn (judgedOf f) ≡ v
   held = ap heldIn judged
 
-  loads : Loads (w .sampler) (judgedOf f) (length (w .memory))
+  loads : Loads rec (judgedOf f) (length (w .memory))
   unfolding code
-  loads = read-says (w .sampler) (judgedOf f) (length (w .memory)) z
+  loads = read-says rec (judgedOf f) (length (w .memory)) z
 
-  fit : Fitting (w .sampler) (length (w .memory))
-  fit = fitting (w .sampler) (length (w .memory)) (loads .good)
+  fit : Fitting rec (length (w .memory))
+  fit = fitting rec (length (w .memory)) (loads .good)
 
-  counts : channels ≡ w .sampler .count
-  counts = sym channels-are ∙ sym (ap (λ (x : Wave). x .channels) held) ∙ loads .counts
+  counts : v .channels ≡ rec .count
+  counts = sym (ap (λ (x : Wave). x .channels) held) ∙ loads .counts
 
   left : u ≡ after w (readWave f)
   left = left-after w (readWave f) r a
 
-  -- what no channel has against it
-  none-of : (p : Channel → Bool) → any p (present (w .sampler)) ≡ false → (j : ℕ) → j < channels → p (chan w j) ≡ false
-  none-of p h j k = any-front p (w .sampler .channels) (w .sampler .count) j new h (omega (arith, counts)) (omega (arith, fit .few, two))
+  seated : (j : ℕ) → j < rec .count → j < length (rec .channels)
+  seated j h = omega (arith, fit .few, two)
 
-  idle : (j : ℕ) → j < channels → records (chan w j) ≡ false
-  unfolding againstAny blockedBy
-  idle = none-of records (loads .idle)
+  idle : (j : ℕ) → j < rec .count → records (chan w j) ≡ false
+  idle j h = none-at rec records (loads .idle) j h (seated j h)
 
-  room : (j : ℕ) → j < channels → n ≤ holdsOf (besideIn (w .sampler .capacity) (chan w j)) (w .sampler .capacity) (chan w j .head)
-  unfolding againstAny shortBy
+  room : (j : ℕ) → j < rec .count → n ≤ holdsOf (besideIn (rec .capacity) (chan w j)) (rec .capacity) (chan w j .head)
   room j h =
-      let short : Channel → Bool = λ c. ltb (holdsOf (besideIn (w .sampler .capacity) c) (w .sampler .capacity) (c .head)) (heldIn (judgedOf f) .samples) in
-      subst (λ (k : ℕ). k ≤ holdsOf (besideIn (w .sampler .capacity) (chan w j)) (w .sampler .capacity) (chan w j .head)) (ap (λ (x : Wave). x .samples) held ∙ samples-are)
-      (ltb-false _ _ (none-of short (loads .room) j h))
+      subst (λ (k : ℕ). k ≤ holdsOf (besideIn (rec .capacity) (chan w j)) (rec .capacity) (chan w j .head)) (ap (λ (x : Wave). x .samples) held ∙ samples-are)
+      (loads-few rec (judgedOf f) (length (w .memory)) loads j h (seated j h))
 
   -- the record
-  head-is : (j : ℕ) → j < channels → chan u j ≡ withHead (beginning (beginsIn (chan w j)) n (chan w j .head)) (chan w j)
+  head-is : (j : ℕ) → j < rec .count → chan u j ≡ withHead (beginning (beginsIn (chan w j)) n (chan w j .head)) (chan w j)
   unfolding event doneTo act headChangedIn headChangedOf tableAfter severalAfter foundBy phraseAfter recorderAfter interpolatesAfter chosenAfter
-  head-is j h =
-      ap (λ (x : World). chan x j) left ∙ chan-after w two (fit .few) j (omega (arith, counts)) (readWave f) ∙ rw (z, held, samples-are) refl
+  head-is j h = ap (λ (x : World). chan x j) left ∙ chan-after w two (fit .few) j h (readWave f) ∙ rw (z, held, samples-are) refl
 
-  capacity-same : u .sampler .capacity ≡ w .sampler .capacity
+  capacity-same : u .sampler .capacity ≡ rec .capacity
   capacity-same = ap (λ (x : World). x .sampler .capacity) left ∙ kept w (readWave f) .capacity
 
   -- the memory
   abbrev starts : Starts
-  starts = beginningsIn (w .sampler)
+  starts = beginningsIn rec
 
-  abbrev at : ℕ → ℕ
-  at j = beginsIn (chan w j)
+  abbrev then : List ℕ
+  then = loadedOf f starts (w .memory)
 
-  abbrev memory-read : List ℕ
-  memory-read = loadedOf f starts (w .memory)
-
-  memory-is : u .memory ≡ memory-read
+  memory-is : u .memory ≡ then
   unfolding code readMemory
   memory-is = a .1 ∙ rw z refl
 
-  own-part : (j : ℕ) → ownPart u j ≡ partOf (w .sampler) j memory-read
+  own-part : (j : ℕ) → ownPart u j ≡ partOf rec j then
   unfolding partOf
   own-part j = rw (capacity-same, memory-is) refl
 
-  placed : (j : ℕ) → j < channels → startAt starts j ≡ j * w .sampler .capacity + at j
-  placed j h = begins-there (w .sampler) (fit .few) j (omega (arith, counts))
-
-  inside : 0 < n → (j : ℕ) → j < channels → at j + n ≤ w .sampler .capacity
-  inside some j h = begins-inside (w .sampler .capacity) (chan w j) n (idle j h) (room j h) some
+  roomy : 0 < n → Roomy rec (fit .few) n
+  roomy some j h = begins-inside (rec .capacity) (chan w j) n (idle j h) (room j h) some
 
   -- every word beside what is read
-  words-kept : Kept (w .sampler) at channels n memory-read (w .memory)
-  words-kept = go (ltb 0 n) refl
+  else-is : (x : ℕ) → ((j : ℕ) → j < rec .count → (x < startAt starts j) ⊎ (startAt starts j + n ≤ x)) → getD then x 0 ≡ getD (w .memory) x 0
+  else-is x beside = promised .loaded-else f v starts (w .memory) judged x (rw (counts, samples-are) beside)
+
+  sized-as : length then ≡ length (w .memory)
+  sized-as = length-loaded f starts (w .memory)
+
+  -- of a file without samples that is every word
+  all-kept : n ≡ 0 → then ≡ w .memory
+  all-kept none = ext-getD 0 then (w .memory) sized-as (λ x less. else-is x (λ j h. beside x (startAt starts j) (ltb x (startAt starts j)) refl))
     where
-      else-is : (x : ℕ) → ((j : ℕ) → j < channels → (x < startAt starts j) ⊎ (startAt starts j + n ≤ x)) → getD memory-read x 0 ≡ getD (w .memory) x 0
-      else-is x beside = promised .loaded-else f v starts (w .memory) judged x (rw (channels-are, samples-are) beside)
+      beside : (x k : ℕ) (b : Bool) → ltb x k ≡ b → (x < k) ⊎ (k + n ≤ x)
+      beside x k true e = inl (ltb-true x k e)
+      beside x k false e = inr (omega (arith, ltb-false x k e))
 
-      go : (b : Bool) → ltb 0 n ≡ b → Kept (w .sampler) at channels n memory-read (w .memory)
-      go true e = kept-beside (w .sampler) starts at channels n placed memory-read (w .memory) (length-loaded f starts (w .memory)) else-is (inside (ltb-true 0 n e))
-      go false e = kept-all (w .sampler) starts at channels n placed memory-read (w .memory) (length-loaded f starts (w .memory)) else-is (omega (arith, ltb-false 0 n e))
+  by-samples : {R : Type 0} → (n ≡ 0 → R) → (0 < n → R) → R
+  by-samples {R} none some = go (ltb 0 n) refl
+    where
+      go : (b : Bool) → ltb 0 n ≡ b → R
+      go true e = some (ltb-true 0 n e)
+      go false e = none (omega (arith, ltb-false 0 n e))
 
-  -- what is read
-  stored-is : (j : ℕ) → j < channels → storedIn (record { start = at j; length = n }) (ownPart u j) ≡ channelOf channels n j (wordsIn f v)
+  stored-is : (j : ℕ) → j < rec .count → storedIn (record { start = beginsIn (chan w j); length = n }) (partOf rec j then) ≡ channelOf (rec .count) n j (wordsIn f v)
   unfolding storedIn listed
-  stored-is j h = rw (own-part j) (go (ltb 0 n) refl)
+  stored-is j h = by-samples (λ none. rw none refl) full
     where
-      none : (k : ℕ) → k ≡ 0 → storedIn (record { start = at j; length = k }) (partOf (w .sampler) j memory-read) ≡ channelOf channels k j (wordsIn f v)
-      none k e = rw e refl
+      full : 0 < n → storedIn (record { start = beginsIn (chan w j); length = n }) (partOf rec j then) ≡ channelOf (rec .count) n j (wordsIn f v)
+      full some =
+          let fits : fitsMemory (layoutOf v starts) (length (w .memory)) ≡ true
+          = beginnings-fit rec (fit .few) (length (w .memory)) (layoutOf v starts) fit counts refl (subst (Roomy rec (fit .few)) (sym samples-are) (roomy some)) in
+          part-read rec (fit .few) n (roomy some) j h then
+          ∙ ap (λ (k : ℕ). recordingAt starts k j then) (sym samples-are)
+          ∙ promised .loaded-recording f v starts (w .memory) judged fits j (omega (arith, counts))
+          ∙ (λ i. channelOf (counts i) (samples-are i) j (wordsIn f v))
 
-      go : (b : Bool) → ltb 0 n ≡ b → storedIn (record { start = at j; length = n }) (partOf (w .sampler) j memory-read) ≡ channelOf channels n j (wordsIn f v)
-      go false e = none n (omega (arith, ltb-false 0 n e))
-      go true e =
-          let within = inside (ltb-true 0 n e) in
-          let fits : fitsMemory (layoutOf v starts) (length (w .memory)) ≡ true = rw (channels-are, samples-are) (fits-parts (w .sampler) starts at channels n placed within (length (w .memory)) fit counts) in
-          let known = promised .loaded-recording f v starts (w .memory) judged fits j (omega (arith, channels-are)) in
-          stored-there (w .sampler) starts at channels n placed within j h memory-read
-          ∙ ap (λ (k : ℕ). recordingAt starts k j memory-read) (sym samples-are)
-          ∙ known
-          ∙ (λ i. channelOf (channels-are i) (samples-are i) j (wordsIn f v))
-
-  pub loaded : Loaded w u channels n (wordsIn f v)
+  pub loaded : Loaded w u n (wordsIn f v)
   unfolding partOf
   loaded = record {
-    counts = counts;
     idle = idle;
     room = room;
     head = head-is;
-    size = λ j. rw (own-part j) (simp (length-take, length-drop) (rw (length-loaded f starts (w .memory))));
-    before = λ j h. rw (own-part j) (words-kept .before j h);
-    stored = stored-is;
-    rest = λ j h. rw (own-part j) (words-kept .rest j h);
-    behind = rw memory-is (words-kept .behind);
+    size = λ j. rw (own-part j) (simp (length-take, length-drop) (rw sized-as));
+    before = λ j h. rw (own-part j) (by-samples (λ none. rw (all-kept none) refl) (λ some. part-before rec (fit .few) n (roomy some) then (w .memory) sized-as else-is j h));
+    stored = λ j h. rw (own-part j) (stored-is j h);
+    rest = λ j h. rw (own-part j) (by-samples (λ none. rw (all-kept none) refl) (λ some. part-rest rec (fit .few) n (roomy some) then (w .memory) sized-as else-is j h));
+    behind = rw memory-is (by-samples (λ none. rw (all-kept none) refl) (λ some. parts-rest rec (fit .few) n (roomy some) then (w .memory) sized-as else-is));
   }
 
 module _ (w : World) (f : List ℕ) (rate channels : ℕ) (words : List ℕ) (g : IsWave f rate channels words) (r : ReadOutcome) (a : Allows (on w (readWave f)) r)
@@ -391,21 +280,21 @@ module _ (w : World) (f : List ℕ) (rate channels : ℕ) (words : List ℕ) (g 
   k : Known f rate channels words g
   k = good-known f rate channels words g
 
-  t : Loaded w (leftBy w (readWave f) r) channels (g .samples) (wordsIn f (k .wave))
-  t = loaded w f r a z two (k .wave) (k .judged) channels (g .samples) (k .same-channels) (k .same-samples)
+  t : Loaded w (leftBy w (readWave f) r) (g .samples) (wordsIn f (k .wave))
+  t = loaded w f r a z two (k .wave) (k .judged) (g .samples) (k .same-samples)
 
   pub read : Read w (leftBy w (readWave f) r) rate channels (g .samples) words (r .answer .read)
   unfolding code readWaveOf
-  read = record {
+  read = subst (λ (m : ℕ). Read w (leftBy w (readWave f) r) rate m (g .samples) words (r .answer .read)) (sym (counts w f r a z two (k .wave) (k .judged) (g .samples) (k .same-samples)) ∙ k .same-channels) (record {
     rated = ap (λ (b : ReadAnswer). b .read) (a .0) ∙ rw (z, k .judged, k .same-rate) refl;
-    recordings = λ j h. rw (t .head j h) (t .stored j h ∙ ap (channelOf channels (g .samples) j) (k .same-words));
+    recordings = λ j h. rw (t .head j h) (t .stored j h ∙ ap (channelOf (w .sampler .count) (g .samples) j) (k .same-words));
     before = t .before;
     rest = t .rest;
     behind = t .behind;
     write-place = λ j h. ap (λ (c : Channel). writePlaceOf (c .head)) (t .head j h)
         ∙ at-end (beginning (beginsIn (chan w j)) (g .samples) (chan w j .head)) (not-recording (chan w j .head .recorder) (t .idle j h));
     else-kept = t .head;
-  }
+  })
 
 -- ---- and back
 module _ (w : World) (rate : ℕ) (out : List ℕ) (r : ListOutcome) (a : Allows (on w (asks (writeWave rate out))) r) (z : code w (asks (writeWave rate out)) ≡ 0)
