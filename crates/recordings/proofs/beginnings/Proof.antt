@@ -3,7 +3,6 @@ use mathlib.Core.Path.{ap, _∙_}
 use mathlib.Core.Bool.{false}
 use native.Mathlib.Omega.{arith}
 use Rattle.walks.proofs.Lists.Loops.{long, getD-any}
-use Rattle.channel.specs.declared.Channel.{Channel}
 use Rattle.channel.specs.Channels.{channelOf, beginsIn}
 use Rattle.sampler.proofs.Seats.{none}
 use borrow.Author.Needs.{needs}
