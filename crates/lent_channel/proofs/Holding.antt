@@ -3,7 +3,8 @@
 --     points           a pointer to voice i is made: i times a voice's bytes, the address of the first voice, and that many bytes on. It asks what each local holds and takes, in the order of the three statements
 --     visits           the walk goes to voice i, takes a step of its own there, which leaves w in the voice's place, and comes out again
 --     copies-voice     so the voice is copied
---     points-entry, visits-entry, copies-entry                the same for entry i of the table
+--     phrase-fits      the number of a voice's phrase
+--     points-entry, visits-entry, copies-entry                the same for entry k of the table
 --     reads-count, reads-head, reads-time, reads-several      the channel's parts, read through the reference
 -- Assumes `Given`.
 use mathlib.Core.Path.{_≡_, refl, sym, subst}
@@ -26,6 +27,7 @@ use denote.Memory.{cellAt, partAt}
 use denote.Laws.{Is, shows}
 use denote.Index.{place-is, place as stands}
 use denote.Steps.{owned}
+use denote.Struct.Laws as LL
 use Rattle.walks.proofs.Steps.Inside.{Inside, Back, goes-in, comes-out}
 use Rattle.phrases.specs.declared.Phrase.{Phrase}
 use Rattle.phrases.specs.Phrases.{noPhrase}
@@ -169,6 +171,9 @@ at h i = getD (h .voices) i none
 abbrev IsVoice : Voice → Type 0
 IsVoice v = Is R.the-row v (vv v ∷ [])
 
+pub phrase-fits : (v : Voice) → IsVoice v → v .phrase < 2 ^ 8
+phrase-fits v is = LL.owed R.the-type R′.the-laws v _ is .1 .1 .1 .1 .1 .1 .1 .1 .1 .1 .1 .0 .1
+
 -- voice i of h taken out: its cell with u, what it owns, and the way back with w, which makes h′
 abbrev Out : {M : Type 1} (𝓤 : URA M) (H : Heap 𝓤) (A : Atoms 𝓤) (q : Share) (i b o : ℕ) (h h′ : Channel) (u w : Voice) → List (Item 𝓤) → List (Item 𝓤)
 Out 𝓤 H A q i b o h h′ u w Γ =
@@ -200,7 +205,7 @@ entry h k = getD (h .table) k noPhrase
 abbrev IsPhrase : Phrase → Type 0
 IsPhrase p = Is F.the-row p (pv p ∷ [])
 
--- entry k of h taken out, as voice i
+-- entry k of h taken out, as a voice is
 abbrev Entry : {M : Type 1} (𝓤 : URA M) (H : Heap 𝓤) (A : Atoms 𝓤) (q : Share) (k b o : ℕ) (h h′ : Channel) (u w : Phrase) → List (Item 𝓤) → List (Item 𝓤)
 Entry 𝓤 H A q k b o h h′ u w Γ =
     ‵ (cellAt q (F.the-row .mir) (pv u ∷ []) b (entry-spot o k)) ∷ ‵ (F.the-row .own (entry h k) (pv (entry h k) ∷ [])) ∷ raw (Back 𝓤 H A q C.the-row F.the-row h′ w b o (entry-spot o k)) ∷ Γ

@@ -4,6 +4,8 @@ pub mod Holding
 pub mod Sharing
 pub mod Viewing
 pub mod Showing
+pub mod Weighing
+pub mod Besides
 pub mod Saying
 pub mod Taking
 pub mod Parts
