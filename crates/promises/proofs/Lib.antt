@@ -22,5 +22,6 @@ pub mod SmallParts
 pub mod Demands
 pub mod Examples
 pub mod WaveExamples
+pub mod PhraseExamples
 pub mod Edges
 pub mod Rules
