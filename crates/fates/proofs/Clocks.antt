@@ -46,12 +46,12 @@ module _ {A : Type 0} (f : Head → A) (same : (on : Bool) (v : Volume) (h : Hea
   unfolding pushedOf
   pushed-holds v c = either (λ (d : Channel). f (d .head)) (ltb (c .count) 32) _ c (f (c .head)) refl refl
 
-  finished-holds : (p : Params) (c : Channel) (found : Found) → f (finishedAtOf p c found .head) ≡ f (c .head)
+  pub finished-holds : (p : Params) (c : Channel) (found : Found) → f (finishedAtOf p c found .head) ≡ f (c .head)
   unfolding finishedAtOf
   finished-holds p c Nothing = refl
   finished-holds p c (At i) = either (λ (d : Channel). f (d .head)) (ltb i 32) _ c (f (c .head)) (handled-holds p _) refl
 
-  started-holds : (p : Params) (position : Float) (note : Note) (velocity : Float) (c : Channel) → f (begunOf p position note velocity c .head) ≡ f (c .head)
+  pub started-holds : (p : Params) (position : Float) (note : Note) (velocity : Float) (c : Channel) → f (begunOf p position note velocity c .head) ≡ f (c .head)
   unfolding begunOf
   started-holds p position note velocity c =
       either (λ (d : Channel). f (d .head)) (eqb (c .head .«data_len») 0) c _ (f (c .head)) refl (handled-holds p _ ∙ pushed-holds _ c)

@@ -71,7 +71,7 @@ each-front p d [] (suc n) h = refl
 each-front p d (x ∷ l) (suc n) h = join (p x) (every p (take n l)) (h 0 (omega arith)) (each-front p d l n (λ j k. h (suc j) (omega arith)))
 
 -- what holds of the first n holds of each of them, where it holds past the end
-front-holds : {A : Type 0} (P : A → Type 0) (d : A) → P d → (l : List A) (n : ℕ) → Each P (take n l) → (j : ℕ) → j < n → P (getD l j d)
+pub front-holds : {A : Type 0} (P : A → Type 0) (d : A) → P d → (l : List A) (n : ℕ) → Each P (take n l) → (j : ℕ) → j < n → P (getD l j d)
 unfolding Each
 front-holds P d g [] n h j k = g
 front-holds P d g (x ∷ l) zero h j k = absurd (omega arith)
@@ -195,6 +195,11 @@ none-overlap p q (inr (inl e)) = apart-from-empty p q e
 none-overlap p q (inr (inr (inl l))) = apart-before p q l
 none-overlap p q (inr (inr (inr l))) = apart-behind p q l
 
+-- the recording is the phrase that is chosen
+pub phrase-chosen : (c : Channel) → phraseAt c (c .head .chosen) ≡ recordingIn (c .head)
+unfolding phraseBy
+phrase-chosen c = rw (eq-eqb (c .head .chosen) (c .head .chosen) refl)
+
 -- ---- channels
 module _ (capacity : ℕ) (c : Channel) (eight : length (c .table) ≡ 8) where
   abbrev now : ℕ
@@ -210,10 +215,6 @@ module _ (capacity : ℕ) (c : Channel) (eight : length (c .table) ≡ 8) where
   -- the phrase of a number, among all of them
   of-all : (k : ℕ) → k < 8 → phraseAt c k ≡ getD (phrasesIn c) k noPhrase
   of-all k l = phrase-all (c .head) (c .several) (c .table) eight k l
-
-  of-chosen : phraseAt c (c .head .chosen) ≡ recordingIn (c .head)
-  unfolding phraseBy
-  of-chosen = rw (eq-eqb (c .head .chosen) (c .head .chosen) refl)
 
   channel-to : goodChannel capacity c ≡ true → GoodChannel capacity c
   unfolding goodChannel goodHead goodRecorder goodVoicesOf
@@ -277,7 +278,7 @@ module _ (capacity : ℕ) (c : Channel) (eight : length (c .table) ≡ 8) where
       (join (leb now (2 ^ 48) && lies) (goodVolume now (c .head .«passthru_volume»))
       (join (leb now (2 ^ 48)) lies (le-leb now (2 ^ 48) (h .clock))
       (join (ltb (c .head .chosen) 8) (endsBy capacity (recordingIn (c .head))) (lt-ltb _ _ (h .chosen))
-      (subst (λ (p : Phrase). endsBy capacity p ≡ true) of-chosen (inside-ends (phraseAt c (c .head .chosen)) capacity (h .within (c .head .chosen) (h .chosen))))))
+      (subst (λ (p : Phrase). endsBy capacity p ≡ true) (phrase-chosen c) (inside-ends (phraseAt c (c .head .chosen)) capacity (h .within (c .head .chosen) (h .chosen))))))
       (volume-from now (c .head .«passthru_volume») (λ a b x y e. ramp a b (x, y, inl e))))
       (join _ (leb (c .head .«data_len») capacity) (writes-from (c .head .recorder .state) (c .head .«data_len») (h .write-place)) (le-leb _ _ (h .data-length)))))
       (join tabled (goodVoicesOf c) (table-good (c .head) (c .several) (c .table) capacity all) (place-every (goodVoice now) (live c) (λ n v e. voice-from now v (judged v (n, e)))))

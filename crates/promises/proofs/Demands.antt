@@ -93,6 +93,9 @@ use Rattle.promises.proofs.Broken.{row-nine}
 use Rattle.promises.proofs.Rows.{row-tests}
 use Rattle.promises.proofs.SmallParts.{row-seven}
 use Rattle.promises.proofs.Recordings.{recordings}
+use Rattle.promises.proofs.Phrases.{phrases}
+use Rattle.promises.proofs.Phrases.Number.{eight}
+use Rattle.promises.proofs.Phrases.One.{one-phrase}
 use Rattle.promises.proofs.Whole.{memory-after, memory-run}
 use Rattle.promises.proofs.Turns.{in-turn}
 use Rattle.promises.proofs.Makes.{no-panic, third, old-removal, true-positions, spreads, count-makes, capacity-makes, whole}
@@ -332,9 +335,9 @@ demands = record {
   tidying = tidying;
   old-removal = old-removal;
   recordings = recordings;
-  phrases = ?;
-  one-phrase = ?;
-  eight = ?;
+  phrases = phrases;
+  one-phrase = one-phrase;
+  eight = eight;
   in-turn = in-turn;
   spreads = spreads;
   count-stays = count-makes;

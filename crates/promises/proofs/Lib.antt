@@ -19,6 +19,7 @@ pub mod Table
 pub mod Broken
 pub mod Rows
 pub mod SmallParts
+pub mod Phrases
 pub mod Demands
 pub mod Examples
 pub mod WaveExamples
