@@ -23,5 +23,6 @@ pub mod Phrases
 pub mod Demands
 pub mod Examples
 pub mod WaveExamples
+pub mod PhraseExamples
 pub mod Edges
 pub mod Rules
