@@ -12,10 +12,9 @@ use Rattle.walks.proofs.Tests.{either, or-false}
 use Rattle.phrases.specs.declared.Phrase.{Phrase}
 use Rattle.phrases.specs.declared.Beside.{Beside}
 use Rattle.phrases.specs.Phrases.{noPhrase, emptyFrom, reachOf, noSamples, othersOf, goodPhrases, besideWith, besideOf}
-use Rattle.phrases.specs.Gathering.{gatheringOf}
+use Rattle.phrases.specs.Gathering.{gatheringOf, sumBelow, samplesIf, samplesBefore}
 use Rattle.phrases.proofs.Table.{others-at}
 use Rattle.phrases.proofs.Gathered.{settled-phrases, settled-memory}
-use Rattle.phrases.proofs.Gathered.Places.{sumBelow, samplesIf, samplesBefore}
 use Rattle.phrases.proofs.Gathered.Sums.{sum-same}
 use Rattle.phrases.proofs.Gathered.Turns.{Settled, if-behind}
 use Rattle.recorder.specs.Recording.{isRecordingOf}

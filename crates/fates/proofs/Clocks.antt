@@ -46,12 +46,12 @@ module _ {A : Type 0} (f : Head → A) (same : (on : Bool) (v : Volume) (h : Hea
   unfolding pushedOf
   pushed-holds v c = either (λ (d : Channel). f (d .head)) (ltb (c .count) 32) _ c (f (c .head)) refl refl
 
-  finished-holds : (p : Params) (c : Channel) (found : Found) → f (finishedAtOf p c found .head) ≡ f (c .head)
+  pub finished-holds : (p : Params) (c : Channel) (found : Found) → f (finishedAtOf p c found .head) ≡ f (c .head)
   unfolding finishedAtOf
   finished-holds p c Nothing = refl
   finished-holds p c (At i) = either (λ (d : Channel). f (d .head)) (ltb i 32) _ c (f (c .head)) (handled-holds p _) refl
 
-  started-holds : (p : Params) (position : Float) (note : Note) (velocity : Float) (c : Channel) → f (begunOf p position note velocity c .head) ≡ f (c .head)
+  pub started-holds : (p : Params) (position : Float) (note : Note) (velocity : Float) (c : Channel) → f (begunOf p position note velocity c .head) ≡ f (c .head)
   unfolding begunOf
   started-holds p position note velocity c =
       either (λ (d : Channel). f (d .head)) (eqb (c .head .«data_len») 0) c _ (f (c .head)) refl (handled-holds p _ ∙ pushed-holds _ c)
@@ -95,7 +95,7 @@ unfolding act
 clock-moves p x m c h = sounded-clock p x m c ∙ next-one (c .head .now) h
 
 clock-up : (e : Event) (c : Channel) → isReset e ≡ false → c .head .now ≤ act e c .head .now
-unfolding act isSample
+unfolding act isSample gatheredIn
 clock-up idle c r = le-refl (c .head .now)
 clock-up (changes d) c r = le-of-eq (sym (clock-still (changes d) c r refl))
 clock-up (gathers m) c r = le-refl (c .head .now)

@@ -19,6 +19,8 @@ use Rattle.channel.specs.Channels.{
   live,
   findOf,
   spedOf,
+  headChangedIn,
+  gatheredIn,
   resetOf,
   Turning,
   keptOf,
@@ -80,7 +82,7 @@ left-came s vs k u h =
 
 pub covered : (e : Event) (c : Channel) → Housed c → (k : ℕ) (u : Voice) → voiceAt (act e c) k ≡ some u
     → Came e c k ⊎ ((k ≡ length (live c)) × (addedBy e c ≡ u ∷ []))
-unfolding act follow isReset addedBy resetOf
+unfolding act follow isReset addedBy headChangedIn gatheredIn resetOf
 covered idle c h k u s = inl (record { place = k; voice = u; stood = s; follows = refl })
 covered (changes (change.Start p position note velocity)) c h k u s =
     go (eqb (c .head .«data_len») 0 || not (ltb (c .count) 32)) (subst (λ (l : List Voice). getElem? l k ≡ some u) (live-started p position note velocity c h) s)

@@ -22,6 +22,8 @@ use Rattle.channel.specs.Channels.{
   findOf,
   stopPlayingOf,
   spedOf,
+  headChangedIn,
+  gatheredIn,
   Turning,
   keptOf,
 }
@@ -82,7 +84,7 @@ left-look s vs n k v h f = go (s .leaves (s .turn v)) refl f
 -- ---- every event
 pub tracks : (e : Event) (c : Channel) → Housed c → (n k : ℕ) (v : Voice) → voiceAt c n ≡ some v → follow e c n ≡ at k
     → voiceAt (act e c) k ≡ some (becomes e c n v)
-unfolding act follow isReset becomes
+unfolding act follow isReset becomes headChangedIn gatheredIn
 tracks idle c h n k v s f = rw (← at-same n k f) s
 tracks (changes (change.Start p position note velocity)) c h n k v s f = rw (← at-same n k f) (look-started p position note velocity c h n v s)
 tracks (changes (change.Stop p note)) c h n k v s f = rw (← at-same n k f) (look-stopped p note c h n v s)

@@ -23,9 +23,9 @@ use Rattle.walks.proofs.Lists.Each.{each-weaker}
 use Rattle.phrases.specs.declared.Phrase.{Phrase}
 use Rattle.phrases.specs.declared.Beside.{Beside}
 use Rattle.phrases.specs.Phrases.{noPhrase, noSamples, endsBy, reachOf, storedIn, goodPhrases, besideWith, besideOf}
-use Rattle.phrases.specs.Gathering.{Gathering, gatheringOf}
+use Rattle.phrases.specs.Gathering.{Gathering, gatheringOf, samplesOf, samplesIf, samplesBefore}
 use Rattle.phrases.proofs.Rooms.{inside-ends}
-use Rattle.phrases.proofs.Gathered.Places.{samplesOf, samplesIf, samplesBefore, gatheredPhrase, storedAll, Rising}
+use Rattle.phrases.proofs.Gathered.Places.{gatheredPhrase, storedAll, Rising}
 use Rattle.phrases.proofs.Gathered.Sums.{same-or, sum-same}
 use Rattle.phrases.proofs.Gathered.Firsts.{holds-some, some-holds, holds-none, Apart, Good, good, good-is}
 use Rattle.phrases.proofs.Gathered.Turns.{Turned, Settled, all-turned, if-before, if-behind, if-most, some-or, before-it, downTo, down-before, down-empty, gathered-empty, gathered-some, gathered-length}

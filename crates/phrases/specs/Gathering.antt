@@ -58,3 +58,20 @@ gatherTurns (suc n) g = gatherTurns n (gatherNext g)
 -- all of them, in the order of their places
 unfoldable pub gatheringOf : List Phrase → List ℕ → Gathering
 gatheringOf ps m = gatherTurns 8 (record { phrases = ps; memory = m; from = 0; to = 0 })
+
+-- ---- how many samples there are, by which gathered phrases stand: each behind those that began before it
+unfoldable pub sumBelow : ℕ → (ℕ → ℕ) → ℕ
+sumBelow zero f = 0
+sumBelow (suc n) f = sumBelow n f + f n
+
+-- how many the eight have
+unfoldable pub samplesOf : List Phrase → ℕ
+samplesOf ps = sumBelow 8 (λ (i : ℕ). getD ps i noPhrase .length)
+
+-- those of one, if it begins before that place
+unfoldable pub samplesIf : ℕ → Phrase → ℕ
+samplesIf place p = cond (ltb (p .start) place) (p .length) 0
+
+-- how many those have that begin before that place
+unfoldable pub samplesBefore : ℕ → List Phrase → ℕ
+samplesBefore place ps = sumBelow 8 (λ (i : ℕ). samplesIf place (getD ps i noPhrase))

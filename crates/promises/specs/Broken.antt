@@ -6,7 +6,9 @@ use mathlib.Core.Bool.{true}
 use mathlib.Core.Logic.{_⊎_, _≢_, _↔_}
 use mathlib.Core.Option.{some}
 use Prim.Native.Nat.{ℕ, _+_, _*_, _^_, _≤_, _<_}
+use lib.ListN.{length}
 use lib.Ieee.{Float, le}
+use Rattle.walks.specs.Each.{Each}
 use Rattle.binary32.specs.Leaves.{asFloat}
 use Rattle.volume.specs.declared.Volume.the-variants.{Linear}
 use Rattle.recorder.specs.declared.State.the-variants.{Triggered}
@@ -16,7 +18,7 @@ use Rattle.phrases.specs.declared.Phrase.{Phrase}
 use Rattle.channel.specs.declared.Channel.{Channel}
 use Rattle.channel.specs.Channels.{phraseAt}
 use Rattle.sampler.specs.declared.Sampler.{Sampler}
-use Rattle.sampler.specs.Refusals.{channelAt, goodSampler, goodWith, capacityOf, setUpNumber}
+use Rattle.sampler.specs.Refusals.{present, channelAt, goodSampler, goodWith, capacityOf, setUpNumber}
 use Rattle.fates.specs.Places.{voiceAt}
 
 -- a float from a to b, which a NaN is not
@@ -75,11 +77,16 @@ pub record GoodRecord (s : Sampler) : Type 0 where
   pub sizes : GoodSizes (s .count) (s .capacity)
   pub channels : (j : ℕ) → j < s .count → GoodChannel (s .capacity) (channelAt s j)
 
+-- each table of phrases has eight entries, as in every record of a program
+abbrev pub Tabled : Sampler → Type 0
+Tabled s = Each (λ (c : Channel). length (c .table) ≡ 8) (present s)
+
 pub record RowNine : Type 0 where
   -- "a broken record"
-  pub broken : (s : Sampler) → (goodSampler s ≡ true) ↔ GoodRecord s
+  pub broken : (s : Sampler) → Tabled s → (goodSampler s ≡ true) ↔ GoodRecord s
   -- "sample memory shorter than channel count times capacity"
-  pub memory : (s : Sampler) (size : ℕ) → (goodWith s size ≡ true) ↔ (GoodRecord s × (s .count * s .capacity ≤ size))
+  pub memory : (s : Sampler) (size : ℕ) → Tabled s
+      → (goodWith s size ≡ true) ↔ (GoodRecord s × (s .count * s .capacity ≤ size))
   -- "set-up with another channel count or capacity 0"
   pub set-up : (count size : ℕ)
       → (setUpNumber count size ≡ 0) ↔ (((count ≡ 1) ⊎ (count ≡ 2)) × (capacityOf count size ≢ 0))

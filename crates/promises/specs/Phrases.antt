@@ -2,11 +2,11 @@
 -- recording being that of the voice's phrase", stands in demand 3 itself (`heldAt`, `emptyAt` of a voice), and which
 -- records the phrases break in `Broken.antt`. Definitions only. Assumes nothing.
 use mathlib.Core.Path.{_≡_}
-use mathlib.Core.Bool.{Bool, false, not, _&&_, _||_, cond}
+use mathlib.Core.Bool.{Bool, false, not, _&&_, _||_}
 use mathlib.Core.Logic.{_⊎_, _≢_}
 use mathlib.Core.List.{List, [], _∷_}
 use Prim.Native.Nat.{ℕ, _+_, _≤_, _<_}
-use lib.Dec.{leb, ltb, eqb}
+use lib.Dec.{leb, eqb}
 use lib.ListN.{length, take, drop}
 use lib.Ieee.{Float}
 use Rattle.walks.specs.Walks.{any}
@@ -15,6 +15,7 @@ use Rattle.common_types.specs.declared.Params.{Params}
 use Rattle.binary32.specs.Leaves.{bitsOf}
 use Rattle.phrases.specs.declared.Phrase.{Phrase}
 use Rattle.phrases.specs.Phrases.{storedIn}
+use Rattle.phrases.specs.Gathering.{samplesOf, samplesBefore}
 use Rattle.recorder.specs.Recording.{recordedOf, dataAfter}
 use Rattle.voice.specs.declared.Voice.{Voice}
 use Rattle.channel.specs.declared.Channel.{Channel}
@@ -24,6 +25,7 @@ use Rattle.channel.specs.Heads.{withRecorded, holdsOf, momentOf}
 use Rattle.channel.specs.Channels.{withHead, live, phraseAt, momentFor, besideIn, usesOf, takenOf, memoryOf}
 use Rattle.sampler.specs.declared.Answer.{Answer}
 use Rattle.sampler.specs.Refusals.{row, present, goodSampler, goodWith, records, anyRecording}
+use Rattle.sampler.specs.Soundness.{FittingSampler}
 use Rattle.fates.specs.Events.{Event, changes, sounds, act}
 use Rattle.promises.specs.Runs.{World, Call, startRecording, choosePhrase, deletePhrase, readWave, gather, code, chan, ownPart, event}
 use Rattle.promises.specs.Outcomes.{on, Outcome, ReadOutcome, GatherOutcome, Allows, leftBy}
@@ -68,18 +70,10 @@ pub record Deleted (w u : World) (j k : ℕ) : Type 0 where
   pub write-place : records (chan w j) ≡ false → writePlaceOf (chan u j .head) ≡ phrase u j (chosen u j) .length
   pub else-kept : OnlyPhrases (chan w j) (chan u j)
 
--- how many samples the phrases have that begin before a place, and all of them
+-- all of them
 abbrev pub phrasesIn : World → ℕ → List Phrase
 phrasesIn w j = phrase w j 0 ∷ phrase w j 1 ∷ phrase w j 2 ∷ phrase w j 3 ∷ phrase w j 4 ∷ phrase w j 5
     ∷ phrase w j 6 ∷ phrase w j 7 ∷ []
-
-unfoldable pub samplesBefore : ℕ → List Phrase → ℕ
-samplesBefore place [] = 0
-samplesBefore place (p ∷ ps) = cond (ltb (p .start) place) (p .length) 0 + samplesBefore place ps
-
-unfoldable pub samplesOfAll : List Phrase → ℕ
-samplesOfAll [] = 0
-samplesOfAll (p ∷ ps) = p .length + samplesOfAll ps
 
 -- "A gather call moves phrases down, in order, each sample keeping its bits, so that all free room is one stretch behind
 -- them": each begins where those end that began before it, so they stand without gaps from the part's beginning on; what
@@ -90,7 +84,7 @@ pub record Gathered (w u : World) (j : ℕ) : Type 0 where
   pub down : (k : ℕ) → k < 8 → phrase w j k .length ≢ 0
       → phrase u j k .start ≡ samplesBefore (phrase w j k .start) (phrasesIn w j)
   pub empty : (k : ℕ) → k < 8 → phrase w j k .length ≡ 0 → phrase u j k ≡ phrase w j k
-  pub free : drop (samplesOfAll (phrasesIn w j)) (ownPart u j) ≡ drop (samplesOfAll (phrasesIn w j)) (ownPart w j)
+  pub free : drop (samplesOf (phrasesIn w j)) (ownPart u j) ≡ drop (samplesOf (phrasesIn w j)) (ownPart w j)
   pub number : chosen u j ≡ chosen w j
   pub else-kept : OnlyPhrases (chan w j) (chan u j)
 
@@ -115,7 +109,8 @@ recordsOther k c = records c && not (eqb k (c .head .chosen))
 abbrev pub inUse : ℕ → Channel → Bool
 inUse k c = usesOf k c || (records c && eqb k (c .head .chosen))
 
--- ---- of every record and memory
+-- ---- of every record and memory; what a call leaves, of a record that has two channels and tables of eight entries, as
+-- every one of a program has (`FittingSampler`)
 pub record Phrases (w : World) : Type 0 where
   -- "19 for a phrase number of eight or more, 20 for a delete of a phrase in use or being recorded, 21 for a gather or a
   -- new choice of phrase while recording; 19 precedes the others, 9 precedes all."
@@ -128,23 +123,24 @@ pub record Phrases (w : World) : Type 0 where
       ≡ row (not (goodWith (w .sampler) (length (w .memory)))) 9 (row (anyRecording (w .sampler)) 21 0)
   -- "Choice, delete and gather act on all channels or none."
   pub choice : (k : ℕ) (r : Answer) → Allows (on w (choosePhrase k)) r → code w (choosePhrase k) ≡ 0
-      → (j : ℕ) → j < w .sampler .count → Chosen w (leftBy w (choosePhrase k) r) j k
+      → FittingSampler (w .sampler) → (j : ℕ) → j < w .sampler .count → Chosen w (leftBy w (choosePhrase k) r) j k
   pub delete : (k : ℕ) (r : Answer) → Allows (on w (deletePhrase k)) r → code w (deletePhrase k) ≡ 0
-      → (j : ℕ) → j < w .sampler .count → Deleted w (leftBy w (deletePhrase k) r) j k
+      → FittingSampler (w .sampler) → (j : ℕ) → j < w .sampler .count → Deleted w (leftBy w (deletePhrase k) r) j k
   pub gathering : (r : GatherOutcome) → Allows (on w gather) r → code w gather ≡ 0
-      → (j : ℕ) → j < w .sampler .count → Gathered w (leftBy w gather r) j
+      → FittingSampler (w .sampler) → (j : ℕ) → j < w .sampler .count → Gathered w (leftBy w gather r) j
   -- No sample and no read of one phrase changes another's recording.
-  pub sample-apart : (c : Call) (r : Outcome (on w c)) → Allows (on w c) r
+  pub sample-apart : (c : Call) (r : Outcome (on w c)) → Allows (on w c) r → FittingSampler (w .sampler)
       → (j : ℕ) → j < w .sampler .count → (p : Params) (x : Float) (m : List ℕ) → event w c j ≡ sounds p x m
       → OthersKept w (leftBy w c r) j
   pub read-apart : (f : List ℕ) (r : ReadOutcome) → Allows (on w (readWave f)) r → code w (readWave f) ≡ 0
-      → (j : ℕ) → j < w .sampler .count → OthersKept w (leftBy w (readWave f) r) j
+      → FittingSampler (w .sampler) → (j : ℕ) → j < w .sampler .count → OthersKept w (leftBy w (readWave f) r) j
   pub begins : (r : Answer) → Allows (on w startRecording) r → code w startRecording ≡ 0
-      → (j : ℕ) → j < w .sampler .count → phrase w j (chosen w j) .length ≡ 0 → records (chan w j) ≡ false
+      → FittingSampler (w .sampler) → (j : ℕ) → j < w .sampler .count
+      → phrase w j (chosen w j) .length ≡ 0 → records (chan w j) ≡ false
       → Behind w j (phrase (leftBy w startRecording r) j (chosen w j) .start)
   -- "Recording over a phrase that isn't last may replace samples but not lengthen it": where another reaches further than
   -- its start
-  pub not-lengthened : (c : Call) (r : Outcome (on w c)) → Allows (on w c) r
+  pub not-lengthened : (c : Call) (r : Outcome (on w c)) → Allows (on w c) r → FittingSampler (w .sampler)
       → (j : ℕ) → j < w .sampler .count → (p : Params) (x : Float) (m : List ℕ) → event w c j ≡ sounds p x m
       → (k : ℕ) → k < 8 → k ≢ chosen w j → phrase w j k .length ≢ 0
       → phrase w j (chosen w j) .start < endOf (phrase w j k)

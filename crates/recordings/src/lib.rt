@@ -59,9 +59,9 @@ fn beginnings(s: Sampler) -> Starts
     requires { ⌜ goodSampler s ≡ true ⌝ }
     ensures { λ r. ⌜ r ≡ beginningsIn s ⌝ }
 {
-    let c = s.channels[0];
+    let one = s.channels[0];
     Starts {
-        first: c.begins(),
+        first: one.begins(),
         second: second_begins(s),
     }
 }

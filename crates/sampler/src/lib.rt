@@ -130,8 +130,8 @@ pub struct RunAnswer {
     pub ran: Ran,
 }
 
-// What the rows of a change ask of a record: whether it is good, whether a channel takes no further voice, whether one
-// records, and how many samples a channel holds. Each engine answers in its own way, and the rows stand once.
+// What the rows of a change ask of a record: whether it is good, and what its channels have against the change. Each
+// engine answers in its own way, and the rows stand once.
 pub struct Asked {
     pub good: bool,
     pub against: Against,

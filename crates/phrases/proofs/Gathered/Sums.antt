@@ -6,7 +6,7 @@ use mathlib.Core.Bool.{Bool, true, false}
 use mathlib.Core.Logic.{_⊎_, inl, inr, _≢_}
 use lib.Dec.{eqb}
 use borrow.Author.Tests.{eqb-true, eqb-false}
-use Rattle.phrases.proofs.Gathered.Places.{sumBelow}
+use Rattle.phrases.specs.Gathering.{sumBelow}
 
 -- a number is another or not
 pub same-or : (i k : ℕ) → (i ≡ k) ⊎ (i ≢ k)

@@ -18,9 +18,9 @@ use Rattle.walks.proofs.Lists.Each.{each-weaker}
 use Rattle.walks.proofs.Lists.Looks.{look-front, look-last}
 use Rattle.phrases.specs.declared.Phrase.{Phrase}
 use Rattle.phrases.specs.Phrases.{noPhrase, noSamples, storedIn, roomOf}
-use Rattle.phrases.specs.Gathering.{Gathering, movedDown, firstFrom, gatherPhrase, gatherNext, gatherTurns, gatheringOf}
+use Rattle.phrases.specs.Gathering.{Gathering, movedDown, firstFrom, gatherPhrase, gatherNext, gatherTurns, gatheringOf, sumBelow, samplesIf, samplesBefore}
 use Rattle.phrases.proofs.Rooms.{room-from, room-to, ends-inside}
-use Rattle.phrases.proofs.Gathered.Places.{sumBelow, samplesIf, samplesBefore, gatheredPhrase, storedAll, Rising}
+use Rattle.phrases.proofs.Gathered.Places.{gatheredPhrase, storedAll, Rising}
 use Rattle.phrases.proofs.Gathered.Sums.{same-or, sum-same, sum-at, sum-most, sum-larger, sum-one}
 use Rattle.phrases.proofs.Gathered.Firsts.{holds-some, some-holds, Good, Over, First, first}
 use Rattle.phrases.proofs.Gathered.Moved.{drop-further, moved-length, moved-rest, moved-there, moved-below, moved-front, moved-same}
