@@ -9,7 +9,7 @@ use lib.ListN.{length, getD, set}
 use lib.Seq.{set-getD}
 use Rattle.phrases.specs.declared.Phrase.{Phrase}
 use Rattle.phrases.specs.Phrases.{noPhrase, endsBy, apartOf, othersOf, goodPhrases}
-use Rattle.phrases.proofs.Rooms.{ends-inside, inside-ends}
+use Rattle.phrases.proofs.Rooms.{inside-ends}
 use Rattle.phrases.proofs.Table.{others-length, others-chosen}
 use Rattle.phrases.proofs.Apart.{good-within, good-apart, good-set, good-set-empty, good-shorter}
 use Rattle.phrases.proofs.Reaches.{behind-within, behind-apart, next-within, next-most, next-apart}

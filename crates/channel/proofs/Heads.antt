@@ -1,11 +1,11 @@
 -- A sound head stays sound through a recording, a change of pass-through and the end of a sample, and a new one is sound. Assumes nothing.
 use mathlib.Core.Path.{_≡_, refl, ap}
-use Prim.Native.Nat.{ℕ, _+_, _-_, _^_, _≤_, _<_, zero-le}
+use Prim.Native.Nat.{ℕ, _+_, _-_, _^_, _≤_, _<_, zero-le, min}
 use native.Mathlib.Nat.{min-eq-left}
 use native.Mathlib.Omega.{arith}
 use mathlib.Core.Bool.{Bool, true, false, _&&_, Bool·beq, cond}
 use mathlib.Core.List.{List}
-use lib.Dec.{T, leb, ltb, eqb, leb→le, le→leb, ltb→lt, lt→ltb}
+use lib.Dec.{T, leb, ltb, leb→le, le→leb, ltb→lt, lt→ltb}
 use lib.Ieee.{Float, fits}
 use lib.Ieee.Bits.{is-true}
 use lib.Ieee.Fits.{and-i, and-l, and-r}
@@ -18,7 +18,7 @@ use Rattle.binary32.specs.Leaves.{zero32, one32}
 use Rattle.recorder.specs.declared.Recorded.{Recorded}
 use Rattle.recorder.specs.Recording.{recordedOf, goodRecorder, goodRecorded}
 use Rattle.phrases.specs.declared.Phrase.{Phrase}
-use Rattle.phrases.specs.Phrases.{endsBy}
+use Rattle.phrases.specs.Phrases.{endsBy, roomOf}
 use Rattle.phrases.proofs.Rooms.{ends-inside, inside-ends, room-from, room-to}
 use Rattle.recorder.proofs.Good.{new-good, good-length, good-within, sample-good}
 use Rattle.voice.specs.Soundness.{Fits, SoundParams, FittingVolume, SoundVolume}
@@ -138,7 +138,15 @@ module _ (capacity : ℕ) (h : Head) (s : SoundHead capacity h) where
         let own : endsBy capacity (recordingIn h) ≡ true = inside-ends (recordingIn h) capacity (s .inside) in
         rw (lt-leb behind (h .start) high) (rw (room-from (recordingIn h) capacity own, room-to (recordingIn h) capacity own) (omega arith))
 
-    handed-cases : {R : Type 0} → (behind ≤ h .start → handed ≡ left → R) → (h .start < behind → handed ≡ h .«data_len» → R) → R
+    pub written-from : writtenIn behind h capacity .from ≡ h .start
+    unfolding writtenIn
+    written-from = go (leb behind (h .start))
+      where
+        go : (b : Bool) → cond b (record { from = min (h .start) capacity; to = capacity }) (roomOf (recordingIn h) capacity) .from ≡ h .start
+        go true = min-eq-left (omega (arith, s .inside))
+        go false = room-from (recordingIn h) capacity (inside-ends (recordingIn h) capacity (s .inside))
+
+    pub handed-cases : {R : Type 0} → (behind ≤ h .start → handed ≡ left → R) → (h .start < behind → handed ≡ h .«data_len» → R) → R
     handed-cases {R} last between = go (leb behind (h .start)) refl
       where
         go : (b : Bool) → leb behind (h .start) ≡ b → R

@@ -1,7 +1,7 @@
 -- A sound channel stays sound through every change, and what set-up and reset make is sound. Assumes nothing.
 use mathlib.Core.Path.{_≡_, refl, sym, _∙_, subst}
 use Prim.Native.Nat.{ℕ, _+_, _^_, _≤_, zero-le}
-use native.Mathlib.Nat.{le-refl, le-trans, le-of-eq}
+use native.Mathlib.Nat.{le-trans, le-of-eq}
 use native.Mathlib.Omega.{arith}
 use mathlib.Core.Bool.{Bool, true, false}
 use mathlib.Core.List.{List, map}
@@ -26,15 +26,15 @@ use Rattle.voice.specs.Soundness.{Fits, SoundParams, SoundPosition, SoundVoice}
 use Rattle.voice.proofs.Kept.{finish-sound, at-speed-sound, fresh-sound}
 use Rattle.channel.specs.Heads.{momentOf, passthruOf}
 use Rattle.channel.specs.Tables.{goodTable}
-use Rattle.channel.specs.Channels.{withHead, withVoices, live, channelOf, resetOf, anyUnfinishedOf, handledOf, pushedOf, startPlayingOf, sameNote, findOf, finishedAtOf, stopPlayingOf, spedOf, setNoteSpeedOf, headChangedIn, changedOf}
-use Rattle.channel.specs.Soundness.{SoundChannel, SoundHeadChange, SoundChange}
+use Rattle.channel.specs.Channels.{withVoices, live, channelOf, resetOf, anyUnfinishedOf, handledOf, pushedOf, startPlayingOf, sameNote, findOf, finishedAtOf, stopPlayingOf, spedOf, setNoteSpeedOf, changedOf}
+use Rattle.channel.specs.Soundness.{SoundChannel, SoundChange}
 use Rattle.channel.specs.declared.Channel.{Channel}
 use Rattle.channel.specs.declared.Change.{Change}
 use Rattle.channel.specs.declared.Change.the-variants as change
-use Rattle.channel.specs.declared.HeadChange.{HeadChange}
 use Rattle.channel.specs.declared.Found.{Found}
 use Rattle.channel.specs.declared.Found.the-variants.{At, Nothing}
 use Rattle.channel.proofs.Heads.{new-sound, passthru-now, passthru-table, passthru-sound}
+use Rattle.channel.proofs.Changes.{head-change-sound}
 use Rattle.channel.proofs.Parts.{parts, joined, head-changed, voices-changed, data-within, room, voice-at, some}
 
 -- ---- what set-up and reset make
@@ -112,13 +112,10 @@ module _ (capacity : ℕ) (c : Channel) (s : SoundChannel capacity c) where
       (pushed-sound v (fresh-sound p (momentOf (c .head)) ok (some n e) (le-trans (data-within capacity c s) small) (parts s .head .time) position note velocity (parts s .head .numbered) at t)) p ok)
 
   -- ---- every change
-  head-change-sound : capacity ≤ 2 ^ 22 → (d : HeadChange) → SoundHeadChange capacity c d → SoundChannel capacity (headChangedIn d c)
-  head-change-sound small d ok = ?
-
   pub change-sound : capacity ≤ 2 ^ 22 → (x : Change) → SoundChange capacity c x → SoundChannel capacity (changedOf x c)
   unfolding changedOf SoundChange stopPlayingOf
   change-sound small (change.Start p position note velocity) ok = started-sound small p (ok .0) position (ok .1) note velocity (ok .2)
   change-sound small (change.Stop p note) ok = finished-sound p ok (findOf note c)
   change-sound small (change.Speed note speed) ok = sped-sound note speed ok
-  change-sound small (change.Head d) ok = head-change-sound small d ok
+  change-sound small (change.Head d) ok = head-change-sound capacity c s small d ok
   change-sound small change.Reset ok = reset-sound capacity c (parts s .places) (parts s .entries)

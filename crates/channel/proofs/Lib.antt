@@ -8,6 +8,9 @@ pub mod Choices
 pub mod Parts
 pub mod Anew
 pub mod Changes
+pub mod Gathers
+pub mod Phrases
+pub mod One
 pub mod Kept
 pub mod Samples
 pub mod Entries

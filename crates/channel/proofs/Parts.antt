@@ -1,12 +1,12 @@
 -- A sound channel by its parts, and with another head, recording or voices. Assumes nothing.
 use mathlib.Core.Path.{_≡_, refl, sym, _∙_, subst}
-use Prim.Native.Nat.{ℕ, zero, suc, _-_, _≤_, _<_, zero-le}
-use native.Mathlib.Nat.{ le-trans, le-of-eq}
+use Prim.Native.Nat.{ℕ, zero, suc, _≤_, _<_, zero-le}
+use native.Mathlib.Nat.{le-trans, le-of-eq}
 use native.Mathlib.Omega.{arith}
 use mathlib.Core.Bool.{Bool, true, false, not, _&&_}
 use mathlib.Core.List.{List}
 use lib.Dec.{T, leb, ltb, eqb, leb→le, le→leb}
-use lib.ListN.{length, take, getD, set}
+use lib.ListN.{length, take, getD}
 use lib.Seq.{getD-take, length-take-le}
 use borrow.Author.Tests.{ltb-true, ltb-false}
 use lib.Ieee.Bits.{is-true}
@@ -19,20 +19,18 @@ use Rattle.phrases.specs.declared.Phrase.{Phrase}
 use Rattle.phrases.specs.Phrases.{noPhrase, endsBy, goodPhrases}
 use Rattle.phrases.proofs.Rooms.{ends-inside, inside-ends}
 use Rattle.phrases.proofs.Apart.{good-within}
-use Rattle.recorder.specs.declared.Recorded.{Recorded}
-use Rattle.recorder.specs.Recording.{goodRecorded}
 use Rattle.recorder.proofs.Good.{good-length}
 use Rattle.voice.specs.declared.Voice.{Voice}
 use Rattle.voice.specs.Voices.{goodVoice}
 use Rattle.voice.specs.Soundness.{FittingVoice, SoundVoice}
 use Rattle.voice.proofs.Kept.{voice-later}
-use Rattle.channel.specs.Heads.{recordingIn, withRecorded, goodHead}
+use Rattle.channel.specs.Heads.{recordingIn, goodHead}
 use Rattle.channel.specs.Tables.{placeOf, goodTable}
 use Rattle.channel.specs.Channels.{withHead, withVoices, live, phrasesIn, phraseAt, goodVoicesOf, goodChannel}
 use Rattle.channel.specs.Soundness.{SoundChannel}
 use Rattle.channel.specs.declared.Head.{Head}
 use Rattle.channel.specs.declared.Channel.{Channel}
-use Rattle.channel.proofs.Heads.{SoundHead, head-parts, head-good, recorded-sound}
+use Rattle.channel.proofs.Heads.{SoundHead, head-parts, head-good}
 use Rattle.channel.proofs.Tables.{all-good, all-length, phrase-all, phrase-past}
 
 -- ---- a sound channel by its parts

@@ -53,7 +53,7 @@ module _ (behind : ℕ) (h : Head) (m : List ℕ) where
   pub written-length : (k : List ℕ) → length k ≡ length part → length (take from m ++ (k ++ drop to m)) ≡ length m
   written-length k e = simp (length-append, length-take, length-drop, e) (omega (arith, written-inside behind h (length m) .0, written-inside behind h (length m) .1))
 
-  part-length : length part ≡ to - from
+  pub part-length : length part ≡ to - from
   part-length = length-take-le (to - from) (drop from m) (omega (arith, written-inside behind h (length m) .0, written-inside behind h (length m) .1, length-drop from m))
 
 -- ---- what a sample leaves, as it is recorded there

@@ -20,8 +20,7 @@ use Rattle.phrases.specs.declared.Phrase.{Phrase}
 use Rattle.phrases.specs.Phrases.{storedIn, goodPhrases}
 use Rattle.phrases.proofs.Rooms.{inside-ends}
 use Rattle.clip.specs.Positions.{indexAt}
-use Rattle.recorder.specs.Recording.{recordedOf, dataAfter, goodRecorded}
-use Rattle.recorder.proofs.Good.{sample-good}
+use Rattle.recorder.specs.Recording.{dataAfter}
 use Rattle.recorder.proofs.Memory.{memory-length}
 use Rattle.voice.specs.declared.Voice.{Voice}
 use Rattle.voice.specs.Voices.{tickOf, movedOf}
