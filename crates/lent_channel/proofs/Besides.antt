@@ -1,10 +1,10 @@
 -- What the loops over a channel's table work out, entry by entry: `goodAt` and `goodTable`, and `besideOf` those that aren't chosen. Assumes nothing.
 use mathlib.Core.Path.{_≡_, refl, sym, _∙_, ap, subst}
-use Prim.Native.Nat.{ℕ, zero, suc, _+_, _<_, max}
+use Prim.Native.Nat.{ℕ, zero, suc, _+_, _<_}
 use native.Mathlib.Nat.{not-suc-le-zero, le-of-suc-le-suc, le-of-eq, max-zero}
+use mathlib.Core.Option.{some}
 use mathlib.Core.Bool.{Bool, true, false, _&&_, cond}
 use mathlib.Core.List.{List, [], _∷_}
-use lib.Dec.{eqb}
 use lib.ListN.{length, getD, take, set, length-set}
 use lib.Seq.{take-all}
 use mir.Syntax.{w64}
@@ -24,6 +24,8 @@ use Rattle.channel.specs.declared.Channel.{Channel}
 use Rattle.channel.specs.Heads.{recordingIn}
 use Rattle.channel.specs.Tables.{withRecording, goodTable}
 use Rattle.lent_channel.specs.Turns.{lookedAt, besideNext}
+use Rattle.lent_channel.proofs.Holding.{channel}
+use Rattle.lent_channel.proofs.Views.{Viewer}
 
 -- how many entries are looked at
 abbrev pub entries : Bool → ℕ
@@ -37,11 +39,13 @@ few false k lt = absurd (not-suc-le-zero lt)
 abbrev pub counting : Callee
 counting = record { takes = truth ∷ []; gives = word w64; says = λ a. entries (a .0) }
 
-abbrev pub Within : ℕ → ℕ → Type 0
-Within k capacity = k < 8
-
-abbrev pub goodAs : ℕ → ℕ → Channel → Bool
-goodAs k capacity c = goodAt capacity (withRecording (c .head) (c .table)) k
+abbrev pub judging : Viewer channel
+judging = record {
+  takes = word w64 ∷ word w64 ∷ [];
+  gives = truth;
+  asks = λ κs a. some (a .0 < 8);
+  says = λ κs a c. goodAt (a .1 .0) (withRecording (c .head) (c .table)) (a .0);
+}
 
 abbrev pub goodTableIn : ℕ → Channel → Bool
 goodTableIn capacity c = goodTable capacity (c .head) (c .several) (c .table)

@@ -2,9 +2,9 @@ pub mod Bytes
 pub mod Places
 pub mod Holding
 pub mod Sharing
+pub mod Views
 pub mod Viewing
 pub mod Showing
-pub mod Weighing
 pub mod Besides
 pub mod Saying
 pub mod Branches

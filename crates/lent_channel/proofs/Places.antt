@@ -71,7 +71,7 @@ entries-are h g = sym (length-map (h .table) _) ∙ LL.owed C.the-type C′.the-
 
 -- a channel with another head
 pub with-head : (h : Channel) (t : Head) → Is C.the-row h (cv h ∷ []) → Is E.the-row t (ev t ∷ []) → Is C.the-row (withHead t h) (cv (withHead t h) ∷ [])
-with-head h t g is = LL.owes C.the-type C′.the-laws (withHead t h) 
+with-head h t g is = LL.owes C.the-type C′.the-laws (withHead t h)
     (LL.owed C.the-type C′.the-laws h _ g .0, (LL.owed C.the-type C′.the-laws h _ g .1 .0, (LL.owed C.the-type C′.the-laws h _ g .1 .1 .0, (is, LL.owed C.the-type C′.the-laws h _ g .1 .1 .1 .1))))
 
 module _ {M : Type 1} (𝓤 : URA M) (H : Heap 𝓤) (A : Atoms 𝓤) (W : Given 𝓤 H A) (q : Share) (h : Channel) where

@@ -21,7 +21,6 @@ use denote.Triple.Spec.{tripleOf}
 use denote.Triple.Statement.{Triple}
 use denote.Triple.Table.{entered, cited}
 use borrow.Table.OneValue.{part-in}
-use Rattle.channel.specs.declared.Ask.{Ask}
 use Rattle.channel.specs.declared.Channel.{Channel}
 use Rattle.channel.specs.declared.Against.{Against}
 use Rattle.channel.specs.Tables.{leavingOf, againstBy}
