@@ -6,25 +6,28 @@ use Prim.Native.Nat.{ℕ}
 use native.Mathlib.Omega.{arith}
 use lib.Dec.{lit<}
 use lib.IntN.{negsuc}
-use lib.Ieee.{Float, fin}
+use lib.Ieee.{Float, fin, fits}
 use lib.ListN.{length, getD, replicate}
+use Rattle.walks.specs.Each.{Each}
 use Rattle.phrases.specs.declared.Phrase.{Phrase}
 use Rattle.binary32.specs.Leaves.{zero32, one32}
 use Rattle.common_types.specs.declared.LoopMode.the-variants as loop
 use Rattle.common_types.specs.declared.NoteOffBehaviour.the-variants as off
 use Rattle.voice.specs.declared.Voice.{Voice}
 use Rattle.voice.specs.Voices.{blankVoice}
-use Rattle.channel.specs.declared.Head.{Head}
+use Rattle.channel.specs.Soundness.{FittingChange}
 use Rattle.channel.specs.Channels.{live}
+use Rattle.sampler.specs.Soundness.{FittingSampler}
 use Rattle.fates.specs.Sounding.{termOf}
 use Rattle.recordings.proofs.Examples.{computing as filing, mono}
-use Rattle.promises.specs.Runs.{World, Call, stop, startRecording, stopRecording, choosePhrase, deletePhrase, reset, sample, readWave, gather, setUp, run, after, code, chan, ownPart, output}
+use Rattle.promises.specs.Runs.{World, Call, stop, startRecording, stopRecording, choosePhrase, deletePhrase, reset, sample, readWave, gather, setUp, run, after, code, chan, ownPart, output, FittingCall}
 use Rattle.promises.specs.Outcomes.{on, leftBy}
 use Rattle.promises.specs.Recordings.{writePlaceOf}
 use Rattle.promises.specs.Phrases.{phrase, samplesIn, phrasesIn, Chosen, Deleted, Gathered, OthersKept, Behind}
 use Rattle.promises.proofs.Outcomes.{settled}
+use Rattle.promises.proofs.Whole.{whole}
 use Rattle.promises.proofs.Demands.{demands}
-use Rattle.promises.proofs.Examples.{computing, half, two, plain, with, key, press, init}
+use Rattle.promises.proofs.Examples.{computing, half, two, plain, with, key, press, init, fitting-joined}
 
 abbrev quarter : Float
 quarter = fin false 1 (negsuc 1)
@@ -250,31 +253,39 @@ reset-met = (refl, refl)
 abbrev leaves : World → Call → World
 leaves w c = leftBy w c (settled (on w c) .outcome)
 
-pub choice-met : Chosen (laid []) (leaves (laid []) (choosePhrase 5)) 0 5
+fitting-laying : Each FittingCall laying
+unfolding Each FittingCall FittingChange fits
+fitting-laying = (tt, (tt, (tt, (tt, (tt, (tt, (tt, (tt, (tt, (tt, (tt, (tt, (tt, tt)))))))))))))
+
+fitting : (cs : List Call) → Each FittingCall cs → FittingSampler (laid cs .sampler)
 unfolding computing
-choice-met = let r = settled (on (laid []) (choosePhrase 5)) in demands .phrases (laid []) .choice 5 (r .outcome) (r .allowed) refl 0 (lit< tt)
+fitting cs f = whole 1 init (replicate 8 0) refl (laying ++ cs) (fitting-joined laying cs fitting-laying f) .fitting
+
+pub choice-met : Chosen (laid []) (leaves (laid []) (choosePhrase 5)) 0 5
+unfolding computing Each FittingCall FittingChange fits
+choice-met = let r = settled (on (laid []) (choosePhrase 5)) in demands .phrases (laid []) .choice 5 (r .outcome) (r .allowed) refl (fitting [] tt) 0 (lit< tt)
 
 pub delete-met : Deleted (laid []) (leaves (laid []) (deletePhrase 5)) 0 5
-unfolding computing
-delete-met = let r = settled (on (laid []) (deletePhrase 5)) in demands .phrases (laid []) .delete 5 (r .outcome) (r .allowed) refl 0 (lit< tt)
+unfolding computing Each FittingCall FittingChange fits
+delete-met = let r = settled (on (laid []) (deletePhrase 5)) in demands .phrases (laid []) .delete 5 (r .outcome) (r .allowed) refl (fitting [] tt) 0 (lit< tt)
 
 pub gathering-met : Gathered (laid (deletePhrase 0 ∷ [])) (leaves (laid (deletePhrase 0 ∷ [])) gather) 0
-unfolding computing
-gathering-met = let r = settled (on (laid (deletePhrase 0 ∷ [])) gather) in demands .phrases (laid (deletePhrase 0 ∷ [])) .gathering (r .outcome) (r .allowed) refl 0 (lit< tt)
+unfolding computing Each FittingCall FittingChange fits
+gathering-met = let r = settled (on (laid (deletePhrase 0 ∷ [])) gather) in demands .phrases (laid (deletePhrase 0 ∷ [])) .gathering (r .outcome) (r .allowed) refl (fitting (deletePhrase 0 ∷ []) (tt, tt)) 0 (lit< tt)
 
 pub behind-met : Behind (laid (choosePhrase 7 ∷ [])) 0 (phrase (leaves (laid (choosePhrase 7 ∷ [])) startRecording) 0 7 .start)
-unfolding computing
-behind-met = let r = settled (on (laid (choosePhrase 7 ∷ [])) startRecording) in demands .phrases (laid (choosePhrase 7 ∷ [])) .begins (r .outcome) (r .allowed) refl 0 (lit< tt) refl refl
+unfolding computing Each FittingCall FittingChange fits
+behind-met = let r = settled (on (laid (choosePhrase 7 ∷ [])) startRecording) in demands .phrases (laid (choosePhrase 7 ∷ [])) .begins (r .outcome) (r .allowed) refl (fitting (choosePhrase 7 ∷ []) (tt, tt)) 0 (lit< tt) refl refl
 
 pub apart-met : OthersKept (laid (over0 [])) (leaves (laid (over0 [])) (sample 0 two plain)) 0
-unfolding computing
+unfolding computing Each FittingCall FittingChange fits
 apart-met =
     let r = settled (on (laid (over0 [])) (sample 0 two plain)) in
-    demands .phrases (laid (over0 [])) .sample-apart (sample 0 two plain) (r .outcome) (r .allowed) 0 (lit< tt) plain two (ownPart (laid []) 0) refl
+    demands .phrases (laid (over0 [])) .sample-apart (sample 0 two plain) (r .outcome) (r .allowed) (fitting (over0 []) (tt, (tt, tt))) 0 (lit< tt) plain two (ownPart (laid []) 0) refl
 
 pub not-lengthened-met : phrase (leaves (laid (over0 (two ∷ two ∷ []))) (sample 0 two plain)) 0 0 .length ≡ 2
-unfolding computing
+unfolding computing Each FittingCall FittingChange fits
 not-lengthened-met =
     let w = laid (over0 (two ∷ two ∷ [])) in
     let r = settled (on w (sample 0 two plain)) in
-    demands .phrases w .not-lengthened (sample 0 two plain) (r .outcome) (r .allowed) 0 (lit< tt) plain two (ownPart w 0) refl 3 (lit< tt) (λ e. omega arith) (λ e. omega arith) (lit< tt)
+    demands .phrases w .not-lengthened (sample 0 two plain) (r .outcome) (r .allowed) (fitting (over0 (two ∷ two ∷ [])) (tt, (tt, (tt, (tt, tt))))) 0 (lit< tt) plain two (ownPart w 0) refl 3 (lit< tt) (λ e. omega arith) (λ e. omega arith) (lit< tt)
