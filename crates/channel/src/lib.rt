@@ -87,7 +87,6 @@ ghost use Rattle.channel.specs.Channels.{
   memoryOf,
   processSampleOf,
   changedOf,
-  fullOf,
   goodVoicesOf,
   goodChannel,
 };
@@ -1107,17 +1106,6 @@ impl Channel {
             Change::Head(change) => self.head_changed(change),
             Change::Reset => self.reset(),
         }
-    }
-
-    // Whether the channel takes no further voice: a recording that isn't empty, and 32 voices.
-    pub fn full(self) -> bool
-        ensures { λ r. ⌜ r ≡ fullOf self ⌝ }
-    {
-        let head = self.head;
-        if head.data_len == 0 {
-            return false;
-        }
-        32 <= self.count
     }
 
     fn good_voices(self) -> bool

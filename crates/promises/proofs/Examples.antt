@@ -397,7 +397,7 @@ pub sizes-met : (makes (setUp 2 init (0 ∷ cells)) (map one leaving) .sampler .
 unfolding computing
 sizes-met = (demands .count-stays 2 init (0 ∷ cells) refl (map one leaving), demands .capacity-stays 2 init (0 ∷ cells) refl (map one leaving))
 
-pub fitting-joined : (cs ds : List Call) → Each FittingCall cs → Each FittingCall ds → Each FittingCall (cs ++ ds)
+fitting-joined : (cs ds : List Call) → Each FittingCall cs → Each FittingCall ds → Each FittingCall (cs ++ ds)
 unfolding Each
 fitting-joined [] ds f g = g
 fitting-joined (c ∷ cs) ds f g = (f .0, fitting-joined cs ds (f .1) g)
