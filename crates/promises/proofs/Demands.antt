@@ -66,8 +66,6 @@ use Rattle.promises.specs.Runs.{
   questionNumber,
   Call,
   change,
-  start,
-  stop,
   speed,
   startRecording,
   stopRecording,

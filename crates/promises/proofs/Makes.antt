@@ -9,7 +9,6 @@ use Rattle.walks.specs.Each.{Each}
 use Rattle.common_types.specs.declared.InitParams.{InitParams}
 use Rattle.common_types.specs.declared.Params.{Params}
 use Rattle.voice.specs.Soundness.{FittingParams}
-use Rattle.channel.specs.Soundness.{FittingChange}
 use Rattle.sampler.specs.Refusals.{capacityOf, setUpNumber}
 use Rattle.sampler.specs.Soundness.{SoundSampler}
 use Rattle.sampler.proofs.Kept.{set-up-sound, change-kept, gather-kept, sample-kept, frame-kept}

@@ -15,7 +15,6 @@ use Rattle.common_types.specs.declared.LoopMode.the-variants as loop
 use Rattle.common_types.specs.declared.NoteOffBehaviour.the-variants as off
 use Rattle.voice.specs.declared.Voice.{Voice}
 use Rattle.voice.specs.Voices.{blankVoice}
-use Rattle.channel.specs.declared.Head.{Head}
 use Rattle.channel.specs.Channels.{live}
 use Rattle.channel.specs.Soundness.{FittingChange}
 use Rattle.sampler.specs.Soundness.{FittingSampler}
