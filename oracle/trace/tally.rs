@@ -48,7 +48,7 @@ pub struct Tally {
     pub listings: u64,
     pub calls: u64,
     pub fields: u64,
-    answers: [[u64; 19]; NAMES.len()],
+    answers: [[u64; 22]; NAMES.len()],
     frames_of_many: u64,
     /// The kind of the record before.
     last: u8,
@@ -195,7 +195,7 @@ impl Tally {
     }
 
     pub fn print(&self) {
-        let numbers = [0, 1, 2, 3, 4, 5, 6, 8, 9, 10, 11, 15, 16, 17, 18];
+        let numbers = [0, 1, 2, 3, 4, 5, 6, 8, 9, 10, 11, 15, 16, 17, 18, 19, 20, 21];
         println!("{:<26}{}{:>10}", "answers", numbers.iter().map(|n| format!("{n:>10}")).collect::<String>(), "made");
         for ((name, counts), made) in NAMES.iter().zip(&self.answers).zip(self.times()) {
             let cells = numbers.iter().map(|n| counts[*n]).chain([made]);
