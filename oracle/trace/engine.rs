@@ -501,8 +501,8 @@ impl Engine {
             }
             Shown::Recordings => {
                 text.end();
-                for (p, c) in self.phrases.iter().zip(&self.sampler.channels) {
-                    (0..PHRASES).for_each(|k| text.recording(k, p.samples(c, k)));
+                for (j, (p, c)) in self.phrases.iter().zip(&self.sampler.channels).enumerate() {
+                    (0..PHRASES).for_each(|k| text.recording(k, p.samples(c, k).len(), self.words(j, p.all[k as usize].start)));
                 }
             }
             Shown::Count(n) => text.last(16, n as u64),
@@ -538,6 +538,11 @@ impl Engine {
                 self.show_record(text);
             }
         }
+    }
+
+    /// The memory from a place of a channel's part on.
+    fn words(&self, j: usize, start: usize) -> &[u32] {
+        self.memory.get((j * self.capacity).wrapping_add(start)..).unwrap_or(&[])
     }
 
     /// A number that is made of the memory's words.

@@ -2,9 +2,9 @@
 //! Rust's channel has the chosen one for its data, so that its calls work on it.
 
 use crate::inside;
-use audio_sampler_lib::common_types::{InitParams, Params};
+use audio_sampler_lib::common_types::Params;
 use audio_sampler_lib::sampler::{Channel, Sampler, VoiceInfo};
-use std::mem::{replace, swap, take};
+use std::mem::{swap, take};
 
 pub const PHRASES: u8 = 8;
 
@@ -171,8 +171,7 @@ pub fn infos(s: &Sampler, phrases: &[Phrases], channel: usize, params: &Params) 
     let of = |k: u8| {
         let mut lent = s.clone();
         for (c, p) in lent.channels.iter_mut().zip(phrases) {
-            let samples = p.samples(c, k).to_vec();
-            replace(inside::recording_mut(c), samples);
+            *inside::recording_mut(c) = p.samples(c, k).to_vec();
         }
         lent.get_voice_info(channel, params)
     };

@@ -139,15 +139,15 @@ impl Text {
         }
     }
 
-    /// Every sample of a phrase that has some by its bits, NaNs too.
-    pub fn recording(&mut self, k: u8, samples: &[f32]) {
-        if samples.is_empty() {
+    /// Every sample of a phrase that has some, as it stands in the memory. One of a broken record may reach past its end.
+    pub fn recording(&mut self, k: u8, length: usize, words: &[u32]) {
+        if length == 0 {
             return;
         }
         self.tag(b'M');
         self.put(1, k as u64);
-        for x in samples {
-            self.put(8, x.to_bits() as u64);
+        for word in words.iter().take(length) {
+            self.put(8, *word as u64);
         }
         self.end();
     }
