@@ -121,6 +121,22 @@ impl Phrases {
             || (0..filled.len()).any(overlap)
     }
 
+    /// How many there are that aren't empty, and where they begin in sum.
+    pub fn filled(&self, c: &Channel) -> (usize, usize) {
+        let filled = (0..PHRASES).filter(|k| !self.samples(c, *k).is_empty());
+        filled.fold((0, 0), |(count, sum), k| (count + 1, sum + self.all[k as usize].start))
+    }
+
+    /// How many voices are of an empty one.
+    pub fn resting(&self, c: &Channel) -> usize {
+        self.voices.iter().filter(|k| self.samples(c, **k).is_empty()).count()
+    }
+
+    /// Whether there are voices of two or more.
+    pub fn spread(&self) -> bool {
+        self.voices.windows(2).any(|k| k[0] != k[1])
+    }
+
     /// Whether every voice is of the chosen phrase: the Rust's own sample then plays them.
     pub fn plain(&self) -> bool {
         self.voices.iter().all(|k| *k == self.chosen)

@@ -517,7 +517,7 @@ fn phrases(s: &mut Song) {
         s.choir();
     }
     for _ in 0..s.r.below(30) + 10 {
-        match s.r.below(16) {
+        match s.r.below(19) {
             0..=2 => s.choose(),
             3 | 4 => s.delete(),
             5 | 6 => s.gather(),
@@ -531,6 +531,11 @@ fn phrases(s: &mut Song) {
             11 => s.file(),
             12 => s.call(RECORDINGS),
             13 => s.columns(),
+            14 => s.query(VOICE_INFO),
+            15 => {
+                s.call(START_RECORDING);
+                s.delete();
+            }
             _ => s.event(),
         }
         s.sound();
@@ -702,8 +707,13 @@ impl Song {
         self.records.push(Record::new(kind));
     }
 
+    /// The number of a phrase, often of one with samples.
     fn phrase(&mut self) -> u8 {
-        if self.chance(self.bad.max(3)) { self.r.pick(&[8, 9, 255]) } else { self.r.below(8) as u8 }
+        if self.chance(self.bad.max(3)) {
+            return self.r.pick(&[8, 9, 255]);
+        }
+        let filled: Vec<u8> = (0..8).filter(|k| self.others[*k as usize] > 0).collect();
+        if filled.is_empty() || self.r.below(2) == 0 { self.r.below(8) as u8 } else { self.r.pick(&filled) }
     }
 
     fn choose(&mut self) {

@@ -3,8 +3,10 @@
 use crate::engine::Engine;
 use crate::inside;
 use crate::listing::*;
+use crate::phrases::Phrases;
 use crate::record::Record;
 use audio_sampler_lib::common_types::Params;
+use audio_sampler_lib::sampler::Channel;
 use audio_sampler_lib::volume::Volume;
 use std::collections::BTreeMap;
 
@@ -21,6 +23,48 @@ pub struct Census {
     skipped: u64,
     passing: usize,
     smooth: usize,
+    sides: Vec<Side>,
+}
+
+/// What a channel has of phrases.
+struct Side {
+    clock: usize,
+    skipped: u64,
+    /// How many aren't empty, and where they begin in sum.
+    filled: (usize, usize),
+    /// Whether its voices are of two or more, and how many are of an empty one.
+    spread: bool,
+    resting: usize,
+    /// The chosen one.
+    empty: bool,
+    last: bool,
+    start: usize,
+}
+
+impl Side {
+    fn of(c: &Channel, p: &Phrases, skipped: u64) -> Self {
+        let empty = inside::recording(c).is_empty();
+        Side {
+            clock: inside::clock(c),
+            skipped,
+            filled: p.filled(c),
+            spread: p.spread(),
+            resting: p.resting(c),
+            empty,
+            last: p.is_last(),
+            start: if empty { 0 } else { p.start() },
+        }
+    }
+
+    /// Which phrase is chosen, where there are others.
+    fn chosen(&self) -> &'static str {
+        match (self.empty, self.last) {
+            _ if self.filled.0 <= !self.empty as usize => "the only one",
+            (true, _) => "an empty one, others are there",
+            (_, true) => "the last one, others are there",
+            _ => "one that isn't last",
+        }
+    }
 }
 
 impl Census {
@@ -39,6 +83,7 @@ impl Census {
             skipped: engine.skipped.iter().sum(),
             passing: channels.iter().filter(|c| inside::passthru(c).0).count(),
             smooth: channels.iter().filter(|c| c.interpolates).count(),
+            sides: channels.iter().zip(&engine.phrases).zip(engine.skipped).map(|((c, p), skipped)| Side::of(c, p, skipped)).collect(),
         }
     }
 }
@@ -60,6 +105,9 @@ impl Tally {
     pub fn call(&mut self, kind: u8, number: u8, before: &Census, after: &Census, params: &Params, length_kind: u8) {
         self.calls += 1;
         self.answers[kind as usize][number as usize] += 1;
+        if number == 18 {
+            self.met("files refused by 18 for", before.sides[0].chosen(), 1);
+        }
         if number != 0 && !(kind == RUN && number == 6) {
             return;
         }
@@ -83,12 +131,37 @@ impl Tally {
                 self.met("files", "read while voices sound", (before.voices > 0) as usize);
                 self.met("files", "read, with fewer samples than before", (after.recorded < before.recorded) as usize);
                 self.met("files", "read, with more samples than before", (after.recorded > before.recorded) as usize);
+                self.met("files read into", before.sides[0].chosen(), 1);
+            }
+            WAVEFORM => self.met("phrases", "not at the front, in a waveform", (before.sides[0].start > 0) as usize),
+            VOICE_INFO => {
+                self.met("phrases", "two or more of voices, in their info", before.sides.iter().any(|s| s.spread) as usize);
+                self.met("phrases", "empty ones of voices, in their info", before.sides.iter().any(|s| s.resting > 0) as usize);
+            }
+            CHOOSE => {
+                self.met("phrases", "chosen while voices sound", (before.voices > 0) as usize);
+                self.met("phrases", "chosen again while it records", (before.recording > 0) as usize);
+            }
+            DELETE => {
+                let deleted = before.sides.iter().zip(&after.sides).any(|(b, a)| a.filled.0 < b.filled.0);
+                self.met("phrases", "deleted, with samples", deleted as usize);
+                self.met("phrases", "deleted while another records", (deleted && before.recording > 0) as usize);
+                self.met("phrases", "deleted, the chosen one", (deleted && before.sides.iter().zip(&after.sides).any(|(b, a)| a.empty && !b.empty)) as usize);
+            }
+            GATHER => {
+                let moved = before.sides.iter().zip(&after.sides).any(|(b, a)| a.filled.1 < b.filled.1);
+                self.met("phrases", "gathered, none moved", !moved as usize);
+                self.met("phrases", "gathered, some moved", moved as usize);
+                self.met("phrases", "gathered, some moved under voices", (moved && before.voices > 0) as usize);
             }
             INTERPOLATION if before.voices > 0 => {
                 self.met("the setting", "put on while voices sound", (after.smooth > before.smooth) as usize);
                 self.met("the setting", "put off while voices sound", (after.smooth < before.smooth) as usize);
             }
-            SAMPLE | FRAME | FRAMES | RUN => self.samples(before, after, params, length_kind),
+            SAMPLE | FRAME | FRAMES | RUN => {
+                self.phrases(kind, before, after);
+                self.samples(before, after, params, length_kind);
+            }
             _ => (),
         }
     }
@@ -155,18 +228,29 @@ impl Tally {
         self.ways.iter().zip(WAYS).find(|(times, _)| many && **times <= OFTEN).map(|(_, way)| way)
     }
 
+    /// The samples of channels by what they have of phrases.
+    fn phrases(&mut self, kind: u8, before: &Census, after: &Census) {
+        for (b, a) in before.sides.iter().zip(&after.sides) {
+            let samples = a.clock - b.clock;
+            if b.spread {
+                self.met("samples of a channel with voices of two or more phrases, by call", NAMES[kind as usize], samples);
+            }
+            self.met("recordings", "samples dropped, no phrase behind", if a.last { a.skipped - b.skipped } else { 0 } as usize);
+            self.met("recordings", "samples dropped, a phrase behind", if a.last { 0 } else { a.skipped - b.skipped } as usize);
+        }
+    }
+
     fn samples(&mut self, before: &Census, after: &Census, params: &Params, length_kind: u8) {
         self.met("recordings", "samples appended", after.recorded - before.recorded);
         self.met("recordings", "of 10,000 samples or more, in a sample", (after.recorded >= 10_000) as usize);
-        self.met("recordings", "samples dropped", (after.skipped - before.skipped) as usize);
         self.met("recordings", "samples recorded over voices", if before.voices > 0 { before.recording } else { 0 });
         self.met("pass-through", "turned on", after.passing.saturating_sub(before.passing));
         self.met("pass-through", "turned off", before.passing.saturating_sub(after.passing));
         self.met("samples", "in all", after.clocks - before.clocks);
-        if after.recorded == 0 {
-            self.met("voices", "in a sample on an empty recording", before.voices);
-        }
-        if before.voices == 0 || after.recorded == 0 {
+        // What is recorded may be the first sample of an empty phrase.
+        let resting: usize = after.sides.iter().map(|s| s.resting).sum();
+        self.met("voices", "in a sample on an empty phrase", resting);
+        if before.voices == 0 || resting == after.voices && resting == before.voices {
             return;
         }
         let samples = after.clocks - before.clocks;
