@@ -98,7 +98,7 @@ impl Engine {
         let (number, shown) = self.call(r);
         self.remember();
         let after = Census::of(self);
-        tally.call(kind, number, &before, &after, &self.params, self.length_kind);
+        tally.call(r, number, &before, &after, &self.params, self.length_kind);
         match &shown {
             Shown::Run(done, entries) => tally.run(number, entries.len() / self.count.max(1), *done, &before, &after),
             Shown::Heard(_, moved) => tally.moved(kind, *moved),

@@ -74,11 +74,15 @@ pub fn of(channel: u8, voice: u8, r: Record) -> Record {
     r.with_u8(OF_CHANNEL, channel).with_u8(OF_VOICE, voice)
 }
 
+/// What a record puts.
+pub fn name(r: &Record) -> &'static str {
+    NAMES.get(r.u8_at(WHAT) as usize).unwrap_or(&"?")
+}
+
 pub fn describe(r: &Record) -> String {
     let what = r.u8_at(WHAT);
     let by = if (LENGTH..=START_AT).contains(&what) { format!("{:?}", r.f32_at(FLOAT)) } else { r.u64_at(BY).to_string() };
-    let name = NAMES.get(what as usize).unwrap_or(&"?");
-    format!("{name} {by}, of channel {}, voice {}, a ramp or a phrase being {} long", r.u8_at(OF_CHANNEL), r.u8_at(OF_VOICE), r.u64_at(LONG))
+    format!("{} {by}, of channel {}, voice {}, a ramp or a phrase being {} long", name(r), r.u8_at(OF_CHANNEL), r.u8_at(OF_VOICE), r.u64_at(LONG))
 }
 
 impl Engine {

@@ -517,7 +517,7 @@ fn phrases(s: &mut Song) {
         s.choir();
     }
     for _ in 0..s.r.below(30) + 10 {
-        match s.r.below(19) {
+        match s.r.below(20) {
             0..=2 => s.choose(),
             3 | 4 => s.delete(),
             5 | 6 => s.gather(),
@@ -536,6 +536,7 @@ fn phrases(s: &mut Song) {
                 s.call(START_RECORDING);
                 s.delete();
             }
+            16 => s.one_sided(),
             _ => s.event(),
         }
         s.sound();
@@ -734,6 +735,25 @@ impl Song {
     fn gather(&mut self) {
         let lent = self.lent();
         self.records.push(gather(lent));
+    }
+
+    /// A phrase that has more samples on one channel than on the other, or samples and a voice on one alone; then it is not to be deleted either.
+    fn one_sided(&mut self) {
+        self.call(STOP_RECORDING);
+        self.choose();
+        let k = self.chosen as u8;
+        self.record(0);
+        self.call(START_RECORDING);
+        let n = self.r.below(5);
+        self.frames(n);
+        for _ in 0..self.r.below(3) + 1 {
+            self.single();
+        }
+        self.call(STOP_RECORDING);
+        self.start();
+        self.query(VOICE_INFO);
+        self.choose();
+        self.records.push(delete(k));
     }
 
     /// As many voices as there is a place for, of a phrase each.

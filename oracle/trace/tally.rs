@@ -4,6 +4,7 @@ use crate::engine::Engine;
 use crate::inside;
 use crate::listing::*;
 use crate::phrases::Phrases;
+use crate::puts;
 use crate::record::Record;
 use audio_sampler_lib::common_types::Params;
 use audio_sampler_lib::sampler::Channel;
@@ -23,6 +24,7 @@ pub struct Census {
     skipped: u64,
     passing: usize,
     smooth: usize,
+    broken: bool,
     sides: Vec<Side>,
 }
 
@@ -83,6 +85,7 @@ impl Census {
             skipped: engine.skipped.iter().sum(),
             passing: channels.iter().filter(|c| inside::passthru(c).0).count(),
             smooth: channels.iter().filter(|c| c.interpolates).count(),
+            broken: engine.broken(),
             sides: channels.iter().zip(&engine.phrases).zip(engine.skipped).map(|((c, p), skipped)| Side::of(c, p, skipped)).collect(),
         }
     }
@@ -102,7 +105,8 @@ pub struct Tally {
 }
 
 impl Tally {
-    pub fn call(&mut self, kind: u8, number: u8, before: &Census, after: &Census, params: &Params, length_kind: u8) {
+    pub fn call(&mut self, r: &Record, number: u8, before: &Census, after: &Census, params: &Params, length_kind: u8) {
+        let kind = r.u8_at(0);
         self.calls += 1;
         self.answers[kind as usize][number as usize] += 1;
         if number == 18 {
@@ -137,6 +141,10 @@ impl Tally {
             VOICE_INFO => {
                 self.met("phrases", "two or more of voices, in their info", before.sides.iter().any(|s| s.spread) as usize);
                 self.met("phrases", "empty ones of voices, in their info", before.sides.iter().any(|s| s.resting > 0) as usize);
+            }
+            PUT => {
+                let of = if after.broken { "fields put, the record is broken" } else { "fields put, the record is good" };
+                self.met(of, puts::name(r), 1);
             }
             CHOOSE => {
                 self.met("phrases", "chosen while voices sound", (before.voices > 0) as usize);
@@ -228,12 +236,19 @@ impl Tally {
         self.ways.iter().zip(WAYS).find(|(times, _)| many && **times <= OFTEN).map(|(_, way)| way)
     }
 
+    /// The first of what phrases met that so many listings should have met more often.
+    pub fn rare(&self) -> Option<String> {
+        let times = |met: &(&'static str, &'static str)| self.met.get(met).copied().unwrap_or(0);
+        let rare = OF_PHRASES.iter().find(|met| self.listings >= MANY_LISTINGS && times(met) <= RARELY);
+        rare.map(|(what, which)| format!("{what}: {which}"))
+    }
+
     /// The samples of channels by what they have of phrases.
     fn phrases(&mut self, kind: u8, before: &Census, after: &Census) {
         for (b, a) in before.sides.iter().zip(&after.sides) {
             let samples = a.clock - b.clock;
             if b.spread {
-                self.met("samples of a channel with voices of two or more phrases, by call", NAMES[kind as usize], samples);
+                self.met(SPREAD, NAMES[kind as usize], samples);
             }
             self.met("recordings", "samples dropped, no phrase behind", if a.last { a.skipped - b.skipped } else { 0 } as usize);
             self.met("recordings", "samples dropped, a phrase behind", if a.last { 0 } else { a.skipped - b.skipped } as usize);
@@ -325,6 +340,33 @@ const CHANNEL_WAYS: usize = 5;
 /// From so many listings on each way has to be met more often than this.
 const MANY_LISTINGS: u64 = 5000;
 const OFTEN: u64 = 1000;
+
+/// And each of these more often than this.
+const RARELY: u64 = 100;
+const OF_PHRASES: [(&str, &str); 21] = [
+    ("files read into", "an empty one, others are there"),
+    ("files read into", "one that isn't last"),
+    ("files read into", "the last one, others are there"),
+    ("files refused by 18 for", "an empty one, others are there"),
+    ("files refused by 18 for", "one that isn't last"),
+    ("files refused by 18 for", "the last one, others are there"),
+    ("phrases", "chosen again while it records"),
+    ("phrases", "chosen while voices sound"),
+    ("phrases", "deleted while another records"),
+    ("phrases", "deleted, the chosen one"),
+    ("phrases", "deleted, with samples"),
+    ("phrases", "empty ones of voices, in their info"),
+    ("phrases", "gathered, some moved"),
+    ("phrases", "gathered, some moved under voices"),
+    ("phrases", "not at the front, in a waveform"),
+    ("phrases", "two or more of voices, in their info"),
+    ("recordings", "samples dropped, a phrase behind"),
+    (SPREAD, "process_frame"),
+    (SPREAD, "process_frames"),
+    (SPREAD, "process_sample"),
+    ("voices", "in a sample on an empty phrase"),
+];
+const SPREAD: &str = "samples of a channel with voices of two or more phrases, by call";
 
 const LOOP_MODES: [&str; 3] = ["PlayOnce", "Loop", "PingPong"];
 const NOTE_OFF_MODES: [&str; 3] = ["Decay", "ZeroCrossing", "DecayAndZeroCrossing"];

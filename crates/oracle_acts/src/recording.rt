@@ -60,7 +60,14 @@ fn of_phrase(
     if p.is_empty() {
         return at;
     }
-    recording(k, memory, wrapping_add_usize(part, p.start), p.length, out, at)
+    recording(
+        k,
+        memory,
+        wrapping_add_usize(part, p.start),
+        p.length,
+        out,
+        at,
+    )
 }
 
 // The number k, and the n samples from `start` on.
