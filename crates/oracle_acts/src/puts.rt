@@ -109,7 +109,8 @@ fn put_channel(c: Channel, capacity: usize, p: Order) -> Channel {
 fn renumbered(c: Channel, k: u8) -> Channel {
     let mut r = c;
     let head = c.head;
-    r.table = phrases::with(c.table, head.chosen, Phrase::none());
+    let table = c.table;
+    r.table = phrases::with(table, head.chosen, Phrase::none());
     r.head.chosen = k;
     r
 }
@@ -134,7 +135,8 @@ fn put_phrase(c: Channel, p: Order) -> Channel {
 
 fn others(c: Channel) -> [Phrase; 8] {
     let head = c.head;
-    phrases::others(c.table, c.several, head.chosen)
+    let table = c.table;
+    phrases::others(table, c.several, head.chosen)
 }
 
 // 4 the data length past the capacity, 5 the write place past the data length, 6 the clock past 2^48, 7 a ramp of
