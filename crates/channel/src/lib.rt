@@ -87,7 +87,6 @@ ghost use Rattle.channel.specs.Channels.{
   memoryOf,
   processSampleOf,
   changedOf,
-  fullOf,
   goodVoicesOf,
   goodChannel,
 };
@@ -798,7 +797,9 @@ impl Channel {
     fn others(self) -> [Phrase; 8]
         ensures { λ r. ⌜ r ≡ othersIn self ⌝ }
     {
-        phrases::others(self.table, self.several, self.head.chosen)
+        let table = self.table;
+        let head = self.head;
+        phrases::others(table, self.several, head.chosen)
     }
 
     // The phrase of that number.
@@ -819,7 +820,8 @@ impl Channel {
     fn good_phrases(self, capacity: usize) -> bool
         ensures { λ r. ⌜ r ≡ goodTable capacity (self .head) (self .several) (self .table) ⌝ }
     {
-        good_table(self.head, self.several, self.table, capacity)
+        let table = self.table;
+        good_table(self.head, self.several, table, capacity)
     }
 
     // Whether a voice has the phrase of that number.
@@ -1000,7 +1002,9 @@ impl Channel {
         if e.clears {
             self.table = phrases::none();
         }
-        self.table[e.place] = e.phrase;
+        let place = e.place;
+        let phrase = e.phrase;
+        self.table[place] = phrase;
         self.several = e.several;
         self.head = head.changed(change, found);
         self
@@ -1102,17 +1106,6 @@ impl Channel {
             Change::Head(change) => self.head_changed(change),
             Change::Reset => self.reset(),
         }
-    }
-
-    // Whether the channel takes no further voice: a recording that isn't empty, and 32 voices.
-    pub fn full(self) -> bool
-        ensures { λ r. ⌜ r ≡ fullOf self ⌝ }
-    {
-        let head = self.head;
-        if head.data_len == 0 {
-            return false;
-        }
-        32 <= self.count
     }
 
     fn good_voices(self) -> bool

@@ -26,7 +26,7 @@ use Rattle.channel.specs.Channels.{
   keptOf,
 }
 use Rattle.fates.specs.Engine.{begunOf, turnsIn}
-use Rattle.fates.specs.Events.{Event, idle, changes, sounds, act, isReset}
+use Rattle.fates.specs.Events.{Event, idle, changes, gathers, sounds, act, isReset}
 use Rattle.fates.specs.Places.{Housed, voiceAt, at, gone, fateOf, follow, findsAt, becomes}
 use Rattle.walks.proofs.Lists.Looks.{look-front, look-map, look-set-same, look-set-other, take-map, keep-look}
 use Rattle.fates.proofs.Lives.{live-started, live-sped, live-sounded}
@@ -91,6 +91,7 @@ tracks (changes (change.Speed note speed)) c h n k v s f =
     (subst (λ (l : List Voice). getElem? l n ≡ some (spedOf note speed v)) (sym (live-sped note speed c h)) (look-map (spedOf note speed) (live c) n v s))
 tracks (changes (change.Head d)) c h n k v s f = rw (← at-same n k f) s
 tracks (changes change.Reset) c h n k v s f = absurd (gone-never k f)
+tracks (gathers m) c h n k v s f = rw (← at-same n k f) s
 tracks (sounds p x m) c h n k v s f =
     let turns = turnsIn p x m c in
     subst (λ (l : List Voice). getElem? l k ≡ some (turns .turn v)) (sym (live-sounded p x m c h))

@@ -240,7 +240,8 @@ pub struct Asking {
 fn answered(a: Asking, head: Head, count: usize, used: bool, b: Beside) -> Against
     ensures { λ r. ⌜ r ≡ againstBy (a .ask) head count used b (a .capacity) ⌝ }
 {
-    channel::held_against(a.ask, head, count, used, b, a.capacity)
+    let ask = a.ask;
+    channel::held_against(ask, head, count, used, b, a.capacity)
 }
 
 // What the channel has against it.
