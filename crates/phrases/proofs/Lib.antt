@@ -4,5 +4,4 @@ pub mod Gathered
 pub mod Table
 pub mod Apart
 pub mod Reaches
-pub mod Moves
-pub mod Turns
+pub mod Fits
