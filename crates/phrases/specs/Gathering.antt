@@ -2,11 +2,10 @@
 -- sample keeping its bits, so that all free room is one stretch behind them". Definitions only. Assumes nothing.
 use Prim.Native.Nat.{ℕ, zero, suc, _+_, _-_}
 use mathlib.Core.Bool.{not, _&&_, _||_, cond}
-use mathlib.Core.List.{List, _++_}
+use mathlib.Core.List.{List, [], _∷_, _++_}
 use lib.Dec.{leb, ltb, eqb}
 use lib.ListN.{length, take, drop, getD, set}
 use Rattle.phrases.specs.declared.Phrase.{Phrase}
-use Rattle.phrases.specs.declared.Room.{Room}
 use Rattle.phrases.specs.Phrases.{noPhrase, noSamples, roomOf}
 
 -- of the first n, the number of the one that begins first of those that begin at a place or behind it; 8 where none does.
@@ -58,3 +57,25 @@ gatherTurns (suc n) g = gatherTurns n (gatherNext g)
 -- all of them, in the order of their places
 unfoldable pub gatheringOf : List Phrase → List ℕ → Gathering
 gatheringOf ps m = gatherTurns 8 (record { phrases = ps; memory = m; from = 0; to = 0 })
+
+-- ---- where that leaves each of them: behind the samples of those that begin before it
+
+unfoldable pub sumOver : (Phrase → ℕ) → List Phrase → ℕ
+sumOver f [] = 0
+sumOver f (p ∷ ps) = f p + sumOver f ps
+
+-- how many samples they have
+unfoldable pub samplesOfAll : List Phrase → ℕ
+samplesOfAll ps = sumOver (λ (p : Phrase). p .length) ps
+
+-- its samples, if it begins before that place
+unfoldable pub samplesIf : ℕ → Phrase → ℕ
+samplesIf place p = cond (ltb (p .start) place) (p .length) 0
+
+-- how many those have that begin before that place
+unfoldable pub samplesBefore : ℕ → List Phrase → ℕ
+samplesBefore place ps = sumOver (samplesIf place) ps
+
+-- an empty one stays
+unfoldable pub gatheredPhrase : List Phrase → Phrase → Phrase
+gatheredPhrase ps p = cond (noSamples p) p (record { start = samplesBefore (p .start) ps; length = p .length })

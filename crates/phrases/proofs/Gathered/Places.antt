@@ -1,36 +1,15 @@
--- Where gathered phrases stand: each behind the samples of those that began before it. Definitions only. Assumes nothing.
+-- How gathered phrases stand: none moves any more, and their samples in the order of their places. Definitions only. Assumes nothing.
 use mathlib.Core.Path.{_≡_}
-use Prim.Native.Nat.{ℕ, zero, suc, _+_, _<_}
-use mathlib.Core.Bool.{cond}
+use Prim.Native.Nat.{ℕ, _<_}
 use mathlib.Core.List.{List, [], _∷_, _++_}
-use lib.Dec.{ltb}
 use lib.ListN.{getD}
 use Rattle.walks.specs.Each.{Each}
 use Rattle.phrases.specs.declared.Phrase.{Phrase}
-use Rattle.phrases.specs.Phrases.{noPhrase, noSamples, storedIn}
+use Rattle.phrases.specs.Phrases.{noPhrase, storedIn}
+use Rattle.phrases.specs.Gathering.{samplesBefore}
 
 abbrev pub nth : List Phrase → ℕ → Phrase
 nth ps i = getD ps i noPhrase
-
-unfoldable pub sumBelow : ℕ → (ℕ → ℕ) → ℕ
-sumBelow zero f = 0
-sumBelow (suc n) f = sumBelow n f + f n
-
--- how many samples the eight have
-unfoldable pub samplesOf : List Phrase → ℕ
-samplesOf ps = sumBelow 8 (λ (i : ℕ). getD ps i noPhrase .length)
-
--- its samples, if it begins before that place
-unfoldable pub samplesIf : ℕ → Phrase → ℕ
-samplesIf place p = cond (ltb (p .start) place) (p .length) 0
-
--- how many those have that begin before that place
-unfoldable pub samplesBefore : ℕ → List Phrase → ℕ
-samplesBefore place ps = sumBelow 8 (λ (i : ℕ). samplesIf place (getD ps i noPhrase))
-
--- one of the eight where gathering puts it: behind the samples of those that begin before it. An empty one stays
-unfoldable pub gatheredPhrase : List Phrase → Phrase → Phrase
-gatheredPhrase ps p = cond (noSamples p) p (record { start = samplesBefore (p .start) ps; length = p .length })
 
 -- each with samples stands where the samples before it end
 abbrev pub Settled : List Phrase → Type 0
