@@ -5,3 +5,4 @@ pub mod Table
 pub mod Apart
 pub mod Reaches
 pub mod Fits
+pub mod Examples
