@@ -1,13 +1,14 @@
 -- What `besideOf` tells: how far phrases reach, and where the first begins that begins at a place or behind it. Over any list. Assumes nothing.
 use mathlib.Core.Path.{_≡_, refl}
 use mathlib.Core.Bool.{Bool, true, false, not, _&&_, cond}
+use mathlib.Core.Logic.{_⊎_, inl, inr}
 use mathlib.Core.List.{List, [], _∷_}
-use Prim.Native.Nat.{ℕ, zero, suc, _+_, _%_, _^_, _≤_, _<_, min}
+use Prim.Native.Nat.{ℕ, zero, suc, _+_, _%_, _^_, _≤_, _<_, min, max}
 use native.Mathlib.Nat.{mod-eq-of-lt, mod-le, le-refl, le-trans, le-antisymm}
 use native.Mathlib.Omega.{arith}
 use lib.Dec.{eqb, leb}
 use lib.ListN.{length, getD}
-use borrow.Author.Tests.{eqb-true, eqb-false, eq-eqb, ne-eqb, leb-true, le-leb, not-true}
+use borrow.Author.Tests.{eqb-true, eqb-false, eq-eqb, ne-eqb, leb-true, leb-false, le-leb, not-true}
 use Rattle.walks.specs.Walks.{fold}
 use Rattle.walks.proofs.Lists.Every.{both}
 use Rattle.phrases.specs.Phrases.{noPhrase, noPhrases, noSamples, endsBy, reachOf, apartOf, othersOf, besideNone, besideWith, besideOf}
@@ -55,6 +56,23 @@ module _ (place : ℕ) where
   unfolding fold besideWith
   behind-under b [] n h f = h
   behind-under b (p ∷ ps) n h f = behind-under (besideWith place b p) ps n (omega (arith, f 0 (omega arith))) (λ k l. f (suc k) (omega arith))
+
+  -- as far as before, or as one of them
+  abbrev Reached : Beside → List Phrase → ℕ → Type 0
+  Reached b ps n = (n ≡ b .behind) ⊎ ((k : ℕ) × (k < length ps) × (n ≡ reachOf (getD ps k noPhrase)))
+
+  behind-from : (b : Beside) (ps : List Phrase) → Reached b ps (fold (besideWith place) b ps .behind)
+  unfolding fold besideWith
+  behind-from b [] = inl refl
+  behind-from b (p ∷ ps) = go (behind-from (besideWith place b p) ps)
+    where
+      larger : (n : ℕ) (t : Bool) → leb (reachOf p) (b .behind) ≡ t → n ≡ max (b .behind) (reachOf p) → Reached b (p ∷ ps) n
+      larger n true e f = inl (omega (arith, leb-true (reachOf p) (b .behind) e))
+      larger n false e f = inr (0, omega arith, omega (arith, leb-false (reachOf p) (b .behind) e))
+
+      go : {n : ℕ} → Reached (besideWith place b p) ps n → Reached b (p ∷ ps) n
+      go {n} (inl e) = larger n (leb (reachOf p) (b .behind)) refl e
+      go {n} (inr r) = inr (suc (r .0), omega (arith, r .1), r .2)
 
   -- a step lowers the next to where a phrase with samples begins, if it begins at the place or behind it
   step-low : (b : Beside) (p : Phrase) → besideWith place b p .next ≤ b .next
@@ -126,6 +144,11 @@ module _ (place capacity : ℕ) (ps : List Phrase) where
   pub behind-least : (n : ℕ) → ((k : ℕ) → k < length ps → reachOf (getD ps k noPhrase) ≤ n) → besideOf place capacity ps .behind ≤ n
   unfolding besideOf
   behind-least n f = behind-under place (besideNone capacity) ps n (omega arith) f
+
+  -- none reaches anywhere, or one of them reaches there
+  pub behind-there : (besideOf place capacity ps .behind ≡ 0) ⊎ ((k : ℕ) × (k < length ps) × (besideOf place capacity ps .behind ≡ reachOf (getD ps k noPhrase)))
+  unfolding besideOf
+  behind-there = behind-from place (besideNone capacity) ps
 
   pub behind-within : (size : ℕ) → ((k : ℕ) → k < length ps → endsBy size (getD ps k noPhrase) ≡ true) → besideOf place capacity ps .behind ≤ size
   behind-within size f = behind-least size (λ k l. reach-within (getD ps k noPhrase) size (f k l))

@@ -2,7 +2,7 @@
 -- sample keeping its bits, so that all free room is one stretch behind them". Definitions only. Assumes nothing.
 use Prim.Native.Nat.{ℕ, zero, suc, _+_, _-_}
 use mathlib.Core.Bool.{not, _&&_, _||_, cond}
-use mathlib.Core.List.{List, [], _∷_, _++_}
+use mathlib.Core.List.{List, _++_}
 use lib.Dec.{leb, ltb, eqb}
 use lib.ListN.{length, take, drop, getD, set}
 use Rattle.phrases.specs.declared.Phrase.{Phrase}
@@ -58,24 +58,19 @@ gatherTurns (suc n) g = gatherTurns n (gatherNext g)
 unfoldable pub gatheringOf : List Phrase → List ℕ → Gathering
 gatheringOf ps m = gatherTurns 8 (record { phrases = ps; memory = m; from = 0; to = 0 })
 
--- ---- where that leaves each of them: behind the samples of those that begin before it
+-- ---- how many samples there are, by which gathered phrases stand: each behind those that began before it
+unfoldable pub sumBelow : ℕ → (ℕ → ℕ) → ℕ
+sumBelow zero f = 0
+sumBelow (suc n) f = sumBelow n f + f n
 
-unfoldable pub sumOver : (Phrase → ℕ) → List Phrase → ℕ
-sumOver f [] = 0
-sumOver f (p ∷ ps) = f p + sumOver f ps
+-- how many the eight have
+unfoldable pub samplesOf : List Phrase → ℕ
+samplesOf ps = sumBelow 8 (λ (i : ℕ). getD ps i noPhrase .length)
 
--- how many samples they have
-unfoldable pub samplesOfAll : List Phrase → ℕ
-samplesOfAll ps = sumOver (λ (p : Phrase). p .length) ps
-
--- its samples, if it begins before that place
+-- those of one, if it begins before that place
 unfoldable pub samplesIf : ℕ → Phrase → ℕ
 samplesIf place p = cond (ltb (p .start) place) (p .length) 0
 
 -- how many those have that begin before that place
 unfoldable pub samplesBefore : ℕ → List Phrase → ℕ
-samplesBefore place ps = sumOver (samplesIf place) ps
-
--- an empty one stays
-unfoldable pub gatheredPhrase : List Phrase → Phrase → Phrase
-gatheredPhrase ps p = cond (noSamples p) p (record { start = samplesBefore (p .start) ps; length = p .length })
+samplesBefore place ps = sumBelow 8 (λ (i : ℕ). samplesIf place (getD ps i noPhrase))

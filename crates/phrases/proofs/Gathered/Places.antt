@@ -1,19 +1,19 @@
--- How gathered phrases stand: none moves any more, and their samples in the order of their places. Definitions only. Assumes nothing.
-use mathlib.Core.Path.{_≡_}
+-- Where gathered phrases stand: each behind the samples of those that began before it. Definitions only. Assumes nothing.
 use Prim.Native.Nat.{ℕ, _<_}
+use mathlib.Core.Bool.{cond}
 use mathlib.Core.List.{List, [], _∷_, _++_}
 use lib.ListN.{getD}
 use Rattle.walks.specs.Each.{Each}
 use Rattle.phrases.specs.declared.Phrase.{Phrase}
-use Rattle.phrases.specs.Phrases.{noPhrase, storedIn}
+use Rattle.phrases.specs.Phrases.{noPhrase, noSamples, storedIn}
 use Rattle.phrases.specs.Gathering.{samplesBefore}
 
 abbrev pub nth : List Phrase → ℕ → Phrase
 nth ps i = getD ps i noPhrase
 
--- each with samples stands where the samples before it end
-abbrev pub Settled : List Phrase → Type 0
-Settled ps = (i : ℕ) → i < 8 → 0 < getD ps i noPhrase .length → samplesBefore (getD ps i noPhrase .start) ps ≡ getD ps i noPhrase .start
+-- one of the eight where gathering puts it: behind the samples of those that begin before it. An empty one stays
+unfoldable pub gatheredPhrase : List Phrase → Phrase → Phrase
+gatheredPhrase ps p = cond (noSamples p) p (record { start = samplesBefore (p .start) ps; length = p .length })
 
 -- ---- some of the eight, by their numbers: their samples, one's behind another's
 unfoldable pub storedAll : List Phrase → List ℕ → List ℕ → List ℕ

@@ -18,12 +18,12 @@ use Rattle.walks.proofs.Lists.Each.{each-weaker}
 use Rattle.walks.proofs.Lists.Looks.{look-front, look-last}
 use Rattle.phrases.specs.declared.Phrase.{Phrase}
 use Rattle.phrases.specs.Phrases.{noPhrase, noSamples, storedIn, roomOf, goodPhrases}
-use Rattle.phrases.specs.Gathering.{Gathering, movedDown, firstFrom, gatherPhrase, gatherNext, gatherTurns, gatheringOf, sumOver, samplesIf, samplesBefore, gatheredPhrase}
+use Rattle.phrases.specs.Gathering.{Gathering, movedDown, firstFrom, gatherPhrase, gatherNext, gatherTurns, gatheringOf, sumBelow, samplesIf, samplesBefore}
 use Rattle.phrases.proofs.Below.{same-or, before-or}
 use Rattle.phrases.proofs.Rooms.{holds-some, some-holds, room-from, room-to, ends-inside}
 use Rattle.phrases.proofs.Apart.{good-within, good-some}
-use Rattle.phrases.proofs.Gathered.Places.{nth, Settled, storedAll, Rising}
-use Rattle.phrases.proofs.Gathered.Sums.{sum-none, sum-same, sum-at, sum-most, sum-larger, sum-one}
+use Rattle.phrases.proofs.Gathered.Places.{nth, gatheredPhrase, storedAll, Rising}
+use Rattle.phrases.proofs.Gathered.Sums.{sum-same, sum-at, sum-most, sum-larger, sum-one}
 use Rattle.phrases.proofs.Gathered.Firsts.{Over, First, first}
 use Rattle.phrases.proofs.Gathered.Moved.{drop-further, moved-length, moved-rest, moved-there, moved-below, moved-front, moved-same}
 
@@ -53,14 +53,19 @@ if-grows a b p h = go (before-or (p .start) a)
     go (inr l) = omega (arith, if-behind a p l)
 
 -- it stands behind those that begin before it, and before whatever begins behind it
-pub before-it : (ps : List Phrase) (k place : ℕ) → k < length ps → getD ps k noPhrase .start < place
+pub before-it : (ps : List Phrase) (k place : ℕ) → k < 8 → getD ps k noPhrase .start < place
     → samplesBefore (getD ps k noPhrase .start) ps + getD ps k noPhrase .length ≤ samplesBefore place ps
 unfolding samplesBefore
 before-it ps k place l h =
     let a : ℕ = nth ps k .start in
-    sum-larger (samplesIf a) (samplesIf place) ps k (nth ps k .length) l
+    sum-larger 8 k (nth ps k .length) (λ (i : ℕ). samplesIf a (nth ps i)) (λ (i : ℕ). samplesIf place (nth ps i)) l
     (λ i l. if-grows a place (nth ps i) (omega arith))
     (omega (arith, if-behind a (nth ps k) (omega arith), if-before place (nth ps k) h))
+
+-- none begins before the first place
+pub before-none : (ps : List Phrase) → samplesBefore 0 ps ≡ 0
+unfolding samplesBefore sumBelow
+before-none ps = sum-same 8 (λ (i : ℕ). samplesIf 0 (nth ps i)) (λ (i : ℕ). 0) (λ i l. if-behind 0 (nth ps i) (omega arith))
 
 -- ---- a phrase where those that begin before a place have been moved
 unfoldable pub downTo : ℕ → List Phrase → Phrase → Phrase
@@ -129,7 +134,7 @@ waits-fewer a b p h = go (eq-zero-or-pos (p .length)) (before-or (p .start) b)
     go (inr c) (inr l) = omega (arith, waits-one a p c (omega arith), waits-most b p)
 
 waiting : ℕ → List Phrase → ℕ
-waiting place ps = sumOver (waits place) ps
+waiting place ps = sumBelow 8 (λ (i : ℕ). waits place (nth ps i))
 
 -- ---- one more, behind the others
 each-last : (P : ℕ → Type 0) (ks : List ℕ) (k : ℕ) → Each P ks → P k → Each P (ks ++ (k ∷ []))
@@ -148,6 +153,10 @@ stored-last ps m [] k = append-nil (storedIn (nth ps k) m)
 stored-last ps m (j ∷ ks) k =
     ap (λ (r : List ℕ). storedIn (nth ps j) m ++ r) (stored-last ps m ks k)
     ∙ sym (append-assoc (storedIn (nth ps j) m) (storedAll ps m ks) (storedIn (nth ps k) m))
+
+-- each with samples stands where the samples before it end
+abbrev pub Settled : List Phrase → Type 0
+Settled ps = (i : ℕ) → i < 8 → 0 < getD ps i noPhrase .length → samplesBefore (getD ps i noPhrase .start) ps ≡ getD ps i noPhrase .start
 
 -- ---- what holds between turns
 pub record Turned (ps : List Phrase) (m : List ℕ) (g : Gathering) : Type 0 where
@@ -170,7 +179,7 @@ pub record Turned (ps : List Phrase) (m : List ℕ) (g : Gathering) : Type 0 whe
   pub joined : take (g .to) (g .memory) ≡ storedAll ps m order
   pub settled : Settled ps → g .memory ≡ m
 
-module _ (ps : List Phrase) (m : List ℕ) (many : length ps ≡ 8) (fine : goodPhrases (length m) ps ≡ true) where
+module _ (ps : List Phrase) (m : List ℕ) (fine : goodPhrases (length m) ps ≡ true) where
   module _ (g : Gathering) (t : Turned ps m g) where
     -- those behind stand where they stood, those before don't stand behind
     left : (i : ℕ) → i < 8 → g .from ≤ nth ps i .start → nth (g .phrases) i ≡ nth ps i
@@ -179,7 +188,7 @@ module _ (ps : List Phrase) (m : List ℕ) (many : length ps ≡ 8) (fine : good
     gone : (i : ℕ) → i < 8 → 0 < nth ps i .length → nth ps i .start < g .from → nth (g .phrases) i .start < g .from
     gone i l s h =
         let e : nth (g .phrases) i .start ≡ samplesBefore (nth ps i .start) ps = ap (λ (p : Phrase). p .start) (t .placed i l ∙ down-before (g .from) ps (nth ps i) h ∙ gathered-some ps (nth ps i) s) in
-        omega (arith, before-it ps i (g .from) (omega arith) h)
+        omega (arith, before-it ps i (g .from) l h)
 
     same-length : (i : ℕ) → i < 8 → nth (g .phrases) i .length ≡ nth ps i .length
     same-length i l = ap (λ (p : Phrase). p .length) (t .placed i l) ∙ down-length ps (nth ps i) (g .from)
@@ -266,7 +275,7 @@ module _ (ps : List Phrase) (m : List ℕ) (many : length ps ≡ 8) (fine : good
       goes-to : samplesBefore (nth ps k .start) ps ≡ g .to
       unfolding samplesBefore
       goes-to =
-          sum-same (samplesIf (nth ps k .start)) (samplesIf (g .from)) ps ps refl (λ i l. each i (omega arith))
+          sum-same 8 (λ (i : ℕ). samplesIf (nth ps k .start) (nth ps i)) (λ (i : ℕ). samplesIf (g .from) (nth ps i)) each
           ∙ sym (t .filled)
         where
           each : (i : ℕ) → i < 8 → samplesIf (nth ps k .start) (nth ps i) ≡ samplesIf (g .from) (nth ps i)
@@ -282,7 +291,7 @@ module _ (ps : List Phrase) (m : List ℕ) (many : length ps ≡ 8) (fine : good
       unfolding samplesBefore end
       fills =
           ap (λ (n : ℕ). n + nth ps k .length) (t .filled)
-          ∙ sum-one (samplesIf (g .from)) (samplesIf end) ps k (nth ps k .length) (omega (arith, f .below)) (λ i l. each i (omega arith))
+          ∙ sum-one 8 k (nth ps k .length) (λ (i : ℕ). samplesIf (g .from) (nth ps i)) (λ (i : ℕ). samplesIf end (nth ps i)) (f .below) each
           (omega (arith, if-behind (g .from) (nth ps k) (f .behind), if-before end (nth ps k) (omega (arith, f .some))))
         where
           each : (i : ℕ) → i < 8 → i ≢ k → samplesIf (g .from) (nth ps i) ≡ samplesIf end (nth ps i)
@@ -345,7 +354,7 @@ module _ (ps : List Phrase) (m : List ℕ) (many : length ps ≡ 8) (fine : good
           other : (nth ps i .start < g .from) ⊎ (end ≤ nth ps i .start) → take (nth ps i .length) (drop (samplesBefore (nth ps i .start) ps) memory) ≡ storedIn (nth ps i) m
           other (inl b) =
               moved-below (nth ps k .start) (g .to) (nth ps k .length) (g .memory) down fits (samplesBefore (nth ps i .start) ps) (nth ps i .length)
-              (omega (arith, t .filled, before-it ps i (g .from) (omega arith) b))
+              (omega (arith, t .filled, before-it ps i (g .from) l b))
               ∙ t .kept i l s b
           other (inr b) = absurd (omega arith)
 
@@ -411,7 +420,7 @@ module _ (ps : List Phrase) (m : List ℕ) (many : length ps ≡ 8) (fine : good
       moves-fewer : waiting end ps + 1 ≤ waiting (g .from) ps
       unfolding waiting end
       moves-fewer =
-          sum-larger (waits end) (waits (g .from)) ps k 1 (omega (arith, f .below))
+          sum-larger 8 k 1 (λ (i : ℕ). waits end (nth ps i)) (λ (i : ℕ). waits (g .from) (nth ps i)) (f .below)
           (λ i l. waits-fewer (g .from) end (nth ps i) (omega (arith, f .behind)))
           (omega (arith, waits-one (g .from) (nth ps k) (f .some) (f .behind), waits-not end (nth ps k) (λ s. omega arith)))
 
@@ -433,9 +442,9 @@ module _ (ps : List Phrase) (m : List ℕ) (many : length ps ≡ 8) (fine : good
             inr (subst (λ (h : Gathering). Turned ps m h × (waiting (h .from) ps + 1 ≤ waiting (g .from) ps)) (sym e) (moves-turned k n, unfold moves in moves-fewer k n))
 
   over-none : (place : ℕ) → Over place ps 8 → waiting place ps ≡ 0
-  unfolding waiting
+  unfolding waiting sumBelow
   over-none place o =
-      sum-none (waits place) ps (λ i l. waits-not place (nth ps i) (o i (omega arith)))
+      sum-same 8 (λ (i : ℕ). waits place (nth ps i)) (λ (i : ℕ). 0) (λ i l. waits-not place (nth ps i) (o i l))
 
   none-over : (place : ℕ) → waiting place ps ≡ 0 → Over place ps 8
   unfolding waiting
@@ -443,7 +452,7 @@ module _ (ps : List Phrase) (m : List ℕ) (many : length ps ≡ 8) (fine : good
     where
       go : (nth ps i .start < place) ⊎ (place ≤ nth ps i .start) → nth ps i .start < place
       go (inl h) = h
-      go (inr h) = absurd (omega (arith, waits-one place (nth ps i) s h, sum-at (waits place) ps i (omega arith)))
+      go (inr h) = absurd (omega (arith, waits-one place (nth ps i) s h, sum-at 8 i (λ (i : ℕ). waits place (nth ps i)) l))
 
   -- as many turns as there are phrases to be moved move all
   turns : (n : ℕ) (g : Gathering) → Turned ps m g → waiting (g .from) ps ≤ n → Turned ps m (gatherTurns n g) × Over (gatherTurns n g .from) ps 8
@@ -460,14 +469,14 @@ module _ (ps : List Phrase) (m : List ℕ) (many : length ps ≡ 8) (fine : good
       go (inr d) ih = ih (gatherNext g) (d .0) (omega arith)
 
   -- none is moved yet
-  begins : Turned ps m (record { phrases = ps; memory = m; from = 0; to = 0 })
-  unfolding samplesBefore storedAll Each
-  begins = record {
+  begins : length ps ≡ 8 → Turned ps m (record { phrases = ps; memory = m; from = 0; to = 0 })
+  unfolding storedAll Each
+  begins many = record {
     many = many;
     size = refl;
     inside = omega arith;
     low = omega arith;
-    filled = sym (sum-none (samplesIf 0) ps (λ i l. if-behind 0 (nth ps i) (omega arith)));
+    filled = sym (before-none ps);
     placed = λ i l. sym (down-behind 0 ps (nth ps i) (omega arith));
     rest = refl;
     kept = λ i l s h. absurd (omega arith);
@@ -480,8 +489,8 @@ module _ (ps : List Phrase) (m : List ℕ) (many : length ps ≡ 8) (fine : good
     settled = λ h. refl;
   }
 
-  pub all-turned : Turned ps m (gatheringOf ps m) × Over (gatheringOf ps m .from) ps 8
+  pub all-turned : length ps ≡ 8 → Turned ps m (gatheringOf ps m) × Over (gatheringOf ps m .from) ps 8
   unfolding gatheringOf waiting
-  all-turned =
-      turns 8 (record { phrases = ps; memory = m; from = 0; to = 0 }) begins
-      (omega (arith, sum-most (waits 0) ps (waits-most 0)))
+  all-turned many =
+      turns 8 (record { phrases = ps; memory = m; from = 0; to = 0 }) (begins many)
+      (sum-most 8 (λ (i : ℕ). waits 0 (nth ps i)) (λ i. waits-most 0 (nth ps i)))
