@@ -1,18 +1,20 @@
 -- Phrases that have no sample in common, and tables of such: what `apartOf` and `goodPhrases` tell, and what makes them hold. Assumes nothing.
 use mathlib.Core.Path.{_≡_, refl, sym, _∙_}
 use mathlib.Core.Bool.{Bool, true, false, _||_, true≢false}
+use mathlib.Core.Logic.{_⊎_, inl, inr, ⊎-elim}
 use mathlib.Core.List.{List}
 use Prim.Native.Nat.{ℕ, _+_, _≤_, _<_}
+use native.Mathlib.Nat.{eq-zero-or-pos}
 use native.Mathlib.Omega.{arith}
-use lib.Dec.{leb, ltb, eqb}
+use lib.Dec.{leb, eqb}
 use lib.ListN.{length, getD, set}
 use lib.Seq.{getD-set-other}
-use borrow.Author.Tests.{eqb-true, eq-eqb, leb-true, le-leb, ltb-true, ltb-false}
+use borrow.Author.Tests.{eqb-true, eq-eqb, leb-true, le-leb}
 use Rattle.walks.proofs.Lists.Every.{both}
 use Rattle.walks.proofs.Tests.{joined}
 use Rattle.phrases.specs.Phrases.{noPhrase, noPhrases, noSamples, endsBy, apartOf, othersOf, everyBelow, goodAt, goodPhrases}
 use Rattle.phrases.specs.declared.Phrase.{Phrase}
-use Rattle.phrases.proofs.Below.{below-at, below-all}
+use Rattle.phrases.proofs.Below.{before-or, below-at, below-all}
 use Rattle.phrases.proofs.Rooms.{ends-inside, inside-ends}
 use Rattle.phrases.proofs.Table.{set-entry, none-at}
 
@@ -65,6 +67,18 @@ module _ (p q : Phrase) where
   pub apart-behind : q .start + q .length ≤ p .start → apartOf p q ≡ true
   apart-behind h = apart-sym p q ∙ apart-before q p h
 
+  -- of two that have samples one ends before the other begins
+  pub apart-some : apartOf p q ≡ true → 0 < p .length → 0 < q .length → (p .start + p .length ≤ q .start) ⊎ (q .start + q .length ≤ p .start)
+  apart-some h a b = apart-cases p q h (λ e. absurd (omega arith)) (λ e. absurd (omega arith)) inl inr
+
+  pub apart-made : (0 < p .length → 0 < q .length → (p .start + p .length ≤ q .start) ⊎ (q .start + q .length ≤ p .start)) → apartOf p q ≡ true
+  apart-made h = go (eq-zero-or-pos (p .length)) (eq-zero-or-pos (q .length))
+    where
+      go : (p .length ≡ 0) ⊎ (0 < p .length) → (q .length ≡ 0) ⊎ (0 < q .length) → apartOf p q ≡ true
+      go (inl e) b = apart-empty p q e
+      go (inr a) (inl e) = apart-from-empty e
+      go (inr a) (inr b) = ⊎-elim (apart-before p q) apart-behind (h a b)
+
   -- a shorter one is apart from what the longer was
   pub apart-shorter : (r : Phrase) → q .start ≡ p .start → q .length ≤ p .length → apartOf p r ≡ true → apartOf q r ≡ true
   apart-shorter r s l h =
@@ -90,11 +104,16 @@ module _ (capacity : ℕ) (ps : List Phrase) where
     good-below k j l m = below-at (λ (i : ℕ). apartOf (getD ps k noPhrase) (getD ps i noPhrase)) k j (good-here k l .1) m
 
     pub good-apart : (j k : ℕ) → j < 8 → k < 8 → (j ≡ k → ⊥) → apartOf (getD ps j noPhrase) (getD ps k noPhrase) ≡ true
-    good-apart j k l m d = go (ltb j k) refl
-      where
-        go : (b : Bool) → ltb j k ≡ b → apartOf (getD ps j noPhrase) (getD ps k noPhrase) ≡ true
-        go true e = apart-sym (getD ps j noPhrase) (getD ps k noPhrase) ∙ good-below k j m (ltb-true j k e)
-        go false e = good-below j k l (omega (arith, ltb-false j k e))
+    good-apart j k l m d =
+        ⊎-elim
+        (λ h. apart-sym (getD ps j noPhrase) (getD ps k noPhrase) ∙ good-below k j m h)
+        (λ h. good-below j k l (omega arith))
+        (before-or j k)
+
+    pub good-some : (j k : ℕ) → j < 8 → k < 8 → (j ≡ k → ⊥) → 0 < getD ps j noPhrase .length → 0 < getD ps k noPhrase .length
+        → (getD ps j noPhrase .start + getD ps j noPhrase .length ≤ getD ps k noPhrase .start)
+        ⊎ (getD ps k noPhrase .start + getD ps k noPhrase .length ≤ getD ps j noPhrase .start)
+    good-some j k l m d = apart-some (getD ps j noPhrase) (getD ps k noPhrase) (good-apart j k l m d)
 
   pub good-made : ((k : ℕ) → k < 8 → endsBy capacity (getD ps k noPhrase) ≡ true)
       → ((j k : ℕ) → j < k → k < 8 → apartOf (getD ps k noPhrase) (getD ps j noPhrase) ≡ true) → goodPhrases capacity ps ≡ true

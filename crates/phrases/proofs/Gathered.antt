@@ -7,72 +7,32 @@
 --     again-phrases, again-memory     gathering again changes nothing
 -- Assumes nothing.
 use mathlib.Core.Path.{_≡_, refl, sym, ap, _∙_, subst}
-use Prim.Native.Nat.{ℕ, zero, suc, _+_, _≤_, _<_, _^_, min}
+use Prim.Native.Nat.{ℕ, _+_, _≤_, _<_, _^_}
+use native.Mathlib.Nat.{eq-zero-or-pos, pos-of-ne-zero, le-antisymm}
 use native.Mathlib.Omega.{arith}
-use mathlib.Core.Bool.{Bool, true, false, not, _&&_, cond}
-use mathlib.Core.Logic.{_⊎_, inl, inr, _≢_}
-use mathlib.Core.List.{List, [], _∷_, _++_, map}
+use mathlib.Core.Bool.{true, false}
+use mathlib.Core.Logic.{_⊎_, inl, inr, _≢_, ⊎-elim}
+use mathlib.Core.List.{List, _++_, map}
 use mathlib.Core.Option.{some}
-use lib.Dec.{leb}
-use borrow.Author.Tests.{leb-true, eq-eqb}
 use lib.ListN.{length, take, drop, getD, getElem?, length-map, List·getD-map, take-append-drop}
 use lib.Seq.{ext-getD}
-use Rattle.walks.specs.Walks.{fold}
 use Rattle.walks.specs.Each.{Each}
 use Rattle.walks.proofs.Lists.Each.{each-weaker}
 use Rattle.phrases.specs.declared.Phrase.{Phrase}
-use Rattle.phrases.specs.declared.Beside.{Beside}
-use Rattle.phrases.specs.Phrases.{noPhrase, noSamples, endsBy, reachOf, storedIn, goodPhrases, besideWith, besideOf}
+use Rattle.phrases.specs.Phrases.{noPhrase, noSamples, endsBy, reachOf, storedIn, goodPhrases, besideOf}
 use Rattle.phrases.specs.Gathering.{Gathering, gatheringOf, samplesOf, samplesIf, samplesBefore}
-use Rattle.phrases.proofs.Rooms.{inside-ends}
-use Rattle.phrases.proofs.Gathered.Places.{gatheredPhrase, storedAll, Rising}
-use Rattle.phrases.proofs.Gathered.Sums.{same-or, sum-same}
-use Rattle.phrases.proofs.Gathered.Firsts.{holds-some, some-holds, holds-none, Apart, Good, good, good-is}
-use Rattle.phrases.proofs.Gathered.Turns.{Turned, Settled, all-turned, if-before, if-behind, if-most, some-or, before-it, downTo, down-before, down-empty, gathered-empty, gathered-some, gathered-length}
+use Rattle.phrases.proofs.Below.{same-or}
+use Rattle.phrases.proofs.Rooms.{holds-some, holds-none, inside-ends}
+use Rattle.phrases.proofs.Apart.{apart-made, good-within, good-some, good-made}
+use Rattle.phrases.proofs.Reaches.{reach-empty, reach-end, behind-reach, behind-least, next-none}
+use Rattle.phrases.proofs.Gathered.Places.{nth, gatheredPhrase, storedAll, Rising}
+use Rattle.phrases.proofs.Gathered.Sums.{sum-same}
+use Rattle.phrases.proofs.Gathered.Turns.{Turned, Settled, all-turned, if-before, if-behind, if-most, before-it, downTo, down-before, down-empty, gathered-empty, gathered-some, gathered-length}
 pub mod Places
 pub mod Sums
 pub mod Firsts
 pub mod Moved
 pub mod Turns
-
-abbrev nth : List Phrase → ℕ → Phrase
-nth ps i = getD ps i noPhrase
-
-reach-some : (p : Phrase) → 0 < p .length → p .start + p .length < 2 ^ 64 → reachOf p ≡ p .start + p .length
-unfolding reachOf
-reach-some p s h = rw (some-holds p s) (omega arith)
-
-reach-none : (p : Phrase) → p .length ≡ 0 → reachOf p ≡ 0
-unfolding reachOf noSamples
-reach-none p e = rw (eq-eqb (p .length) 0 e)
-
--- ---- how far those of a list reach
-module _ (place : ℕ) where
-  behind-least : (b : Beside) (ps : List Phrase) → b .behind ≤ fold (besideWith place) b ps .behind
-  unfolding fold besideWith
-  behind-least b [] = omega arith
-  behind-least b (p ∷ ps) = omega (arith, behind-least (besideWith place b p) ps)
-
-  behind-each : (b : Beside) (ps : List Phrase) (k : ℕ) → k < length ps → reachOf (nth ps k) ≤ fold (besideWith place) b ps .behind
-  unfolding fold besideWith
-  behind-each b [] k l = absurd (omega arith)
-  behind-each b (p ∷ ps) zero l = omega (arith, behind-least (besideWith place b p) ps)
-  behind-each b (p ∷ ps) (suc k) l = behind-each (besideWith place b p) ps k (omega arith)
-
-  behind-most : (b : Beside) (ps : List Phrase) (t : ℕ) → b .behind ≤ t → ((k : ℕ) → k < length ps → reachOf (nth ps k) ≤ t) → fold (besideWith place) b ps .behind ≤ t
-  unfolding fold besideWith
-  behind-most b [] t h each = h
-  behind-most b (p ∷ ps) t h each = behind-most (besideWith place b p) ps t (omega (arith, each 0 (omega arith))) (λ k l. each (suc k) (omega arith))
-
-  next-kept : (b : Beside) (ps : List Phrase) → ((k : ℕ) → k < length ps → 0 < nth ps k .length → nth ps k .start < place) → fold (besideWith place) b ps .next ≡ b .next
-  unfolding fold besideWith
-  next-kept b [] each = refl
-  next-kept b (p ∷ ps) each = next-kept (besideWith place b p) ps (λ k l. each (suc k) (omega arith)) ∙ go (noSamples p) refl (leb place (p .start)) refl
-    where
-      go : (e : Bool) → noSamples p ≡ e → (c : Bool) → leb place (p .start) ≡ c → cond (not e && c) (min (b .next) (p .start)) (b .next) ≡ b .next
-      go true e c h = refl
-      go false e false h = refl
-      go false e true h = absurd (omega (arith, each 0 (omega arith) (holds-some p e), leb-true place (p .start) h))
 
 -- the samples of those that have any, one's behind another's in the order of their places, and then what was there
 pub record InOrder (ps : List Phrase) (m : List ℕ) (g : Gathering) : Type 0 where
@@ -86,21 +46,18 @@ module _ (ps : List Phrase) (m : List ℕ) (many : length ps ≡ 8) (fine : good
   abbrev g : Gathering
   g = gatheringOf ps m
 
-  eight : Good (length m) ps
-  eight = good (length m) ps fine
-
   turned : Turned ps m g
-  turned = all-turned ps m eight many .0
+  turned = all-turned ps m fine many .0
 
   all-before : (k : ℕ) → k < 8 → 0 < nth ps k .length → nth ps k .start < g .from
-  all-before = all-turned ps m eight many .1
+  all-before = all-turned ps m fine many .1
 
   reach : (k : ℕ) → k < 8 → 0 < nth ps k .length → samplesBefore (nth ps k .start) ps + nth ps k .length ≤ samplesBefore (g .from) ps
   reach k l s = before-it ps k (g .from) l (all-before k l s)
 
   all : samplesBefore (g .from) ps ≡ samplesOf ps
   unfolding samplesBefore samplesOf
-  all = sum-same 8 (λ (i : ℕ). samplesIf (g .from) (nth ps i)) (λ (i : ℕ). nth ps i .length) (λ i l. go i l (some-or (nth ps i)))
+  all = sum-same 8 (λ (i : ℕ). samplesIf (g .from) (nth ps i)) (λ (i : ℕ). nth ps i .length) (λ i l. go i l (eq-zero-or-pos (nth ps i .length)))
     where
       go : (i : ℕ) → i < 8 → (nth ps i .length ≡ 0) ⊎ (0 < nth ps i .length) → samplesIf (g .from) (nth ps i) ≡ nth ps i .length
       go i l (inl e) = omega (arith, if-most (g .from) (nth ps i))
@@ -111,7 +68,7 @@ module _ (ps : List Phrase) (m : List ℕ) (many : length ps ≡ 8) (fine : good
   gather-many = turned .many
 
   pub gather-phrase : (k : ℕ) → k < 8 → getD (gatheringOf ps m .phrases) k noPhrase ≡ gatheredPhrase ps (getD ps k noPhrase)
-  gather-phrase k l = turned .placed k l ∙ go (some-or (nth ps k))
+  gather-phrase k l = turned .placed k l ∙ go (eq-zero-or-pos (nth ps k .length))
     where
       go : (nth ps k .length ≡ 0) ⊎ (0 < nth ps k .length) → downTo (g .from) ps (nth ps k) ≡ gatheredPhrase ps (nth ps k)
       go (inl e) = down-empty ps (nth ps k) (g .from) e ∙ sym (gathered-empty ps (nth ps k) e)
@@ -143,7 +100,7 @@ module _ (ps : List Phrase) (m : List ℕ) (many : length ps ≡ 8) (fine : good
 
   pub gather-keeps : (k : ℕ) → k < 8 → storedIn (getD (gatheringOf ps m .phrases) k noPhrase) (gatheringOf ps m .memory) ≡ storedIn (getD ps k noPhrase) m
   unfolding storedIn
-  gather-keeps k l = go (some-or (nth ps k))
+  gather-keeps k l = go (eq-zero-or-pos (nth ps k .length))
     where
       go : (nth ps k .length ≡ 0) ⊎ (0 < nth ps k .length) → storedIn (nth (g .phrases) k) (g .memory) ≡ storedIn (nth ps k) m
       go (inl e) =
@@ -182,54 +139,43 @@ module _ (ps : List Phrase) (m : List ℕ) (many : length ps ≡ 8) (fine : good
       )
 
   pub gathered-good : goodPhrases (length m) (gatheringOf ps m .phrases) ≡ true
-  gathered-good = good-is (length m) (g .phrases) (record { ends = λ i l. ends i l (some-or (nth ps i)); clear = clear })
+  gathered-good =
+      good-made (length m) (g .phrases) (λ i l. ends i l (eq-zero-or-pos (nth ps i .length)))
+      (λ j i d l. let k : j < 8 = omega arith in apart-made (nth (g .phrases) i) (nth (g .phrases) j)
+      (λ a b. let x : 0 < nth ps i .length = omega (arith, gather-length i l) in
+      let y : 0 < nth ps j .length = omega (arith, gather-length j k) in
+      ⊎-elim (λ h. inl (gather-order i j l k x y h)) (λ h. inr (gather-order j i k l y x h)) (good-some (length m) ps fine i j l k (omega arith) x y)))
     where
       ends : (i : ℕ) → i < 8 → (nth ps i .length ≡ 0) ⊎ (0 < nth ps i .length) → endsBy (length m) (nth (g .phrases) i) ≡ true
-      ends i l (inl e) = ap (endsBy (length m)) (gather-phrase i l ∙ gathered-empty ps (nth ps i) e) ∙ eight .ends i l
+      ends i l (inl e) = ap (endsBy (length m)) (gather-phrase i l ∙ gathered-empty ps (nth ps i) e) ∙ good-within (length m) ps fine i l
       ends i l (inr s) = inside-ends (nth (g .phrases) i) (length m) (omega (arith, gather-reach i l s, gather-length i l, samples-fit))
 
-      clear : (i j : ℕ) → i < 8 → j < 8 → i ≢ j → Apart (nth (g .phrases) i) (nth (g .phrases) j)
-      clear i j l k d a b = go (eight .clear i j l k d x y)
-        where
-          x : 0 < nth ps i .length
-          x = omega (arith, gather-length i l)
-
-          y : 0 < nth ps j .length
-          y = omega (arith, gather-length j k)
-
-          go : (nth ps i .start + nth ps i .length ≤ nth ps j .start) ⊎ (nth ps j .start + nth ps j .length ≤ nth ps i .start)
-              → (nth (g .phrases) i .start + nth (g .phrases) i .length ≤ nth (g .phrases) j .start) ⊎ (nth (g .phrases) j .start + nth (g .phrases) j .length ≤ nth (g .phrases) i .start)
-          go (inl h) = inl (gather-order i j l k x y h)
-          go (inr h) = inr (gather-order j i k l y x h)
-
   pub gathered-behind : length m < 2 ^ 64 → (place capacity : ℕ) → besideOf place capacity (gatheringOf ps m .phrases) .behind ≡ samplesOf ps
-  unfolding besideOf
-  gathered-behind h place capacity = omega (arith, least (turned .reached), behind-most place b (g .phrases) (samplesOf ps) (omega arith) (λ k l. most k (omega (arith, gather-many)) (some-or (nth ps k))))
+  gathered-behind h place capacity =
+      le-antisymm
+      (behind-least place capacity (g .phrases) (samplesOf ps) (λ k l. most k (omega (arith, gather-many)) (eq-zero-or-pos (nth ps k .length))))
+      (least (turned .reached))
     where
-      b : Beside
-      b = record { behind = 0; next = capacity }
-
       reaches : (k : ℕ) → k < 8 → 0 < nth ps k .length → reachOf (nth (g .phrases) k) ≡ samplesBefore (nth ps k .start) ps + nth ps k .length
       reaches k l s =
-          ap reachOf (gather-some k l s)
-          ∙ reach-some (record { start = samplesBefore (nth ps k .start) ps; length = nth ps k .length }) s (omega (arith, reach k l s, all, samples-fit))
+          reach-end (nth (g .phrases) k) (length m) (good-within (length m) (g .phrases) gathered-good k l) h (λ e. omega (arith, gather-length k l))
+          ∙ ap (λ (p : Phrase). p .start + p .length) (gather-some k l s)
 
       most : (k : ℕ) → k < 8 → (nth ps k .length ≡ 0) ⊎ (0 < nth ps k .length) → reachOf (nth (g .phrases) k) ≤ samplesOf ps
-      most k l (inl e) = omega (arith, reach-none (nth (g .phrases) k) (gather-length k l ∙ e))
+      most k l (inl e) = omega (arith, reach-empty (nth (g .phrases) k) (gather-length k l ∙ e))
       most k l (inr s) = omega (arith, reaches k l s, reach k l s, all)
 
       least : (g .to ≡ 0) ⊎ ((k : ℕ) × (k < 8) × (0 < nth ps k .length) × (nth ps k .start < g .from) × (samplesBefore (nth ps k .start) ps + nth ps k .length ≡ g .to))
-          → samplesOf ps ≤ fold (besideWith place) b (g .phrases) .behind
+          → samplesOf ps ≤ besideOf place capacity (g .phrases) .behind
       least (inl e) = omega (arith, gather-to)
-      least (inr r) =
-          let at = behind-each place b (g .phrases) (r .0) (omega (arith, r .1, gather-many)) in
-          omega (arith, at, reaches (r .0) (r .1) (r .2), r .4, gather-to)
+      least (inr r) = omega (arith, behind-reach place capacity (g .phrases) (r .0), reaches (r .0) (r .1) (r .2), r .4, gather-to)
 
   pub gathered-next : (place capacity : ℕ) → samplesOf ps ≤ place → besideOf place capacity (gatheringOf ps m .phrases) .next ≡ capacity
-  unfolding besideOf
   gathered-next place capacity h =
-      next-kept place (record { behind = 0; next = capacity }) (g .phrases)
-      (λ k l s. let q : k < 8 = omega (arith, gather-many) in let z : 0 < nth ps k .length = omega (arith, gather-length k q) in omega (arith, gather-reach k q z))
+      next-none place capacity (g .phrases) λ k l s.
+      let q : k < 8 = omega (arith, gather-many) in
+      let z : 0 < nth ps k .length = pos-of-ne-zero (λ e. s (gather-length k q ∙ e)) in
+      omega (arith, gather-reach k q z)
 
   -- ---- the memory as a whole
   pub gathered : InOrder ps m (gatheringOf ps m)
@@ -252,7 +198,7 @@ module _ (ps : List Phrase) (m : List ℕ) (many : length ps ≡ 8) (fine : good
 
   -- ---- those that stand so already stay
   pub settled-phrases : Settled ps → gatheringOf ps m .phrases ≡ ps
-  settled-phrases h = ext-getD noPhrase (g .phrases) ps (gather-many ∙ sym many) λ i l. go i (omega (arith, gather-many)) (some-or (nth ps i))
+  settled-phrases h = ext-getD noPhrase (g .phrases) ps (gather-many ∙ sym many) λ i l. go i (omega (arith, gather-many)) (eq-zero-or-pos (nth ps i .length))
     where
       go : (i : ℕ) → i < 8 → (nth ps i .length ≡ 0) ⊎ (0 < nth ps i .length) → nth (g .phrases) i ≡ nth ps i
       go i l (inl e) = gather-phrase i l ∙ gathered-empty ps (nth ps i) e
@@ -265,7 +211,7 @@ module _ (ps : List Phrase) (m : List ℕ) (many : length ps ≡ 8) (fine : good
   unfolding samplesBefore
   gathered-settled k l s =
       sum-same 8 (λ (i : ℕ). samplesIf (nth (g .phrases) k .start) (nth (g .phrases) i)) (λ (i : ℕ). samplesIf (nth ps k .start) (nth ps i))
-      (λ i o. each i o (some-or (nth ps i)) (same-or i k))
+      (λ i o. each i o (eq-zero-or-pos (nth ps i .length)) (same-or i k))
       ∙ sym (ap (λ (p : Phrase). p .start) (gather-some k l z))
     where
       z : 0 < nth ps k .length
@@ -277,7 +223,7 @@ module _ (ps : List Phrase) (m : List ℕ) (many : length ps ≡ 8) (fine : good
       each i o (inr a) (inl e) =
           if-behind (nth (g .phrases) k .start) (nth (g .phrases) i) (omega (arith, ap (λ (j : ℕ). nth (g .phrases) j .start) e))
           ∙ sym (if-behind (nth ps k .start) (nth ps i) (omega (arith, ap (λ (j : ℕ). nth ps j .start) e)))
-      each i o (inr a) (inr d) = on (eight .clear i k o l d a z)
+      each i o (inr a) (inr d) = on (good-some (length m) ps fine i k o l d a z)
         where
           on : (nth ps i .start + nth ps i .length ≤ nth ps k .start) ⊎ (nth ps k .start + nth ps k .length ≤ nth ps i .start)
               → samplesIf (nth (g .phrases) k .start) (nth (g .phrases) i) ≡ samplesIf (nth ps k .start) (nth ps i)

@@ -1,8 +1,8 @@
 pub mod Below
 pub mod Rooms
-pub mod Gathered
 pub mod Table
 pub mod Apart
 pub mod Reaches
-pub mod Moves
-pub mod Turns
+pub mod Fits
+pub mod Gathered
+pub mod Examples

@@ -180,13 +180,15 @@ module _ (place capacity : ℕ) (ps : List Phrase) where
   unfolding besideOf
   next-most n h f = next-over place (besideNone capacity) ps n h f
 
-  -- at a place that none reaches over there is room up to the capacity
+  -- where each with samples begins before the place there is room up to the capacity
+  pub next-none : ((k : ℕ) → k < length ps → (getD ps k noPhrase .length ≡ 0 → ⊥) → getD ps k noPhrase .start < place) → besideOf place capacity ps .next ≡ capacity
+  next-none f = le-antisymm next-within (next-most capacity (le-refl capacity) (λ k l some at. absurd (omega (arith, f k l some))))
+
+  -- so at a place that none reaches over
   pub next-free : (size : ℕ) → ((k : ℕ) → k < length ps → endsBy size (getD ps k noPhrase) ≡ true) → size < 2 ^ 64
       → besideOf place capacity ps .behind ≤ place → besideOf place capacity ps .next ≡ capacity
   next-free size within small h =
-      le-antisymm next-within
-      (next-most capacity (le-refl capacity)
-      (λ k l some at. absurd (omega (arith, behind-reach k, reach-end (getD ps k noPhrase) size (within k l) small some))))
+      next-none (λ k l some. omega (arith, behind-reach k, reach-end (getD ps k noPhrase) size (within k l) small some))
 
   -- one that ends by the next is apart from each that one with samples at its place is apart from
   pub next-apart : (k n some : ℕ) → 0 < some → apartOf (record { start = place; length = some }) (getD ps k noPhrase) ≡ true

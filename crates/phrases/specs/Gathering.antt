@@ -6,7 +6,6 @@ use mathlib.Core.List.{List, _++_}
 use lib.Dec.{leb, ltb, eqb}
 use lib.ListN.{length, take, drop, getD, set}
 use Rattle.phrases.specs.declared.Phrase.{Phrase}
-use Rattle.phrases.specs.declared.Room.{Room}
 use Rattle.phrases.specs.Phrases.{noPhrase, noSamples, roomOf}
 
 -- of the first n, the number of the one that begins first of those that begin at a place or behind it; 8 where none does.

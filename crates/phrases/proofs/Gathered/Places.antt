@@ -8,6 +8,9 @@ use Rattle.phrases.specs.declared.Phrase.{Phrase}
 use Rattle.phrases.specs.Phrases.{noPhrase, noSamples, storedIn}
 use Rattle.phrases.specs.Gathering.{samplesBefore}
 
+abbrev pub nth : List Phrase → ℕ → Phrase
+nth ps i = getD ps i noPhrase
+
 -- one of the eight where gathering puts it: behind the samples of those that begin before it. An empty one stays
 unfoldable pub gatheredPhrase : List Phrase → Phrase → Phrase
 gatheredPhrase ps p = cond (noSamples p) p (record { start = samplesBefore (p .start) ps; length = p .length })

@@ -2,19 +2,9 @@
 use mathlib.Core.Path.{_≡_, refl, ap}
 use Prim.Native.Nat.{ℕ, zero, suc, _+_, _≤_, _<_}
 use native.Mathlib.Omega.{arith}
-use mathlib.Core.Bool.{Bool, true, false}
 use mathlib.Core.Logic.{_⊎_, inl, inr, _≢_}
-use lib.Dec.{eqb}
-use borrow.Author.Tests.{eqb-true, eqb-false}
+use Rattle.phrases.proofs.Below.{same-or}
 use Rattle.phrases.specs.Gathering.{sumBelow}
-
--- a number is another or not
-pub same-or : (i k : ℕ) → (i ≡ k) ⊎ (i ≢ k)
-same-or i k = go (eqb i k) refl
-  where
-    go : (b : Bool) → eqb i k ≡ b → (i ≡ k) ⊎ (i ≢ k)
-    go true e = inl (eqb-true i k e)
-    go false e = inr (eqb-false i k e)
 
 pub sum-same : (n : ℕ) (f g : ℕ → ℕ) → ((i : ℕ) → i < n → f i ≡ g i) → sumBelow n f ≡ sumBelow n g
 unfolding sumBelow

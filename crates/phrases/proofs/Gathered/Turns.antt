@@ -2,7 +2,7 @@
 -- Assumes nothing.
 use mathlib.Core.Path.{_≡_, refl, sym, ap, _∙_, subst}
 use Prim.Native.Nat.{ℕ, zero, suc, _+_, _-_, _≤_, _<_}
-use native.Mathlib.Nat.{add-sub-cancel-left}
+use native.Mathlib.Nat.{add-sub-cancel-left, eq-zero-or-pos}
 use native.Mathlib.Omega.{arith}
 use mathlib.Core.Bool.{Bool, true, false, _||_, cond}
 use mathlib.Core.Logic.{_⊎_, inl, inr, _≢_}
@@ -11,18 +11,20 @@ use mathlib.Core.Option.{some}
 use lib.Dec.{ltb}
 use lib.ListN.{length, take, drop, getD, getElem?, set, length-set}
 use lib.Seq.{getD-set-same, getD-set-other}
-use borrow.Author.Tests.{ltb-true, ltb-false, lt-ltb, le-ltb, eq-eqb}
+use borrow.Author.Tests.{lt-ltb, le-ltb, eq-eqb}
 use Rattle.walks.specs.Each.{Each}
 use Rattle.walks.proofs.Tests.{either}
 use Rattle.walks.proofs.Lists.Each.{each-weaker}
 use Rattle.walks.proofs.Lists.Looks.{look-front, look-last}
 use Rattle.phrases.specs.declared.Phrase.{Phrase}
-use Rattle.phrases.specs.Phrases.{noPhrase, noSamples, storedIn, roomOf}
+use Rattle.phrases.specs.Phrases.{noPhrase, noSamples, storedIn, roomOf, goodPhrases}
 use Rattle.phrases.specs.Gathering.{Gathering, movedDown, firstFrom, gatherPhrase, gatherNext, gatherTurns, gatheringOf, sumBelow, samplesIf, samplesBefore}
-use Rattle.phrases.proofs.Rooms.{room-from, room-to, ends-inside}
-use Rattle.phrases.proofs.Gathered.Places.{gatheredPhrase, storedAll, Rising}
-use Rattle.phrases.proofs.Gathered.Sums.{same-or, sum-same, sum-at, sum-most, sum-larger, sum-one}
-use Rattle.phrases.proofs.Gathered.Firsts.{holds-some, some-holds, Good, Over, First, first}
+use Rattle.phrases.proofs.Below.{same-or, before-or}
+use Rattle.phrases.proofs.Rooms.{holds-some, some-holds, room-from, room-to, ends-inside}
+use Rattle.phrases.proofs.Apart.{good-within, good-some}
+use Rattle.phrases.proofs.Gathered.Places.{nth, gatheredPhrase, storedAll, Rising}
+use Rattle.phrases.proofs.Gathered.Sums.{sum-same, sum-at, sum-most, sum-larger, sum-one}
+use Rattle.phrases.proofs.Gathered.Firsts.{Over, First, first}
 use Rattle.phrases.proofs.Gathered.Moved.{drop-further, moved-length, moved-rest, moved-there, moved-below, moved-front, moved-same}
 
 -- ---- samples of those that begin before a place
@@ -43,30 +45,12 @@ module _ (place : ℕ) (p : Phrase) where
       go true = omega arith
       go false = omega arith
 
--- it begins before a place, or not
-pub before-or : (a place : ℕ) → (a < place) ⊎ (place ≤ a)
-before-or a place = go (ltb a place) refl
-  where
-    go : (b : Bool) → ltb a place ≡ b → (a < place) ⊎ (place ≤ a)
-    go true e = inl (ltb-true a place e)
-    go false e = inr (ltb-false a place e)
-
-pub some-or : (p : Phrase) → (p .length ≡ 0) ⊎ (0 < p .length)
-some-or p = go (before-or 0 (p .length))
-  where
-    go : (0 < p .length) ⊎ (p .length ≤ 0) → (p .length ≡ 0) ⊎ (0 < p .length)
-    go (inl h) = inr h
-    go (inr h) = inl (omega arith)
-
 pub if-grows : (a b : ℕ) (p : Phrase) → a ≤ b → samplesIf a p ≤ samplesIf b p
 if-grows a b p h = go (before-or (p .start) a)
   where
     go : (p .start < a) ⊎ (a ≤ p .start) → samplesIf a p ≤ samplesIf b p
     go (inl l) = omega (arith, if-before a p l, if-before b p (omega arith))
     go (inr l) = omega (arith, if-behind a p l)
-
-abbrev nth : List Phrase → ℕ → Phrase
-nth ps i = getD ps i noPhrase
 
 -- it stands behind those that begin before it, and before whatever begins behind it
 pub before-it : (ps : List Phrase) (k place : ℕ) → k < 8 → getD ps k noPhrase .start < place
@@ -77,6 +61,11 @@ before-it ps k place l h =
     sum-larger 8 k (nth ps k .length) (λ (i : ℕ). samplesIf a (nth ps i)) (λ (i : ℕ). samplesIf place (nth ps i)) l
     (λ i l. if-grows a place (nth ps i) (omega arith))
     (omega (arith, if-behind a (nth ps k) (omega arith), if-before place (nth ps k) h))
+
+-- none begins before the first place
+pub before-none : (ps : List Phrase) → samplesBefore 0 ps ≡ 0
+unfolding samplesBefore sumBelow
+before-none ps = sum-same 8 (λ (i : ℕ). samplesIf 0 (nth ps i)) (λ (i : ℕ). 0) (λ i l. if-behind 0 (nth ps i) (omega arith))
 
 -- ---- a phrase where those that begin before a place have been moved
 unfoldable pub downTo : ℕ → List Phrase → Phrase → Phrase
@@ -137,7 +126,7 @@ waits-not place p h = go (noSamples p) refl
     go false e = rw (lt-ltb (p .start) place (h (holds-some p e)))
 
 waits-fewer : (a b : ℕ) (p : Phrase) → a ≤ b → waits b p ≤ waits a p
-waits-fewer a b p h = go (some-or p) (before-or (p .start) b)
+waits-fewer a b p h = go (eq-zero-or-pos (p .length)) (before-or (p .start) b)
   where
     go : (p .length ≡ 0) ⊎ (0 < p .length) → (p .start < b) ⊎ (b ≤ p .start) → waits b p ≤ waits a p
     go c (inl l) = omega (arith, waits-not b p (λ _. l))
@@ -190,7 +179,7 @@ pub record Turned (ps : List Phrase) (m : List ℕ) (g : Gathering) : Type 0 whe
   pub joined : take (g .to) (g .memory) ≡ storedAll ps m order
   pub settled : Settled ps → g .memory ≡ m
 
-module _ (ps : List Phrase) (m : List ℕ) (good : Good (length m) ps) where
+module _ (ps : List Phrase) (m : List ℕ) (fine : goodPhrases (length m) ps ≡ true) where
   module _ (g : Gathering) (t : Turned ps m g) where
     -- those behind stand where they stood, those before don't stand behind
     left : (i : ℕ) → i < 8 → g .from ≤ nth ps i .start → nth (g .phrases) i ≡ nth ps i
@@ -247,15 +236,15 @@ module _ (ps : List Phrase) (m : List ℕ) (good : Good (length m) ps) where
 
       ends : end ≤ length m
       unfolding end
-      ends = ends-inside (nth ps k) (length m) (good .ends k (f .below))
+      ends = ends-inside (nth ps k) (length m) (good-within (length m) ps fine k (f .below))
 
       phrase-moves : gatherPhrase k g ≡ moves
       unfolding gatherPhrase moves end
       phrase-moves =
           ap (λ (p : Phrase). by p (roomOf p (length (g .memory)) .from) (roomOf p (length (g .memory)) .to)) (left k (f .below) (f .behind))
           ∙ ap (λ (n : ℕ). by (nth ps k) (roomOf (nth ps k) n .from) (roomOf (nth ps k) n .to)) (t .size)
-          ∙ ap (λ (a : ℕ). by (nth ps k) a (roomOf (nth ps k) (length m) .to)) (room-from (nth ps k) (length m) (good .ends k (f .below)))
-          ∙ ap (λ (b : ℕ). by (nth ps k) (nth ps k .start) b) (room-to (nth ps k) (length m) (good .ends k (f .below)))
+          ∙ ap (λ (a : ℕ). by (nth ps k) a (roomOf (nth ps k) (length m) .to)) (room-from (nth ps k) (length m) (good-within (length m) ps fine k (f .below)))
+          ∙ ap (λ (b : ℕ). by (nth ps k) (nth ps k .start) b) (room-to (nth ps k) (length m) (good-within (length m) ps fine k (f .below)))
           ∙ ap (λ (n : ℕ). with n) (add-sub-cancel-left (nth ps k .start) (nth ps k .length))
         where
           by : Phrase → ℕ → ℕ → Gathering
@@ -281,7 +270,7 @@ module _ (ps : List Phrase) (m : List ℕ) (good : Good (length m) ps) where
 
           go : (nth ps i .start < g .from) ⊎ (g .from ≤ nth ps i .start) → (nth ps i .start < g .from) ⊎ (nth ps k .start + nth ps k .length ≤ nth ps i .start)
           go (inl h) = inl h
-          go (inr h) = on h (good .clear i k l (f .below) d s (f .some))
+          go (inr h) = on h (good-some (length m) ps fine i k l (f .below) d s (f .some))
 
       goes-to : samplesBefore (nth ps k .start) ps ≡ g .to
       unfolding samplesBefore
@@ -290,7 +279,7 @@ module _ (ps : List Phrase) (m : List ℕ) (good : Good (length m) ps) where
           ∙ sym (t .filled)
         where
           each : (i : ℕ) → i < 8 → samplesIf (nth ps k .start) (nth ps i) ≡ samplesIf (g .from) (nth ps i)
-          each i l = go (some-or (nth ps i)) (before-or (nth ps i .start) (g .from))
+          each i l = go (eq-zero-or-pos (nth ps i .length)) (before-or (nth ps i .start) (g .from))
             where
               go : (nth ps i .length ≡ 0) ⊎ (0 < nth ps i .length) → (nth ps i .start < g .from) ⊎ (g .from ≤ nth ps i .start)
                   → samplesIf (nth ps k .start) (nth ps i) ≡ samplesIf (g .from) (nth ps i)
@@ -306,7 +295,7 @@ module _ (ps : List Phrase) (m : List ℕ) (good : Good (length m) ps) where
           (omega (arith, if-behind (g .from) (nth ps k) (f .behind), if-before end (nth ps k) (omega (arith, f .some))))
         where
           each : (i : ℕ) → i < 8 → i ≢ k → samplesIf (g .from) (nth ps i) ≡ samplesIf end (nth ps i)
-          each i l d = go (some-or (nth ps i))
+          each i l d = go (eq-zero-or-pos (nth ps i .length))
             where
               on : (nth ps i .start < g .from) ⊎ (end ≤ nth ps i .start) → samplesIf (g .from) (nth ps i) ≡ samplesIf end (nth ps i)
               on (inl h) = if-before (g .from) (nth ps i) h ∙ sym (if-before end (nth ps i) (omega (arith, f .behind)))
@@ -349,7 +338,7 @@ module _ (ps : List Phrase) (m : List ℕ) (good : Good (length m) ps) where
 
           go : (i ≡ k) ⊎ (i ≢ k) → getD (set (g .phrases) k gone-to) i noPhrase ≡ downTo end ps (nth ps i)
           go (inl e) = subst (λ (j : ℕ). getD (set (g .phrases) k gone-to) j noPhrase ≡ downTo end ps (nth ps j)) (sym e) this
-          go (inr d) = getD-set-other (g .phrases) k i gone-to noPhrase d ∙ t .placed i l ∙ other (some-or (nth ps i)) d
+          go (inr d) = getD-set-other (g .phrases) k i gone-to noPhrase d ∙ t .placed i l ∙ other (eq-zero-or-pos (nth ps i .length)) d
 
       moves-kept : (i : ℕ) → i < 8 → 0 < nth ps i .length → nth ps i .start < end
           → take (nth ps i .length) (drop (samplesBefore (nth ps i .start) ps) memory) ≡ storedIn (nth ps i) m
@@ -481,13 +470,13 @@ module _ (ps : List Phrase) (m : List ℕ) (good : Good (length m) ps) where
 
   -- none is moved yet
   begins : length ps ≡ 8 → Turned ps m (record { phrases = ps; memory = m; from = 0; to = 0 })
-  unfolding samplesBefore sumBelow storedAll Each
+  unfolding storedAll Each
   begins many = record {
     many = many;
     size = refl;
     inside = omega arith;
     low = omega arith;
-    filled = sum-same 8 (λ (i : ℕ). 0) (λ (i : ℕ). samplesIf 0 (nth ps i)) (λ i l. sym (if-behind 0 (nth ps i) (omega arith)));
+    filled = sym (before-none ps);
     placed = λ i l. sym (down-behind 0 ps (nth ps i) (omega arith));
     rest = refl;
     kept = λ i l s h. absurd (omega arith);

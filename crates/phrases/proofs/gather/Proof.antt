@@ -11,7 +11,7 @@ use Rattle.phrases.specs.Phrases.{noPhrase, roomOf}
 use Rattle.phrases.specs.Gathering.{Gathering, firstFrom, movedDown, gatherPhrase, gatherNext, gatherTurns, gatheringOf}
 use Rattle.phrases.specs.declared.Phrase.{Phrase}
 use Rattle.phrases.specs.declared.Room.{Room}
-use Rattle.phrases.proofs.Turns.{Fits, room-down, turn-length, turn-fits}
+use Rattle.phrases.proofs.Fits.{Fits, room-down, turn-length, turn-fits}
 use Rattle.phrases.proofs.gather.Statement.{statement}
 use Rattle.phrases.proofs.gather.Tie as tie
 

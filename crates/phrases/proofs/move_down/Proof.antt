@@ -6,7 +6,7 @@ use lib.ListN.{length, drop, length-set}
 use lib.Seq.{paste-zero}
 use borrow.Author.Needs.{needs}
 use Rattle.phrases.specs.Gathering.{movedDown}
-use Rattle.phrases.proofs.Moves.{as-pasted, moved-next}
+use Rattle.phrases.proofs.Gathered.Moved.{as-pasted, moved-next}
 use Rattle.phrases.proofs.move_down.Statement.{statement}
 use Rattle.phrases.proofs.move_down.Tie as tie
 
@@ -19,7 +19,7 @@ abbrev μ-loop : tie.MeasureT-loop
 loop-holds : tie.Need-loop-holds Inv-loop μ-loop
 loop-holds c =
     let a = c .args in
-    (omega arith, paste-zero (a .«data» .now) (a .to) (drop (a .from) (a .«data» .now)) ∙ sym (as-pasted (a .«data» .now) (a .from) (a .to) (c .pre .0) 0), refl)
+    (omega arith, paste-zero (a .«data» .now) (a .to) (drop (a .from) (a .«data» .now)) ∙ sym (as-pasted (a .from) (a .to) 0 (a .«data» .now)), refl)
 
 add-data : tie.Need-add-data Inv-loop μ-loop
 add-data c = search needs
@@ -49,7 +49,7 @@ loop-again : tie.Need-loop-again Inv-loop μ-loop
 loop-again c =
     let a = c .before .before .before .args in
     let l = c .before .before .loop in
-    let n = moved-next (a .«data» .now) (a .from) (a .to) (c .before .before .before .pre .0) (l .i) (omega arith) in
+    let n = moved-next (a .from) (a .to) (l .i) (a .«data» .now) (c .before .before .before .pre .0) (omega arith) (omega arith) in
     (omega arith, rw (l .inv .1) n, simp length-set (l .inv .2))
 
 same-length : tie.Need-same-length Inv-loop μ-loop
