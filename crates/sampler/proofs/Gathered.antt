@@ -13,7 +13,7 @@ use lib.ListN.{length, take, drop, set, length-set}
 use lib.Seq.{drop-drop, getD-set-same, getD-set-other}
 use Rattle.channel.specs.declared.Channel.{Channel}
 use Rattle.phrases.specs.Gathering.{Gathering, gatherNext, gatherTurns, gatheringOf}
-use Rattle.phrases.proofs.Turns.{Fits, turn-length, turn-fits}
+use Rattle.phrases.proofs.Fits.{Fits, turn-length, turn-fits}
 use Rattle.channel.specs.Channels.{phrasesIn, gatheredIn, gatheredMemory}
 use Rattle.sampler.specs.Refusals.{channelAt, gatherNumber}
 use Rattle.sampler.specs.Samplers.{withChannels, partOf, Gathered, gatherChannel, gatherChannels, gatheredAll, gatherOf, gatherMemory}
