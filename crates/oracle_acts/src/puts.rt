@@ -108,35 +108,51 @@ fn put_channel(c: Channel, capacity: usize, p: Order) -> Channel {
 // The recording under another number, whose own phrase is lost. That which it had has none.
 fn renumbered(c: Channel, k: u8) -> Channel {
     let mut r = c;
-    let head = c.head;
-    let table = c.table;
-    r.table = phrases::with(table, head.chosen, Phrase::none());
+    let old = c.head.chosen as usize;
+    if old < 8 {
+        r.table[old] = Phrase::none();
+    }
     r.head.chosen = k;
     r
 }
 
 // A phrase of m samples from n on.
 fn put_phrase(c: Channel, p: Order) -> Channel {
-    let mut r = c;
     let head = c.head;
     if p.voice == head.chosen {
-        r.head.start = p.n;
-        r.head.data_len = p.m;
-        return r;
+        return with_recording(c, p);
     }
-    let phrase = Phrase {
-        start: p.n,
-        length: p.m,
-    };
-    r.table = phrases::with(others(c), p.voice, phrase);
-    r.several = true;
+    let mut r = with_others(c);
+    let k = p.voice as usize;
+    if k < 8 {
+        r.table[k] = Phrase {
+            start: p.n,
+            length: p.m,
+        };
+    }
     r
 }
 
-fn others(c: Channel) -> [Phrase; 8] {
-    let head = c.head;
-    let table = c.table;
-    phrases::others(table, c.several, head.chosen)
+fn with_recording(c: Channel, p: Order) -> Channel {
+    let mut r = c;
+    r.head.start = p.n;
+    r.head.data_len = p.m;
+    r
+}
+
+// The channel with a table that is looked at: if it had none, with an empty one.
+fn with_others(c: Channel) -> Channel {
+    if c.several {
+        return c;
+    }
+    let mut r = c;
+    let mut k = 0;
+    while k < 8 {
+        r.table[k] = Phrase::none();
+        k += 1;
+    }
+    r.several = true;
+    r
 }
 
 // 4 the data length past the capacity, 5 the write place past the data length, 6 the clock past 2^48, 7 a ramp of
