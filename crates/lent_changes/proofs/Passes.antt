@@ -54,11 +54,11 @@ module _ (x : Change) (h : Channel) where
   abbrev pub aside : Aside
   aside = asideOf named (h .several) (besideIn 0 h)
 
-  abbrev pub stores : Entry
-  stores = entryOf x (h .head) (h .several) named
+  abbrev pub entry : Entry
+  entry = entryOf x (h .head) (h .several) named
 
   abbrev stored-in : Channel
-  stored-in = record { voices = h .voices; table = storedBy stores (h .table); count = h .count; head = h .head; several = stores .several }
+  stored-in = record { voices = h .voices; table = storedBy entry (h .table); count = h .count; head = h .head; several = entry .several }
 
   -- the channel after the loop: the new voice, the count and the head; its table is c's
   abbrev finalIn : Channel → Pass → List Voice → Channel
@@ -71,15 +71,22 @@ module _ (x : Change) (h : Channel) where
   abbrev pub restOf : Pass → List Voice → ℕ → List Voice → Channel
   restOf p l i vs = restIn stored-in p l i vs
 
-  -- what is stored is what the change makes of the table; one that leaves it may be worked out with the table as it was
-  module _ (eight : length (h .table) ≡ 8) (p : Pass) (l : List Voice) (i : ℕ) (vs : List Voice) where
-    rest-stored : restOf p l i vs ≡ restIn (changedOf x h) p l i vs
-    rest-stored =
-        ap (λ (t : List Phrase). restIn (record { voices = h .voices; table = t; count = h .count; head = h .head; several = stores .several }) p l i vs) (stored h x eight)
-        ∙ ap (λ (b : Bool). restIn (record { voices = h .voices; table = changedOf x h .table; count = h .count; head = h .head; several = b }) p l i vs) (several-stored h x named)
+  -- where it begins
+  abbrev first : Pass
+  first = passOf x (h .head) (h .count)
 
-    rest-own : restIn h p l i vs ≡ changedOf x h → restOf p l i vs ≡ changedOf x h
-    rest-own e = rest-stored ∙ ap (λ (c : Channel). restIn c p l i vs) (sym e) ∙ e
+  abbrev wholeIn : Channel → Channel
+  wholeIn c = restIn c first (h .voices) 0 (take (first .turns) (h .voices))
+
+  -- what is stored is what the change makes of the table; one that leaves it may be worked out with the table as it was
+  module _ (eight : length (h .table) ≡ 8) where
+    with-stored : wholeIn stored-in ≡ wholeIn (changedOf x h)
+    with-stored =
+        ap (λ (t : List Phrase). wholeIn (record { voices = h .voices; table = t; count = h .count; head = h .head; several = entry .several })) (stored h x eight)
+        ∙ ap (λ (b : Bool). wholeIn (record { voices = h .voices; table = changedOf x h .table; count = h .count; head = h .head; several = b })) (several-stored h x named)
+
+    with-own : wholeIn h ≡ changedOf x h → wholeIn stored-in ≡ changedOf x h
+    with-own e = with-stored ∙ ap wholeIn (sym e) ∙ e
 
   -- a turn with the test's outcome c, as it is worked out
   abbrev turned : Pass → Voice → Bool → List Voice → ℕ → List Voice → Channel
@@ -342,9 +349,9 @@ pub whole-change : (x : Change) (h : Channel) → length (h .voices) ≡ 32 → 
     → restOf x h (passOf x (h .head) (h .count)) (h .voices) 0 (take (passOf x (h .head) (h .count) .turns) (h .voices)) ≡ changedOf x h
 unfolding changedOf passOf startPass askingOf goingOf startPlayingOf pushedOf stopPlayingOf headChangedIn resetOf endedOf openedOf namesOf
 whole-change (change.Start q position note velocity) h all eight =
-    rest-own (change.Start q position note velocity) h eight _ _ _ _ (start-comes h all q position note velocity (eqb (h .head .«data_len») 0) (leb 32 (h .count)) refl refl)
+    with-own (change.Start q position note velocity) h eight (start-comes h all q position note velocity (eqb (h .head .«data_len») 0) (leb 32 (h .count)) refl refl)
 whole-change (change.Stop q note) h all eight =
-    rest-own (change.Stop q note) h eight _ _ _ _ (stop-comes h all q note (comes (min (h .count) 32) (h .count) (h .head .now) (q .«decay_samples») zero32 note false 0 false (take (min (h .count) 32) (h .voices))))
-whole-change (change.Speed note speed) h all eight = rest-own (change.Speed note speed) h eight _ _ _ _ (speed-comes h all note speed)
-whole-change (change.Head d) h all eight = rest-stored (change.Head d) h eight (passOf (change.Head d) (h .head) (h .count)) (h .voices) 0 []
-whole-change change.Reset h all eight = rest-stored change.Reset h eight (passOf change.Reset (h .head) (h .count)) (h .voices) 0 []
+    with-own (change.Stop q note) h eight (stop-comes h all q note (comes (min (h .count) 32) (h .count) (h .head .now) (q .«decay_samples») zero32 note false 0 false (take (min (h .count) 32) (h .voices))))
+whole-change (change.Speed note speed) h all eight = with-own (change.Speed note speed) h eight (speed-comes h all note speed)
+whole-change (change.Head d) h all eight = with-stored (change.Head d) h eight
+whole-change change.Reset h all eight = with-stored change.Reset h eight

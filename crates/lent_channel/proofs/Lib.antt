@@ -7,6 +7,7 @@ pub mod Viewing
 pub mod Showing
 pub mod Besides
 pub mod Saying
+pub mod Branches
 pub mod Taking
 pub mod Parts
 pub mod Goings
