@@ -33,7 +33,7 @@ fn process(s: &mut Sampler, frame: [f32; 2], p: &Params) -> [f32; 2] {
 fn begun(scenario: &Scenario, p: &Params) -> Sampler {
     let mut s = Sampler::new(2, &InitParams::default());
     s.start_recording();
-    for i in 0..SIZE {
+    for i in 0..SIZE / scenario.phrases {
         process(&mut s, [input_at(i % 256), input_at(i % 255)], p);
     }
     if !scenario.grows {

@@ -55,6 +55,10 @@ pub struct Scenario {
     pub run: u32,
     /// 7/12's setting.
     pub smooth: bool,
+    /// How many of 11/12's phrases the port records, each the same and together as long as one would be; the Rust has one of them.
+    pub phrases: u32,
+    /// How many voices in turn are started on one phrase before the next is chosen.
+    pub stretch: u32,
 }
 
 const ONCE: u8 = 0;
@@ -82,10 +86,15 @@ const PLAIN: Scenario = Scenario {
     frames: 50_000,
     run: 1,
     smooth: false,
+    phrases: 1,
+    stretch: 1,
 };
 
 /// One frame of 32 voices, over and over.
 const LONE_FRAME: Scenario = Scenario { put_back: 32, voices: 32, frames: 20_000, ..PLAIN };
+
+/// 32 voices on eight phrases.
+const PHRASES: Scenario = Scenario { voices: 32, phrases: 8, frames: 20_000, ..PLAIN };
 
 /// A call while 8 voices are held, over and over.
 const CALL: Scenario = Scenario { put_back: 1, ramp: 100, auto_passthru: true, frames: 100_000, ..PLAIN };
@@ -134,6 +143,9 @@ pub const SCENARIOS: &[Scenario] = &[
     Scenario { name: "smooth: 8 voices, parameters change", changes: true, smooth: true, ..PLAIN },
     Scenario { name: "smooth: 8 voices, loop, runs of 64", run: 64, smooth: true, ..PLAIN },
     Scenario { name: "smooth: 32 voices, loop, runs of 64", voices: 32, frames: 20_000, run: 64, smooth: true, ..PLAIN },
+    Scenario { name: "eight phrases: 32 voices, each on another than the one before", ..PHRASES },
+    Scenario { name: "eight phrases: 32 voices, four in turn on one", stretch: 4, ..PHRASES },
+    Scenario { name: "eight phrases: no voices", voices: 0, frames: 500_000, ..PHRASES },
 ];
 
 /// The scenario of a row, with so many turns; an idle one has all but what is timed.
@@ -209,7 +221,9 @@ impl Scenario {
             .with_u32(36, self.leaves.into())
             .with_u32(40, self.put_back)
             .with_u32(44, self.act as u32)
-            .with_u32(48, self.smooth.into());
+            .with_u32(48, self.smooth.into())
+            .with_u32(52, self.phrases)
+            .with_u32(56, self.stretch);
         [self.settings().0, self.other_settings().0, plan.0].concat()
     }
 }

@@ -19,6 +19,9 @@ mod inputs;
 mod listing;
 #[path = "shared/params.rs"]
 mod params;
+#[allow(dead_code)]
+#[path = "trace/phrases.rs"]
+mod phrases;
 #[path = "events/print.rs"]
 mod print;
 #[allow(dead_code)]

@@ -16,6 +16,8 @@ mod engine;
 mod listing;
 #[path = "shared/params.rs"]
 mod params;
+#[path = "trace/phrases.rs"]
+mod phrases;
 #[path = "trace/port.rs"]
 mod port;
 #[path = "trace/puts.rs"]

@@ -71,6 +71,10 @@ fn compare(seed: u64, count: u64, calls: Calls, mut output: impl Read) -> Result
         tally.print();
         return Err(format!("too few on a lent record go this way: {way}"));
     }
+    if let Some(met) = tally.rare() {
+        tally.print();
+        return Err(format!("too few listings meet this: {met}"));
+    }
     tally.styles(STYLES.iter().map(|s| s.name).zip(styles));
     Ok((tally, None))
 }

@@ -3,6 +3,7 @@
 use crate::inside;
 use crate::listing::*;
 use crate::params::{beyond_limits, float, params, KIND, WHOLE_BARS};
+use crate::phrases::{infos, Phrases, PHRASES};
 use crate::record::Record;
 use crate::tally::{Census, Tally};
 use crate::text::{bits, Text};
@@ -29,6 +30,8 @@ const RATIO: u8 = 4;
 
 pub struct Engine {
     pub sampler: Sampler,
+    /// Of each channel.
+    pub phrases: Vec<Phrases>,
     pub params: Params,
     /// Of the parameters, by its number in a record: the Rust's own don't tell whole bars from samples.
     length_kind: u8,
@@ -63,6 +66,7 @@ pub enum Shown {
     /// How many bytes were written; and the rate of a file that was read.
     Written(usize),
     Took(u32),
+    Gathered,
 }
 
 /// The number of the first row whose test holds.
@@ -85,7 +89,7 @@ impl Engine {
     pub fn new(calls: Calls) -> Self {
         let sampler = Sampler::new(0, &InitParams::default());
         let (params, memory, file) = (Params::default(), vec![0; MEMORY], [0; FILE]);
-        Engine { sampler, params, length_kind: RATIO, calls, count: 0, capacity: 0, skipped: [0; 2], memory, file }
+        Engine { sampler, phrases: Vec::new(), params, length_kind: RATIO, calls, count: 0, capacity: 0, skipped: [0; 2], memory, file }
     }
 
     fn record(&mut self, r: &Record, text: &mut Text, tally: &mut Tally) {
@@ -94,7 +98,7 @@ impl Engine {
         let (number, shown) = self.call(r);
         self.remember();
         let after = Census::of(self);
-        tally.call(kind, number, &before, &after, &self.params, self.length_kind);
+        tally.call(r, number, &before, &after, &self.params, self.length_kind);
         match &shown {
             Shown::Run(done, entries) => tally.run(number, entries.len() / self.count.max(1), *done, &before, &after),
             Shown::Heard(_, moved) => tally.moved(kind, *moved),
@@ -102,7 +106,7 @@ impl Engine {
         }
         tally.asked(r);
         text.put(2, kind as u64);
-        text.put(1, number as u64);
+        text.put(2, number as u64);
         self.show(shown, text);
     }
 
@@ -114,7 +118,7 @@ impl Engine {
             START => (self.start(r), Shown::Record),
             STOP => (self.stop(r), Shown::Record),
             NOTE_SPEED => (self.note_speed(r), Shown::Record),
-            START_RECORDING => (self.plain(|s, _| s.start_recording()), Shown::Record),
+            START_RECORDING => (self.start_recording(), Shown::Record),
             STOP_RECORDING => (self.plain(|s, p| s.stop_recording(p)), Shown::Record),
             RESET => (self.reset(), Shown::Record),
             INTERPOLATION => (self.plain(|s, _| s.channels.iter_mut().for_each(|c| c.interpolates = r.u8_at(ON) != 0)), Shown::Record),
@@ -134,6 +138,9 @@ impl Engine {
             }
             WRITE => self.write(r),
             READ => self.read(r),
+            CHOOSE => (self.choose(r.u8_at(PHRASE)), Shown::Record),
+            DELETE => (self.delete(r.u8_at(PHRASE)), Shown::Record),
+            GATHER => (self.gather(r), Shown::Gathered),
             _ => self.query(r),
         }
     }
@@ -145,6 +152,7 @@ impl Engine {
         let good = (count == 1 || count == 2) && capacity > 0;
         (self.count, self.capacity) = if good { (count, capacity) } else { (0, 0) };
         self.sampler = Sampler::new(self.count, &InitParams { auto_passthru: r.u8_at(AUTO) != 0 });
+        self.phrases = vec![Phrases::new(); self.count];
         (self.params, self.length_kind) = (Params::default(), RATIO);
         self.skipped = [0; 2];
         self.memory.fill(0);
@@ -169,6 +177,7 @@ impl Engine {
         ]);
         if number == 0 {
             self.sampler.start_playing(position, note, velocity, &self.params);
+            self.phrases.iter_mut().zip(&self.sampler.channels).for_each(|(p, c)| p.follow(c));
         }
         number
     }
@@ -203,6 +212,44 @@ impl Engine {
         let number = self.plain(|s, _| s.reset());
         if number == 0 {
             self.skipped = [0; 2];
+            self.phrases.fill(Phrases::new());
+        }
+        number
+    }
+
+    fn start_recording(&mut self) -> u8 {
+        if !self.broken() {
+            self.phrases.iter_mut().zip(&self.sampler.channels).for_each(|(p, c)| p.begin(c));
+        }
+        self.plain(|s, _| s.start_recording())
+    }
+
+    fn any(&self, test: impl Fn(&Phrases, &Channel) -> bool) -> bool {
+        self.phrases.iter().zip(&self.sampler.channels).any(|(p, c)| test(p, c))
+    }
+
+    /// Request 11/12's rows, behind row 9. A choice of the phrase that is chosen is none that is new.
+    fn choose(&mut self, k: u8) -> u8 {
+        let new = |p: &Phrases, c: &Channel| inside::write_place(c).is_some() && p.chosen != k;
+        let number = row(&[(9, self.broken()), (19, k >= PHRASES), (21, self.any(new))]);
+        if number == 0 {
+            self.phrases.iter_mut().zip(&mut self.sampler.channels).for_each(|(p, c)| p.choose(c, k));
+        }
+        number
+    }
+
+    fn delete(&mut self, k: u8) -> u8 {
+        let number = row(&[(9, self.broken()), (19, k >= PHRASES), (20, self.any(|p, c| p.in_use(c, k)))]);
+        if number == 0 {
+            self.phrases.iter_mut().zip(&mut self.sampler.channels).for_each(|(p, c)| p.delete(c, k));
+        }
+        number
+    }
+
+    fn gather(&mut self, r: &Record) -> u8 {
+        let number = row(&[(9, self.broken() || self.short(r)), (21, self.any_records())]);
+        if number == 0 {
+            self.phrases.iter_mut().zip(&self.sampler.channels).for_each(|(p, c)| p.gather(c));
         }
         number
     }
@@ -212,7 +259,8 @@ impl Engine {
         let number = self.step_number(r, channel < self.count, channel..channel + 1);
         let (mut heard, mut moved) = ([0.0; 3], 0);
         if number == 0 {
-            moved = self.tidying(channel..channel + 1, |s, p| heard[0] = s.process_sample(channel, float(r, FLOAT), p));
+            heard[0] = float(r, FLOAT);
+            moved = self.single(channel, &mut heard[0]);
         }
         (number, Shown::Heard(heard, moved))
     }
@@ -223,8 +271,7 @@ impl Engine {
         let number = self.step_number(r, entries <= self.count, 0..entries);
         let mut moved = 0;
         if number == 0 {
-            let mut frame: Vec<&mut f32> = heard.iter_mut().take(entries).collect();
-            moved = self.tidying(0..entries, |s, p| s.process_frame(&mut frame, p));
+            moved = self.whole(&mut heard[..entries]);
         }
         (number, Shown::Heard(heard, moved))
     }
@@ -249,8 +296,7 @@ impl Engine {
         let (count, asked) = (self.count, entries.len() / self.count);
         let mut done = 0;
         while done < asked && self.sampler.channels.iter().take(count).all(|c| inside::clock(c) < LAST_TIME) {
-            let mut frame: Vec<&mut f32> = entries[done * count..(done + 1) * count].iter_mut().collect();
-            self.dropping(0..count, |s, p| s.process_frame(&mut frame, p));
+            self.whole(&mut entries[done * count..(done + 1) * count]);
             done += 1;
         }
         (if done < asked { 6 } else { 0 }, Shown::Run(done, entries))
@@ -271,25 +317,51 @@ impl Engine {
         ])
     }
 
+    /// A frame, and how many voices it moves up. Where every voice is of its channel's chosen phrase it is the Rust's.
+    fn whole(&mut self, frame: &mut [f32]) -> usize {
+        if self.phrases[..frame.len()].iter().all(Phrases::plain) {
+            let stepped = 0..frame.len();
+            let mut entries: Vec<&mut f32> = frame.iter_mut().collect();
+            return self.tidying(stepped, |s, p| s.process_frame(&mut entries, p));
+        }
+        frame.iter_mut().enumerate().map(|(j, x)| self.single(j, x)).sum()
+    }
+
+    /// A sample of one channel, in the same way.
+    fn single(&mut self, j: usize, x: &mut f32) -> usize {
+        if self.phrases[j].plain() {
+            return self.tidying(j..j + 1, |s, p| *x = s.process_sample(j, *x, p));
+        }
+        let (p, c) = (&mut self.phrases[j], &mut self.sampler.channels[j]);
+        if p.drops(c, self.capacity) {
+            self.skipped[j] += 1;
+        } else {
+            inside::record(c, *x);
+        }
+        let (output, moved) = p.played(c, *x, &self.params);
+        *x = output;
+        moved
+    }
+
     /// Steps channels, and counts the voices kept behind the first that leaves, on each.
     fn tidying(&mut self, stepped: Range<usize>, step: impl FnOnce(&mut Sampler, &Params)) -> usize {
         let marked: Vec<_> = self.sampler.channels[stepped.clone()].iter_mut().map(inside::mark).collect();
         self.dropping(stepped.clone(), step);
+        self.phrases.iter_mut().zip(&self.sampler.channels).for_each(|(p, c)| p.follow(c));
         let channels = self.sampler.channels[stepped].iter_mut();
         channels.zip(marked).map(|(c, notes)| inside::kept_behind(c, &notes)).sum()
     }
 
-    /// Steps channels. At capacity with the write place at the end document 01 drops the sample: the Rust's recorder is made idle while it
-    /// is processed.
+    /// Steps channels. Where there is no room behind the data document 01 drops the sample: the Rust's recorder is made idle while it is processed.
     fn dropping(&mut self, stepped: Range<usize>, step: impl FnOnce(&mut Sampler, &Params)) {
-        let full = Some(self.capacity);
-        let dropped: Vec<usize> = stepped.filter(|j| inside::write_place(&self.sampler.channels[*j]) == full).collect();
-        for j in &dropped {
+        let drops = |j: &usize| self.phrases[*j].drops(&self.sampler.channels[*j], self.capacity);
+        let dropped: Vec<(usize, Option<usize>)> = stepped.filter(drops).map(|j| (j, inside::write_place(&self.sampler.channels[j]))).collect();
+        for (j, _) in &dropped {
             inside::put_write_place(&mut self.sampler.channels[*j], None);
         }
         step(&mut self.sampler, &self.params);
-        for j in dropped {
-            inside::put_write_place(&mut self.sampler.channels[j], full);
+        for (j, place) in dropped {
+            inside::put_write_place(&mut self.sampler.channels[j], place);
             self.skipped[j] += 1;
         }
     }
@@ -322,7 +394,7 @@ impl Engine {
                 (notes.len(), NOTES, Shown::Notes(notes))
             }
             _ => {
-                let infos = s.get_voice_info(channel, &self.params);
+                let infos = infos(s, &self.phrases, channel, &self.params);
                 (infos.len(), usize::MAX, Shown::Infos(infos))
             }
         };
@@ -352,8 +424,11 @@ impl Engine {
         if self.broken() || self.count * self.capacity > MEMORY {
             return;
         }
-        for (part, c) in self.memory.chunks_mut(self.capacity).zip(&self.sampler.channels) {
-            part.iter_mut().zip(inside::recording(c)).for_each(|(word, x)| *word = x.to_bits());
+        for ((part, c), p) in self.memory.chunks_mut(self.capacity).zip(&self.sampler.channels).zip(&self.phrases) {
+            for k in 0..PHRASES {
+                let words = part.iter_mut().skip(p.all[k as usize].start);
+                words.zip(p.samples(c, k)).for_each(|(word, x)| *word = x.to_bits());
+            }
         }
     }
 
@@ -397,13 +472,14 @@ impl Engine {
             (15, self.any_records()),
             (17, judged.is_none()),
             (16, holds(|w, s| w.channels != s.count)),
-            (18, holds(|w, s| w.samples > s.capacity)),
+            (18, holds(|w, s| !s.broken() && s.any(|p, c| w.samples > p.holds(c, s.capacity)))),
         ]);
         let Some(w) = judged.filter(|_| number == 0) else {
             return (number, Shown::Took(0));
         };
         let words: Vec<f32> = file[w.first..].chunks(4).take(w.channels * w.samples).map(|b| f32::from_bits(wave::four(b, 0))).collect();
-        for (j, c) in self.sampler.channels.iter_mut().enumerate() {
+        for (j, (c, p)) in self.sampler.channels.iter_mut().zip(&mut self.phrases).enumerate() {
+            p.begin(c);
             *inside::recording_mut(c) = words.iter().skip(j).step_by(w.channels).copied().collect();
         }
         (0, Shown::Took(w.rate))
@@ -425,7 +501,9 @@ impl Engine {
             }
             Shown::Recordings => {
                 text.end();
-                self.sampler.channels.iter().for_each(|c| text.recording(c));
+                for (j, (p, c)) in self.phrases.iter().zip(&self.sampler.channels).enumerate() {
+                    (0..PHRASES).for_each(|k| text.recording(k, p.samples(c, k).len(), self.words(j, p.all[k as usize].start)));
+                }
             }
             Shown::Count(n) => text.last(16, n as u64),
             Shown::Flag(b) => text.last(1, b as u64),
@@ -452,18 +530,31 @@ impl Engine {
             }
             Shown::Took(rate) => {
                 text.put(8, rate as u64);
-                let mixed = |x: u32, word: &u32| x.wrapping_mul(1664525).wrapping_add(*word);
-                text.put(8, self.memory[..MIXED].iter().fold(0, mixed) as u64);
+                text.put(8, self.mixed() as u64);
+                self.show_record(text);
+            }
+            Shown::Gathered => {
+                text.put(8, self.mixed() as u64);
                 self.show_record(text);
             }
         }
     }
 
+    /// The memory from a place of a channel's part on.
+    fn words(&self, j: usize, start: usize) -> &[u32] {
+        self.memory.get((j * self.capacity).wrapping_add(start)..).unwrap_or(&[])
+    }
+
+    /// A number that is made of the memory's words.
+    fn mixed(&self) -> u32 {
+        self.memory[..MIXED].iter().fold(0, |x, word| x.wrapping_mul(1664525).wrapping_add(*word))
+    }
+
     fn show_record(&self, text: &mut Text) {
         text.put(1, self.count as u64 % 16);
         text.last(8, self.capacity as u64);
-        for (j, c) in self.sampler.channels.iter().enumerate() {
-            text.channel(c, self.counts(j));
+        for (j, (c, p)) in self.sampler.channels.iter().zip(&self.phrases).enumerate() {
+            text.channel(c, p, self.counts(j));
         }
     }
 }

@@ -2,7 +2,7 @@
 //! setting, and so sees what the crate keeps to itself.
 
 use crate::common_types::Note;
-use crate::recorder::State;
+use crate::recorder::{Recorder, State};
 use crate::sampler::Channel;
 use crate::voice::Voice;
 use crate::volume::Volume;
@@ -68,4 +68,23 @@ pub fn put_write_place(c: &mut Channel, place: Option<usize>) {
         Some(write) => State::Triggered { write },
         None => State::Idle,
     };
+}
+
+/// The recorder's part of a sample.
+pub fn record(c: &mut Channel, x: f32) {
+    c.recorder.process_sample(x, &mut c.data);
+}
+
+/// A channel with one voice alone, at the time and with the setting of another, and without pass-through.
+pub fn alone(c: &Channel, voice: Voice) -> Channel {
+    Channel {
+        data: Vec::new(),
+        voices: vec![voice],
+        now: c.now,
+        passthru_on: false,
+        passthru_volume: Volume::new(0.0),
+        recorder: Recorder::new(),
+        next_voice_id: 0,
+        interpolates: c.interpolates,
+    }
 }

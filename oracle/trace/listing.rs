@@ -30,13 +30,16 @@ pub const INTERPOLATION: u8 = 22;
 pub const PIECE: u8 = 23;
 pub const WRITE: u8 = 24;
 pub const READ: u8 = 25;
+pub const CHOOSE: u8 = 26;
+pub const DELETE: u8 = 27;
+pub const GATHER: u8 = 28;
 
 /// The kinds by their numbers. Those in brackets are no calls.
-pub const NAMES: [&str; 26] = [
+pub const NAMES: [&str; 29] = [
     "set-up", "parameters", "start_playing", "stop_playing", "set_note_speed", "start_recording", "stop_recording", "reset", "process_sample",
     "process_frame", "(a field put)", "(recordings)", "get_frames_processed", "get_data_len", "is_recording", "get_last_recorded_offset",
     "print_error_info", "iter_active_notes", "get_voice_info", "many of process_frame", "get_waveform_summary", "process_frames", "set_interpolation",
-    "(a piece of a file)", "write_wave", "read_wave",
+    "(a piece of a file)", "write_wave", "read_wave", "choose_phrase", "delete_phrase", "gather",
 ];
 
 /// How many samples of memory the port has to lend.
@@ -61,6 +64,7 @@ pub const NOTE_CHANNEL: usize = 2;
 pub const ENTRIES: usize = 1;
 pub const AUTO: usize = 1;
 pub const ON: usize = 1;
+pub const PHRASE: usize = 1;
 pub const FLOAT: usize = 4;
 pub const SEED: usize = 4;
 pub const COUNT: usize = 4;
@@ -93,6 +97,18 @@ pub fn of_note(kind: u8, note: (u8, u8)) -> Record {
 
 pub fn interpolation(on: bool) -> Record {
     Record::new(INTERPOLATION).with_u8(ON, on as u8)
+}
+
+pub fn choose(phrase: u8) -> Record {
+    Record::new(CHOOSE).with_u8(PHRASE, phrase)
+}
+
+pub fn delete(phrase: u8) -> Record {
+    Record::new(DELETE).with_u8(PHRASE, phrase)
+}
+
+pub fn gather(lent: u32) -> Record {
+    Record::new(GATHER).with_u32(LENT, lent)
 }
 
 pub fn sample(channel: u32, input: u32, lent: u32) -> Record {
@@ -196,6 +212,8 @@ pub fn describe(r: &Record) -> String {
         WRITE => format!("rate {}, room for {}, {} samples lent", r.u32_at(WAVE_RATE), r.u32_at(ROOM), r.u32_at(LENT)),
         READ if r.u8_at(SAID) != 0 => format!("as long as it says, {} samples lent", r.u32_at(LENT)),
         READ => format!("{} bytes, {} samples lent", r.u32_at(FILE_LENGTH), r.u32_at(LENT)),
+        CHOOSE | DELETE => format!("phrase {}", r.u8_at(PHRASE)),
+        GATHER => format!("{} samples lent", r.u32_at(LENT)),
         WAVEFORM => format!("{} columns, room for {}, {} samples lent", r.u32_at(COLUMNS), r.u32_at(ROOM), r.u32_at(LENT)),
         _ => String::new(),
     };

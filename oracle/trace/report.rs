@@ -7,7 +7,7 @@ use crate::record::Record;
 use crate::songs::{listing, STYLES};
 use crate::table;
 use crate::tally::Tally;
-use crate::text::{Text, CHANNEL, VOICE};
+use crate::text::{Text, CHANNEL, PHRASE, VOICE};
 
 /// The first line at which the two sides differ: its number, and both.
 struct Difference {
@@ -111,12 +111,13 @@ fn difference(records: &[Record], port: &Port) -> Result<Option<Difference>, Str
     }
 }
 
-/// The names of the fields that differ, where both lines are of a channel or of a voice.
+/// The names of the fields that differ, where both lines are of a channel, of a phrase or of a voice.
 fn names(d: &Difference) -> String {
     let words = |line: &str| line.split([' ', ':']).map(String::from).collect::<Vec<_>>();
     let (rust, port) = (words(&d.rust), words(&d.port));
     let names: &[&str] = match rust[0].as_str() {
         "C" => &CHANNEL,
+        "P" => &PHRASE,
         "V" => &VOICE,
         _ => return String::new(),
     };

@@ -32,6 +32,8 @@ pub const STYLES: &[Style] = &[
     Style { name: "late", share: 50, make: late },
     Style { name: "noise", share: 30, make: noise },
     Style { name: "runs", share: 80, make: runs },
+    Style { name: "phrases", share: 200, make: phrases },
+    Style { name: "gathers", share: 100, make: gathers },
 ];
 
 const NOTES_USED: [(u8, u8); 4] = [(60, 0), (61, 0), (60, 1), (127, 15)];
@@ -41,10 +43,50 @@ pub fn listing(seed: u64, number: u64) -> (usize, Vec<Record>) {
     let mut r = Random::new(seed.wrapping_mul(0x1_0000_0001).wrapping_add(number).wrapping_mul(0x9e37_79b9_7f4a_7c15));
     let mut place = r.below(STYLES.iter().map(|s| s.share).sum());
     let style = STYLES.iter().position(|s| if place < s.share { true } else { place -= s.share; false }).unwrap();
-    let mut s = Song { r, records: Vec::new(), hostile: 0, bad: 0, count: 1, memory: 0, room: 0, recorder: None, data: 0 };
+    let mut s = Song { r, records: Vec::new(), hostile: 0, bad: 0, count: 1, memory: 0, room: 0, recorder: None, data: 0, chosen: 0, others: [0; 8] };
     (STYLES[style].make)(&mut s);
     s.records.push(Record::new(RECORDINGS));
-    (style, waved(sprinkled(s.records, seed, number), seed, number))
+    (style, waved(phrased(sprinkled(s.records, seed, number), seed, number), seed, number))
+}
+
+/// The listing with 11/12's calls: a third are left as they are, in the others phrases are chosen, recorded, deleted and gathered anywhere. It has random numbers
+/// of its own.
+fn phrased(records: Vec<Record>, seed: u64, number: u64) -> Vec<Record> {
+    let mut r = Random::new(seed.wrapping_mul(0x1_0000_0001).wrapping_add(number).wrapping_mul(0xd6e8_feb8_6659_fd93));
+    let way = r.below(3);
+    let (mut count, mut least) = (1, 1);
+    let mut phrased = Vec::new();
+    for record in records {
+        if way > 0 && !phrased.is_empty() && r.below(12) == 0 {
+            phrased.extend(of_phrases(&mut r, count, least));
+        }
+        if record.u8_at(0) == SET_UP {
+            count = record.u32_at(COUNT).clamp(1, 2);
+            least = record.u32_at(SIZE) / count * count;
+        }
+        phrased.push(record);
+    }
+    phrased
+}
+
+/// One chosen, or recorded too; one deleted; all gathered; or all that they have.
+fn of_phrases(r: &mut Random, count: u32, least: u32) -> Vec<Record> {
+    let any = r.below(8) as u8;
+    let k = r.pick(&[0, 0, 1, 1, 2, 3, any, any, any, any, 8, 255]);
+    let lent = r.pick(&[MEMORY as u32, MEMORY as u32, least, least, least.wrapping_sub(1)]);
+    match r.below(8) {
+        0 | 1 => vec![choose(k)],
+        2 | 3 => {
+            let mut made = vec![Record::new(STOP_RECORDING), choose(k), Record::new(START_RECORDING)];
+            made.extend((0..r.below(6)).map(|_| frame(count as u8, [r.bits() as u32 >> 2, r.bits() as u32 >> 2, 0], MEMORY as u32)));
+            made.push(Record::new(STOP_RECORDING));
+            made
+        }
+        4 => vec![delete(k)],
+        5 => vec![Record::new(STOP_RECORDING), delete(k), gather(lent), Record::new(RECORDINGS)],
+        6 => vec![gather(lent)],
+        _ => vec![Record::new(RECORDINGS)],
+    }
 }
 
 /// The listing with 10/12's calls: a third are left as they are, in the others files are written and read anywhere. It has random numbers of its own.
@@ -136,6 +178,9 @@ pub struct Song {
     /// The recorder's write place, and the length of the data.
     recorder: Option<u64>,
     data: u64,
+    /// The phrase that is chosen, and the lengths of the others.
+    chosen: usize,
+    others: [u64; 8],
 }
 
 fn song(s: &mut Song) {
@@ -387,6 +432,11 @@ fn spoiled(s: &mut Song) {
         s.stop();
         let n = s.r.below(4);
         s.frames(n);
+        if s.r.below(2) == 0 {
+            s.choose();
+            let n = s.r.below(room) / 2;
+            s.record(n);
+        }
         s.spoil();
         for _ in 0..s.r.below(6) + 3 {
             s.any();
@@ -451,6 +501,83 @@ fn runs(s: &mut Song) {
     }
 }
 
+/// Phrases recorded, chosen, deleted and gathered under voices of several.
+fn phrases(s: &mut Song) {
+    s.hostile = s.r.pick(&[0, 0, 0, 5]);
+    s.bad = s.r.pick(&[0, 0, 3]);
+    let room = s.r.pick(&[6, 12, 24, 60, 200]);
+    s.begin(room);
+    for _ in 0..s.r.below(4) + 1 {
+        s.choose();
+        let n = s.r.below(room / 3) + 1;
+        s.record(n);
+        s.start();
+    }
+    if s.r.below(6) == 0 {
+        s.choir();
+    }
+    for _ in 0..s.r.below(30) + 10 {
+        match s.r.below(20) {
+            0..=2 => s.choose(),
+            3 | 4 => s.delete(),
+            5 | 6 => s.gather(),
+            7 => {
+                let n = s.r.below(room / 3 + 2);
+                s.record(n);
+            }
+            8 => s.call(START_RECORDING),
+            9 => s.call(STOP_RECORDING),
+            10 => s.start(),
+            11 => s.file(),
+            12 => s.call(RECORDINGS),
+            13 => s.columns(),
+            14 => s.query(VOICE_INFO),
+            15 => {
+                s.call(START_RECORDING);
+                s.delete();
+            }
+            16 => s.one_sided(),
+            _ => s.event(),
+        }
+        s.sound();
+    }
+}
+
+/// Phrases one behind the other, by numbers in no order. Some are deleted, cut or emptied, the others gathered under their voices, and what is free then is
+/// recorded.
+fn gathers(s: &mut Song) {
+    let room = s.r.pick(&[8, 20, 60]);
+    s.begin(room);
+    let many = s.r.below(7) + 2;
+    for _ in 0..many {
+        s.choose();
+        let n = s.r.below(room / many + 1) + 1;
+        s.record(n);
+        if s.r.below(2) == 0 {
+            s.start();
+        }
+    }
+    for _ in 0..s.r.below(6) + 2 {
+        match s.r.below(4) {
+            0 => {
+                s.choose();
+                let n = s.r.below(3);
+                s.record(n);
+            }
+            1 => s.stop(),
+            _ => s.delete(),
+        }
+        s.sound();
+        s.gather();
+        s.sound();
+        s.call(RECORDINGS);
+        s.choose();
+        let n = s.r.below(room / many + 3);
+        s.record(n);
+        s.event();
+    }
+}
+
 /// Records of random bytes, with kinds that there are.
 fn noise(s: &mut Song) {
     let room = s.r.below(50) + 1;
@@ -470,6 +597,7 @@ fn noise(s: &mut Song) {
             SAMPLE | FRAME => s.records.push(record.with_u32(LENT, MEMORY as u32)),
             FRAMES => s.records.push(record.with_u32(LENT, MEMORY as u32).with_u32(TIMES, 3)),
             RUN => s.records.push(record.with_u32(LENT, MEMORY as u32).with_u32(RUN_LENGTH, 6)),
+            GATHER => s.records.push(record.with_u32(LENT, MEMORY as u32)),
             _ => s.records.push(record),
         }
         s.frames(1);
@@ -504,7 +632,7 @@ impl Song {
                 _ => memory = self.count - 1,
             }
         }
-        (self.room, self.recorder, self.data) = (room, None, 0);
+        (self.room, self.recorder, self.data, self.chosen, self.others) = (room, None, 0, 0, [0; 8]);
         let auto = self.r.below(2) == 0;
         self.records.push(set_up(count as u32, auto, memory as u32));
     }
@@ -574,10 +702,86 @@ impl Song {
         match kind {
             START_RECORDING if self.recorder.is_none() => self.recorder = Some(0),
             STOP_RECORDING => self.data = self.recorder.take().unwrap_or(self.data),
-            RESET => (self.recorder, self.data) = (None, 0),
+            RESET => (self.recorder, self.data, self.chosen, self.others) = (None, 0, 0, [0; 8]),
             _ => (),
         }
         self.records.push(Record::new(kind));
+    }
+
+    /// The number of a phrase, often of one with samples.
+    fn phrase(&mut self) -> u8 {
+        if self.chance(self.bad.max(3)) {
+            return self.r.pick(&[8, 9, 255]);
+        }
+        let filled: Vec<u8> = (0..8).filter(|k| self.others[*k as usize] > 0).collect();
+        if filled.is_empty() || self.r.below(2) == 0 { self.r.below(8) as u8 } else { self.r.pick(&filled) }
+    }
+
+    fn choose(&mut self) {
+        let k = self.phrase();
+        if k < 8 && self.recorder.is_none() {
+            self.others[self.chosen] = self.data;
+            self.chosen = k as usize;
+            self.data = self.others[self.chosen];
+        }
+        self.records.push(choose(k));
+    }
+
+    fn delete(&mut self) {
+        let k = self.phrase();
+        self.records.push(delete(k));
+    }
+
+    fn gather(&mut self) {
+        let lent = self.lent();
+        self.records.push(gather(lent));
+    }
+
+    /// A phrase that has more samples on one channel than on the other, or samples and a voice on one alone; then it is not to be deleted either.
+    fn one_sided(&mut self) {
+        self.call(STOP_RECORDING);
+        self.choose();
+        let k = self.chosen as u8;
+        self.record(0);
+        self.call(START_RECORDING);
+        let n = self.r.below(5);
+        self.frames(n);
+        for _ in 0..self.r.below(3) + 1 {
+            self.single();
+        }
+        self.call(STOP_RECORDING);
+        self.start();
+        self.query(VOICE_INFO);
+        self.choose();
+        self.records.push(delete(k));
+    }
+
+    /// As many voices as there is a place for, of a phrase each.
+    fn choir(&mut self) {
+        for _ in 0..self.r.below(20) + 24 {
+            self.choose();
+            self.start();
+        }
+    }
+
+    fn file(&mut self) {
+        let records = of_waves(&mut self.r, self.count, self.room);
+        self.records.extend(records);
+    }
+
+    fn columns(&mut self) {
+        let (columns, lent) = (self.r.below(12) as u32, self.lent());
+        self.records.push(waveform(columns, 12, lent));
+    }
+
+    /// Frames, a run of them, or a sample of one channel.
+    fn sound(&mut self) {
+        let n = self.r.below(5);
+        match self.r.below(6) {
+            0 => self.run(n),
+            1 => self.single(),
+            _ => self.frames(n),
+        }
     }
 
     fn lent(&mut self) -> u32 {
@@ -700,7 +904,8 @@ impl Song {
         let long = self.r.pick(&[0, 1, 2, 1 << 24, (1 << 24) + 1, far]);
         let x = self.float(|s| s.r.pick(&[0.0, -0.0, -1e-45, 0.99999994, 1.0, 1.5, 4194304.0, 4194304.5, f32::NAN, f32::INFINITY]));
         let counts: &[u64] = if self.count == 2 { &[0, 1, 2, 3, far] } else { &[0, 1] };
-        let record = match self.r.below(13) {
+        let (number, start) = (self.r.pick(&[0, 7, 7, 8, 8, 255]), self.r.below(self.room + 2));
+        let record = match self.r.below(19) {
             0 => puts::put(puts::CHANNELS, self.r.pick(counts)),
             1 => puts::put(puts::CAPACITY, self.r.pick(&[0, 1 << 22, 1 << 22, (1 << 22) + 1, far])),
             2 => puts::put(puts::DATA_LENGTH, by.min(5)),
@@ -711,10 +916,37 @@ impl Song {
             7 => puts::put(puts::FINISHED_AT, by),
             8 => puts::put_ramp(puts::VOLUME, by, long),
             12 => puts::put(puts::SETTING, self.r.below(2)),
+            13 => puts::put(puts::CHOSEN, number),
+            14 => puts::put(puts::OF_PHRASE, number),
+            15..=18 => return self.place(start),
             what => puts::put_float(puts::LENGTH + (what - 9) as u8, f32::from_bits(x)),
         };
         let (channel, voice) = (self.r.below(self.count) as u8, self.r.below(4) as u8);
         self.records.push(puts::of(channel, voice, record));
+    }
+
+    /// A phrase that ends at the capacity or past it, or is empty there, or begins where another may stand.
+    fn place(&mut self, start: u64) {
+        let (room, far) = (self.room, self.r.bits());
+        let length = room - start.min(room);
+        let any = self.r.below(room + 1);
+        let (start, length) = self.r.pick(&[
+            (start, length),
+            (start, length + 1),
+            (start, any),
+            (start, any),
+            (start, any.min(1)),
+            (self.data, any.min(room - self.data.min(room))),
+            (self.data, any.min(1)),
+            (self.data.saturating_sub(1), 1),
+            (room, 0),
+            (room + 1, 0),
+            (far, 0),
+            (far, any),
+            (u64::MAX, 1),
+        ]);
+        let (channel, k) = (self.r.below(self.count) as u8, self.r.below(8) as u8);
+        self.records.push(puts::of(channel, k, puts::put_phrase(k, start, length)));
     }
 
     fn query(&mut self, kind: u8) {
@@ -735,7 +967,10 @@ impl Song {
 
     /// Every kind of call about equally often.
     fn any(&mut self) {
-        match self.r.below(17) {
+        match self.r.below(20) {
+            17 => self.choose(),
+            18 => self.delete(),
+            19 => self.gather(),
             0 => self.call(START_RECORDING),
             1 => self.call(STOP_RECORDING),
             2 => self.call(RESET),

@@ -14,7 +14,8 @@ const MOST_VOICES: usize = 32;
 
 pub fn listing() -> Vec<Record> {
     let refused = [refused_set_ups(), rows(), full(), tidied(), clock_end(), emptied(), broken(), broken_sizes(), judged()].concat();
-    [refused, waveforms(), runs(), runs_refused(), runs_at_the_end(), setting(), waves(), waves_refused(), vectors::listing()].concat()
+    let phrases = [phrases_refused(), phrases_recorded(), phrases_gathered(), phrases_read(), phrases_of_voices(), broken_phrases()].concat();
+    [refused, waveforms(), runs(), runs_refused(), runs_at_the_end(), setting(), waves(), waves_refused(), phrases, vectors::listing()].concat()
 }
 
 /// Row 9: after each refused set-up every call is refused.
@@ -240,6 +241,133 @@ fn waves_refused() -> Vec<Record> {
     l
 }
 
+/// Rows 9, 19 and 21 of a choice, 9, 19 and 20 of a delete, 9 and 21 of a gather, each with the rows behind it: while nothing records; while it does; while voices
+/// sound, or only decay; while only the second channel has a voice, or records; and on a broken record.
+fn phrases_refused() -> Vec<Record> {
+    let calls = [choose(1), choose(7), choose(8), choose(255), choose(0), delete(7), delete(8), delete(255), delete(0), gather(LENT_MEMORY - 1), gather(LENT_MEMORY)];
+    let mut l = [begun(), calls.into(), begun(), vec![plain(START_RECORDING)], calls.into()].concat();
+    l.extend([choose(0), plain(STOP_RECORDING), choose(1), query(DATA_LEN, 0, 0)]);
+    l.extend(begun());
+    l.extend([settings(4.0, 0).with_u64(params::DECAY, 2), press(0.0), choose(3), delete(0), of_note(STOP, KEY), delete(0), whole_frame(2, LENT_MEMORY)]);
+    l.extend([delete(0), whole_frame(2, LENT_MEMORY), delete(0), whole_frame(2, LENT_MEMORY), delete(0), plain(RECORDINGS)]);
+    l.extend(begun());
+    l.extend([choose(2), plain(START_RECORDING), sound(1), plain(STOP_RECORDING), press(0.0), delete(2), choose(0), delete(2), gather(LENT_MEMORY)]);
+    l.extend(begun());
+    l.extend([of(1, 0, put(WRITE_PLACE, 0)), choose(1), choose(0), delete(0), delete(1), gather(LENT_MEMORY), put(CHANNELS, 1), choose(1)]);
+    l.extend([put(CHANNELS, 0), choose(8), choose(1), delete(8), delete(1), gather(LENT_MEMORY)]);
+    l
+}
+
+/// Three phrases in eight places. The second is recorded over, which replaces its samples and drops those beyond; with the third deleted meanwhile it grows. A
+/// recording where there is no room, one without samples, and a delete of the chosen phrase.
+fn phrases_recorded() -> Vec<Record> {
+    let mut l = three();
+    l.extend([choose(1), plain(START_RECORDING)]);
+    l.extend((0..4).map(|_| whole_frame(2, LENT_MEMORY)));
+    l.extend([plain(RECORDINGS), query(ERROR_TEXT, 0, 64), query(LAST_OFFSET, 0, 0), delete(2), run(1, 4, LENT_MEMORY), plain(RECORDINGS)]);
+    l.extend([run(2, 6, LENT_MEMORY), plain(START_RECORDING), plain(STOP_RECORDING), plain(RECORDINGS), query(DATA_LEN, 1, 0)]);
+    l.extend([choose(5), plain(START_RECORDING), sound(0), whole_frame(2, LENT_MEMORY), plain(STOP_RECORDING), query(ERROR_TEXT, 0, 64)]);
+    l.extend([choose(1), plain(START_RECORDING), plain(STOP_RECORDING), press(0.0), plain(START_RECORDING), whole_frame(2, LENT_MEMORY), plain(RECORDINGS)]);
+    l.extend([plain(STOP_RECORDING), delete(1), query(DATA_LEN, 0, 0), press(0.0), choose(0), delete(0), plain(START_RECORDING), whole_frame(2, LENT_MEMORY)]);
+    l.extend([plain(RECORDINGS), plain(RESET), choose(1), query(DATA_LEN, 0, 0), choose(0), query(DATA_LEN, 0, 0)]);
+    l
+}
+
+/// The first of three deleted or cut, and the others gathered, whose places are in the order of their numbers and against it, under their voices; what is free
+/// then is recorded.
+fn phrases_gathered() -> Vec<Record> {
+    let mut l = Vec::new();
+    for numbers in [[0, 1, 2], [7, 4, 0], [3, 6, 5]] {
+        l.extend(with_phrases(numbers));
+        l.extend([press(0.25), choose(numbers[1]), press(0.5), whole_frame(2, LENT_MEMORY), gather(LENT_MEMORY), whole_frame(2, LENT_MEMORY)]);
+        l.extend([delete(numbers[0]), gather(LENT_MEMORY), plain(RECORDINGS), whole_frame(2, LENT_MEMORY), query(VOICE_INFO, 0, 32), query(VOICE_INFO, 1, 32)]);
+        l.extend([waveform(3, 3, LENT_MEMORY), whole(), choose(1), plain(START_RECORDING), run(3, 12, LENT_MEMORY), plain(STOP_RECORDING), plain(RECORDINGS)]);
+        l.extend([choose(numbers[1]), plain(START_RECORDING), sound(0), plain(STOP_RECORDING), gather(LENT_MEMORY), sound(0), plain(RECORDINGS)]);
+    }
+    l
+}
+
+/// Files of each length read into a phrase that is last, one that isn't, and an empty one, with row 18 one sample further; and one read over the phrases of a
+/// channel that differ from those of the other.
+fn phrases_read() -> Vec<Record> {
+    let mut l = Vec::new();
+    for (chosen, most) in [(0, 3), (1, 2), (2, 3), (6, 2)] {
+        l.extend(three());
+        l.extend([choose(chosen), press(0.0)]);
+        for samples in [most + 1, most, 1] {
+            l.extend(file_read(&made(2, samples), LENT_MEMORY));
+            l.extend([whole_frame(2, LENT_MEMORY), plain(RECORDINGS), query(DATA_LEN, 0, 0)]);
+        }
+        l.extend([whole(), waveform(2, 2, LENT_MEMORY)]);
+    }
+    l.extend(three());
+    l.extend([choose(4), plain(START_RECORDING), sound(1), plain(STOP_RECORDING), choose(5)]);
+    l.extend([2, 1, 0].into_iter().flat_map(|samples| file_read(&made(2, samples), LENT_MEMORY)));
+    l.push(plain(RECORDINGS));
+    l
+}
+
+/// Voices of three phrases by every call that plays, of which one is emptied, and then has samples again; 32 of two phrases, with row 5 by the chosen one.
+fn phrases_of_voices() -> Vec<Record> {
+    let mut l = three();
+    for (k, mode) in [(0, 1), (1, 2), (2, 1)] {
+        l.extend([settings(2.5, 0).with_u8(params::MODE, mode), choose(k), press(0.25), press(0.75)]);
+    }
+    let played = [whole_frame(2, LENT_MEMORY), sound(1), run(1, 6, LENT_MEMORY), query(VOICE_INFO, 1, 32)];
+    l.extend(played);
+    l.extend([choose(1), plain(START_RECORDING), plain(STOP_RECORDING)]);
+    l.extend(played);
+    l.extend([plain(START_RECORDING), sound(0), plain(STOP_RECORDING)]);
+    l.extend(played);
+    l.extend([of_note(STOP, KEY), of_note(STOP, KEY), whole_frame(2, LENT_MEMORY), choose(3), press(0.0), choose(0)]);
+    l.extend([0, 2].into_iter().flat_map(|k| [vec![choose(k)], vec![press(0.0); MOST_VOICES / 2]].concat()));
+    l.extend([choose(1), press(0.0), choose(6), press(0.0), query(ACTIVE_NOTES, 0, 64)]);
+    l.extend(played);
+    l
+}
+
+/// Request 11/12's broken records: each place of a phrase at its limit and past it, beside the recording and beside another; the number that is chosen, and that of
+/// a voice's phrase.
+fn broken_phrases() -> Vec<Record> {
+    let beside = [(3, 2, 2, 2), (3, 13, 1, 1), (3, 13, 3, 14), (12, 4, 12, 5), (15, 1, 16, 1), (16, 0, 17, 0), (1, 0, 1, 1), (16, 0, u64::MAX, 1), (16, 0, u64::MAX, 0)];
+    let mut pairs: Vec<_> = beside.map(|(start, length, past, longer)| (put_phrase(3, start, length), put_phrase(3, past, longer))).into();
+    let places = [(12, 1, 11, 1), (7, 1, 7, 2), (7, 1, 8, 4), (12, 4, 9, 1), (3, 5, 7, 6), (9, 0, 9, 1)];
+    pairs.push((put_phrase(5, 8, 4), put_phrase(5, 2, 4)));
+    pairs.extend(places.map(|(start, length, past, longer)| (put_phrase(6, start, length), put_phrase(6, past, longer))));
+    pairs.extend([(put(OF_PHRASE, 7), put(OF_PHRASE, 8)), (of(0, 1, put(OF_PHRASE, 7)), of(0, 1, put(OF_PHRASE, 8))), (put(OF_PHRASE, 0), put(OF_PHRASE, 255))]);
+    let recordings = [(13, 3, 14, 3), (0, 8, 0, 9), (16, 0, 17, 0), (5, 0, 5, 4)];
+    let recording = recordings.map(|(start, length, past, longer)| (put_phrase(0, start, length), put_phrase(0, past, longer)));
+    let chosen = [(put(CHOSEN, 7), put(CHOSEN, 8)), (put(CHOSEN, 0), put(CHOSEN, 255))];
+    let of_pair = |(limit, past): (Record, Record)| [limit_and_past(1, limit, past), vec![limit]].concat();
+    let mut l = sounding(1);
+    l.extend(pairs.into_iter().flat_map(of_pair));
+    l.extend(sounding(1));
+    l.push(put_phrase(5, 8, 4));
+    l.extend(recording.into_iter().flat_map(of_pair));
+    l.extend(sounding(1));
+    l.extend(chosen.into_iter().flat_map(of_pair));
+    // A voice that isn't below the count, and a channel that isn't in use.
+    l.extend([of(0, 2, put(OF_PHRASE, 8)), of(1, 3, put_phrase(3, 17, 1)), of(1, 0, put(CHOSEN, 8)), whole_frame(1, LENT_MEMORY)]);
+    l.extend([put_phrase(3, 2, 2), put_phrase(4, 3, 2)]);
+    l.extend(each_call(KEY, 0, LENT_MEMORY));
+    l.extend(sounding(2));
+    l.extend([(of(1, 3, put_phrase(3, 3, 5)), of(1, 3, put_phrase(3, 2, 5))), (of(1, 0, put(CHOSEN, 7)), of(1, 0, put(CHOSEN, 8)))].into_iter().flat_map(of_pair));
+    l
+}
+
+/// Two channels of eight samples with three phrases, of 3, 2 and 1 samples.
+fn with_phrases(numbers: [u8; 3]) -> Vec<Record> {
+    let mut l = vec![set_up(2, false, LENT_MEMORY), settings(4.0, 0)];
+    for (k, length) in numbers.into_iter().zip([3, 2, 1]) {
+        l.extend([choose(k), plain(START_RECORDING), run(k as u32, 2 * length, LENT_MEMORY), plain(STOP_RECORDING)]);
+    }
+    l
+}
+
+fn three() -> Vec<Record> {
+    with_phrases([0, 1, 2])
+}
+
 fn whole() -> Record {
     write(44_100, FILE as u32, LENT_MEMORY)
 }
@@ -272,7 +400,8 @@ fn each_call(note: (u8, u8), channel: u32, lent: u32) -> Vec<Record> {
     let mut l = vec![start(note, level(0.0), level(1.0)), of_note(NOTE_SPEED, note).with_u32(FLOAT, level(0.5))];
     l.extend([plain(START_RECORDING), sample(channel, level(0.5), lent), whole_frame(1, lent), run(1, 2, lent), plain(STOP_RECORDING)]);
     l.extend((FRAMES_PROCESSED..=VOICE_INFO).map(|kind| query(kind, channel, 64)));
-    l.extend([interpolation(true), waveform(3, 3, lent), write(44_100, 90, lent), read_said(lent), of_note(STOP, note), plain(RESET)]);
+    l.extend([interpolation(true), waveform(3, 3, lent), write(44_100, 90, lent), read_said(lent), of_note(STOP, note)]);
+    l.extend([choose(1), delete(2), gather(lent), plain(RESET)]);
     l
 }
 

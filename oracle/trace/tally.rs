@@ -3,8 +3,11 @@
 use crate::engine::Engine;
 use crate::inside;
 use crate::listing::*;
+use crate::phrases::Phrases;
+use crate::puts;
 use crate::record::Record;
 use audio_sampler_lib::common_types::Params;
+use audio_sampler_lib::sampler::Channel;
 use audio_sampler_lib::volume::Volume;
 use std::collections::BTreeMap;
 
@@ -21,6 +24,49 @@ pub struct Census {
     skipped: u64,
     passing: usize,
     smooth: usize,
+    broken: bool,
+    sides: Vec<Side>,
+}
+
+/// What a channel has of phrases.
+struct Side {
+    clock: usize,
+    skipped: u64,
+    /// How many aren't empty, and where they begin in sum.
+    filled: (usize, usize),
+    /// Whether its voices are of two or more, and how many are of an empty one.
+    spread: bool,
+    resting: usize,
+    /// The chosen one.
+    empty: bool,
+    last: bool,
+    start: usize,
+}
+
+impl Side {
+    fn of(c: &Channel, p: &Phrases, skipped: u64) -> Self {
+        let empty = inside::recording(c).is_empty();
+        Side {
+            clock: inside::clock(c),
+            skipped,
+            filled: p.filled(c),
+            spread: p.spread(),
+            resting: p.resting(c),
+            empty,
+            last: p.is_last(),
+            start: if empty { 0 } else { p.start() },
+        }
+    }
+
+    /// Which phrase is chosen, where there are others.
+    fn chosen(&self) -> &'static str {
+        match (self.empty, self.last) {
+            _ if self.filled.0 <= !self.empty as usize => "the only one",
+            (true, _) => "an empty one, others are there",
+            (_, true) => "the last one, others are there",
+            _ => "one that isn't last",
+        }
+    }
 }
 
 impl Census {
@@ -39,6 +85,8 @@ impl Census {
             skipped: engine.skipped.iter().sum(),
             passing: channels.iter().filter(|c| inside::passthru(c).0).count(),
             smooth: channels.iter().filter(|c| c.interpolates).count(),
+            broken: engine.broken(),
+            sides: channels.iter().zip(&engine.phrases).zip(engine.skipped).map(|((c, p), skipped)| Side::of(c, p, skipped)).collect(),
         }
     }
 }
@@ -48,7 +96,7 @@ pub struct Tally {
     pub listings: u64,
     pub calls: u64,
     pub fields: u64,
-    answers: [[u64; 19]; NAMES.len()],
+    answers: [[u64; 22]; NAMES.len()],
     frames_of_many: u64,
     /// The kind of the record before.
     last: u8,
@@ -57,9 +105,13 @@ pub struct Tally {
 }
 
 impl Tally {
-    pub fn call(&mut self, kind: u8, number: u8, before: &Census, after: &Census, params: &Params, length_kind: u8) {
+    pub fn call(&mut self, r: &Record, number: u8, before: &Census, after: &Census, params: &Params, length_kind: u8) {
+        let kind = r.u8_at(0);
         self.calls += 1;
         self.answers[kind as usize][number as usize] += 1;
+        if number == 18 {
+            self.met("files refused by 18 for", before.sides[0].chosen(), 1);
+        }
         if number != 0 && !(kind == RUN && number == 6) {
             return;
         }
@@ -83,12 +135,41 @@ impl Tally {
                 self.met("files", "read while voices sound", (before.voices > 0) as usize);
                 self.met("files", "read, with fewer samples than before", (after.recorded < before.recorded) as usize);
                 self.met("files", "read, with more samples than before", (after.recorded > before.recorded) as usize);
+                self.met("files read into", before.sides[0].chosen(), 1);
+            }
+            WAVEFORM => self.met("phrases", "not at the front, in a waveform", (before.sides[0].start > 0) as usize),
+            VOICE_INFO => {
+                self.met("phrases", "two or more of voices, in their info", before.sides.iter().any(|s| s.spread) as usize);
+                self.met("phrases", "empty ones of voices, in their info", before.sides.iter().any(|s| s.resting > 0) as usize);
+            }
+            PUT => {
+                let of = if after.broken { "fields put, the record is broken" } else { "fields put, the record is good" };
+                self.met(of, puts::name(r), 1);
+            }
+            CHOOSE => {
+                self.met("phrases", "chosen while voices sound", (before.voices > 0) as usize);
+                self.met("phrases", "chosen again while it records", (before.recording > 0) as usize);
+            }
+            DELETE => {
+                let deleted = before.sides.iter().zip(&after.sides).any(|(b, a)| a.filled.0 < b.filled.0);
+                self.met("phrases", "deleted, with samples", deleted as usize);
+                self.met("phrases", "deleted while another records", (deleted && before.recording > 0) as usize);
+                self.met("phrases", "deleted, the chosen one", (deleted && before.sides.iter().zip(&after.sides).any(|(b, a)| a.empty && !b.empty)) as usize);
+            }
+            GATHER => {
+                let moved = before.sides.iter().zip(&after.sides).any(|(b, a)| a.filled.1 < b.filled.1);
+                self.met("phrases", "gathered, none moved", !moved as usize);
+                self.met("phrases", "gathered, some moved", moved as usize);
+                self.met("phrases", "gathered, some moved under voices", (moved && before.voices > 0) as usize);
             }
             INTERPOLATION if before.voices > 0 => {
                 self.met("the setting", "put on while voices sound", (after.smooth > before.smooth) as usize);
                 self.met("the setting", "put off while voices sound", (after.smooth < before.smooth) as usize);
             }
-            SAMPLE | FRAME | FRAMES | RUN => self.samples(before, after, params, length_kind),
+            SAMPLE | FRAME | FRAMES | RUN => {
+                self.phrases(kind, before, after);
+                self.samples(before, after, params, length_kind);
+            }
             _ => (),
         }
     }
@@ -155,18 +236,36 @@ impl Tally {
         self.ways.iter().zip(WAYS).find(|(times, _)| many && **times <= OFTEN).map(|(_, way)| way)
     }
 
+    /// The first of what phrases met that so many listings should have met more often.
+    pub fn rare(&self) -> Option<String> {
+        let times = |met: &(&'static str, &'static str)| self.met.get(met).copied().unwrap_or(0);
+        let rare = OF_PHRASES.iter().find(|met| self.listings >= MANY_LISTINGS && times(met) <= RARELY);
+        rare.map(|(what, which)| format!("{what}: {which}"))
+    }
+
+    /// The samples of channels by what they have of phrases.
+    fn phrases(&mut self, kind: u8, before: &Census, after: &Census) {
+        for (b, a) in before.sides.iter().zip(&after.sides) {
+            let samples = a.clock - b.clock;
+            if b.spread {
+                self.met(SPREAD, NAMES[kind as usize], samples);
+            }
+            self.met("recordings", "samples dropped, no phrase behind", if a.last { a.skipped - b.skipped } else { 0 } as usize);
+            self.met("recordings", "samples dropped, a phrase behind", if a.last { 0 } else { a.skipped - b.skipped } as usize);
+        }
+    }
+
     fn samples(&mut self, before: &Census, after: &Census, params: &Params, length_kind: u8) {
         self.met("recordings", "samples appended", after.recorded - before.recorded);
         self.met("recordings", "of 10,000 samples or more, in a sample", (after.recorded >= 10_000) as usize);
-        self.met("recordings", "samples dropped", (after.skipped - before.skipped) as usize);
         self.met("recordings", "samples recorded over voices", if before.voices > 0 { before.recording } else { 0 });
         self.met("pass-through", "turned on", after.passing.saturating_sub(before.passing));
         self.met("pass-through", "turned off", before.passing.saturating_sub(after.passing));
         self.met("samples", "in all", after.clocks - before.clocks);
-        if after.recorded == 0 {
-            self.met("voices", "in a sample on an empty recording", before.voices);
-        }
-        if before.voices == 0 || after.recorded == 0 {
+        // What is recorded may be the first sample of an empty phrase.
+        let resting: usize = after.sides.iter().map(|s| s.resting).sum();
+        self.met("voices", "in a sample on an empty phrase", resting);
+        if before.voices == 0 || resting == after.voices && resting == before.voices {
             return;
         }
         let samples = after.clocks - before.clocks;
@@ -195,7 +294,7 @@ impl Tally {
     }
 
     pub fn print(&self) {
-        let numbers = [0, 1, 2, 3, 4, 5, 6, 8, 9, 10, 11, 15, 16, 17, 18];
+        let numbers = [0, 1, 2, 3, 4, 5, 6, 8, 9, 10, 11, 15, 16, 17, 18, 19, 20, 21];
         println!("{:<26}{}{:>10}", "answers", numbers.iter().map(|n| format!("{n:>10}")).collect::<String>(), "made");
         for ((name, counts), made) in NAMES.iter().zip(&self.answers).zip(self.times()) {
             let cells = numbers.iter().map(|n| counts[*n]).chain([made]);
@@ -241,6 +340,33 @@ const CHANNEL_WAYS: usize = 5;
 /// From so many listings on each way has to be met more often than this.
 const MANY_LISTINGS: u64 = 5000;
 const OFTEN: u64 = 1000;
+
+/// And each of these more often than this.
+const RARELY: u64 = 100;
+const OF_PHRASES: [(&str, &str); 21] = [
+    ("files read into", "an empty one, others are there"),
+    ("files read into", "one that isn't last"),
+    ("files read into", "the last one, others are there"),
+    ("files refused by 18 for", "an empty one, others are there"),
+    ("files refused by 18 for", "one that isn't last"),
+    ("files refused by 18 for", "the last one, others are there"),
+    ("phrases", "chosen again while it records"),
+    ("phrases", "chosen while voices sound"),
+    ("phrases", "deleted while another records"),
+    ("phrases", "deleted, the chosen one"),
+    ("phrases", "deleted, with samples"),
+    ("phrases", "empty ones of voices, in their info"),
+    ("phrases", "gathered, some moved"),
+    ("phrases", "gathered, some moved under voices"),
+    ("phrases", "not at the front, in a waveform"),
+    ("phrases", "two or more of voices, in their info"),
+    ("recordings", "samples dropped, a phrase behind"),
+    (SPREAD, "process_frame"),
+    (SPREAD, "process_frames"),
+    (SPREAD, "process_sample"),
+    ("voices", "in a sample on an empty phrase"),
+];
+const SPREAD: &str = "samples of a channel with voices of two or more phrases, by call";
 
 const LOOP_MODES: [&str; 3] = ["PlayOnce", "Loop", "PingPong"];
 const NOTE_OFF_MODES: [&str; 3] = ["Decay", "ZeroCrossing", "DecayAndZeroCrossing"];

@@ -2,6 +2,7 @@
 
 use crate::engine::MOST_VOICES;
 use crate::inside;
+use crate::phrases::Phrases;
 use audio_sampler_lib::clip::{Clip, Mode};
 use audio_sampler_lib::sampler::Channel;
 use audio_sampler_lib::voice::Voice;
@@ -13,15 +14,16 @@ pub struct Text {
     pub fields: u64,
 }
 
-/// The names of the fields in the lines of a channel and of a voice, for a reader.
-pub const CHANNEL: [&str; 14] = [
-    "clock", "data length", "recording", "write place", "skip count", "state error count", "pass-through on", "pass-through kind",
+/// The names of the fields in the lines of a channel, of a phrase and of a voice, for a reader.
+pub const CHANNEL: [&str; 16] = [
+    "clock", "chosen", "start", "data length", "recording", "write place", "skip count", "state error count", "pass-through on", "pass-through kind",
     "pass-through from time", "pass-through till time", "pass-through from", "pass-through till", "interpolates", "voices",
 ];
-pub const VOICE: [&str; 22] = [
+pub const PHRASE: [&str; 3] = ["phrase", "start", "length"];
+pub const VOICE: [&str; 23] = [
     "finished_at", "last_sample_index", "since", "start", "clip speed", "length", "data_length", "shift", "mode", "volume kind",
     "volume from time", "volume till time", "volume from", "volume till", "loop_start_percent", "played", "last_sample_value", "speed", "note",
-    "note's channel", "finished", "is_at_zero_crossing",
+    "note's channel", "finished", "is_at_zero_crossing", "phrase",
 ];
 
 impl Text {
@@ -89,7 +91,7 @@ impl Text {
         self.put(1, (c.mode == Mode::PingPong) as u64);
     }
 
-    fn voice(&mut self, v: &Voice) {
+    fn voice(&mut self, v: &Voice, phrase: u8) {
         self.tag(b'V');
         self.put(16, v.finished_at as u64);
         self.put(16, v.last_sample_index as u64);
@@ -101,16 +103,28 @@ impl Text {
         self.put(2, v.note.note as u64);
         self.put(2, v.note.channel as u64);
         self.put(1, v.finished as u64);
-        self.last(1, v.is_at_zero_crossing as u64);
+        self.put(1, v.is_at_zero_crossing as u64);
+        self.last(2, phrase as u64);
     }
 
-    /// A channel with its skip count and its state error count, and its voices.
-    pub fn channel(&mut self, c: &Channel, (skipped, misused): (u64, u64)) {
+    /// A phrase that isn't chosen and has samples.
+    fn phrase(&mut self, (k, start, length): (u8, usize, usize)) {
+        self.tag(b'P');
+        self.put(1, k as u64);
+        self.put(16, start as u64);
+        self.last(16, length as u64);
+    }
+
+    /// A channel with its skip count and its state error count, its phrases and its voices. An empty recording begins nowhere until it is recorded.
+    pub fn channel(&mut self, c: &Channel, p: &Phrases, (skipped, misused): (u64, u64)) {
         let (on, volume) = inside::passthru(c);
         let place = inside::write_place(c);
         self.tag(b'C');
         self.put(16, inside::clock(c) as u64);
-        self.put(16, inside::recording(c).len() as u64);
+        let length = inside::recording(c).len();
+        self.put(2, p.chosen as u64);
+        self.put(16, if length > 0 || place.is_some() { p.start() as u64 } else { 0 });
+        self.put(16, length as u64);
         self.put(1, place.is_some() as u64);
         self.put(16, place.unwrap_or(0) as u64);
         self.put(8, skipped);
@@ -119,16 +133,21 @@ impl Text {
         self.volume(volume);
         self.put(1, c.interpolates as u64);
         self.last(16, inside::voices(c).len() as u64);
-        for v in inside::voices(c).iter().take(MOST_VOICES) {
-            self.voice(v);
+        p.others().for_each(|phrase| self.phrase(phrase));
+        for (v, k) in inside::voices(c).iter().zip(&p.voices).take(MOST_VOICES) {
+            self.voice(v, *k);
         }
     }
 
-    /// Every sample by its bits, NaNs too.
-    pub fn recording(&mut self, c: &Channel) {
+    /// Every sample of a phrase that has some, as it stands in the memory. One of a broken record may reach past its end.
+    pub fn recording(&mut self, k: u8, length: usize, words: &[u32]) {
+        if length == 0 {
+            return;
+        }
         self.tag(b'M');
-        for x in inside::recording(c) {
-            self.put(8, x.to_bits() as u64);
+        self.put(1, k as u64);
+        for word in words.iter().take(length) {
+            self.put(8, *word as u64);
         }
         self.end();
     }

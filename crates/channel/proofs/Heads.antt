@@ -1,32 +1,35 @@
 -- A sound head stays sound through a recording, a change of pass-through and the end of a sample, and a new one is sound. Assumes nothing.
 use mathlib.Core.Path.{_≡_, refl, ap}
-use Prim.Native.Nat.{ℕ, _+_, _-_, _^_, _≤_, _<_, zero-le}
+use Prim.Native.Nat.{ℕ, _+_, _-_, _^_, _≤_, _<_, zero-le, min}
 use native.Mathlib.Nat.{min-eq-left}
 use native.Mathlib.Omega.{arith}
 use mathlib.Core.Bool.{Bool, true, false, _&&_, Bool·beq, cond}
-use lib.Dec.{T, leb, ltb, eqb, leb→le, le→leb, ltb→lt, lt→ltb}
+use mathlib.Core.List.{List}
+use lib.Dec.{T, leb, ltb, leb→le, le→leb, ltb→lt, lt→ltb}
 use lib.Ieee.{Float, fits}
 use lib.Ieee.Bits.{is-true}
 use lib.Ieee.Fits.{and-i, and-l, and-r}
-use borrow.Author.Tests.{ltb-true, lt-ltb}
+use borrow.Author.Tests.{ltb-true, lt-ltb, leb-true, leb-false, le-leb, lt-leb}
 use Rattle.binary32.proofs.Truth.{yes, cond-split}
 use Rattle.common_types.specs.declared.Params.{Params}
 use Rattle.common_types.proofs.Limits.{within}
 use Rattle.volume.specs.Levels.{steppedOf, goodVolume}
 use Rattle.binary32.specs.Leaves.{zero32, one32}
 use Rattle.recorder.specs.declared.Recorded.{Recorded}
-use Rattle.recorder.specs.Recording.{goodRecorder, goodRecorded}
-use Rattle.phrases.specs.Phrases.{noPhrase, endsBy}
-use Rattle.phrases.proofs.Rooms.{ends-inside, inside-ends}
+use Rattle.recorder.specs.Recording.{recordedOf, goodRecorder, goodRecorded}
 use Rattle.phrases.specs.declared.Phrase.{Phrase}
-use Rattle.recorder.proofs.Good.{new-good, good-length, good-within}
+use Rattle.phrases.specs.Phrases.{endsBy, roomOf}
+use Rattle.phrases.proofs.Rooms.{ends-inside, inside-ends, room-from, room-to}
+use Rattle.recorder.proofs.Good.{new-good, good-length, good-within, sample-good}
 use Rattle.voice.specs.Soundness.{Fits, SoundParams, FittingVolume, SoundVolume}
 use Rattle.voice.proofs.Volumes.{static-sound, volume-later, volume-stepped, volume-toward}
-use Rattle.channel.specs.Heads.{withRecorded, withPassthru, recordingIn, phraseIn, writtenIn, lastTime, nextTime, headOf, headChangedOf, interpolatesAfter, passesOf, rampOf, passthruOf, closedOf, goodHead}
+use Rattle.channel.specs.Heads.{withRecorded, withPassthru, recordingIn, writtenIn, lastTime, nextTime, headOf, headChangedOf, interpolatesAfter, passesOf, rampOf, passthruOf, closedOf, goodHead}
+use Rattle.channel.specs.Tables.{goodTable}
+use Rattle.channel.specs.Channels.{headChangedIn}
 use Rattle.volume.specs.declared.Volume.{Volume}
 use Rattle.channel.specs.declared.Head.{Head}
 use Rattle.channel.specs.declared.HeadChange.{HeadChange}
-use Rattle.channel.specs.declared.HeadChange.the-variants.{StartRecording, StopRecording, Interpolate, Load}
+use Rattle.channel.specs.declared.Channel.{Channel}
 
 pub record SoundHead (capacity : ℕ) (h : Head) : Type 0 where
   pub time : h .now ≤ 2 ^ 48
@@ -71,20 +74,14 @@ unfolding headOf
 new-sound capacity level interpolates t = record { time = zero-le; numbered = omega arith; inside = zero-le; volume = static-sound level 0 t; recorder = new-good capacity }
 
 -- a change that touches no voice leaves the clock
-pub head-change-now : (d : HeadChange) (h : Head) → headChangedOf d h .now ≡ h .now
-unfolding headChangedOf
-head-change-now StartRecording h = refl
-head-change-now StopRecording h = refl
-head-change-now (Interpolate on) h = refl
-head-change-now (Load samples) h = refl
+pub head-change-now : (d : HeadChange) (c : Channel) → headChangedIn d c .head .now ≡ c .head .now
+unfolding headChangedIn headChangedOf
+head-change-now d c = refl
 
 -- and what becomes of 7/12's setting is one function of it
-pub head-change-setting : (d : HeadChange) (h : Head) → headChangedOf d h .interpolates ≡ interpolatesAfter d (h .interpolates)
-unfolding headChangedOf interpolatesAfter
-head-change-setting StartRecording h = refl
-head-change-setting StopRecording h = refl
-head-change-setting (Interpolate on) h = refl
-head-change-setting (Load samples) h = refl
+pub head-change-setting : (d : HeadChange) (c : Channel) → headChangedIn d c .head .interpolates ≡ interpolatesAfter d (c .head .interpolates)
+unfolding headChangedIn headChangedOf
+head-change-setting d c = refl
 
 -- ---- changes
 -- what pass-through's state and level don't touch, they hold
@@ -101,6 +98,11 @@ passthru-now p unfinished h = passthru-holds (λ (g : Head). g .now) (λ on v g.
 
 pub passthru-setting : (p : Params) (unfinished : Bool) (h : Head) → passthruOf p unfinished h .interpolates ≡ h .interpolates
 passthru-setting p unfinished h = passthru-holds (λ (g : Head). g .interpolates) (λ on v g. refl) p unfinished h
+
+-- nor the phrases
+pub passthru-table : (capacity : ℕ) (several : Bool) (table : List Phrase) (p : Params) (unfinished : Bool) (h : Head) → goodTable capacity (passthruOf p unfinished h) several table ≡ goodTable capacity h several table
+unfolding goodTable
+passthru-table capacity several table p unfinished h = passthru-holds (λ (g : Head). goodTable capacity g several table) (λ on v g. refl) p unfinished h
 
 module _ (capacity : ℕ) (h : Head) (s : SoundHead capacity h) where
   -- the recording has what the capacity has left from its start on
@@ -121,19 +123,53 @@ module _ (capacity : ℕ) (h : Head) (s : SoundHead capacity h) where
         recorder = good-within (r .recorder) (r .«data_len») left g capacity (omega (arith, short));
       }
 
-  -- the recorder is handed just that of the memory
-  pub room-left : writtenIn h capacity .to - writtenIn h capacity .from ≡ left
-  unfolding writtenIn
-  room-left = ap (λ (k : ℕ). capacity - k) (min-eq-left (omega (arith, s .inside)))
+  -- the recorder is handed what is left from the start on where the others reach no further, and its own samples where they do
+  module _ (behind : ℕ) where
+    abbrev handed : ℕ
+    handed = writtenIn behind h capacity .to - writtenIn behind h capacity .from
 
-  -- every phrase lies within the capacity, and is short enough
-  pub phrase-inside : (k : ℕ) → endsBy capacity (phraseIn h k) ≡ true
-  unfolding phraseIn
-  phrase-inside k =
-      cond-split (λ (p : Phrase). endsBy capacity p ≡ true) (eqb k (h .chosen)) (recordingIn h) noPhrase (λ e. inside-ends (recordingIn h) capacity (s .inside)) (λ e. inside-ends noPhrase capacity zero-le)
+    pub room-left : behind ≤ h .start → handed ≡ left
+    unfolding writtenIn
+    room-left low = rw (le-leb behind (h .start) low) (ap (λ (k : ℕ). capacity - k) (min-eq-left (omega (arith, s .inside))))
 
-  pub phrase-within : (k : ℕ) → phraseIn h k .length ≤ capacity
-  phrase-within k = omega (arith, ends-inside (phraseIn h k) capacity (phrase-inside k))
+    pub room-own : h .start < behind → handed ≡ h .«data_len»
+    unfolding writtenIn
+    room-own high =
+        let own : endsBy capacity (recordingIn h) ≡ true = inside-ends (recordingIn h) capacity (s .inside) in
+        rw (lt-leb behind (h .start) high) (rw (room-from (recordingIn h) capacity own, room-to (recordingIn h) capacity own) (omega arith))
+
+    pub written-from : writtenIn behind h capacity .from ≡ h .start
+    unfolding writtenIn
+    written-from = go (leb behind (h .start))
+      where
+        go : (b : Bool) → cond b (record { from = min (h .start) capacity; to = capacity }) (roomOf (recordingIn h) capacity) .from ≡ h .start
+        go true = min-eq-left (omega (arith, s .inside))
+        go false = room-from (recordingIn h) capacity (inside-ends (recordingIn h) capacity (s .inside))
+
+    pub handed-cases : {R : Type 0} → (behind ≤ h .start → handed ≡ left → R) → (h .start < behind → handed ≡ h .«data_len» → R) → R
+    handed-cases {R} last between = go (leb behind (h .start)) refl
+      where
+        go : (b : Bool) → leb behind (h .start) ≡ b → R
+        go true e = let low = leb-true behind (h .start) e in last low (room-left low)
+        go false e = let high = leb-false behind (h .start) e in between high (room-own high)
+
+    -- what a sample leaves of the recording
+    abbrev pub grown : Recorded
+    grown = recordedOf (h .recorder) (h .«data_len») handed
+
+    grown-good : goodRecorded grown handed ≡ true
+    grown-good =
+        sample-good (h .recorder) (h .«data_len») handed
+        (good-within (h .recorder) (h .«data_len») capacity (s .recorder) handed (handed-cases (λ low e. omega (arith, s .inside)) (λ high e. omega arith)))
+
+    pub grown-left : goodRecorded grown left ≡ true
+    grown-left =
+        let short : grown .«data_len» ≤ handed = good-length (grown .recorder) (grown .«data_len») handed grown-good in
+        good-within (grown .recorder) (grown .«data_len») handed grown-good left (handed-cases (λ low e. omega arith) (λ high e. omega (arith, s .inside)))
+
+    -- it is no longer than it was, if the others reach further than its start
+    pub grown-own : h .start < behind → grown .«data_len» ≤ h .«data_len»
+    grown-own high = omega (arith, good-length (grown .recorder) (grown .«data_len») handed grown-good, room-own high)
 
   passed-sound : (on : Bool) (v : Volume) → SoundVolume (h .now) v → SoundHead capacity (withPassthru on v h)
   passed-sound on v g = record { time = s .time; numbered = s .numbered; inside = s .inside; volume = g; recorder = s .recorder }
@@ -178,6 +214,10 @@ module _ (p : Params) (unfinished : Bool) (h : Head) where
   pub closed-setting : closedOf p unfinished h .interpolates ≡ h .interpolates
   unfolding closedOf
   closed-setting = simp passthru-setting
+
+  pub closed-table : (capacity : ℕ) (several : Bool) (table : List Phrase) → goodTable capacity (closedOf p unfinished h) several table ≡ goodTable capacity h several table
+  unfolding closedOf goodTable
+  closed-table capacity several table = passthru-table capacity several table p unfinished (withPassthru (h .«passthru_on») (steppedOf (h .«passthru_volume») (h .now)) h)
 
   pub closed-sound : (capacity : ℕ) → SoundParams p → SoundHead capacity h → SoundHead capacity (closedOf p unfinished h)
   unfolding closedOf

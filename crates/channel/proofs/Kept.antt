@@ -1,7 +1,7 @@
 -- A sound channel stays sound through every change, and what set-up and reset make is sound. Assumes nothing.
-use mathlib.Core.Path.{_≡_, refl, sym, subst}
+use mathlib.Core.Path.{_≡_, refl, sym, _∙_, subst}
 use Prim.Native.Nat.{ℕ, _+_, _^_, _≤_, zero-le}
-use native.Mathlib.Nat.{le-refl, le-trans, le-of-eq}
+use native.Mathlib.Nat.{le-trans, le-of-eq}
 use native.Mathlib.Omega.{arith}
 use mathlib.Core.Bool.{Bool, true, false}
 use mathlib.Core.List.{List, map}
@@ -19,40 +19,40 @@ use Rattle.common_types.specs.declared.Params.{Params}
 use Rattle.common_types.specs.declared.Note.{Note}
 use Rattle.common_types.proofs.Limits.{within}
 use Rattle.binary32.specs.Leaves.{zero32, one32}
-use Rattle.recorder.specs.Recording.{startOf, stopOf}
-use Rattle.recorder.proofs.Good.{unrecorded-good, start-good, stop-good}
+use Rattle.phrases.specs.Phrases.{noPhrase}
 use Rattle.voice.specs.declared.Voice.{Voice}
 use Rattle.voice.specs.Voices.{finishOf, freshOf, atSpeedOf, blankVoice}
 use Rattle.voice.specs.Soundness.{Fits, SoundParams, SoundPosition, SoundVoice}
 use Rattle.voice.proofs.Kept.{finish-sound, at-speed-sound, fresh-sound}
-use Rattle.channel.specs.Heads.{momentOf, passthruOf, headChangedOf}
-use Rattle.channel.specs.Channels.{withHead, withVoices, live, channelOf, resetOf, anyUnfinishedOf, handledOf, pushedOf, startPlayingOf, sameNote, findOf, finishedAtOf, stopPlayingOf, spedOf, setNoteSpeedOf, changedOf}
-use Rattle.channel.specs.Soundness.{SoundChannel, SoundHeadChange, SoundChange}
+use Rattle.channel.specs.Heads.{momentOf, passthruOf}
+use Rattle.channel.specs.Tables.{goodTable}
+use Rattle.channel.specs.Channels.{withVoices, live, channelOf, resetOf, anyUnfinishedOf, handledOf, pushedOf, startPlayingOf, sameNote, findOf, finishedAtOf, stopPlayingOf, spedOf, setNoteSpeedOf, changedOf}
+use Rattle.channel.specs.Soundness.{SoundChannel, SoundChange}
 use Rattle.channel.specs.declared.Channel.{Channel}
 use Rattle.channel.specs.declared.Change.{Change}
 use Rattle.channel.specs.declared.Change.the-variants as change
-use Rattle.channel.specs.declared.HeadChange.{HeadChange}
-use Rattle.channel.specs.declared.HeadChange.the-variants.{StartRecording, StopRecording, Interpolate, Load}
 use Rattle.channel.specs.declared.Found.{Found}
 use Rattle.channel.specs.declared.Found.the-variants.{At, Nothing}
-use Rattle.channel.proofs.Heads.{new-sound, recorder-left, passthru-now, passthru-sound}
-use Rattle.channel.proofs.Parts.{parts, joined, head-changed, recording-changed, voices-changed, data-within, room, voice-at, some}
+use Rattle.channel.proofs.Heads.{new-sound, passthru-now, passthru-table, passthru-sound}
+use Rattle.channel.proofs.Changes.{head-change-sound}
+use Rattle.channel.proofs.Parts.{parts, joined, head-changed, voices-changed, data-within, room, voice-at, some}
 
 -- ---- what set-up and reset make
-pub reset-sound : (capacity : ℕ) (c : Channel) → length (c .voices) ≡ 32 → SoundChannel capacity (resetOf c)
-unfolding resetOf Each fits
-reset-sound capacity c h = joined (record { few = zero-le; places = h; voices = tt; head = new-sound capacity zero32 (c .head .interpolates) tt })
+pub reset-sound : (capacity : ℕ) (c : Channel) → length (c .voices) ≡ 32 → length (c .table) ≡ 8 → SoundChannel capacity (resetOf c)
+unfolding resetOf Each fits goodTable
+reset-sound capacity c h e = joined (record { few = zero-le; places = h; entries = e; table = refl; voices = tt; head = new-sound capacity zero32 (c .head .interpolates) tt })
 
 pub new-channel-sound : (capacity : ℕ) (p : InitParams) → SoundChannel capacity (channelOf p)
-unfolding channelOf Each fits
+unfolding channelOf Each fits goodTable
 new-channel-sound capacity p =
-    joined (record { few = zero-le; places = length-replicate 32 blankVoice; voices = tt; head = new-sound capacity _ false (cond-fits binary32 (p .«auto_passthru») one32 zero32 tt tt) })
+    joined (record { few = zero-le; places = length-replicate 32 blankVoice; entries = length-replicate 8 noPhrase; table = refl; voices = tt; head = new-sound capacity _ false (cond-fits binary32 (p .«auto_passthru») one32 zero32 tt tt) })
 
 handled-sound : (capacity : ℕ) (c : Channel) → SoundChannel capacity c → (p : Params) → SoundParams p → SoundChannel capacity (handledOf p c)
 unfolding handledOf
 handled-sound capacity c s p ok =
     let u = anyUnfinishedOf c in
     head-changed capacity c s (passthruOf p u (c .head)) (passthru-sound capacity (c .head) (parts s .head) p ok u) (le-of-eq (sym (passthru-now p u (c .head))))
+    (passthru-table capacity (c .several) (c .table) p u (c .head) ∙ parts s .table)
 
 module _ (capacity : ℕ) (c : Channel) (s : SoundChannel capacity c) where
   -- ---- keys
@@ -112,27 +112,10 @@ module _ (capacity : ℕ) (c : Channel) (s : SoundChannel capacity c) where
       (pushed-sound v (fresh-sound p (momentOf (c .head)) ok (some n e) (le-trans (data-within capacity c s) small) (parts s .head .time) position note velocity (parts s .head .numbered) at t)) p ok)
 
   -- ---- every change
-  head-change-sound : (d : HeadChange) → SoundHeadChange capacity (c .head) d → SoundChannel capacity (withHead (headChangedOf d (c .head)) c)
-  unfolding headChangedOf SoundHeadChange
-  head-change-sound StartRecording ok =
-      recording-changed capacity c s (record { recorder = startOf (c .head .recorder); «data_len» = c .head .«data_len» })
-      (start-good (c .head .recorder) (c .head .«data_len») _ (recorder-left capacity (c .head) (parts s .head)))
-  head-change-sound StopRecording ok =
-      recording-changed capacity c s (stopOf (c .head .recorder) (c .head .«data_len»))
-      (stop-good (c .head .recorder) (c .head .«data_len») _ (recorder-left capacity (c .head) (parts s .head)))
-  head-change-sound (Interpolate on) ok =
-      let g = parts s .head in
-      head-changed capacity c s (headChangedOf (Interpolate on) (c .head)) (record { time = g .time; numbered = g .numbered; inside = g .inside; volume = g .volume; recorder = g .recorder }) (le-refl (c .head .now))
-  head-change-sound (Load samples) ok =
-      let g = parts s .head in
-      head-changed capacity c s (headChangedOf (Load samples) (c .head))
-      (record { time = g .time; numbered = g .numbered; inside = omega (arith, ok .1); volume = g .volume; recorder = unrecorded-good (c .head .recorder) samples capacity (ok .0) (ok .1) })
-      (le-refl (c .head .now))
-
   pub change-sound : capacity ≤ 2 ^ 22 → (x : Change) → SoundChange capacity c x → SoundChannel capacity (changedOf x c)
   unfolding changedOf SoundChange stopPlayingOf
   change-sound small (change.Start p position note velocity) ok = started-sound small p (ok .0) position (ok .1) note velocity (ok .2)
   change-sound small (change.Stop p note) ok = finished-sound p ok (findOf note c)
   change-sound small (change.Speed note speed) ok = sped-sound note speed ok
-  change-sound small (change.Head d) ok = head-change-sound d ok
-  change-sound small change.Reset ok = reset-sound capacity c (parts s .places)
+  change-sound small (change.Head d) ok = head-change-sound capacity c s small d ok
+  change-sound small change.Reset ok = reset-sound capacity c (parts s .places) (parts s .entries)

@@ -2,7 +2,15 @@ pub mod Slots
 pub mod Turns
 pub mod Heads
 pub mod Rooms
+pub mod Tables
 pub mod Resting
+pub mod Choices
 pub mod Parts
+pub mod Anew
+pub mod Changes
+pub mod Gathers
+pub mod Phrases
+pub mod One
 pub mod Kept
 pub mod Samples
+pub mod Entries

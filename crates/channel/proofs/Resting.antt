@@ -18,7 +18,7 @@ use Rattle.recorder.specs.declared.Recorded.{Recorded}
 use Rattle.recorder.specs.Recording.{isRecordingOf}
 use Rattle.recorder.proofs.Cases.{not-recording, sample-idle, memory-idle}
 use Rattle.channel.specs.Heads.{writtenIn, withRecorded, withPassthru, passesOf, rampOf, passthruOf, clockedOf, restsOf, closedOf}
-use Rattle.channel.specs.Channels.{withHead, takenOf, memoryOf}
+use Rattle.channel.specs.Channels.{withHead, behindIn, takenOf, memoryOf}
 use Rattle.channel.specs.declared.Head.{Head}
 use Rattle.channel.specs.declared.Channel.{Channel}
 use Rattle.channel.proofs.Rooms.{written-same}
@@ -32,9 +32,9 @@ module _ (m : List ℕ) (c : Channel) (e : isRecordingOf (c .head .recorder) ≡
   pub unwritten : (x : Float) → memoryOf x c m ≡ m
   unfolding memoryOf
   unwritten x =
-      let r = writtenIn (c .head) (length m) in
+      let r = writtenIn (behindIn c) (c .head) (length m) in
       ap (λ (l : List ℕ). take (r .from) m ++ (l ++ drop (r .to) m)) (memory-idle (c .head .recorder) (not-recording (c .head .recorder) e) (bitsOf x) _)
-      ∙ written-same (c .head) m
+      ∙ written-same (behindIn c) (c .head) m
 
 -- ---- pass-through rests
 steady : (v : Volume) (now : ℕ) → T (isStaticOf v) → steppedOf v now ≡ v

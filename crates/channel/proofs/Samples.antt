@@ -3,9 +3,10 @@ use mathlib.Core.Path.{_≡_, refl, sym, ap, _∙_, subst}
 use Prim.Native.Nat.{ℕ, _-_, _^_, _≤_, _<_}
 use native.Mathlib.Nat.{le-trans, le-of-eq}
 use native.Mathlib.Omega.{arith}
-use mathlib.Core.Bool.{true}
+use mathlib.Core.Bool.{Bool, true, false}
 use mathlib.Core.List.{List, map}
-use lib.Dec.{eqb}
+use lib.Dec.{leb, eqb}
+use borrow.Author.Tests.{leb-true, leb-false}
 use lib.ListN.{length, take, drop, getD, length-map}
 use lib.Seq.{sets, length-sets}
 use lib.Ieee.{Float}
@@ -15,42 +16,51 @@ use Rattle.walks.specs.Walks.{without}
 use Rattle.walks.specs.Each.{Each}
 use Rattle.walks.proofs.Lists.Each.{each-without, each-map, front-sets, fewer, behind-fewer}
 use Rattle.common_types.specs.declared.Params.{Params}
-use Rattle.phrases.specs.Phrases.{storedIn}
+use Rattle.phrases.specs.declared.Phrase.{Phrase}
+use Rattle.phrases.specs.Phrases.{storedIn, goodPhrases}
+use Rattle.phrases.proofs.Rooms.{inside-ends}
 use Rattle.clip.specs.Positions.{indexAt}
-use Rattle.recorder.specs.Recording.{recordedOf, dataAfter, goodRecorded}
-use Rattle.recorder.proofs.Good.{sample-good}
+use Rattle.recorder.specs.Recording.{dataAfter}
 use Rattle.recorder.proofs.Memory.{memory-length}
 use Rattle.voice.specs.declared.Voice.{Voice}
 use Rattle.voice.specs.Voices.{tickOf, movedOf}
 use Rattle.voice.specs.Soundness.{SoundParams, SoundVoice}
 use Rattle.voice.proofs.Kept.{index-recorded, turn-sound}
 use Rattle.channel.specs.Heads.{writtenIn, closedOf}
-use Rattle.channel.specs.Channels.{live, anyUnfinishedOf, Turning, keptOf, tidiedOf, playedOf, turningBy, resting, turningAt, turningOf, phraseAt, momentFor, turningIn, takenOf, memoryOf, processSampleOf}
+use Rattle.channel.specs.Tables.{goodTable}
+use Rattle.channel.specs.Channels.{live, behindIn, anyUnfinishedOf, Turning, keptOf, tidiedOf, playedOf, turningBy, resting, turningAt, turningOf, phraseAt, momentFor, turningIn, takenOf, memoryOf, processSampleOf}
 use Rattle.channel.specs.Soundness.{SoundChannel}
 use Rattle.channel.specs.declared.Head.{Head}
 use Rattle.channel.specs.declared.Channel.{Channel}
-use Rattle.channel.proofs.Heads.{recorder-left, room-left, phrase-within, next-later, closed-now, closed-sound}
-use Rattle.channel.proofs.Parts.{parts, head-changed, recording-changed, voices-changed, room, live-count, voice-at, some}
+use Rattle.channel.proofs.Heads.{recorded-sound, grown, grown-left, grown-own, next-later, closed-now, closed-table, closed-sound}
+use Rattle.channel.proofs.Parts.{parts, head-changed, voices-changed, phrase-within, room, live-count, voice-at, some}
+use Rattle.channel.proofs.Anew.{anew, anew-shorter, anew-behind, recording-changed}
 use Rattle.channel.proofs.Rooms.{written-length}
 
 -- ---- recorded first
-pub taken-sound : (capacity : ℕ) (c : Channel) → SoundChannel capacity c → (m : List ℕ) → length m ≡ capacity → SoundChannel capacity (takenOf m c)
+pub taken-sound : (capacity : ℕ) (c : Channel) → SoundChannel capacity c → capacity ≤ 2 ^ 22 → (m : List ℕ) → length m ≡ capacity → SoundChannel capacity (takenOf m c)
 unfolding takenOf
-taken-sound capacity c s m size =
+taken-sound capacity c s small m size =
     let h = c .head in
-    let r = recordedOf (h .recorder) (h .«data_len») in
-    let left = capacity - h .start in
-    let handed : writtenIn h (length m) .to - writtenIn h (length m) .from ≡ left =
-    ap (λ (n : ℕ). writtenIn h n .to - writtenIn h n .from) size ∙ room-left capacity h (parts s .head) in
-    recording-changed capacity c s (r _)
-    (subst (λ (n : ℕ). goodRecorded (r n) left ≡ true) (sym handed) (sample-good (h .recorder) (h .«data_len») left (recorder-left capacity h (parts s .head))))
+    let k = parts s .head in
+    rw size (recording-changed capacity c s (grown capacity h k (behindIn c)) (grown-left capacity h k (behindIn c)) (go (leb (behindIn c) (h .start)) refl))
+  where
+    n : ℕ
+    n = grown capacity (c .head) (parts s .head) (behindIn c) .«data_len»
+
+    go : (b : Bool) → leb (behindIn c) (c .head .start) ≡ b → goodPhrases capacity (anew capacity c s (record { start = c .head .start; length = n })) ≡ true
+    go true e =
+        let k = recorded-sound capacity (c .head) (parts s .head) (grown capacity (c .head) (parts s .head) (behindIn c)) (grown-left capacity (c .head) (parts s .head) (behindIn c)) in
+        let p : Phrase = record { start = c .head .start; length = n } in
+        anew-behind capacity c s small p (inside-ends p capacity (k .inside)) (leb-true (behindIn c) (c .head .start) e)
+    go false e = anew-shorter capacity c s n (grown-own capacity (c .head) (parts s .head) (behindIn c) (leb-false (behindIn c) (c .head .start) e))
 
 pub memory-kept : (x : Float) (c : Channel) (m : List ℕ) → length (memoryOf x c m) ≡ length m
 unfolding memoryOf
 memory-kept x c m =
-    let r = writtenIn (c .head) (length m) in
+    let r = writtenIn (behindIn c) (c .head) (length m) in
     let part = take (r .to - r .from) (drop (r .from) m) in
-    written-length (c .head) m (dataAfter (c .head .recorder) (bitsOf x) part) (memory-length (c .head .recorder) (bitsOf x) part)
+    written-length (behindIn c) (c .head) m (dataAfter (c .head .recorder) (bitsOf x) part) (memory-length (c .head .recorder) (bitsOf x) part)
 
 -- ---- then played
 pub played-head : (s : Turning) (c : Channel) → playedOf s c .channel .head ≡ c .head
@@ -59,7 +69,7 @@ played-head s c = refl
 
 module _ (capacity : ℕ) (c : Channel) (h : SoundChannel capacity c) (p : Params) (ok : SoundParams p) (small : capacity ≤ 2 ^ 22) where
   phrase-short : (k : ℕ) → phraseAt c k .length ≤ 2 ^ 22
-  phrase-short k = le-trans (phrase-within capacity (c .head) (parts h .head) k) small
+  phrase-short k = le-trans (phrase-within capacity c h k) small
 
   -- the value that a voice sounds by, on any phrase, is one recorded
   pub voice-recorded : (i : ℕ) (d : Voice) → i < c .count → (k : ℕ) → 1 ≤ phraseAt c k .length
@@ -106,10 +116,12 @@ module _ (capacity : ℕ) (c : Channel) (sound : SoundChannel capacity c) (p : P
   unfolding processSampleOf
   sample-sound =
       let d = takenOf m c in
-      let k = taken-sound capacity c sound m size in
+      let k = taken-sound capacity c sound small m size in
       let s = turningIn p d (memoryOf x c m) in
       let r = playedOf s d .channel in
       let u = anyUnfinishedOf r in
-      head-changed capacity r (turned-sound capacity d k p ok small (memoryOf x c m)) (closedOf p u (d .head)) (closed-sound p u (d .head) capacity ok (parts k .head))
+      let t = turned-sound capacity d k p ok small (memoryOf x c m) in
+      head-changed capacity r t (closedOf p u (d .head)) (closed-sound p u (d .head) capacity ok (parts k .head))
       (subst (λ (h : Head). h .now ≤ closedOf p u (d .head) .now) (sym (played-head s d))
       (subst (λ (n : ℕ). d .head .now ≤ n) (sym (closed-now p u (d .head))) (next-later (d .head .now))))
+      (closed-table p u (d .head) capacity (r .several) (r .table) ∙ ap (λ (h : Head). goodTable capacity h (r .several) (r .table)) (sym (played-head s d)) ∙ parts t .table)

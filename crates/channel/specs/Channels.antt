@@ -14,7 +14,9 @@ use Rattle.common_types.specs.declared.InitParams.{InitParams}
 use Rattle.common_types.specs.declared.Params.{Params}
 use Rattle.common_types.specs.declared.Note.{Note}
 use Rattle.phrases.specs.declared.Phrase.{Phrase}
-use Rattle.phrases.specs.Phrases.{storedIn}
+use Rattle.phrases.specs.declared.Beside.{Beside}
+use Rattle.phrases.specs.Phrases.{noPhrase, noPhrases, othersOf, besideOf, storedIn}
+use Rattle.phrases.specs.Gathering.{gatheringOf}
 use Rattle.recorder.specs.Recording.{recordedOf, dataAfter}
 use Rattle.voice.specs.declared.Voice.{Voice}
 use Rattle.voice.specs.declared.Moment.{Moment}
@@ -32,8 +34,10 @@ use Rattle.voice.specs.Voices.{
 }
 use Rattle.channel.specs.Heads.{
   recordingIn,
-  phraseIn,
+  phraseBy,
+  beginsAt,
   writtenIn,
+  startingAt,
   headOf,
   headChangedOf,
   momentOn,
@@ -44,10 +48,24 @@ use Rattle.channel.specs.Heads.{
   closedOf,
   goodHead,
 }
+use Rattle.channel.specs.Tables.{
+  placeOf,
+  withRecording,
+  goodTable,
+  tableAfter,
+  severalAfter,
+  headNames,
+  foundBy,
+  leavingOf,
+  againstBy,
+}
 use Rattle.channel.specs.declared.Head.{Head}
+use Rattle.channel.specs.declared.Ask.{Ask}
+use Rattle.channel.specs.declared.Against.{Against}
 use Rattle.channel.specs.declared.Channel.{Channel}
 use Rattle.channel.specs.declared.Change.{Change}
 use Rattle.channel.specs.declared.Change.the-variants as change
+use Rattle.channel.specs.declared.HeadChange.{HeadChange}
 use Rattle.channel.specs.declared.HeadChange.the-variants.{StartRecording, StopRecording}
 use Rattle.channel.specs.declared.Played.{Played}
 use Rattle.channel.specs.declared.Turned.{Turned}
@@ -55,10 +73,12 @@ use Rattle.channel.specs.declared.Found.{Found}
 use Rattle.channel.specs.declared.Found.the-variants.{At, Nothing}
 
 abbrev pub withHead : Head → Channel → Channel
-withHead h c = record { voices = c .voices; count = c .count; head = h }
+withHead h
+    c = record { voices = c .voices; table = c .table; count = c .count; head = h; several = c .several }
 
 abbrev pub withVoices : List Voice → ℕ → Channel → Channel
-withVoices vs n c = record { voices = vs; count = n; head = c .head }
+withVoices vs n
+    c = record { voices = vs; table = c .table; count = n; head = c .head; several = c .several }
 
 -- the voices that there are
 abbrev pub live : Channel → List Voice
@@ -66,11 +86,83 @@ live c = take (c .count) (c .voices)
 
 -- ---- set-up and reset
 unfoldable pub channelOf : InitParams → Channel
-channelOf p =
-    record { voices = replicate 32 blankVoice; count = 0; head = headOf (cond (p .«auto_passthru») one32 zero32) false }
+channelOf p = record {
+  voices = replicate 32 blankVoice;
+  table = noPhrases;
+  count = 0;
+  head = headOf (cond (p .«auto_passthru») one32 zero32) false;
+  several = false;
+}
 
 unfoldable pub resetOf : Channel → Channel
-resetOf c = record { voices = c .voices; count = 0; head = headOf zero32 (c .head .interpolates) }
+resetOf c = record {
+  voices = c .voices;
+  table = c .table;
+  count = 0;
+  head = headOf zero32 (c .head .interpolates);
+  several = false;
+}
+
+-- ---- phrases (request 11/12)
+
+-- those that aren't chosen, by their numbers; then all of them
+abbrev pub othersIn : Channel → List Phrase
+othersIn c = othersOf (c .several) (c .head .chosen) (c .table)
+
+abbrev pub phrasesIn : Channel → List Phrase
+phrasesIn c = withRecording (c .head) (othersIn c)
+
+-- the phrase of a number, and what its voices go by
+abbrev pub phraseAt : Channel → ℕ → Phrase
+phraseAt c k = phraseBy (c .head) k (c .several) (getD (c .table) (placeOf k) noPhrase)
+
+abbrev pub momentFor : Channel → ℕ → Moment
+momentFor c k = momentOn (c .head) k (phraseAt c k .length)
+
+-- what the others say to the chosen one
+abbrev pub besideIn : ℕ → Channel → Beside
+besideIn capacity c = besideOf (c .head .start) capacity (othersIn c)
+
+abbrev pub behindIn : Channel → ℕ
+behindIn c = besideIn 0 c .behind
+
+-- where a recording begins that starts or is read
+abbrev pub beginsIn : Channel → ℕ
+beginsIn c = beginsAt (behindIn c) (c .head)
+
+-- a voice has the phrase of that number
+unfoldable pub usesOf : ℕ → Channel → Bool
+usesOf k c = any (λ (v : Voice). eqb (v .phrase) k) (live c)
+
+-- what the channel has against what a change asks, in a record of that capacity
+abbrev pub againstOf : ℕ → Ask → Channel → Against
+againstOf capacity a c = againstBy a (c .head) (c .count) (usesOf (leavingOf a) c) (besideIn capacity c) capacity
+
+-- a change that touches no voice
+unfoldable pub headChangedIn : HeadChange → Channel → Channel
+headChangedIn d c = record {
+  voices = c .voices;
+  table = tableAfter d (c .head) (c .several) (c .table);
+  count = c .count;
+  head = headChangedOf d (foundBy d (c .several) (getD (c .table) (placeOf (headNames d)) noPhrase) (behindIn c))
+      (c .head);
+  several = severalAfter d (c .head) (c .several);
+}
+
+-- the phrases moved down in the channel's part m, and the part then
+unfoldable pub gatheredIn : Channel → List ℕ → Channel
+gatheredIn c m =
+    let ps = gatheringOf (phrasesIn c) m .phrases in
+    record {
+      voices = c .voices;
+      table = cond (c .several) ps (c .table);
+      count = c .count;
+      head = startingAt (getD ps (placeOf (c .head .chosen)) noPhrase .start) (c .head);
+      several = c .several;
+    }
+
+unfoldable pub gatheredMemory : Channel → List ℕ → List ℕ
+gatheredMemory c m = gatheringOf (phrasesIn c) m .memory
 
 -- ---- keys
 abbrev pub unfinishedOf : Voice → Bool
@@ -124,10 +216,10 @@ setNoteSpeedOf note speed c = withVoices (sets (c .voices) 0 (map (spedOf note s
 
 -- ---- recording
 abbrev pub startRecordingOf : Channel → Channel
-startRecordingOf c = withHead (headChangedOf StartRecording (c .head)) c
+startRecordingOf c = headChangedIn StartRecording c
 
 abbrev pub stopRecordingOf : Channel → Channel
-stopRecordingOf c = withHead (headChangedOf StopRecording (c .head)) c
+stopRecordingOf c = headChangedIn StopRecording c
 
 -- ---- a sample
 
@@ -189,13 +281,6 @@ turningOf by p at m = record {
   adds = λ (out : Float) (v : Voice). turningAt by p (at v) (m v) .adds out v;
 }
 
--- the phrase of a number, and what its voices go by
-abbrev pub phraseAt : Channel → ℕ → Phrase
-phraseAt c k = phraseIn (c .head) k
-
-abbrev pub momentFor : Channel → ℕ → Moment
-momentFor c k = momentOn (c .head) k (phraseAt c k .length)
-
 -- each voice goes by its own phrase, and hears that of it which stands in the memory
 unfoldable pub turningIn : Params → Channel → List ℕ → Turning
 turningIn p c m =
@@ -204,12 +289,12 @@ turningIn p c m =
 -- the channel once the sample x has been recorded, and its memory: the recorder is handed a part of it
 unfoldable pub takenOf : List ℕ → Channel → Channel
 takenOf m c =
-    let r = writtenIn (c .head) (length m) in
+    let r = writtenIn (behindIn c) (c .head) (length m) in
     withHead (withRecorded (recordedOf (c .head .recorder) (c .head .«data_len») (r .to - r .from)) (c .head)) c
 
 unfoldable pub memoryOf : Float → Channel → List ℕ → List ℕ
 memoryOf x c m =
-    let r = writtenIn (c .head) (length m) in
+    let r = writtenIn (behindIn c) (c .head) (length m) in
     take (r .from) m
     ++ (dataAfter (c .head .recorder) (bitsOf x) (take (r .to - r .from) (drop (r .from) m)) ++ drop (r .to) m)
 
@@ -229,7 +314,7 @@ unfoldable pub changedOf : Change → Channel → Channel
 changedOf (change.Start p position note velocity) c = startPlayingOf p position note velocity c
 changedOf (change.Stop p note) c = stopPlayingOf p note c
 changedOf (change.Speed note speed) c = setNoteSpeedOf note speed c
-changedOf (change.Head d) c = withHead (headChangedOf d (c .head)) c
+changedOf (change.Head d) c = headChangedIn d c
 changedOf change.Reset c = resetOf c
 
 -- ---- questions
@@ -247,4 +332,5 @@ unfoldable pub goodVoicesOf : Channel → Bool
 goodVoicesOf c = every (goodVoice (c .head .now)) (live c)
 
 unfoldable pub goodChannel : ℕ → Channel → Bool
-goodChannel capacity c = leb (c .count) 32 && goodHead capacity (c .head) && goodVoicesOf c
+goodChannel capacity c = leb (c .count) 32 && goodHead capacity (c .head)
+    && (goodTable capacity (c .head) (c .several) (c .table) && goodVoicesOf c)

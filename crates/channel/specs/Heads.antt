@@ -1,6 +1,6 @@
 -- What of a channel is not its voices: clock, recording and pass-through (document 01, module 6, and the Rust's
 -- Channel). Definitions only.
-use Prim.Native.Nat.{ℕ, _+_, _^_, min}
+use Prim.Native.Nat.{ℕ, _+_, _-_, _^_, min}
 use mathlib.Core.Bool.{Bool, true, false, not, _&&_, Bool·beq, cond}
 use lib.Dec.{leb, ltb, eqb}
 use lib.Ieee.{Float, binary32, add, mul}
@@ -11,13 +11,22 @@ use Rattle.volume.specs.Levels.{isStaticOf, levelOf, towardOf, steppedOf, goodV
 use Rattle.binary32.specs.Leaves.{zero32, one32}
 use Rattle.phrases.specs.declared.Phrase.{Phrase}
 use Rattle.phrases.specs.declared.Room.{Room}
-use Rattle.phrases.specs.Phrases.{noPhrase, endsBy}
+use Rattle.phrases.specs.declared.Beside.{Beside}
+use Rattle.phrases.specs.Phrases.{noPhrase, emptyFrom, endsBy, roomOf}
+use Rattle.recorder.specs.declared.Recorder.{Recorder}
 use Rattle.recorder.specs.declared.Recorded.{Recorded}
-use Rattle.recorder.specs.Recording.{newRecorderOf, startOf, stopOf, goodRecorder}
+use Rattle.recorder.specs.Recording.{newRecorderOf, startOf, stopOf, isRecordingOf, goodRecorder}
 use Rattle.voice.specs.declared.Moment.{Moment}
 use Rattle.channel.specs.declared.Head.{Head}
 use Rattle.channel.specs.declared.HeadChange.{HeadChange}
-use Rattle.channel.specs.declared.HeadChange.the-variants.{StartRecording, StopRecording, Interpolate, Load}
+use Rattle.channel.specs.declared.HeadChange.the-variants.{
+  StartRecording,
+  StopRecording,
+  Interpolate,
+  Load,
+  Choose,
+  Delete,
+}
 
 -- ---- parts of a head changed
 abbrev pub withRecorded : Recorded → Head → Head
@@ -46,19 +55,45 @@ withPassthru on volume
       chosen = h .chosen;
     }
 
+-- the recording begins elsewhere
+abbrev pub startingAt : ℕ → Head → Head
+startingAt start
+    h = record {
+      now = h .now;
+      «data_len» = h .«data_len»;
+      start = start;
+      «passthru_volume» = h .«passthru_volume»;
+      recorder = h .recorder;
+      «passthru_on» = h .«passthru_on»;
+      interpolates = h .interpolates;
+      chosen = h .chosen;
+    }
+
 -- ---- phrases (request 11/12)
 
 -- the recording is the phrase that is chosen
 abbrev pub recordingIn : Head → Phrase
 recordingIn h = record { start = h .start; length = h .«data_len» }
 
--- the phrase of a number; those that aren't chosen are empty
-unfoldable pub phraseIn : Head → ℕ → Phrase
-phraseIn h k = cond (eqb k (h .chosen)) (recordingIn h) noPhrase
+-- the phrase of a number, by its entry of the table: the chosen one is the recording, and where there aren't several the
+-- others are empty
+unfoldable pub phraseBy : Head → ℕ → Bool → Phrase → Phrase
+phraseBy h k several entry = cond (eqb k (h .chosen)) (recordingIn h) (cond (several && ltb k 8) entry noPhrase)
 
--- the part of a memory of that size that the recorder writes to: from the recording's start on
-unfoldable pub writtenIn : Head → ℕ → Room
-writtenIn h size = record { from = min (h .start) size; to = size }
+-- "An empty phrase begins behind the others when recording into it starts": where a recording begins that starts or is
+-- read, where the others reach so far
+unfoldable pub beginsAt : ℕ → Head → ℕ
+beginsAt behind h = cond (eqb (h .«data_len») 0 && not (isRecordingOf (h .recorder))) behind (h .start)
+
+-- "Recording over a phrase that isn't last may replace samples but not lengthen it": the part of a memory of that size
+-- that the recorder writes to. A phrase is last if the others reach no further than its start
+unfoldable pub writtenIn : ℕ → Head → ℕ → Room
+writtenIn behind h size =
+    cond (leb behind (h .start)) (record { from = min (h .start) size; to = size }) (roomOf (recordingIn h) size)
+
+-- "more than it may hold without moving another": how many samples the recording may have
+unfoldable pub holdsOf : Beside → ℕ → Head → ℕ
+holdsOf b capacity h = cond (eqb (h .«data_len») 0) (capacity - b .behind) (b .next - h .start)
 
 -- ---- what the voices of a phrase of n samples go by in one sample
 abbrev pub momentOn : Head → ℕ → ℕ → Moment
@@ -89,41 +124,58 @@ headOf level interpolates =
       chosen = 0;
     }
 
--- ---- the changes that touch no voice
-unfoldable pub headChangedOf : HeadChange → Head → Head
-headChangedOf StartRecording h = withRecorded (record { recorder = startOf (h .recorder); «data_len» = h .«data_len» })
-    h
-headChangedOf StopRecording h = withRecorded (stopOf (h .recorder) (h .«data_len»)) h
-headChangedOf (Interpolate on)
-    h = record {
-      now = h .now;
-      «data_len» = h .«data_len»;
-      start = h .start;
-      «passthru_volume» = h .«passthru_volume»;
-      recorder = h .recorder;
-      «passthru_on» = h .«passthru_on»;
-      interpolates = on;
-      chosen = h .chosen;
-    }
--- request 10/12: the recording is what stands in the front of the channel's part, so many samples
-headChangedOf (Load samples)
-    h = record {
-      now = h .now;
-      «data_len» = samples;
-      start = 0;
-      «passthru_volume» = h .«passthru_volume»;
-      recorder = h .recorder;
-      «passthru_on» = h .«passthru_on»;
-      interpolates = h .interpolates;
-      chosen = h .chosen;
-    }
+-- ---- the changes that touch no voice. Each finds something of the other phrases: a choice the one that it names, a start
+-- of recording and a read (request 10/12) how far they reach, where an empty one begins
 
--- 7/12's setting after such a change: the one that sets it does, and the others keep it
+-- the recording after it: a stop cuts it to the write place, a read makes it as long as what is read, a choice puts
+-- another in its place, a delete empties it
+unfoldable pub phraseAfter : HeadChange → Phrase → Head → Phrase
+phraseAfter StartRecording found h = record { start = beginsAt (found .start) h; length = h .«data_len» }
+phraseAfter StopRecording found h =
+    record { start = h .start; length = stopOf (h .recorder) (h .«data_len») .«data_len» }
+phraseAfter (Interpolate on) found h = recordingIn h
+phraseAfter (Load samples) found h = record { start = beginsAt (found .start) h; length = samples }
+phraseAfter (Choose k) found h = cond (eqb k (h .chosen)) (recordingIn h) found
+phraseAfter (Delete k) found h = cond (eqb k (h .chosen)) (emptyFrom (h .start)) (recordingIn h)
+
+unfoldable pub recorderAfter : HeadChange → Head → Recorder
+recorderAfter StartRecording h = startOf (h .recorder)
+recorderAfter StopRecording h = stopOf (h .recorder) (h .«data_len») .recorder
+recorderAfter (Interpolate on) h = h .recorder
+recorderAfter (Load samples) h = h .recorder
+recorderAfter (Choose k) h = h .recorder
+recorderAfter (Delete k) h = h .recorder
+
+-- 7/12's setting after it: the one that sets it does, and the others keep it
 unfoldable pub interpolatesAfter : HeadChange → Bool → Bool
 interpolatesAfter StartRecording on = on
 interpolatesAfter StopRecording on = on
 interpolatesAfter (Interpolate new) on = new
 interpolatesAfter (Load samples) on = on
+interpolatesAfter (Choose k) on = on
+interpolatesAfter (Delete k) on = on
+
+-- the number that is chosen after it
+unfoldable pub chosenAfter : HeadChange → ℕ → ℕ
+chosenAfter StartRecording chosen = chosen
+chosenAfter StopRecording chosen = chosen
+chosenAfter (Interpolate on) chosen = chosen
+chosenAfter (Load samples) chosen = chosen
+chosenAfter (Choose k) chosen = k
+chosenAfter (Delete k) chosen = chosen
+
+unfoldable pub headChangedOf : HeadChange → Phrase → Head → Head
+headChangedOf d found
+    h = record {
+      now = h .now;
+      «data_len» = phraseAfter d found h .length;
+      start = phraseAfter d found h .start;
+      «passthru_volume» = h .«passthru_volume»;
+      recorder = recorderAfter d h;
+      «passthru_on» = h .«passthru_on»;
+      interpolates = interpolatesAfter d (h .interpolates);
+      chosen = chosenAfter d (h .chosen);
+    }
 
 -- ---- handle_passthru: the input passes while it is asked for and no voice is unfinished;
 -- a change of that begins a ramp

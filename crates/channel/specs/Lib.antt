@@ -1,3 +1,4 @@
 pub mod Heads
+pub mod Tables
 pub mod Channels
 pub mod Soundness

@@ -4,22 +4,27 @@
 // calls, under the Rust's names, refuse first. A sample is its 32-bit pattern, and `data` is the channel's part of the
 // lent memory.
 ghost use mathlib.Core.Path.{_≡_};
-ghost use Prim.Native.Nat.{_+_, _≤_, _<_, min};
+ghost use Prim.Native.Nat.{_+_, _-_, _≤_, _<_, min};
 ghost use mathlib.Core.Bool.{cond};
 ghost use lib.Dec.{ltb};
 ghost use lib.ListN.{length};
 ghost use Rattle.binary32.specs.Leaves.{bitsOf, zero32, one32};
 ghost use Rattle.recorder.specs.Recording.{recordedOf, dataAfter, isRecordingOf};
 ghost use Rattle.voice.specs.Voices.{shouldRemoveOf};
-ghost use Rattle.channel.specs.declared.HeadChange.the-variants.{StartRecording, StopRecording, Interpolate, Load};
 ghost use Rattle.channel.specs.Heads.{
   nextTime,
   recordingIn,
-  phraseIn,
+  phraseBy,
+  beginsAt,
   writtenIn,
+  holdsOf,
   headOf,
   momentOn,
   momentOf,
+  phraseAfter,
+  recorderAfter,
+  interpolatesAfter,
+  chosenAfter,
   headChangedOf,
   clockedOf,
   passesOf,
@@ -32,8 +37,31 @@ ghost use Rattle.channel.specs.Heads.{
   closedOf,
   goodHead,
 };
+ghost use Rattle.channel.specs.Tables.{
+  placeOf,
+  goodTable,
+  headNames,
+  namesOf,
+  foundBy,
+  entryKept,
+  headEntry,
+  entryOf,
+  headAsks,
+  asksOf,
+  leavingOf,
+  againstBy,
+};
 ghost use Rattle.channel.specs.Channels.{
-  withHead,
+  othersIn,
+  phrasesIn,
+  phraseAt,
+  besideIn,
+  beginsIn,
+  usesOf,
+  againstOf,
+  headChangedIn,
+  gatheredIn,
+  gatheredMemory,
   sameNote,
   anyUnfinishedOf,
   channelOf,
@@ -59,13 +87,13 @@ ghost use Rattle.channel.specs.Channels.{
   memoryOf,
   processSampleOf,
   changedOf,
-  fullOf,
   goodVoicesOf,
   goodChannel,
 };
 use common_types::InitParams;
 use common_types::Note;
 use common_types::Params;
+use phrases::Beside;
 use phrases::Phrase;
 use phrases::Room;
 use recorder::Recorded;
@@ -78,8 +106,8 @@ use volume::Volume;
 // The clock's end: a sample then is refused.
 pub const LAST_TIME: usize = 0x1_0000_0000_0000;
 
-// What of a channel is not its voices. It holds the enums, and is stored whole. The recording is the phrase of the number
-// `chosen`: `data_len` samples from `start` on. Every other phrase is empty.
+// What of a channel is not its voices and not its table. It holds the enums, and is stored whole. The recording is the
+// phrase of the number `chosen`: `data_len` samples from `start` on.
 pub struct Head {
     pub now: usize,
     pub data_len: usize,
@@ -91,11 +119,14 @@ pub struct Head {
     pub chosen: u8,
 }
 
-// The voices are the first `count` of the 32.
+// The voices are the first `count` of the 32. The table has the phrases that aren't chosen; all of them are empty unless
+// there are several, and then it isn't looked at. The chosen one's entry never is.
 pub struct Channel {
     pub voices: [Voice; 32],
+    pub table: [Phrase; 8],
     pub count: usize,
     pub head: Head,
+    pub several: bool,
 }
 
 // What a sample leaves and what is heard of it, and how many voices moved up as others left.
@@ -136,6 +167,22 @@ pub enum HeadChange {
     StopRecording,
     Interpolate(bool),
     Load(usize),
+    Choose(u8),
+    Delete(u8),
+}
+
+// What a change stores in the table: one entry at a place, all others emptied before it if it clears.
+pub struct Entry {
+    pub place: usize,
+    pub phrase: Phrase,
+    pub clears: bool,
+    pub several: bool,
+}
+
+// What a channel has against a change: something in its way, or too little room.
+pub struct Against {
+    pub blocked: bool,
+    pub short: bool,
 }
 
 impl Head {
@@ -171,66 +218,86 @@ impl Head {
         }
     }
 
-    fn start_recording(self) -> Self
-        ensures { λ r. ⌜ r ≡ headChangedOf StartRecording self ⌝ }
+    // Where a recording that starts begins: one that is empty behind the other phrases.
+    pub fn begins(self, behind: usize) -> usize
+        ensures { λ r. ⌜ r ≡ beginsAt behind self ⌝ }
     {
-        let recorder = self.recorder;
-        self.with_recorded(Recorded {
-            recorder: recorder.start(),
-            data_len: self.data_len,
-        })
-    }
-
-    fn stop_recording(self) -> Self
-        ensures { λ r. ⌜ r ≡ headChangedOf StopRecording self ⌝ }
-    {
-        let recorder = self.recorder;
-        self.with_recorded(recorder.stop(self.data_len))
-    }
-
-    fn interpolating(self, on: bool) -> Self
-        ensures { λ r. ⌜ r ≡ headChangedOf (Interpolate on) self ⌝ }
-    {
-        let volume = self.passthru_volume;
-        let recorder = self.recorder;
-        Self {
-            now: self.now,
-            data_len: self.data_len,
-            start: self.start,
-            passthru_volume: volume.copied(),
-            recorder: recorder.copied(),
-            passthru_on: self.passthru_on,
-            interpolates: on,
-            chosen: self.chosen,
+        if (self.data_len == 0) & !self.is_recording() {
+            behind
+        } else {
+            self.start
         }
     }
 
-    // The first `samples` words of the channel's part are its recording.
-    fn loaded(self, samples: usize) -> Self
-        ensures { λ r. ⌜ r ≡ headChangedOf (Load samples) self ⌝ }
-    {
-        let volume = self.passthru_volume;
-        let recorder = self.recorder;
-        Self {
-            now: self.now,
-            data_len: samples,
-            start: 0,
-            passthru_volume: volume.copied(),
-            recorder: recorder.copied(),
-            passthru_on: self.passthru_on,
-            interpolates: self.interpolates,
-            chosen: self.chosen,
-        }
-    }
-
-    pub fn changed(self, change: HeadChange) -> Self
-        ensures { λ r. ⌜ r ≡ headChangedOf change self ⌝ }
+    // The chosen phrase after a change that finds this of the others: the one that is chosen next, or where they end.
+    fn phrase_after(self, change: HeadChange, found: Phrase) -> Phrase
+        ensures { λ r. ⌜ r ≡ phraseAfter change found self ⌝ }
     {
         match change {
-            HeadChange::StartRecording => self.start_recording(),
-            HeadChange::StopRecording => self.stop_recording(),
-            HeadChange::Interpolate(on) => self.interpolating(on),
-            HeadChange::Load(samples) => self.loaded(samples),
+            HeadChange::StartRecording => Phrase {
+                start: self.begins(found.start),
+                length: self.data_len,
+            },
+            HeadChange::StopRecording => {
+                let recorder = self.recorder;
+                let r = recorder.stop(self.data_len);
+                Phrase {
+                    start: self.start,
+                    length: r.data_len,
+                }
+            }
+            HeadChange::Interpolate(_) => self.recording(),
+            HeadChange::Load(samples) => Phrase {
+                start: self.begins(found.start),
+                length: samples,
+            },
+            HeadChange::Choose(k) => {
+                if k == self.chosen {
+                    return self.recording();
+                }
+                found
+            }
+            HeadChange::Delete(k) => {
+                if k == self.chosen {
+                    return Phrase::empty(self.start);
+                }
+                self.recording()
+            }
+        }
+    }
+
+    fn recorder_after(self, change: HeadChange) -> Recorder
+        ensures { λ r. ⌜ r ≡ recorderAfter change self ⌝ }
+    {
+        let recorder = self.recorder;
+        match change {
+            HeadChange::StartRecording => recorder.start(),
+            HeadChange::StopRecording => {
+                let r = recorder.stop(self.data_len);
+                r.recorder
+            }
+            HeadChange::Interpolate(_) => recorder,
+            HeadChange::Load(_) => recorder,
+            HeadChange::Choose(_) => recorder,
+            HeadChange::Delete(_) => recorder,
+        }
+    }
+
+    pub fn changed(self, change: HeadChange, found: Phrase) -> Self
+        ensures { λ r. ⌜ r ≡ headChangedOf change found self ⌝ }
+    {
+        let phrase = self.phrase_after(change, found);
+        let recorder = self.recorder_after(change);
+        let volume = self.passthru_volume;
+        Self {
+            now: self.now,
+            data_len: phrase.length,
+            start: phrase.start,
+            passthru_volume: volume.copied(),
+            recorder: recorder.copied(),
+            passthru_on: self.passthru_on,
+            interpolates: interpolates_after(change, self.interpolates),
+            chosen: chosen_after(change, self.chosen),
         }
     }
 
@@ -354,12 +421,15 @@ impl Head {
         }
     }
 
-    // The phrase of that number.
-    pub fn phrase_at(self, k: u8) -> Phrase
-        ensures { λ r. ⌜ r ≡ phraseIn self k ⌝ }
+    // The phrase of that number, by its entry of the table.
+    pub fn phrase_by(self, k: u8, several: bool, entry: Phrase) -> Phrase
+        ensures { λ r. ⌜ r ≡ phraseBy self k several entry ⌝ }
     {
         if k == self.chosen {
             return self.recording();
+        }
+        if several & (k < 8) {
+            return entry;
         }
         Phrase::none()
     }
@@ -383,15 +453,30 @@ impl Head {
         self.moment_on(self.chosen, self.data_len)
     }
 
-    // The part of a memory of that size that the recorder writes to: from the recording's start on.
-    pub fn room(self, size: usize) -> Room
-        ensures { λ r. ⌜ r ≡ writtenIn self size ⌝ }
+    // The part of a memory of that size that the recorder writes to, where the other phrases reach so far: from the
+    // recording's start on if it is behind them, else its own.
+    pub fn room(self, behind: usize, size: usize) -> Room
+        ensures { λ r. ⌜ r ≡ writtenIn behind self size ⌝ }
         ensures { λ r. ⌜ (r .from ≤ r .to) × (r .to ≤ size) ⌝ }
     {
-        Room {
-            from: phrases::smaller(self.start, size),
-            to: size,
+        if behind <= self.start {
+            return Room {
+                from: phrases::smaller(self.start, size),
+                to: size,
+            };
         }
+        let recording = self.recording();
+        recording.room(size)
+    }
+
+    // How many samples the recording may have without another phrase in its way.
+    fn holds(self, b: Beside, capacity: usize) -> usize
+        ensures { λ r. ⌜ r ≡ holdsOf b capacity self ⌝ }
+    {
+        if self.data_len == 0 {
+            return less(capacity, b.behind);
+        }
+        less(b.next, self.start)
     }
 
     pub fn good(self, capacity: usize) -> bool
@@ -407,6 +492,215 @@ impl Head {
         }
         let recorder = self.recorder;
         recorder.good(self.data_len, capacity)
+    }
+}
+
+// What the rows of a change ask of each channel: room for one more voice, for so many samples, that another phrase may be
+// chosen, that one may be deleted, or nothing.
+pub enum Ask {
+    Voice,
+    Samples(usize),
+    Choice(u8),
+    Delete(u8),
+    Nothing,
+}
+
+fn head_asks(change: HeadChange) -> Ask
+    ensures { λ r. ⌜ r ≡ headAsks change ⌝ }
+{
+    match change {
+        HeadChange::StartRecording => Ask::Nothing,
+        HeadChange::StopRecording => Ask::Nothing,
+        HeadChange::Interpolate(_) => Ask::Nothing,
+        HeadChange::Load(samples) => Ask::Samples(samples),
+        HeadChange::Choose(k) => Ask::Choice(k),
+        HeadChange::Delete(k) => Ask::Delete(k),
+    }
+}
+
+pub fn asks(change: Change) -> Ask
+    ensures { λ r. ⌜ r ≡ asksOf change ⌝ }
+{
+    match change {
+        Change::Start { .. } => Ask::Voice,
+        Change::Stop { .. } => Ask::Nothing,
+        Change::Speed { .. } => Ask::Nothing,
+        Change::Head(change) => head_asks(change),
+        Change::Reset => Ask::Nothing,
+    }
+}
+
+// What a channel of so many voices has against that; `used` says that one has the phrase that is asked for.
+pub fn held_against(
+    ask: Ask,
+    head: Head,
+    count: usize,
+    used: bool,
+    b: Beside,
+    capacity: usize,
+) -> Against
+    ensures { λ r. ⌜ r ≡ againstBy ask head count used b capacity ⌝ }
+{
+    let blocked = match ask {
+        Ask::Voice => (head.data_len != 0) & (32 <= count),
+        Ask::Samples(_) => head.is_recording(),
+        Ask::Choice(k) => head.is_recording() & (k != head.chosen),
+        Ask::Delete(k) => used | (head.is_recording() & (k == head.chosen)),
+        Ask::Nothing => false,
+    };
+    let short = match ask {
+        Ask::Voice => false,
+        Ask::Samples(samples) => head.holds(b, capacity) < samples,
+        Ask::Choice(_) => false,
+        Ask::Delete(_) => false,
+        Ask::Nothing => false,
+    };
+    Against { blocked, short }
+}
+
+// The number of the phrase that is to be deleted; 8 where none is.
+pub fn leaving(ask: Ask) -> u8
+    ensures { λ r. ⌜ r ≡ leavingOf ask ⌝ }
+{
+    match ask {
+        Ask::Voice => 8,
+        Ask::Samples(_) => 8,
+        Ask::Choice(_) => 8,
+        Ask::Delete(k) => k,
+        Ask::Nothing => 8,
+    }
+}
+
+// The place in the table of the phrase of that number; past the last it is the last.
+pub fn place_of(k: u8) -> usize
+    ensures { λ r. ⌜ r ≡ placeOf k ⌝ }
+    ensures { λ r. ⌜ r < 8 ⌝ }
+{
+    if k < 8 { k as usize } else { 7 }
+}
+
+fn head_names(change: HeadChange) -> u8
+    ensures { λ r. ⌜ r ≡ headNames change ⌝ }
+{
+    match change {
+        HeadChange::StartRecording => 0,
+        HeadChange::StopRecording => 0,
+        HeadChange::Interpolate(_) => 0,
+        HeadChange::Load(_) => 0,
+        HeadChange::Choose(k) => k,
+        HeadChange::Delete(k) => k,
+    }
+}
+
+// The number of the phrase that a change names; 0 where it names none.
+pub fn names(change: Change) -> u8
+    ensures { λ r. ⌜ r ≡ namesOf change ⌝ }
+{
+    match change {
+        Change::Start { .. } => 0,
+        Change::Stop { .. } => 0,
+        Change::Speed { .. } => 0,
+        Change::Head(change) => head_names(change),
+        Change::Reset => 0,
+    }
+}
+
+// What a change of heads finds of the other phrases, of which `entry` is the one it names.
+pub fn finds(change: HeadChange, several: bool, entry: Phrase, behind: usize) -> Phrase
+    ensures { λ r. ⌜ r ≡ foundBy change several entry behind ⌝ }
+{
+    match change {
+        HeadChange::StartRecording => Phrase::empty(behind),
+        HeadChange::StopRecording => Phrase::none(),
+        HeadChange::Interpolate(_) => Phrase::none(),
+        HeadChange::Load(_) => Phrase::empty(behind),
+        HeadChange::Choose(k) => {
+            if several & (k < 8) {
+                return entry;
+            }
+            Phrase::none()
+        }
+        HeadChange::Delete(_) => Phrase::none(),
+    }
+}
+
+// The table as it is.
+fn as_is(several: bool, place: usize, entry: Phrase) -> Entry
+    ensures { λ r. ⌜ r ≡ entryKept several place entry ⌝ }
+{
+    Entry {
+        place,
+        phrase: entry,
+        clears: false,
+        several,
+    }
+}
+
+fn head_entry(change: HeadChange, head: Head, several: bool, entry: Phrase) -> Entry
+    ensures { λ r. ⌜ r ≡ headEntry change head several entry ⌝ }
+{
+    match change {
+        HeadChange::StartRecording => as_is(several, 0, entry),
+        HeadChange::StopRecording => as_is(several, 0, entry),
+        HeadChange::Interpolate(_) => as_is(several, 0, entry),
+        HeadChange::Load(_) => as_is(several, 0, entry),
+        HeadChange::Choose(k) => {
+            if (k == head.chosen) | (8 <= head.chosen) {
+                return as_is(several, place_of(k), entry);
+            }
+            Entry {
+                place: place_of(head.chosen),
+                phrase: head.recording(),
+                clears: !several,
+                several: true,
+            }
+        }
+        HeadChange::Delete(k) => {
+            if 8 <= k {
+                return as_is(several, place_of(k), entry);
+            }
+            as_is(several, place_of(k), Phrase::empty(entry.start))
+        }
+    }
+}
+
+// What a change stores in the table, where `entry` is the one of the number that it names.
+pub fn entry_of(change: Change, head: Head, several: bool, entry: Phrase) -> Entry
+    ensures { λ r. ⌜ r ≡ entryOf change head several entry ⌝ }
+    ensures { λ r. ⌜ r .place < 8 ⌝ }
+{
+    match change {
+        Change::Start { .. } => as_is(several, 0, entry),
+        Change::Stop { .. } => as_is(several, 0, entry),
+        Change::Speed { .. } => as_is(several, 0, entry),
+        Change::Head(change) => head_entry(change, head, several, entry),
+        Change::Reset => as_is(false, 0, entry),
+    }
+}
+
+fn interpolates_after(change: HeadChange, on: bool) -> bool
+    ensures { λ r. ⌜ r ≡ interpolatesAfter change on ⌝ }
+{
+    match change {
+        HeadChange::StartRecording => on,
+        HeadChange::StopRecording => on,
+        HeadChange::Interpolate(new) => new,
+        HeadChange::Load(_) => on,
+        HeadChange::Choose(_) => on,
+        HeadChange::Delete(_) => on,
+    }
+}
+
+fn chosen_after(change: HeadChange, chosen: u8) -> u8
+    ensures { λ r. ⌜ r ≡ chosenAfter change chosen ⌝ }
+{
+    match change {
+        HeadChange::StartRecording => chosen,
+        HeadChange::StopRecording => chosen,
+        HeadChange::Interpolate(_) => chosen,
+        HeadChange::Load(_) => chosen,
+        HeadChange::Choose(k) => k,
+        HeadChange::Delete(_) => chosen,
     }
 }
 
@@ -426,6 +720,19 @@ fn ramp(volume: Volume, now: usize, params: Params, wanted: bool) -> Volume
     }
 }
 
+// Whether the phrases of a table lie within the capacity, and no two have a sample in common.
+pub fn good_table(head: Head, several: bool, table: [Phrase; 8], capacity: usize) -> bool
+    ensures { λ r. ⌜ r ≡ goodTable capacity head several table ⌝ }
+{
+    if !several {
+        return true;
+    }
+    phrases::good(
+        phrases::with(table, head.chosen, head.recording()),
+        capacity,
+    )
+}
+
 fn first_level(params: InitParams) -> f32
     ensures { λ r. ⌜ r ≡ cond (params .«auto_passthru») one32 zero32 ⌝ }
 {
@@ -436,6 +743,12 @@ pub fn next_time(now: usize) -> usize
     ensures { λ r. ⌜ r ≡ nextTime now ⌝ }
 {
     if now < LAST_TIME { now + 1 } else { now }
+}
+
+fn less(a: usize, b: usize) -> usize
+    ensures { λ r. ⌜ r ≡ a - b ⌝ }
+{
+    if a < b { 0 } else { a - b }
 }
 
 pub fn same_note(a: Note, b: Note) -> bool
@@ -473,15 +786,73 @@ impl Channel {
         let blank = Voice::blank();
         Self {
             voices: [blank; 32],
+            table: phrases::none(),
             count: 0,
             head: Head::new(first_level(params), false),
+            several: false,
         }
+    }
+
+    // The phrases that aren't chosen, by their numbers.
+    fn others(self) -> [Phrase; 8]
+        ensures { λ r. ⌜ r ≡ othersIn self ⌝ }
+    {
+        let table = self.table;
+        let head = self.head;
+        phrases::others(table, self.several, head.chosen)
+    }
+
+    // The phrase of that number.
+    pub fn phrase_at(self, k: u8) -> Phrase
+        ensures { λ r. ⌜ r ≡ phraseAt self k ⌝ }
+    {
+        let head = self.head;
+        head.phrase_by(k, self.several, self.table[place_of(k)])
+    }
+
+    fn beside(self, capacity: usize) -> Beside
+        ensures { λ r. ⌜ r ≡ besideIn capacity self ⌝ }
+    {
+        let head = self.head;
+        phrases::around(self.others(), head.start, capacity)
+    }
+
+    fn good_phrases(self, capacity: usize) -> bool
+        ensures { λ r. ⌜ r ≡ goodTable capacity (self .head) (self .several) (self .table) ⌝ }
+    {
+        let table = self.table;
+        good_table(self.head, self.several, table, capacity)
+    }
+
+    // Whether a voice has the phrase of that number.
+    fn uses(self, k: u8) -> bool
+        ensures { λ r. ⌜ r ≡ usesOf k self ⌝ }
+    {
+        let n = places(self.count);
+        let mut i = 0;
+        while i < n {
+            if self.voices[i].phrase == k {
+                return true;
+            }
+            i += 1;
+        }
+        false
+    }
+
+    // What the channel has against what a change asks, in a record of that capacity.
+    pub fn against(self, ask: Ask, capacity: usize) -> Against
+        ensures { λ r. ⌜ r ≡ againstOf capacity ask self ⌝ }
+    {
+        let used = self.uses(leaving(ask));
+        let b = self.beside(capacity);
+        held_against(ask, self.head, self.count, used, b, capacity)
     }
 
     pub fn reset(mut self) -> Self
         ensures { λ r. ⌜ r ≡ resetOf self ⌝ }
     {
         self.count = 0;
+        self.several = false;
         self.head = Head::new(0.0, self.head.interpolates);
         self
     }
@@ -589,12 +960,53 @@ impl Channel {
         self
     }
 
-    // A change that touches no voice.
-    pub fn head_changed(mut self, change: HeadChange) -> Self
-        ensures { λ r. ⌜ r ≡ withHead (headChangedOf change (self .head)) self ⌝ }
+    // All eight phrases, by their numbers.
+    fn all(self) -> [Phrase; 8]
+        ensures { λ r. ⌜ r ≡ phrasesIn self ⌝ }
     {
         let head = self.head;
-        self.head = head.changed(change);
+        phrases::with(self.others(), head.chosen, head.recording())
+    }
+
+    // Where a recording that is read begins.
+    pub fn begins(self) -> usize
+        ensures { λ r. ⌜ r ≡ beginsIn self ⌝ }
+    {
+        let head = self.head;
+        head.begins(self.beside(0).behind)
+    }
+
+    // Moves the phrases down in the channel's part of the memory, so that all free room is behind them.
+    pub fn gathered(mut self, data: &mut [u32]) -> Self
+        ensures { λ r. ⌜ r ≡ gatheredIn self (now («data» .entry)) ⌝ }
+        ensures { λ r. ⌜ now («data» .exit) ≡ gatheredMemory self (now («data» .entry)) ⌝ }
+    {
+        let all = phrases::gather(self.all(), data);
+        let head = self.head;
+        let own = all[place_of(head.chosen)];
+        self.head.start = own.start;
+        if self.several {
+            self.table = all;
+        }
+        self
+    }
+
+    // A change that touches no voice.
+    pub fn head_changed(mut self, change: HeadChange) -> Self
+        ensures { λ r. ⌜ r ≡ headChangedIn change self ⌝ }
+    {
+        let head = self.head;
+        let entry = self.table[place_of(head_names(change))];
+        let found = finds(change, self.several, entry, self.beside(0).behind);
+        let e = head_entry(change, head, self.several, entry);
+        if e.clears {
+            self.table = phrases::none();
+        }
+        let place = e.place;
+        let phrase = e.phrase;
+        self.table[place] = phrase;
+        self.several = e.several;
+        self.head = head.changed(change, found);
         self
     }
 
@@ -616,7 +1028,8 @@ impl Channel {
         ensures { λ r. ⌜ now («data» .exit) ≡ memoryOf input self (now («data» .entry)) ⌝ }
     {
         let head = self.head;
-        let room = head.room(data.len());
+        let b = self.beside(0);
+        let room = head.room(b.behind, data.len());
         let from = room.from;
         let to = room.to;
         self.head = head.recorded(input, &mut data[from..to]);
@@ -636,7 +1049,7 @@ impl Channel {
         let mut i = 0;
         while i < n {
             let v = self.voices[i];
-            let phrase = head.phrase_at(v.phrase);
+            let phrase = self.phrase_at(v.phrase);
             let room = phrase.room(data.len());
             let at = head.moment_on(v.phrase, phrase.length);
             let from = room.from;
@@ -695,17 +1108,6 @@ impl Channel {
         }
     }
 
-    // Whether the channel takes no further voice: a recording that isn't empty, and 32 voices.
-    pub fn full(self) -> bool
-        ensures { λ r. ⌜ r ≡ fullOf self ⌝ }
-    {
-        let head = self.head;
-        if head.data_len == 0 {
-            return false;
-        }
-        32 <= self.count
-    }
-
     fn good_voices(self) -> bool
         ensures { λ r. ⌜ r ≡ goodVoicesOf self ⌝ }
     {
@@ -731,6 +1133,9 @@ impl Channel {
         }
         let head = self.head;
         if !head.good(capacity) {
+            return false;
+        }
+        if !self.good_phrases(capacity) {
             return false;
         }
         self.good_voices()

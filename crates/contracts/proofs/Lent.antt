@@ -7,8 +7,11 @@ use Rattle.lent_sampler.proofs.set_note_speed.Met as set-note-speed-thm
 use Rattle.lent_sampler.proofs.start_recording.Met as start-recording-thm
 use Rattle.lent_sampler.proofs.stop_recording.Met as stop-recording-thm
 use Rattle.lent_sampler.proofs.set_interpolation.Met as set-interpolation-thm
+use Rattle.lent_sampler.proofs.choose_phrase.Met as choose-phrase-thm
+use Rattle.lent_sampler.proofs.delete_phrase.Met as delete-phrase-thm
 use Rattle.lent_sampler.proofs.reset.Met as reset-thm
 use Rattle.lent_sampler.proofs.change.Met as change-thm
+use Rattle.lent_sampler.proofs.gather.Met as gather-thm
 use Rattle.lent_sampler.proofs.process_sample.Met as process-sample-thm
 use Rattle.lent_sampler.proofs.process_frame.Met as process-frame-thm
 use Rattle.lent_sampler.proofs.process_frames.Met as process-frames-thm
@@ -32,8 +35,11 @@ lent m = record {
   start-recording = λ M. start-recording-thm.met;
   stop-recording = λ M. stop-recording-thm.met;
   set-interpolation = λ M. set-interpolation-thm.met;
+  choose-phrase = λ M. choose-phrase-thm.met;
+  delete-phrase = λ M. delete-phrase-thm.met;
   reset = λ M. reset-thm.met;
   change = λ M. change-thm.met;
+  gather = λ M. gather-thm.met;
   process-sample = λ M. process-sample-thm.met;
   process-frame = λ M. process-frame-thm.met;
   process-frames = λ M. process-frames-thm.met;

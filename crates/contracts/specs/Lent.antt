@@ -36,10 +36,13 @@ use Rattle.promises.specs.Runs.{
   startRecording,
   stopRecording,
   setInterpolation,
+  choosePhrase,
+  deletePhrase,
   reset,
   sample,
   frame,
   readWave,
+  gather,
   asks,
 }
 use Rattle.promises.specs.Outcomes.{on, along, Allows}
@@ -55,10 +58,16 @@ use Rattle.lent_sampler.proofs.stop_recording as stop-recording
 use Rattle.lent_sampler.proofs.stop_recording.Symbol as stop-recording-code
 use Rattle.lent_sampler.proofs.set_interpolation as set-interpolation
 use Rattle.lent_sampler.proofs.set_interpolation.Symbol as set-interpolation-code
+use Rattle.lent_sampler.proofs.choose_phrase as choose-phrase
+use Rattle.lent_sampler.proofs.choose_phrase.Symbol as choose-phrase-code
+use Rattle.lent_sampler.proofs.delete_phrase as delete-phrase
+use Rattle.lent_sampler.proofs.delete_phrase.Symbol as delete-phrase-code
 use Rattle.lent_sampler.proofs.reset as reset
 use Rattle.lent_sampler.proofs.reset.Symbol as reset-code
 use Rattle.lent_sampler.proofs.change as change-call
 use Rattle.lent_sampler.proofs.change.Symbol as change-code
+use Rattle.lent_sampler.proofs.gather as gather-call
+use Rattle.lent_sampler.proofs.gather.Symbol as gather-code
 use Rattle.lent_sampler.proofs.process_sample as process-sample
 use Rattle.lent_sampler.proofs.process_sample.Symbol as process-sample-code
 use Rattle.lent_sampler.proofs.process_frame as process-frame
@@ -102,8 +111,8 @@ lying s m = record { sampler = s; memory = m }
 abbrev pub answer : Sampler → ℕ → Answer
 answer s number = record { sampler = s; number = number }
 
--- m is the memory that lies beside the record; only a sample, a frame, a run of frames, a waveform and a
--- file are lent it
+-- m is the memory that lies beside the record; only a gather, a sample, a frame, a run of frames, a waveform and a file
+-- are lent it
 pub record Lent (m : List ℕ) : Type 2 where
   pub change : Ensures change-call.ended change-code.routine
       (λ κs (s, (d, _)) r (left, _). Allows (on (lying (now s) m) (change d)) (answer (now left) r))
@@ -121,8 +130,16 @@ pub record Lent (m : List ℕ) : Type 2 where
       (λ κs (s, _) r (left, _). Allows (on (lying (now s) m) stopRecording) (answer (now left) r))
   pub set-interpolation : Ensures set-interpolation.ended set-interpolation-code.routine
       (λ κs (s, (smooth, _)) r (left, _). Allows (on (lying (now s) m) (setInterpolation smooth)) (answer (now left) r))
+  pub choose-phrase : Ensures choose-phrase.ended choose-phrase-code.routine
+      (λ κs (s, (phrase, _)) r (left, _). Allows (on (lying (now s) m) (choosePhrase phrase)) (answer (now left) r))
+  pub delete-phrase : Ensures delete-phrase.ended delete-phrase-code.routine
+      (λ κs (s, (phrase, _)) r (left, _). Allows (on (lying (now s) m) (deletePhrase phrase)) (answer (now left) r))
   pub reset : Ensures reset.ended reset-code.routine
       (λ κs (s, _) r (left, _). Allows (on (lying (now s) m) reset) (answer (now left) r))
+  pub gather : Ensures gather-call.ended gather-code.routine
+      (λ κs (s, (memory, _)) r (left, (written, _)).
+      Allows (on (lying (now s) (now memory)) gather)
+      (record { answer = answer (now left) r; memory = now written }))
   pub process-sample : Ensures process-sample.ended process-sample-code.routine
       (λ κs (s, (channel, (input, (params, (memory, _))))) r (left, (_, (_, (_, (written, _))))).
       Allows (on (lying (now s) (now memory)) (sample channel input params))

@@ -20,10 +20,13 @@ ghost use Rattle.promises.specs.Runs.{
   startRecording,
   stopRecording,
   setInterpolation,
+  choosePhrase,
+  deletePhrase,
   reset as resetCall,
   sample,
   frame as frameCall,
   readWave,
+  gather as gatherCall,
   asks,
 };
 ghost use Rattle.promises.specs.Outcomes.{new as setUpCall, on, along, Allows};
@@ -92,10 +95,29 @@ pub fn set_interpolation(s: Sampler, smooth: bool) -> Answer
     s.set_interpolation(smooth)
 }
 
+pub fn choose_phrase(s: Sampler, phrase: u8) -> Answer
+    ensures { λ r. ⌜ ((m : List ℕ) → Allows (on (record { sampler = s; memory = m }) (choosePhrase phrase)) r) ⌝ }
+{
+    s.choose_phrase(phrase)
+}
+
+pub fn delete_phrase(s: Sampler, phrase: u8) -> Answer
+    ensures { λ r. ⌜ ((m : List ℕ) → Allows (on (record { sampler = s; memory = m }) (deletePhrase phrase)) r) ⌝ }
+{
+    s.delete_phrase(phrase)
+}
+
 pub fn reset(s: Sampler) -> Answer
     ensures { λ r. ⌜ ((m : List ℕ) → Allows (on (record { sampler = s; memory = m }) resetCall) r) ⌝ }
 {
     s.reset()
+}
+
+pub fn gather(s: Sampler, memory: &mut [u32]) -> Answer
+    ensures { λ r. ⌜ Allows (on (record { sampler = s; memory = now (memory .entry) }) gatherCall)
+        (record { answer = r; memory = now (memory .exit) }) ⌝ }
+{
+    s.gather(memory)
 }
 
 pub fn process_sample(

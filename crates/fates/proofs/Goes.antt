@@ -19,7 +19,7 @@ use Rattle.channel.specs.declared.Found.{Found}
 use Rattle.channel.specs.declared.Found.the-variants.{At, Nothing}
 use Rattle.channel.specs.Channels.{sameNote, unfinishedOf, wantedOf, findOf, takenOf}
 use Rattle.fates.specs.Engine.{turnedOf, leavesOf, momentAt, heldAt}
-use Rattle.fates.specs.Events.{Event, idle, changes, sounds, act, emptyAt, tickAt, Sampled, decayOf, lastOf, beforeLast}
+use Rattle.fates.specs.Events.{Event, idle, changes, gathers, sounds, act, emptyAt, tickAt, Sampled, decayOf, lastOf, beforeLast}
 use Rattle.fates.specs.Places.{Housed, voiceAt, Place, at, gone, fateOf, follow, findsAt, becomes, stops, outOf, playsOut, finishes, onward, followAll}
 use Rattle.fates.proofs.Own.{sampled-kept, own-turn, own-leaves, becomes-phrase}
 use Rattle.fates.proofs.Housing.{housed}
@@ -53,6 +53,7 @@ ending-on (changes (change.Stop p note)) c n v r d s h = go (findsAt (findOf not
 ending-on (changes (change.Speed note speed)) c n v r d s h = ending-sped note speed r d v h
 ending-on (changes (change.Head x)) c n v r d s h = h
 ending-on (changes change.Reset) c n v r d s h = h
+ending-on (gathers m) c n v r d s h = h
 ending-on (sounds p x m) c n v r d s h = subst (Ending r d) (sym (own-turn p x m c v)) (go (emptyAt m c v))
   where
     t : Tick
@@ -93,6 +94,7 @@ finished-ending (changes (change.Stop p note)) c n v s f = go (findsAt (findOf n
 finished-ending (changes (change.Speed note speed)) c n v s f = absurd (true≢false (sym f))
 finished-ending (changes (change.Head d)) c n v s f = absurd (true≢false (sym f))
 finished-ending (changes change.Reset) c n v s f = absurd (true≢false (sym f))
+finished-ending (gathers m) c n v s f = absurd (true≢false (sym f))
 finished-ending (sounds p x m) c n v s f =
     let t : Tick = tickAt p m c v in
     let mem : List ℕ = heldAt x m c v in

@@ -18,10 +18,10 @@ use Rattle.channel.specs.declared.Channel.{Channel}
 use Rattle.channel.specs.declared.Change.the-variants as change
 use Rattle.channel.specs.declared.Found.{Found}
 use Rattle.channel.specs.declared.Found.the-variants.{At, Nothing}
-use Rattle.channel.specs.Heads.{headChangedOf}
 use Rattle.channel.specs.Channels.{
   live,
-  withHead,
+  headChangedIn,
+  gatheredIn,
   withVoices,
   channelOf,
   resetOf,
@@ -38,7 +38,7 @@ use Rattle.channel.specs.Channels.{
   takenOf,
 }
 use Rattle.fates.specs.Engine.{bornOf, begunOf, turnsIn, stepOf}
-use Rattle.fates.specs.Events.{Event, idle, changes, sounds, act}
+use Rattle.fates.specs.Events.{Event, idle, changes, gathers, sounds, act}
 use Rattle.fates.specs.Places.{Housed}
 use Rattle.fates.proofs.Lives.{live-length, left-length}
 
@@ -97,11 +97,12 @@ housed-sounded p x m c h =
     headless (stepOf p x c m .channel) played refl refl (housed-turned (turnsIn p x m c) taken (headless taken c refl refl h))
 
 pub housed : (e : Event) (c : Channel) → Housed c → Housed (act e c)
-unfolding act stopPlayingOf setNoteSpeedOf resetOf
+unfolding act stopPlayingOf setNoteSpeedOf headChangedIn gatheredIn resetOf
 housed idle c h = h
 housed (changes (change.Start p position note velocity)) c h = housed-started p position note velocity c h
 housed (changes (change.Stop p note)) c h = housed-finished p c (findOf note c) h
 housed (changes (change.Speed note speed)) c h = headless (setNoteSpeedOf note speed c) c (length-sets (c .voices) 0 (map (spedOf note speed) (live c))) refl h
-housed (changes (change.Head d)) c h = headless (withHead (headChangedOf d (c .head)) c) c refl refl h
+housed (changes (change.Head d)) c h = headless (headChangedIn d c) c refl refl h
 housed (changes change.Reset) c h = record { places = h .places; room = omega arith }
+housed (gathers m) c h = headless (gatheredIn c m) c refl refl h
 housed (sounds p x m) c h = housed-sounded p x m c h

@@ -18,7 +18,7 @@ use Rattle.channel.specs.declared.Channel.{Channel}
 use Rattle.channel.specs.declared.Change.the-variants as change
 use Rattle.channel.specs.Channels.{live, sameNote, spedOf}
 use Rattle.fates.specs.Engine.{bornOf}
-use Rattle.fates.specs.Events.{Event, idle, changes, sounds, act, acts, isReset, isSample, emptyAt}
+use Rattle.fates.specs.Events.{Event, idle, changes, gathers, sounds, act, acts, isReset, isSample, emptyAt}
 use Rattle.fates.specs.Places.{Housed, voiceAt, Place, at, follow, becomes, addedBy, stops, onward, followAll, somewhere, stoppedIn}
 use Rattle.fates.specs.Sounding.{First}
 use Rattle.walks.proofs.Tests.{neither}
@@ -53,6 +53,7 @@ wait-place : (e : Event) (c : Channel) (n : ℕ) → isReset e ≡ false → isS
 unfolding follow isSample
 wait-place idle c n r q = refl
 wait-place (changes d) c n r q = rw r
+wait-place (gathers m) c n r q = refl
 wait-place (sounds p x m) c n r q = absurd (true≢false q)
 
 wait-same : (e : Event) (c : Channel) (n : ℕ) (v : Voice) → isSample e ≡ false → stops e c n ≡ false → becomes e c n v ≡ atSpeedOf (becomes e c n v .speed) v
@@ -64,6 +65,7 @@ wait-same (changes (change.Stop p note)) c n v q f =
 wait-same (changes (change.Speed note speed)) c n v q f = sped-same note speed v
 wait-same (changes (change.Head d)) c n v q f = itself v
 wait-same (changes change.Reset) c n v q f = itself v
+wait-same (gathers m) c n v q f = itself v
 wait-same (sounds p x m) c n v q f = absurd (true≢false q)
 
 same-on : (u v w : Voice) → v ≡ atSpeedOf (v .speed) w → u ≡ atSpeedOf (u .speed) v → u ≡ atSpeedOf (u .speed) w

@@ -19,12 +19,14 @@ use Rattle.channel.specs.Channels.{
   live,
   findOf,
   spedOf,
+  headChangedIn,
+  gatheredIn,
   resetOf,
   Turning,
   keptOf,
 }
 use Rattle.fates.specs.Engine.{bornOf, turnsIn}
-use Rattle.fates.specs.Events.{Event, idle, changes, sounds, act, isReset}
+use Rattle.fates.specs.Events.{Event, idle, changes, gathers, sounds, act, isReset}
 use Rattle.fates.specs.Places.{Housed, voiceAt, at, gone, fateOf, follow, addedBy}
 use Rattle.walks.proofs.Lists.Looks.{never, look-below, look-some, look-back, look-map, look-unmap, take-map, rank-order, keep-stood, without-fewer}
 use Rattle.fates.proofs.Lives.{live-length, live-started, live-sped, live-sounded}
@@ -54,6 +56,7 @@ ordered (changes d) c i n a b v w o s r f g = go (isReset (changes d)) f g
     go : (x : Bool) → cond x gone (at i) ≡ at a → cond x gone (at n) ≡ at b → a < b
     go true f g = absurd (gone-never a f)
     go false f g = omega (arith, at-same i a f, at-same n b g)
+ordered (gathers m) c i n a b v w o s r f g = omega (arith, at-same i a f, at-same n b g)
 ordered (sounds p x m) c i n a b v w o s r f g =
     let turns = turnsIn p x m c in
     fate-order turns (live c) i n a b v w o s
@@ -79,7 +82,7 @@ left-came s vs k u h =
 
 pub covered : (e : Event) (c : Channel) → Housed c → (k : ℕ) (u : Voice) → voiceAt (act e c) k ≡ some u
     → Came e c k ⊎ ((k ≡ length (live c)) × (addedBy e c ≡ u ∷ []))
-unfolding act follow isReset addedBy resetOf
+unfolding act follow isReset addedBy headChangedIn gatheredIn resetOf
 covered idle c h k u s = inl (record { place = k; voice = u; stood = s; follows = refl })
 covered (changes (change.Start p position note velocity)) c h k u s =
     go (eqb (c .head .«data_len») 0 || not (ltb (c .count) 32)) (subst (λ (l : List Voice). getElem? l k ≡ some u) (live-started p position note velocity c h) s)
@@ -110,6 +113,7 @@ covered (changes (change.Speed note speed)) c h k u s =
     inl (record { place = k; voice = r .0; stood = r .1; follows = refl })
 covered (changes (change.Head d)) c h k u s = inl (record { place = k; voice = u; stood = s; follows = refl })
 covered (changes change.Reset) c h k u s = absurd (never u s)
+covered (gathers m) c h k u s = inl (record { place = k; voice = u; stood = s; follows = refl })
 covered (sounds p x m) c h k u s =
     let q = left-came (turnsIn p x m c) (live c) k u (subst (λ (l : List Voice). getElem? l k ≡ some u) (live-sounded p x m c h) s) in
     inl (record { place = q .0; voice = q .1; stood = q .2; follows = rw (q .2) (q .3) })
@@ -131,6 +135,7 @@ live-fewer : (e : Event) (c : Channel) → Housed c → isReset e ≡ false → 
 unfolding act follow
 live-fewer idle c h r n v s f = absurd (nowhere n f)
 live-fewer (changes d) c h r n v s f = absurd (nowhere n (rw r at f))
+live-fewer (gathers m) c h r n v s f = absurd (nowhere n f)
 live-fewer (sounds p x m) c h r n v s f =
     let turns = turnsIn p x m c in
     subst (λ (l : List Voice). length l < length (live c)) (sym (live-sounded p x m c h))

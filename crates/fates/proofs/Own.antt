@@ -22,7 +22,7 @@ use Rattle.channel.specs.declared.Change.the-variants as change
 use Rattle.channel.specs.Channels.{live, sameNote, findOf, spedOf, tidiedOf, heardOf, playedOf, addedOf, resting, turningAt, turningOf, phraseAt, momentFor, takenOf, memoryOf}
 use Rattle.channel.proofs.Samples.{memory-kept}
 use Rattle.fates.specs.Engine.{passesOver, turnedOf, leavesOf, turnsBy, momentAt, heldAt, turnsIn, stepOf}
-use Rattle.fates.specs.Events.{Event, idle, changes, sounds, lengthAt, emptyAt, tickAt, Sampled}
+use Rattle.fates.specs.Events.{Event, idle, changes, gathers, sounds, lengthAt, emptyAt, tickAt, Sampled}
 use Rattle.fates.specs.Places.{findsAt, becomes}
 use Rattle.fates.specs.Sounding.{termOf}
 use Rattle.walks.proofs.Tests.{either}
@@ -110,6 +110,7 @@ becomes-phrase (changes (change.Stop p note)) c n v =
 becomes-phrase (changes (change.Speed note speed)) c n v = either (λ (w : Voice). w .phrase) (sameNote (v .note) note) (atSpeedOf speed v) v (v .phrase) (at-speed-phrase speed v) refl
 becomes-phrase (changes (change.Head d)) c n v = refl
 becomes-phrase (changes change.Reset) c n v = refl
+becomes-phrase (gathers m) c n v = refl
 becomes-phrase (sounds p x m) c n v = own-phrase p x m c v
 
 -- so it finds in a sample what it would have found as it was before the event

@@ -16,7 +16,7 @@ use Rattle.channel.specs.declared.Channel.{Channel}
 use Rattle.channel.specs.declared.Change.the-variants as change
 use Rattle.channel.specs.Channels.{live, findOf, sameNote, spedOf, keptOf}
 use Rattle.fates.specs.Engine.{passesOver, turnedOf, leavesOf, heldAt, turnsIn}
-use Rattle.fates.specs.Events.{Event, idle, changes, sounds, act, acts, isReset, emptyAt, tickAt}
+use Rattle.fates.specs.Events.{Event, idle, changes, gathers, sounds, act, acts, isReset, emptyAt, tickAt}
 use Rattle.fates.specs.Places.{
   Housed,
   voiceAt,
@@ -74,6 +74,7 @@ stays-one (changes (change.Stop p note)) c r n v s u f = record { place = n; fol
 stays-one (changes (change.Speed note speed)) c r n v s u f = record { place = n; follows = refl; unfinished = sped-finished note speed v ∙ u }
 stays-one (changes (change.Head d)) c r n v s u f = record { place = n; follows = refl; unfinished = u }
 stays-one (changes change.Reset) c r n v s u f = absurd (true≢false r)
+stays-one (gathers m) c r n v s u f = record { place = n; follows = refl; unfinished = u }
 stays-one (sounds p x m) c r n v s u f = go (emptyAt m c v) refl (subst (λ (o : Option Voice). outOf p x m c o ≡ false) s f)
   where
     t : Tick

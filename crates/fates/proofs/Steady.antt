@@ -19,7 +19,7 @@ use Rattle.channel.specs.declared.Channel.{Channel}
 use Rattle.channel.specs.declared.Change.the-variants as change
 use Rattle.channel.specs.Channels.{findOf, sameNote, spedOf, takenOf}
 use Rattle.fates.specs.Engine.{passesOver, turnedOf, momentAt, heldAt}
-use Rattle.fates.specs.Events.{Event, idle, changes, sounds, act, acts, isReset, emptyAt, tickAt}
+use Rattle.fates.specs.Events.{Event, idle, changes, gathers, sounds, act, acts, isReset, emptyAt, tickAt}
 use Rattle.fates.specs.Places.{Housed, voiceAt, Place, at, gone, follow, findsAt, becomes, onward, followAll, somewhere, finishedIn}
 use Rattle.fates.specs.Sounding.{termOf, Sounds}
 use Rattle.fates.specs.Steady.{disagrees, alters, alteredIn}
@@ -75,6 +75,7 @@ becomes-clip (changes (change.Stop p note)) c n v s h =
 becomes-clip (changes (change.Speed note speed)) c n v s h = either (λ (w : Voice). w .clip2) (sameNote (v .note) note) (atSpeedOf speed v) v (v .clip2) refl refl
 becomes-clip (changes (change.Head d)) c n v s h = refl
 becomes-clip (changes change.Reset) c n v s h = refl
+becomes-clip (gathers m) c n v s h = refl
 becomes-clip (sounds p x m) c n v s h = ap (λ (w : Voice). w .clip2) (own-turn p x m c v) ∙ go (emptyAt m c v) refl
   where
     go : (b : Bool) → emptyAt m c v ≡ b → cond b v (turnedOf (tickAt p m c v) (heldAt x m c v) v) .clip2 ≡ v .clip2

@@ -22,11 +22,13 @@ use Rattle.channel.specs.Channels.{
   findOf,
   stopPlayingOf,
   spedOf,
+  headChangedIn,
+  gatheredIn,
   Turning,
   keptOf,
 }
 use Rattle.fates.specs.Engine.{begunOf, turnsIn}
-use Rattle.fates.specs.Events.{Event, idle, changes, sounds, act, isReset}
+use Rattle.fates.specs.Events.{Event, idle, changes, gathers, sounds, act, isReset}
 use Rattle.fates.specs.Places.{Housed, voiceAt, at, gone, fateOf, follow, findsAt, becomes}
 use Rattle.walks.proofs.Lists.Looks.{look-front, look-map, look-set-same, look-set-other, take-map, keep-look}
 use Rattle.fates.proofs.Lives.{live-started, live-sped, live-sounded}
@@ -82,7 +84,7 @@ left-look s vs n k v h f = go (s .leaves (s .turn v)) refl f
 -- ---- every event
 pub tracks : (e : Event) (c : Channel) → Housed c → (n k : ℕ) (v : Voice) → voiceAt c n ≡ some v → follow e c n ≡ at k
     → voiceAt (act e c) k ≡ some (becomes e c n v)
-unfolding act follow isReset becomes
+unfolding act follow isReset becomes headChangedIn gatheredIn
 tracks idle c h n k v s f = rw (← at-same n k f) s
 tracks (changes (change.Start p position note velocity)) c h n k v s f = rw (← at-same n k f) (look-started p position note velocity c h n v s)
 tracks (changes (change.Stop p note)) c h n k v s f = rw (← at-same n k f) (look-stopped p note c h n v s)
@@ -91,6 +93,7 @@ tracks (changes (change.Speed note speed)) c h n k v s f =
     (subst (λ (l : List Voice). getElem? l n ≡ some (spedOf note speed v)) (sym (live-sped note speed c h)) (look-map (spedOf note speed) (live c) n v s))
 tracks (changes (change.Head d)) c h n k v s f = rw (← at-same n k f) s
 tracks (changes change.Reset) c h n k v s f = absurd (gone-never k f)
+tracks (gathers m) c h n k v s f = rw (← at-same n k f) s
 tracks (sounds p x m) c h n k v s f =
     let turns = turnsIn p x m c in
     subst (λ (l : List Voice). getElem? l k ≡ some (turns .turn v)) (sym (live-sounded p x m c h))

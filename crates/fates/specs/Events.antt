@@ -1,6 +1,6 @@
--- What one call does to one channel: nothing, a change, or a sample with the channel's part of the memory. A start and
--- a sample are put together of their parts (Engine); the other changes are as the contracts cite them. Definitions
--- only. Assumes nothing.
+-- What one call does to one channel: nothing, a change, a gather of its phrases (request 11/12) or a sample, these two
+-- with the channel's part of the memory. A start and a sample are put together of their parts (Engine); the others are as
+-- the contracts cite them. Definitions only. Assumes nothing.
 use mathlib.Core.Path.{_≡_}
 use Prim.Native.Nat.{ℕ}
 use mathlib.Core.Bool.{Bool, true, false}
@@ -14,13 +14,14 @@ use Rattle.voice.specs.Voices.{tickOf}
 use Rattle.channel.specs.declared.Channel.{Channel}
 use Rattle.channel.specs.declared.Change.{Change}
 use Rattle.channel.specs.declared.Change.the-variants as change
-use Rattle.channel.specs.Heads.{headChangedOf, interpolatesAfter}
-use Rattle.channel.specs.Channels.{withHead, resetOf, stopPlayingOf, setNoteSpeedOf}
+use Rattle.channel.specs.Heads.{interpolatesAfter}
+use Rattle.channel.specs.Channels.{headChangedIn, gatheredIn, resetOf, stopPlayingOf, setNoteSpeedOf}
 use Rattle.fates.specs.Engine.{begunOf, momentAt, stepOf}
 
 pub data Event : Type 0 where
   idle : Event
   changes : (change : Change) → Event
+  gathers : (m : List ℕ) → Event
   sounds : (p : Params) (x : Float) (m : List ℕ) → Event
 
 unfoldable pub act : Event → Channel → Channel
@@ -28,8 +29,9 @@ act idle c = c
 act (changes (change.Start p position note velocity)) c = begunOf p position note velocity c
 act (changes (change.Stop p note)) c = stopPlayingOf p note c
 act (changes (change.Speed note speed)) c = setNoteSpeedOf note speed c
-act (changes (change.Head d)) c = withHead (headChangedOf d (c .head)) c
+act (changes (change.Head d)) c = headChangedIn d c
 act (changes change.Reset) c = resetOf c
+act (gathers m) c = gatheredIn c m
 act (sounds p x m) c = stepOf p x c m .channel
 
 unfoldable pub acts : List Event → Channel → Channel
@@ -44,6 +46,7 @@ settingAfter (changes (change.Stop p note)) on = on
 settingAfter (changes (change.Speed note speed)) on = on
 settingAfter (changes (change.Head d)) on = interpolatesAfter d on
 settingAfter (changes change.Reset) on = on
+settingAfter (gathers m) on = on
 settingAfter (sounds p x m) on = on
 
 -- ---- what a voice finds in a sample
@@ -75,11 +78,13 @@ isReset (changes (change.Stop p note)) = false
 isReset (changes (change.Speed note speed)) = false
 isReset (changes (change.Head d)) = false
 isReset (changes change.Reset) = true
+isReset (gathers m) = false
 isReset (sounds p x m) = false
 
 unfoldable pub isSample : Event → Bool
 isSample idle = false
 isSample (changes change) = false
+isSample (gathers m) = false
 isSample (sounds p x m) = true
 
 -- the decay that comes with an event: that of a stop, or of a sample, in which play-once may finish a voice
@@ -90,6 +95,7 @@ decayOf (changes (change.Stop p note)) = p .«decay_samples»
 decayOf (changes (change.Speed note speed)) = 0
 decayOf (changes (change.Head d)) = 0
 decayOf (changes change.Reset) = 0
+decayOf (gathers m) = 0
 decayOf (sounds p x m) = p .«decay_samples»
 
 -- ---- the last of the events e ∷ es, and the channel as that one finds it

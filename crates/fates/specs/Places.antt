@@ -17,7 +17,7 @@ use Rattle.channel.specs.declared.Found.{Found}
 use Rattle.channel.specs.declared.Found.the-variants.{At, Nothing}
 use Rattle.channel.specs.Channels.{live, findOf, spedOf, Turning, keptOf}
 use Rattle.fates.specs.Engine.{bornOf, heldAt, turnsIn}
-use Rattle.fates.specs.Events.{Event, idle, changes, sounds, act, isReset, emptyAt, tickAt}
+use Rattle.fates.specs.Events.{Event, idle, changes, gathers, sounds, act, isReset, emptyAt, tickAt}
 
 -- a channel as the engine has it: 32 places, and no more voices than those
 pub record Housed (c : Channel) : Type 0 where
@@ -43,6 +43,7 @@ fateOf s vs n (some v) = cond (s .leaves (s .turn v)) gone (at (length (keptOf s
 unfoldable pub follow : Event → Channel → ℕ → Place
 follow (sounds p x m) c n = fateOf (turnsIn p x m c) (live c) n (voiceAt c n)
 follow (changes change) c n = cond (isReset (changes change)) gone (at n)
+follow (gathers m) c n = at n
 follow idle c n = at n
 
 -- ---- what the event makes of it
@@ -59,6 +60,7 @@ stops (changes (change.Stop p note)) c n = findsAt (findOf note c) n
 stops (changes (change.Speed note speed)) c n = false
 stops (changes (change.Head d)) c n = false
 stops (changes change.Reset) c n = false
+stops (gathers m) c n = false
 stops (sounds p x m) c n = false
 
 unfoldable pub becomes : Event → Channel → ℕ → Voice → Voice
@@ -69,6 +71,7 @@ becomes (changes (change.Stop p note)) c n v = cond (findsAt (findOf note c) n)
 becomes (changes (change.Speed note speed)) c n v = spedOf note speed v
 becomes (changes (change.Head d)) c n v = v
 becomes (changes change.Reset) c n v = v
+becomes (gathers m) c n v = v
 becomes (sounds p x m) c n v = turnsIn p x m c .turn v
 
 -- the voice that the event adds, at the end: a start's own, unless the recording is empty
@@ -80,6 +83,7 @@ addedBy (changes (change.Stop p note)) c = []
 addedBy (changes (change.Speed note speed)) c = []
 addedBy (changes (change.Head d)) c = []
 addedBy (changes change.Reset) c = []
+addedBy (gathers m) c = []
 addedBy (sounds p x m) c = []
 
 -- ---- whether the event finishes it
@@ -93,6 +97,7 @@ outOf p x m c (some v) = not (emptyAt m c v)
 unfoldable pub playsOut : Event → Channel → ℕ → Bool
 playsOut (sounds p x m) c n = outOf p x m c (voiceAt c n)
 playsOut (changes change) c n = false
+playsOut (gathers m) c n = false
 playsOut idle c n = false
 
 abbrev pub finishes : Event → Channel → ℕ → Bool

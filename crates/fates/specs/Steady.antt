@@ -7,7 +7,7 @@ use Rattle.common_types.specs.declared.Params.{Params}
 use Rattle.voice.specs.declared.Voice.{Voice}
 use Rattle.voice.specs.Agreeing.{agreesOf}
 use Rattle.channel.specs.declared.Channel.{Channel}
-use Rattle.fates.specs.Events.{Event, idle, changes, sounds, act, emptyAt, tickAt}
+use Rattle.fates.specs.Events.{Event, idle, changes, gathers, sounds, act, emptyAt, tickAt}
 use Rattle.fates.specs.Places.{voiceAt, follow, somewhere}
 
 -- the sample asks for another length, speed, data length or mode than the voice's clip has; on an empty recording it
@@ -20,6 +20,7 @@ disagrees p m c (some v) = not (emptyAt m c v) && not (agreesOf (tickAt p m c v)
 unfoldable pub alters : Event → Channel → ℕ → Bool
 alters (sounds p x m) c n = disagrees p m c (voiceAt c n)
 alters (changes change) c n = false
+alters (gathers m) c n = false
 alters idle c n = false
 
 -- one of the events does, where the voice then stands

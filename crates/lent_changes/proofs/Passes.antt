@@ -1,4 +1,4 @@
--- What a change in place leaves of a channel, from what its loop knows: `restOf` is what the rest of the walk gives. It is `changedOf` from the start (`whole-change`). Assumes nothing.
+-- What a change in place leaves of a channel, from what its loop knows: `restOf` is what the rest of the walk gives. It is `changedOf` from the start (`whole-change`). A change of voices is worked out with the table as it was (`restIn`), and what is stored in the table is `channel/proofs/Entries`. Assumes nothing.
 use mathlib.Core.Path.{_≡_, refl, sym, ap, subst, _∙_}
 use Prim.Native.Nat.{ℕ, suc, _+_, _≤_, _<_, min}
 use native.Mathlib.Nat.{le-of-eq, add-zero, zero-add}
@@ -18,18 +18,24 @@ use Rattle.walks.proofs.Lists.Fronts.{any-next}
 use Rattle.walks.proofs.Lists.Loops.{take-most}
 use Rattle.common_types.specs.declared.Params.{Params}
 use Rattle.common_types.specs.declared.Note.{Note}
+use Rattle.phrases.specs.declared.Phrase.{Phrase}
+use Rattle.phrases.specs.Phrases.{noPhrase}
 use Rattle.voice.specs.declared.Voice.{Voice}
 use Rattle.voice.specs.Voices.{finishOf, freshOf, blankVoice}
 use Rattle.channel.specs.declared.Head.{Head}
 use Rattle.channel.specs.declared.Change.{Change}
 use Rattle.channel.specs.declared.Change.the-variants as change
 use Rattle.channel.specs.declared.Channel.{Channel}
+use Rattle.channel.specs.declared.Entry.{Entry}
 use Rattle.channel.specs.declared.Found.{Found}
 use Rattle.channel.specs.declared.Found.the-variants.{At, Nothing}
 use Rattle.channel.specs.Heads.{momentOf}
-use Rattle.channel.specs.Channels.{withVoices, unfinishedOf, sameNote, wantedOf, spedOf, anyUnfinishedOf, handledOf, pushedOf, startPlayingOf, findOf, finishedAtOf, stopPlayingOf, setNoteSpeedOf, resetOf, changedOf}
+use Rattle.channel.specs.Tables.{placeOf, namesOf, entryOf, storedBy}
+use Rattle.channel.specs.Channels.{withVoices, besideIn, unfinishedOf, sameNote, wantedOf, spedOf, anyUnfinishedOf, handledOf, pushedOf, startPlayingOf, findOf, finishedAtOf, stopPlayingOf, setNoteSpeedOf, headChangedIn, resetOf, changedOf}
+use Rattle.channel.proofs.Entries.{stored, several-stored}
 use Rattle.lent_changes.specs.declared.Pass.{Pass}
-use Rattle.lent_changes.specs.Changes.{askingOf, behindOf, goingOf, startPass, passOf, hitsOf, remadeOf, passedOf, openedOf, handledIf, endedOf}
+use Rattle.lent_changes.specs.declared.Aside.{Aside}
+use Rattle.lent_changes.specs.Changes.{askingOf, behindOf, goingOf, startPass, passOf, hitsOf, remadeOf, passedOf, openedOf, handledIf, asideOf, endedOf}
 
 -- ---- what becomes of the voices gone through, and what is known afterwards
 abbrev pub outsOf : Pass → List Voice → List Voice
@@ -41,12 +47,46 @@ lastOf p [] = p
 lastOf p (v ∷ vs) = lastOf (passedOf p v (hitsOf p v)) vs
 
 module _ (x : Change) (h : Channel) where
-  -- the channel after the loop: the new voice, the count and the head
-  abbrev pub finalOf : Pass → List Voice → Channel
-  finalOf p l = record { voices = cond (p .fresh) (set l (h .count) (openedOf x (h .head))) l; count = p .count; head = endedOf p x (h .head) }
+  -- what is read of the table, and what is stored in it
+  abbrev pub named : Phrase
+  named = getD (h .table) (placeOf (namesOf x)) noPhrase
+
+  abbrev pub aside : Aside
+  aside = asideOf named (h .several) (besideIn 0 h)
+
+  abbrev pub entry : Entry
+  entry = entryOf x (h .head) (h .several) named
+
+  abbrev stored-in : Channel
+  stored-in = record { voices = h .voices; table = storedBy entry (h .table); count = h .count; head = h .head; several = entry .several }
+
+  -- the channel after the loop: the new voice, the count and the head; its table is c's
+  abbrev finalIn : Channel → Pass → List Voice → Channel
+  finalIn c p l =
+      record { voices = cond (p .fresh) (set l (h .count) (openedOf x (h .head))) l; table = c .table; count = p .count; head = endedOf p x (h .head) aside; several = c .several }
+
+  abbrev restIn : Channel → Pass → List Voice → ℕ → List Voice → Channel
+  restIn c p l i vs = finalIn c (lastOf p vs) (sets l i (outsOf p vs))
 
   abbrev pub restOf : Pass → List Voice → ℕ → List Voice → Channel
-  restOf p l i vs = finalOf (lastOf p vs) (sets l i (outsOf p vs))
+  restOf p l i vs = restIn stored-in p l i vs
+
+  -- where it begins
+  abbrev first : Pass
+  first = passOf x (h .head) (h .count)
+
+  abbrev wholeIn : Channel → Channel
+  wholeIn c = restIn c first (h .voices) 0 (take (first .turns) (h .voices))
+
+  -- what is stored is what the change makes of the table; one that leaves it may be worked out with the table as it was
+  module _ (eight : length (h .table) ≡ 8) where
+    with-stored : wholeIn stored-in ≡ wholeIn (changedOf x h)
+    with-stored =
+        ap (λ (t : List Phrase). wholeIn (record { voices = h .voices; table = t; count = h .count; head = h .head; several = entry .several })) (stored h x eight)
+        ∙ ap (λ (b : Bool). wholeIn (record { voices = h .voices; table = changedOf x h .table; count = h .count; head = h .head; several = b })) (several-stored h x named)
+
+    with-own : wholeIn h ≡ changedOf x h → wholeIn stored-in ≡ changedOf x h
+    with-own e = with-stored ∙ ap wholeIn (sym e) ∙ e
 
   -- a turn with the test's outcome c, as it is worked out
   abbrev turned : Pass → Voice → Bool → List Voice → ℕ → List Voice → Channel
@@ -200,9 +240,9 @@ module _ (h : Channel) (all : length (h .voices) ≡ 32) where
     finds = ap (seek At Nothing (wantedOf note) 0) (sym (take-most l (h .count) 32 all))
 
     abbrev made : Bool → ℕ → Bool → Bool → List Voice → Channel
-    made fresh count found unfinished k = record { voices = cond fresh (set k (h .count) blankVoice) k; count = count; head = handledIf found (h .head) q unfinished }
+    made fresh count found unfinished k = record { voices = cond fresh (set k (h .count) blankVoice) k; table = h .table; count = count; head = handledIf found (h .head) q unfinished; several = h .several }
 
-    stop-comes : Comes n (h .count) (h .head .now) (q .«decay_samples») zero32 note false 0 false vs → restOf (change.Stop q note) h (p false false) l 0 vs ≡ finishedAtOf q h (findOf note h)
+    stop-comes : Comes n (h .count) (h .head .now) (q .«decay_samples») zero32 note false 0 false vs → restIn (change.Stop q note) h h (p false false) l 0 vs ≡ finishedAtOf q h (findOf note h)
     unfolding finishedAtOf handledOf anyUnfinishedOf handledIf endedOf openedOf
     stop-comes (none-wanted s outs f g k) =
         let r = lastOf (p false false) vs in
@@ -242,9 +282,9 @@ module _ (h : Channel) (all : length (h .voices) ≡ 32) where
     kept-sped f u (v ∷ vs) = kept-sped (f || hitsOf (sped f u) v) (u || (not (hitsOf (sped f u) v) && unfinishedOf v)) vs
 
     abbrev with-speed : Bool → ℕ → List Voice → Channel
-    with-speed fresh count k = record { voices = cond fresh (set k (h .count) blankVoice) k; count = count; head = h .head }
+    with-speed fresh count k = record { voices = cond fresh (set k (h .count) blankVoice) k; table = h .table; count = count; head = h .head; several = h .several }
 
-    speed-comes : restOf (change.Speed note speed) h (sped false false) l 0 (take n l) ≡ setNoteSpeedOf note speed h
+    speed-comes : restIn (change.Speed note speed) h h (sped false false) l 0 (take n l) ≡ setNoteSpeedOf note speed h
     unfolding setNoteSpeedOf endedOf openedOf
     speed-comes =
         let r = lastOf (sped false false) (take n l) in
@@ -264,11 +304,11 @@ module _ (h : Channel) (all : length (h .voices) ≡ 32) where
     pass a b = cond a (askingOf 0 (h .count) (h .head)) (cond b (askingOf 32 (h .count) (h .head)) (behindOf (h .count) (h .head)))
 
     abbrev from : Pass → Channel
-    from p = restOf x h p l 0 (take (p .turns) l)
+    from p = restIn x h h p l 0 (take (p .turns) l)
 
     -- the head, by whether the recording is empty
     abbrev heads : List Voice → ℕ → Bool → Bool → Channel
-    heads k count empty unfinished = record { voices = k; count = count; head = handledIf (not empty) (h .head) q unfinished }
+    heads k count empty unfinished = record { voices = k; table = h .table; count = count; head = handledIf (not empty) (h .head) q unfinished; several = h .several }
 
     abbrev starts : Bool → Bool → Channel
     starts empty room = cond empty h (handledOf q (cond room (withVoices (set l (h .count) new) (h .count + 1) h) h))
@@ -292,7 +332,7 @@ module _ (h : Channel) (all : length (h .voices) ≡ 32) where
     start-comes false true e d =
         let over : 32 ≤ h .count = leb-true 32 (h .count) d in
         let p = stop 32 (h .count) (h .head .now) 0 zero32 (askingOf 32 (h .count) (h .head) .note) false in
-        ap (λ (r : Pass). finalOf x h r (sets l 0 (outsOf (p true false) (take 32 l)))) (last-found 32 (h .count) (h .head .now) 0 zero32 (askingOf 32 (h .count) (h .head) .note) false false (take 32 l))
+        ap (λ (r : Pass). finalIn x h h r (sets l 0 (outsOf (p true false) (take 32 l)))) (last-found 32 (h .count) (h .head .now) 0 zero32 (askingOf 32 (h .count) (h .head) .note) false false (take 32 l))
         ∙ ap (λ (k : List Voice). heads (sets l 0 k) (h .count) (eqb (h .head .«data_len») 0) (any unfinishedOf (take 32 l))) (outs-found 32 (h .count) (h .head .now) 0 zero32 (askingOf 32 (h .count) (h .head) .note) false false (take 32 l))
         ∙ ap (λ (k : List Voice). heads k (h .count) (eqb (h .head .«data_len») 0) (any unfinishedOf (take 32 l))) (fronts l l 32 (omega (arith, all)) refl refl)
         ∙ ap (λ (c : Bool). heads l (h .count) c (any unfinishedOf (take 32 l))) e
@@ -305,10 +345,13 @@ module _ (h : Channel) (all : length (h .voices) ≡ 32) where
         ∙ sym (ap (starts false) (lt-ltb (h .count) 32 room))
 
 -- the walk gives what the change is
-pub whole-change : (x : Change) (h : Channel) → length (h .voices) ≡ 32 → restOf x h (passOf x (h .head) (h .count)) (h .voices) 0 (take (passOf x (h .head) (h .count) .turns) (h .voices)) ≡ changedOf x h
-unfolding changedOf passOf startPass askingOf goingOf startPlayingOf pushedOf stopPlayingOf resetOf endedOf openedOf
-whole-change (change.Start q position note velocity) h all = start-comes h all q position note velocity (eqb (h .head .«data_len») 0) (leb 32 (h .count)) refl refl
-whole-change (change.Stop q note) h all = stop-comes h all q note (comes (min (h .count) 32) (h .count) (h .head .now) (q .«decay_samples») zero32 note false 0 false (take (min (h .count) 32) (h .voices)))
-whole-change (change.Speed note speed) h all = speed-comes h all note speed
-whole-change (change.Head d) h all = refl
-whole-change change.Reset h all = refl
+pub whole-change : (x : Change) (h : Channel) → length (h .voices) ≡ 32 → length (h .table) ≡ 8
+    → restOf x h (passOf x (h .head) (h .count)) (h .voices) 0 (take (passOf x (h .head) (h .count) .turns) (h .voices)) ≡ changedOf x h
+unfolding changedOf passOf startPass askingOf goingOf startPlayingOf pushedOf stopPlayingOf headChangedIn resetOf endedOf openedOf namesOf
+whole-change (change.Start q position note velocity) h all eight =
+    with-own (change.Start q position note velocity) h eight (start-comes h all q position note velocity (eqb (h .head .«data_len») 0) (leb 32 (h .count)) refl refl)
+whole-change (change.Stop q note) h all eight =
+    with-own (change.Stop q note) h eight (stop-comes h all q note (comes (min (h .count) 32) (h .count) (h .head .now) (q .«decay_samples») zero32 note false 0 false (take (min (h .count) 32) (h .voices))))
+whole-change (change.Speed note speed) h all eight = with-own (change.Speed note speed) h eight (speed-comes h all note speed)
+whole-change (change.Head d) h all eight = with-stored (change.Head d) h eight
+whole-change change.Reset h all eight = with-stored change.Reset h eight

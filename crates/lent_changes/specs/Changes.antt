@@ -12,9 +12,13 @@ use Rattle.voice.specs.Voices.{finishOf, freshOf, blankVoice, atSpeedOf}
 use Rattle.channel.specs.declared.Head.{Head}
 use Rattle.channel.specs.declared.Change.{Change}
 use Rattle.channel.specs.declared.Change.the-variants as change
+use Rattle.phrases.specs.declared.Phrase.{Phrase}
+use Rattle.phrases.specs.declared.Beside.{Beside}
 use Rattle.channel.specs.Heads.{headOf, momentOf, headChangedOf, passthruOf}
+use Rattle.channel.specs.Tables.{foundBy}
 use Rattle.channel.specs.Channels.{unfinishedOf, sameNote}
 use Rattle.lent_changes.specs.declared.Pass.{Pass}
+use Rattle.lent_changes.specs.declared.Aside.{Aside}
 
 -- so many voices are asked whether they are unfinished, and none is changed, as by a stop that has its voice
 unfoldable pub askingOf : ℕ → ℕ → Head → Pass
@@ -113,10 +117,15 @@ openedOf change.Reset h = blankVoice
 unfoldable pub handledIf : Bool → Head → Params → Bool → Head
 handledIf on h q unfinished = cond on (passthruOf q unfinished h) h
 
+-- what is read of the table before a change: the entry of the number that it names, whether it is looked at, and how far
+-- the phrases reach that aren't chosen
+abbrev pub asideOf : Phrase → Bool → Beside → Aside
+asideOf entry several b = record { entry = entry; several = several; behind = b .behind }
+
 -- the head at the end
-unfoldable pub endedOf : Pass → Change → Head → Head
-endedOf p (change.Start q position note velocity) h = handledIf (not (eqb (h .«data_len») 0)) h q (p .unfinished)
-endedOf p (change.Stop q note) h = handledIf (p .found) h q (p .unfinished)
-endedOf p (change.Speed note speed) h = h
-endedOf p (change.Head d) h = headChangedOf d h
-endedOf p change.Reset h = headOf zero32 (h .interpolates)
+unfoldable pub endedOf : Pass → Change → Head → Aside → Head
+endedOf p (change.Start q position note velocity) h a = handledIf (not (eqb (h .«data_len») 0)) h q (p .unfinished)
+endedOf p (change.Stop q note) h a = handledIf (p .found) h q (p .unfinished)
+endedOf p (change.Speed note speed) h a = h
+endedOf p (change.Head d) h a = headChangedOf d (foundBy d (a .several) (a .entry) (a .behind)) h
+endedOf p change.Reset h a = headOf zero32 (h .interpolates)

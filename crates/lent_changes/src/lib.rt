@@ -15,6 +15,7 @@ ghost use Rattle.lent_changes.specs.Changes.{
   passedOf,
   openedOf,
   handledIf,
+  asideOf,
   endedOf,
 };
 use channel::Change;
@@ -22,6 +23,8 @@ use channel::Channel;
 use channel::Head;
 use common_types::Note;
 use common_types::Params;
+use phrases::Beside;
+use phrases::Phrase;
 use voice::Voice;
 
 // The first `turns` voices are gone through, and there are `count` afterwards. Those with the note are finished if it is
@@ -206,21 +209,42 @@ fn handled(on: bool, head: Head, params: Params, unfinished: bool) -> Head
 }
 
 // The head at the end. Pass-through follows a start on a recording, and a stop that found its voice.
-fn ended(p: Pass, change: Change, head: Head) -> Head
-    ensures { λ r. ⌜ r ≡ endedOf p change head ⌝ }
+fn ended(p: Pass, change: Change, head: Head, aside: Aside) -> Head
+    ensures { λ r. ⌜ r ≡ endedOf p change head aside ⌝ }
 {
-    ending(p, change, head).copied()
+    ending(p, change, head, aside).copied()
 }
 
-fn ending(p: Pass, change: Change, head: Head) -> Head
-    ensures { λ r. ⌜ r ≡ endedOf p change head ⌝ }
+fn ending(p: Pass, change: Change, head: Head, aside: Aside) -> Head
+    ensures { λ r. ⌜ r ≡ endedOf p change head aside ⌝ }
 {
     match change {
         Change::Start { params, .. } => handled(head.data_len != 0, head, params, p.unfinished),
         Change::Stop { params, .. } => handled(p.found, head, params, p.unfinished),
         Change::Speed { .. } => head,
-        Change::Head(change) => head.changed(change),
+        Change::Head(change) => head.changed(
+            change,
+            channel::finds(change, aside.several, aside.entry, aside.behind),
+        ),
         Change::Reset => Head::new(0.0, head.interpolates),
+    }
+}
+
+// What is read of the table before a change: the entry of the number that it names, whether it counts, and how far the
+// phrases reach that aren't chosen.
+pub struct Aside {
+    pub entry: Phrase,
+    pub several: bool,
+    pub behind: usize,
+}
+
+fn aside_of(entry: Phrase, several: bool, b: Beside) -> Aside
+    ensures { λ r. ⌜ r ≡ asideOf entry several b ⌝ }
+{
+    Aside {
+        entry,
+        several,
+        behind: b.behind,
     }
 }
 
@@ -247,5 +271,16 @@ pub fn change(c: &mut Channel, change: Change)
         c.voices[at] = w;
     }
     c.count = p.count;
-    c.head = ended(p, change, c.head);
+    let aside = aside_of(
+        c.table[channel::place_of(channel::names(change))],
+        c.several,
+        lent_channel::beside(c, 0),
+    );
+    let e = channel::entry_of(change, c.head, aside.several, aside.entry);
+    if e.clears {
+        c.table = phrases::none();
+    }
+    c.table[e.place] = e.phrase;
+    c.several = e.several;
+    c.head = ended(p, change, c.head, aside);
 }

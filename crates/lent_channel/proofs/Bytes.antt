@@ -1,10 +1,11 @@
--- How many bytes a voice and a channel take, at which byte of a voice its phrase stands, at which byte of a channel its count and its head stand, and at which byte of a head its clock, its memory's length and its recorder, as the declared records are laid out.
+-- How many bytes a voice, a phrase and a channel take, at which byte of a voice its phrase stands, at which byte of a channel its table, its count, its head and whether there are several phrases stand, and at which byte of a head its clock, its memory's length and its recorder, as the declared records are laid out.
 -- Assumes nothing.
 use Prim.Native.Nat.{ℕ}
 use mathlib.Core.Option.{Option, none, some}
 use mir.Syntax.{Ty}
 use prog.Memory.{size, fieldOf}
 use denote.Memory.{lone}
+use Rattle.phrases.proofs.Phrase as F
 use Rattle.voice.proofs.Voice as R
 use Rattle.channel.proofs.Head as E
 use Rattle.channel.proofs.Channel as C
@@ -21,14 +22,23 @@ voice-bytes = size (lone (R.the-row .mir))
 abbrev pub phrase-at : ℕ
 phrase-at = at (fieldOf (lone (R.the-row .mir)) 11)
 
+abbrev pub phrase-bytes : ℕ
+phrase-bytes = size (lone (F.the-row .mir))
+
 abbrev pub channel-bytes : ℕ
 channel-bytes = size (lone (C.the-row .mir))
 
+abbrev pub table-at : ℕ
+table-at = at (fieldOf (lone (C.the-row .mir)) 1)
+
 abbrev pub count-at : ℕ
-count-at = at (fieldOf (lone (C.the-row .mir)) 1)
+count-at = at (fieldOf (lone (C.the-row .mir)) 2)
 
 abbrev pub head-at : ℕ
-head-at = at (fieldOf (lone (C.the-row .mir)) 2)
+head-at = at (fieldOf (lone (C.the-row .mir)) 3)
+
+abbrev pub several-at : ℕ
+several-at = at (fieldOf (lone (C.the-row .mir)) 4)
 
 abbrev pub time-at : ℕ
 time-at = at (fieldOf (lone (E.the-row .mir)) 0)

@@ -227,14 +227,14 @@ follows-own p c m k full =
     (T.turning-turns p c m v (subst (λ (j : ℕ). eqb (phraseAt c j .length) 0 ≡ false) (sym (e ∙ tick-phrase p (momentFor c k))) full)) in
     record { turns = λ v e. to v e .turns; leaves = λ v e. to v e .leaves; adds = λ out v e. to v e .adds out }
 
--- turns leave the head, by which the voices go
-pub onward-head : {s : Turning} {n : ℕ} {c d : Channel} {g h : Going} → Onward s n c g d h → d .head ≡ c .head
+-- turns leave all but the voices, and by that the voices go
+pub onward-else : {s : Turning} {n : ℕ} {c d : Channel} {g h : Going} → Onward s n c g d h → withVoices [] 0 d ≡ withVoices [] 0 c
 unfolding restBy
-onward-head x = ap (λ (r : Played). r .channel .head) (x .same)
+onward-else x = ap (λ (r : Played). withVoices [] 0 (r .channel)) (x .same)
 
-pub same-turning : (p : Params) (m : List ℕ) (c d : Channel) → d .head ≡ c .head → turningIn p d m ≡ turningIn p c m
+pub same-turning : (p : Params) (m : List ℕ) (c d : Channel) → withVoices [] 0 d ≡ withVoices [] 0 c → turningIn p d m ≡ turningIn p c m
 unfolding turningIn
-same-turning p m c d e = ap (λ (h : Head). turningIn p (withHead h d) m) e
+same-turning p m c d e = ap (λ (x : Channel). turningIn p x m) e
 
 -- ---- from the first turn to the last
 module _ (s : Turning) (c : Channel) (all : length (c .voices) ≡ 32) where

@@ -15,13 +15,14 @@ use Rattle.voice.specs.Voices.{turnOf, shouldRemoveOf, blankVoice}
 use Rattle.channel.specs.declared.Head.{Head}
 use Rattle.channel.specs.declared.Channel.{Channel}
 use Rattle.channel.specs.declared.Played.{Played}
-use Rattle.channel.specs.Heads.{goodHead, mixedOf}
-use Rattle.channel.specs.Channels.{withVoices, Turning, keptOf, tidiedOf, addedOf, turningBy, fullOf, goodChannel}
-use Rattle.recorder.specs.Recording.{isRecordingOf}
+use Rattle.channel.specs.Heads.{recordingIn, goodHead, mixedOf}
+use Rattle.phrases.specs.declared.Phrase.{Phrase}
+use Rattle.phrases.specs.declared.Beside.{Beside}
+use Rattle.phrases.specs.Phrases.{besideWith}
+use Rattle.channel.specs.Channels.{withVoices, Turning, keptOf, tidiedOf, addedOf, turningBy}
 use Rattle.lent_channel.specs.declared.Heard.{Heard}
 use Rattle.lent_channel.specs.declared.Going.{Going}
 use Rattle.lent_channel.specs.declared.Turn.{Turn}
-use Rattle.lent_channel.specs.declared.Condition.{Condition}
 
 -- what is heard of a channel without voices
 unfoldable pub silent : Heard
@@ -143,18 +144,12 @@ mixedWith t x h = record { output = mixedOf x (h .output) t; moved = h .moved }
 unfoldable pub headGoodOf : ℕ → Head → ℕ → Bool
 headGoodOf capacity h count = leb count 32 && goodHead capacity h
 
--- ---- what the rows of a change ask of a channel
-abbrev pub conditionOf : Head → ℕ → Bool → Condition
-conditionOf h count good = record {
-  good = good;
-  full = not (eqb (h .«data_len») 0) && leb 32 count;
-  recording = isRecordingOf (h .recorder);
-}
+-- ---- phrases (request 11/12), looked at one after another
 
--- row 9 by this channel in a record of that capacity, row 5 and row 15 (10/12) by it
-abbrev pub judgedOf : ℕ → Channel → Condition
-judgedOf capacity c = record {
-  good = goodChannel capacity c;
-  full = fullOf c;
-  recording = isRecordingOf (c .head .recorder);
-}
+-- the phrase of a number, by its entry of the table
+abbrev pub lookedAt : Phrase → ℕ → Head → Phrase
+lookedAt p k h = cond (eqb k (h .chosen)) (recordingIn h) p
+
+-- what the phrases so far say to the head's own, with one more: the chosen one's entry says nothing
+abbrev pub besideNext : Beside → Head → ℕ → Phrase → Beside
+besideNext b h k p = cond (eqb k (h .chosen)) b (besideWith (h .start) b p)

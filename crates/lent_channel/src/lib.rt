@@ -3,11 +3,13 @@
 // are proved by hand.
 ghost use mathlib.Core.Path.{_≡_};
 ghost use Prim.Native.Nat.{_≤_, _<_};
-ghost use mathlib.Core.Bool.{_&&_};
+ghost use mathlib.Core.Bool.{_&&_, cond};
 ghost use lib.Ieee.{binary32, add};
 ghost use Rattle.common_types.specs.Settings.{measureOf};
 ghost use Rattle.voice.specs.Voices.{goodVoice};
+ghost use Rattle.phrases.specs.Phrases.{apartOf, goodAt};
 ghost use Rattle.channel.specs.Heads.{closedOf};
+ghost use Rattle.channel.specs.Tables.{withRecording, goodTable, againstBy};
 ghost use Rattle.channel.specs.Channels.{
   anyUnfinishedOf,
   withHead,
@@ -16,6 +18,9 @@ ghost use Rattle.channel.specs.Channels.{
   takenOf,
   memoryOf,
   processSampleOf,
+  besideIn,
+  usesOf,
+  againstOf,
   goodVoicesOf,
   goodChannel,
 };
@@ -37,13 +42,17 @@ ghost use Rattle.lent_channel.specs.Turns.{
   headGoodOf,
   heardOf,
   mixedWith,
-  conditionOf,
-  judgedOf,
+  lookedAt,
+  besideNext,
 };
+use channel::Against;
+use channel::Ask;
 use channel::Channel;
 use channel::Head;
 use common_types::Measure;
 use common_types::Params;
+use phrases::Beside;
+use phrases::Phrase;
 use voice::Tick;
 use voice::Voice;
 
@@ -111,39 +120,137 @@ fn any_unfinished(c: &Channel) -> bool
     false
 }
 
+// The phrase of a number, by its entry of the table: the chosen one is the recording.
+fn looked_at(p: Phrase, k: usize, head: Head) -> Phrase
+    ensures { λ r. ⌜ r ≡ lookedAt p k head ⌝ }
+{
+    if k == head.chosen as usize {
+        return head.recording();
+    }
+    p
+}
+
+// Whether a phrase has no sample in common with those so far, and with one more.
+fn still_apart(ok: bool, p: Phrase, q: Phrase) -> bool
+    ensures { λ r. ⌜ r ≡ (ok && apartOf p q) ⌝ }
+{
+    ok & p.apart(q)
+}
+
+// Whether the k-th phrase lies within the capacity, and has no sample in common with those before it.
+fn phrase_good(c: &Channel, k: usize, capacity: usize) -> bool
+    requires { ⌜ k < 8 ⌝ }
+    ensures { λ r. ⌜ r ≡ goodAt capacity (withRecording (now (c .entry) .head) (now (c .entry) .table)) k ⌝ }
+{
+    let p = looked_at(c.table[k], k, c.head);
+    let mut ok = p.ends_by(capacity);
+    let mut j: usize = 0;
+    while j < k {
+        ok = still_apart(ok, p, looked_at(c.table[j], j, c.head));
+        j = j + 1;
+    }
+    ok
+}
+
+fn both(a: bool, b: bool) -> bool
+    ensures { λ r. ⌜ r ≡ (a && b) ⌝ }
+{
+    a & b
+}
+
+// How many entries of the table are looked at.
+fn entries(several: bool) -> usize
+    ensures { λ r. ⌜ r ≡ cond several 8 0 ⌝ }
+{
+    if several { 8 } else { 0 }
+}
+
+// Whether the phrases lie within the capacity, and no two have a sample in common.
+fn good_phrases(c: &Channel, capacity: usize) -> bool
+    ensures { λ r. ⌜ r
+        ≡ goodTable capacity (now (c .entry) .head) (now (c .entry) .several) (now (c .entry) .table) ⌝ }
+{
+    let n = entries(c.several);
+    let mut ok = true;
+    let mut k: usize = 0;
+    while k < n {
+        ok = both(ok, phrase_good(c, k, capacity));
+        k = k + 1;
+    }
+    ok
+}
+
 // Whether the channel may stand in a record of that capacity.
 pub fn good(c: &Channel, capacity: usize) -> bool
     ensures { λ r. ⌜ r ≡ goodChannel capacity (now (c .entry)) ⌝ }
 {
     if head_good(c.head, c.count, capacity) {
-        return good_voices(c);
+        if good_voices(c) {
+            return good_phrases(c, capacity);
+        }
     }
     false
 }
 
-// What the rows of a change ask of a channel: whether it is good, takes no further voice, and is recording.
-pub struct Condition {
-    pub good: bool,
-    pub full: bool,
-    pub recording: bool,
-}
-
-fn condition_of(head: Head, count: usize, good: bool) -> Condition
-    ensures { λ r. ⌜ r ≡ conditionOf head count good ⌝ }
+// Whether a voice has the phrase of that number.
+fn uses(c: &Channel, k: u8) -> bool
+    ensures { λ r. ⌜ r ≡ usesOf k (now (c .entry)) ⌝ }
 {
-    Condition {
-        good,
-        full: (head.data_len != 0) & (32 <= count),
-        recording: head.is_recording(),
+    let n = channel::places(c.count);
+    let mut i: usize = 0;
+    while i < n {
+        if c.voices[i].phrase == k {
+            return true;
+        }
+        i = i + 1;
     }
+    false
 }
 
-// A channel judged, in a record of that capacity.
-pub fn judged(c: &Channel, capacity: usize) -> Condition
-    ensures { λ r. ⌜ r ≡ judgedOf capacity (now (c .entry)) ⌝ }
+// What the phrases looked at so far say to a head's own, with one more.
+fn beside_next(b: Beside, head: Head, k: usize, p: Phrase) -> Beside
+    ensures { λ r. ⌜ r ≡ besideNext b head k p ⌝ }
 {
-    let good = good(c, capacity);
-    condition_of(c.head, c.count, good)
+    if k == head.chosen as usize {
+        return b;
+    }
+    b.with(head.start, p)
+}
+
+// What the phrases that aren't chosen say to the one that is.
+pub fn beside(c: &Channel, capacity: usize) -> Beside
+    ensures { λ r. ⌜ r ≡ besideIn capacity (now (c .entry)) ⌝ }
+{
+    let n = entries(c.several);
+    let mut b = Beside::none(capacity);
+    let mut k: usize = 0;
+    while k < n {
+        b = beside_next(b, c.head, k, c.table[k]);
+        k = k + 1;
+    }
+    b
+}
+
+// What a change asks of a channel in a record of that capacity.
+pub struct Asking {
+    pub ask: Ask,
+    pub capacity: usize,
+}
+
+fn answered(a: Asking, head: Head, count: usize, used: bool, b: Beside) -> Against
+    ensures { λ r. ⌜ r ≡ againstBy (a .ask) head count used b (a .capacity) ⌝ }
+{
+    let ask = a.ask;
+    channel::held_against(ask, head, count, used, b, a.capacity)
+}
+
+// What the channel has against it.
+pub fn against(c: &Channel, a: Asking) -> Against
+    ensures { λ r. ⌜ r ≡ againstOf (a .capacity) (a .ask) (now (c .entry)) ⌝ }
+{
+    let used = uses(c, channel::leaving(a.ask));
+    let b = beside(c, a.capacity);
+    answered(a, c.head, c.count, used, b)
 }
 
 fn added(output: f32, w: Voice) -> f32
@@ -314,7 +421,8 @@ fn go_on(c: &mut Channel, g: Going, n: usize, params: Params, m: Measure, data: 
         × Onward (turningIn params (now (c .entry)) (now («data» .entry))) n (now (c .entry)) g (now (c .exit)) r ⌝ }
 {
     let k = c.voices[g.place].phrase;
-    let phrase = c.head.phrase_at(k);
+    let phrase = c.head
+        .phrase_by(k, c.several, c.table[channel::place_of(k)]);
     if phrase.length == 0 {
         return rest_next(c, g);
     }
@@ -361,7 +469,8 @@ fn record(c: &mut Channel, input: f32, data: &mut [u32])
 {
     let head = c.head;
     if head.is_recording() {
-        let room = head.room(data.len());
+        let b = beside(c, 0);
+        let room = head.room(b.behind, data.len());
         let after = head.recorded(input, &mut data[room.from..room.to]);
         c.head.data_len = after.data_len;
         c.head.recorder = after.recorder;

@@ -46,7 +46,7 @@ use Rattle.lent_channel.proofs.Bytes.{channel-bytes}
 use Rattle.walks.proofs.Steps.Data.{Datum, row, lies, word}
 use Rattle.walks.proofs.Steps.Calls.{Callee, Says, asks}
 use Rattle.walks.proofs.Steps.Locals.{its, held, fills, refills, beyond, puts, puts-as, puts-last, arrives, less, no-less, gives, over, Addresses, env, allocated, passed, leaves-only, all-freed}
-use Rattle.lent_channel.proofs.Asking.{asking, asks-of}
+use Rattle.lent_channel.proofs.Viewing.{asking, asks-of}
 use Rattle.lent_sampler.proofs.Bytes.{count-at}
 use Rattle.lent_sampler.proofs.Seats.{Seats, seat}
 

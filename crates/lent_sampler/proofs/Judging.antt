@@ -1,5 +1,5 @@
 -- A shared record T of two channels is asked what a call on it will answer, over the data of `walks`: each channel is lent in turn to a function that judges it, for a lifetime that is made for the call.
---     asks-channel     that call: what channel j is judged to be, a D, goes to a local
+--     asks-channel     that call, with an X beside it: what channel j is judged to be, a D, goes to a local
 --     judges           the walk of what is asked before a frame and a run: whether each channel is good, its clock and the record's numbers, read where they stand, are put into one struct by m, and n works the answer out of it
 -- Assumes `Given`.
 use mathlib.Core.Path.{_≡_, refl, sym, ap}
@@ -40,7 +40,7 @@ use denote.Triple.Clauses.{Ended, Clauses, closing}
 use denote.Triple.Walked.{says, Stays, stay-dropped, stay-none, walkOf, ends-at, walked, goes-silent, goes-none, walk-meets}
 use Rattle.walks.proofs.Steps.Inside.{Back, goes-in, comes-out, big}
 use Rattle.lent_channel.proofs.Bytes.{channel-bytes}
-use Rattle.lent_channel.proofs.Asking.{asking, about, asks-of}
+use Rattle.lent_channel.proofs.Viewing.{asking, about, asks-of}
 use Rattle.lent_sampler.proofs.Bytes.{count-at, capacity-at}
 use Rattle.walks.proofs.Steps.Data.{Datum, row, lies, word, truth}
 use Rattle.walks.proofs.Steps.Data.{copy as twice}
@@ -48,26 +48,26 @@ use Rattle.walks.proofs.Steps.Calls.{Callee, Says, asks}
 use Rattle.walks.proofs.Steps.Locals.{its, held, fills, beyond, puts, puts-as, arrives, gives, allocated, passed, all-freed}
 use Rattle.lent_sampler.proofs.Seats.{Seats, seat, clock}
 
-module _ (T C D : Datum) (S : Seats T C) (judge : ℕ → C .like .Denot → D .like .Denot) (h : T .like .Denot) (b o : ℕ) where
+module _ (T C X D : Datum) (S : Seats T C) (judge : X .like .Denot → C .like .Denot → D .like .Denot) (h : T .like .Denot) (x : X .like .Denot) (b o : ℕ) where
   -- channel j, what it is judged to be, and a reference to it
   abbrev channel-of : ℕ → C .like .Denot
   channel-of j = S .channel h j
 
   abbrev judged : ℕ → D .like .Denot
-  judged j = judge (S .capacity h) (channel-of j)
+  judged j = judge x (channel-of j)
 
   abbrev lent : ℕ → GName → RefT (C .like .Denot)
   lent j δ = record { ptr = (b, seat o j); name = δ; now = channel-of j }
 
   -- while a share of the record lies in memory
   pub asks-channel : {M : Type 1} {𝓤 : URA M} {H : Heap 𝓤} {A : Atoms 𝓤} {K : Type 0} {W : Given 𝓤 H A} → K → (q : Share) (𝓣 : Tables 𝓤 H) {E : Env 𝓤 H} {p : After 𝓤 H} {g : Name} {xs : List Operand} {d : Place} {rest : Body} {Δ : List (Item 𝓤)}
-      → Triple 𝓤 (𝓣 .C g) (asking C (word w64) D judge 𝓤 H A) → (j : ℕ) → S .Two h → j < 2 → S .capacity h < 2 ^ 64
-      → ((α : ℕ) (δ : GName) → Opds K W (raw (asking C (word w64) D judge 𝓤 H A .pre (about C (word w64) D judge (α ∷ []) fullShare (lent j δ) (S .capacity h) 𝓤 H A)) ∷ ‵ (flent (α ∷ []) (partAt (row C) q (channel-of j) b (seat o j))) ∷ raw (Back 𝓤 H A q (row T) (row C) h (channel-of j) b o (seat o j)) ∷ Δ) E xs (vptr b (seat o j) ∷ vint w64 (S .capacity h) ∷ []))
+      → Triple 𝓤 (𝓣 .C g) (asking C X D judge 𝓤 H A) → (j : ℕ) → S .Two h → j < 2 → Is (X .like) x (X .val x ∷ [])
+      → ((α : ℕ) (δ : GName) → Opds K W (raw (asking C X D judge 𝓤 H A .pre (about C X D judge (α ∷ []) fullShare (lent j δ) x 𝓤 H A)) ∷ ‵ (flent (α ∷ []) (partAt (row C) q (channel-of j) b (seat o j))) ∷ raw (Back 𝓤 H A q (row T) (row C) h (channel-of j) b o (seat o j)) ∷ Δ) E xs (vptr b (seat o j) ∷ X .val x ∷ []))
       → (Is (D .like) (judged j) (D .val (judged j) ∷ []) → Seq K W (‵ (partAt (row T) q h b o) ∷ Δ) (lands (𝓣 .C) (𝓣 .Λ) E d (D .val (judged j)) rest p)) → Seq K W (‵ (partAt (row T) q h b o) ∷ Δ) (runs (𝓣 .C) (𝓣 .Λ) E (seq (call g xs d) rest) p)
-  asks-channel {𝓤 = 𝓤} {H} {A} {K} {W} z q 𝓣 known j two lt fits os k =
+  asks-channel {𝓤 = 𝓤} {H} {A} {K} {W} z q 𝓣 known j two lt isx os k =
       use1 W (‵ (partAt (row C) q (channel-of j) b (seat o j)) ⊛ raw (Back 𝓤 H A q (row T) (row C) h (channel-of j) b o (seat o j))) (S .reads-channel 𝓤 H A W q h b o j two lt) $ split z $ lft-new z tt (λ α. move z (1 ∷ []) $
       use1 W (later (some (λ (δ : GName). ‵ (ShrRef (named 0) (α ∷ []) (row C) .own (lent j δ) (vptr b (seat o j) ∷ [])) ⊛ ‵ (flent (α ∷ []) (partAt (row C) q (channel-of j) b (seat o j)))))) (lends-shr 𝓤 H A W (row C) (named 0) (α ∷ []) q (channel-of j) b (seat o j)) $ await z tt $ pick z (λ δ. split z $
-      move z (2 ∷ 0 ∷ []) $ asks-of C (word w64) D judge (α ∷ []) fullShare (lent j δ) (S .capacity h) z 𝓣 known (refl, fits) (os α δ) (λ is.
+      move z (2 ∷ 0 ∷ []) $ asks-of C X D judge (α ∷ []) fullShare (lent j δ) x z 𝓣 known isx (os α δ) (λ is.
       lft-end z tt $ lent-back z tt $ use2 W (‵ (partAt (row T) q h b o)) (apply∗ 𝓤 (sem 𝓤 H A (partAt (row C) q (channel-of j) b (seat o j))) (sem 𝓤 H A (partAt (row T) q h b o))) $ k is)))
 
 -- ---- a frame and a run
@@ -99,10 +99,10 @@ module _ (T C P Q St : Datum) (S : Seats T C) (g m n : Name) (good : ℕ → C .
         seq (call g (copy (place 16 []) ∷ copy (place 5 []) ∷ []) (place 7 [])) (
         seq (assign (place 17 []) (addrOf (place 1 (deref (T .ty) ∷ field 0 ∷ [])))) (
         seq (assign (place 18 []) (op2 offset (copy (place 17 [])) (int w64 0))) (
-        seq (assign (place 8 []) (rvOpd (copy (place 18 (deref (C .ty) ∷ field 2 ∷ field 0 ∷ []))))) (
+        seq (assign (place 8 []) (rvOpd (copy (place 18 (deref (C .ty) ∷ field 3 ∷ field 0 ∷ []))))) (
         seq (assign (place 19 []) (addrOf (place 1 (deref (T .ty) ∷ field 0 ∷ [])))) (
         seq (assign (place 20 []) (op2 offset (copy (place 19 [])) (intBig w64 channel-bytes))) (
-        seq (assign (place 9 []) (rvOpd (copy (place 20 (deref (C .ty) ∷ field 2 ∷ field 0 ∷ []))))) (
+        seq (assign (place 9 []) (rvOpd (copy (place 20 (deref (C .ty) ∷ field 3 ∷ field 0 ∷ []))))) (
         seq (assign (place 21 []) (rvOpd (copy (place 1 (deref (T .ty) ∷ field 1 ∷ []))))) (
         seq (call m (copy (place 21 []) ∷ copy (place 5 []) ∷ copy (place 6 []) ∷ copy (place 7 []) ∷ copy (place 8 []) ∷ copy (place 9 []) ∷ []) (place 10 [])) (
         seq (call n (copy (place 10 []) ∷ copy (place 2 []) ∷ copy (place 3 []) ∷ copy (place 4 []) ∷ []) (place 0 [])) (
@@ -172,16 +172,16 @@ module _ (T C P Q St : Datum) (S : Seats T C) (g m n : Name) (good : ℕ → C .
         puts ! (of-opd ! (load ! (beyond ! (held ! refl) (fld ! (S .field₂) (stop !))) (look ! 0 refl))) (fills ! refl (tt, record { fits = is-capacity .1 })) $ comes-out ! q′ Tr usize h (S .capacity h) (vint w64 (S .capacity h) ∷ []) b o (o + capacity-at) $
         -- the two channels
         puts ! (addr ! (beyond ! (held ! refl) (fld ! (S .field₀) (stop !)))) (fills ! refl (tt, tt)) $ puts-as ! (ap (vptr b) (sym (place-is channel-bytes (o + 0) 0))) (bin ! (its ! refl) (lit ! tt) tt) (fills ! refl (tt, tt)) $ puts ! (addr ! (beyond ! (held ! refl) (stop !))) (fills ! refl (tt, tt)) $
-        asks-channel T C truth S good h b o ! q′ 𝓣 known-g 0 two (omega arith) (is-capacity .1) (λ α δ. and-then ! (its ! refl) (and-then ! (its ! refl) (no-more !))) (λ _. arrives ! refl (fills ! refl (tt, tt)) $
+        asks-channel T C (word w64) truth S good h (S .capacity h) b o ! q′ 𝓣 known-g 0 two (omega arith) (refl, is-capacity .1) (λ α δ. and-then ! (its ! refl) (and-then ! (its ! refl) (no-more !))) (λ _. arrives ! refl (fills ! refl (tt, tt)) $
         puts ! (addr ! (beyond ! (held ! refl) (fld ! (S .field₀) (stop !)))) (fills ! refl (tt, tt)) $ puts-as ! (ap (vptr b) (sym (place-is channel-bytes (o + 0) 1))) (bin ! (its ! refl) (big ! (record { fits = lit< tt })) tt) (fills ! refl (tt, tt)) $ puts ! (addr ! (beyond ! (held ! refl) (stop !))) (fills ! refl (tt, tt)) $
-        asks-channel T C truth S good h b o ! q′ 𝓣 known-g 1 two (omega arith) (is-capacity .1) (λ α δ. and-then ! (its ! refl) (and-then ! (its ! refl) (no-more !))) (λ _. arrives ! refl (fills ! refl (tt, tt)) $
+        asks-channel T C (word w64) truth S good h (S .capacity h) b o ! q′ 𝓣 known-g 1 two (omega arith) (refl, is-capacity .1) (λ α δ. and-then ! (its ! refl) (and-then ! (its ! refl) (no-more !))) (λ _. arrives ! refl (fills ! refl (tt, tt)) $
         -- their clocks
         puts ! (addr ! (beyond ! (held ! refl) (fld ! (S .field₀) (stop !)))) (fills ! refl (tt, tt)) $ puts-as ! (ap (vptr b) (sym (place-is channel-bytes (o + 0) 0))) (bin ! (its ! refl) (lit ! tt) tt) (fills ! refl (tt, tt)) $
         goes-in ! q′ Tr usize (Is usize) (shows 𝓤 H A usize) (uint-vals w64) (uint-tells w64) h h (time 0) (time 0) b o (clock o 0) (S .reads-clock 𝓤 H A W q′ h b o 0 two (omega arith)) (λ is-time₀.
-        puts ! (of-opd ! (load ! (beyond ! (held ! refl) (fld ! (S .head₂) (fld ! (S .time₀) (stop !)))) (look ! 0 refl))) (fills ! refl (tt, record { fits = is-time₀ .1 })) $ comes-out ! q′ Tr usize h (time 0) (vint w64 (time 0) ∷ []) b o (clock o 0) $
+        puts ! (of-opd ! (load ! (beyond ! (held ! refl) (fld ! (S .head₃) (fld ! (S .time₀) (stop !)))) (look ! 0 refl))) (fills ! refl (tt, record { fits = is-time₀ .1 })) $ comes-out ! q′ Tr usize h (time 0) (vint w64 (time 0) ∷ []) b o (clock o 0) $
         puts ! (addr ! (beyond ! (held ! refl) (fld ! (S .field₀) (stop !)))) (fills ! refl (tt, tt)) $ puts-as ! (ap (vptr b) (sym (place-is channel-bytes (o + 0) 1))) (bin ! (its ! refl) (big ! (record { fits = lit< tt })) tt) (fills ! refl (tt, tt)) $
         goes-in ! q′ Tr usize (Is usize) (shows 𝓤 H A usize) (uint-vals w64) (uint-tells w64) h h (time 1) (time 1) b o (clock o 1) (S .reads-clock 𝓤 H A W q′ h b o 1 two (omega arith)) (λ is-time₁.
-        puts ! (of-opd ! (load ! (beyond ! (held ! refl) (fld ! (S .head₂) (fld ! (S .time₀) (stop !)))) (look ! 0 refl))) (fills ! refl (tt, record { fits = is-time₁ .1 })) $ comes-out ! q′ Tr usize h (time 1) (vint w64 (time 1) ∷ []) b o (clock o 1) $
+        puts ! (of-opd ! (load ! (beyond ! (held ! refl) (fld ! (S .head₃) (fld ! (S .time₀) (stop !)))) (look ! 0 refl))) (fills ! refl (tt, record { fits = is-time₁ .1 })) $ comes-out ! q′ Tr usize h (time 1) (vint w64 (time 1) ∷ []) b o (clock o 1) $
         -- the record's count, and the answer
         goes-in ! q′ Tr usize (Is usize) (shows 𝓤 H A usize) (uint-vals w64) (uint-tells w64) h h (S .count h) (S .count h) b o (o + count-at) (S .reads-count 𝓤 H A W q′ h b o) (λ is-count.
         puts ! (of-opd ! (load ! (beyond ! (held ! refl) (fld ! (S .field₁) (stop !))) (look ! 0 refl))) (fills ! refl (tt, record { fits = is-count .1 })) $ comes-out ! q′ Tr usize h (S .count h) (vint w64 (S .count h) ∷ []) b o (o + count-at) $

@@ -7,6 +7,8 @@ use denote.Steps.{only}
 use denote.Struct.Laws as LL
 use Rattle.sampler.proofs.Sampler as T
 use Rattle.sampler.proofs.Sampler.Laws as T′
+use Rattle.sampler.proofs.Answer as S
+use Rattle.sampler.proofs.Answer.Laws as S′
 use Rattle.sampler.proofs.Ran as R
 use Rattle.sampler.proofs.Ran.Laws as R′
 use Rattle.lent_sampler.proofs.Readings as M
@@ -21,6 +23,8 @@ use Rattle.lent_sampler.proofs.Sampled as Y
 use Rattle.lent_sampler.proofs.Sampled.Laws as Y′
 use Rattle.lent_sampler.proofs.Sampling as Z
 use Rattle.lent_sampler.proofs.Sampling.Laws as Z′
+use Rattle.channel.proofs.Against as Ag
+use Rattle.channel.proofs.Against.Laws as Ag′
 use Rattle.channel.proofs.Change as X
 use Rattle.channel.proofs.Change.Laws as X′
 use Rattle.common_types.proofs.Note as N
@@ -43,6 +47,8 @@ use Rattle.recordings.proofs.WaveRead as W
 use Rattle.recordings.proofs.WaveRead.Laws as W′
 use Rattle.recordings.proofs.ReadAnswer as K
 use Rattle.recordings.proofs.ReadAnswer.Laws as K′
+use Rattle.lent_channel.proofs.Asking as A
+use Rattle.lent_channel.proofs.Asking.Laws as A′
 use Rattle.lent_channel.proofs.Heard as Up
 use Rattle.lent_channel.proofs.Heard.Laws as Up′
 use Rattle.channel.specs.declared.Change.{Change}
@@ -55,6 +61,13 @@ sampler = struct T.the-type T′.the-laws T′.the-plain
 
 abbrev pub change : Datum
 change = enum X.the-type X′.the-laws X′.the-plain tt
+
+-- what a change asks of a channel, and what that has against it
+abbrev pub asking : Datum
+asking = struct A.the-type A′.the-laws A′.the-plain
+
+abbrev pub against : Datum
+against = struct Ag.the-type Ag′.the-laws Ag′.the-plain
 
 abbrev pub note : Datum
 note = struct N.the-type N′.the-laws N′.the-plain
@@ -79,6 +92,19 @@ infos = struct L.the-type L′.the-laws L′.the-plain
 
 abbrev pub summary : Datum
 summary = struct Q.the-type Q′.the-laws Q′.the-plain
+
+abbrev pub answer : Answering sampler (word w8)
+answer = record {
+  like = S.the-row;
+  name = S.struct .name;
+  record-of = λ r. r .sampler;
+  answer-of = λ r. r .number;
+  make = λ s y. record { sampler = s; number = y };
+  eta = λ r. refl;
+  tells = λ r v is. ap only (LL.tells S.the-type S′.the-laws r _ is);
+  owed = λ r v is. (LL.owed S.the-type S′.the-laws r _ is .0, LL.owed S.the-type S′.the-laws r _ is .1 .0);
+  typed = λ 𝓤 H A W r v is. LL.lawful S.the-type S′.the-laws 𝓤 H A W .typed r _ is .0;
+}
 
 abbrev pub waveRead : Datum
 waveRead = struct W.the-type W′.the-laws W′.the-plain

@@ -13,15 +13,15 @@ use Rattle.walks.specs.Walks.{any, every, fold}
 use Rattle.common_types.specs.declared.Params.{Params}
 use Rattle.channel.specs.declared.Change.{Change}
 use Rattle.channel.specs.declared.Channel.{Channel}
-use Rattle.channel.specs.Channels.{fullOf, goodChannel}
+use Rattle.channel.specs.Tables.{asksOf}
+use Rattle.channel.specs.Channels.{againstOf, goodChannel}
 use Rattle.channel.specs.Heads.{lastTime}
 use Rattle.sampler.specs.declared.Sampler.{Sampler}
 use Rattle.sampler.specs.declared.RunAsked.{RunAsked}
 use Rattle.sampler.specs.declared.Ran.{Ran}
-use Rattle.sampler.specs.Refusals.{channelAt, goodSizes, goodSampler, goodWith, records, atEnd, changeRows, changeNumber, frameRows, frameNumber, latestOf, roomOf, runRows, runDone}
+use Rattle.sampler.specs.Refusals.{channelAt, goodSizes, goodSampler, goodWith, againstAny, atEnd, changeRows, changeNumber, frameRows, frameNumber, latestOf, roomOf, runRows, runDone}
 use Rattle.sampler.specs.Samplers.{runAnswer}
 use Rattle.sampler.proofs.RunRows.{run-asked}
-use Rattle.lent_channel.specs.Turns.{judgedOf}
 use Rattle.lent_sampler.specs.declared.Readings.{Readings}
 use Rattle.lent_sampler.specs.Numbers.{allOf, anyOf, readingsIn, goodBy, goodWithBy, askedBy, frameAskedBy, latestTime, roomLeft, runAskedBy}
 
@@ -123,8 +123,14 @@ module _ (s : Sampler) (two : length (s .channels) ≡ 2) where
   room-is = ap (λ (latest : ℕ). lastTime - latest)
       (fold-first (λ (c : Channel). c .head .now) (s .count) 0 (channelAt s 0 ∷ channelAt s 1 ∷ []) ∙ ap (λ (l : List Channel). fold (λ (u : ℕ) (c : Channel). max u (c .head .now)) 0 (take (s .count) l)) are-two)
 
-  pub change-is : (x : Change) → changeRows (askedBy (s .count) (s .capacity) (judgedOf (s .capacity) (channelAt s 0)) (judgedOf (s .capacity) (channelAt s 1))) x ≡ changeNumber s x
-  change-is x = λ i. changeRows (record { good = good-is i; full = any-is fullOf (s .count) i; recording = any-is records (s .count) i; capacity = s .capacity }) x
+  pub change-is : (x : Change)
+      → changeRows (askedBy (goodBy (s .count) (s .capacity) (t .first) (t .second)) (s .count) (againstOf (s .capacity) (asksOf x) (channelAt s 0)) (againstOf (s .capacity) (asksOf x) (channelAt s 1))) x
+      ≡ changeNumber s x
+  unfolding againstAny
+  change-is x =
+      let blocked = any-is (λ (c : Channel). againstOf (s .capacity) (asksOf x) c .blocked) (s .count) in
+      let short = any-is (λ (c : Channel). againstOf (s .capacity) (asksOf x) c .short) (s .count) in
+      λ i. changeRows (record { good = good-is i; against = record { blocked = blocked i; short = short i } }) x
 
   pub frame-is : (n : ℕ) (p : Params) (size : ℕ) → frameRows (frameAskedBy t n size) n p ≡ frameNumber s n p size
   unfolding frameNumber

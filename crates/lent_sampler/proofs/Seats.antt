@@ -60,7 +60,7 @@ pub record Seats (T C : Datum) : Type 2 where
   pub field₀ : fieldOf (T .ty) 0 ≡ some (channels, 0)
   pub field₁ : fieldOf (T .ty) 1 ≡ some (tyInt w64, count-at)
   pub field₂ : fieldOf (T .ty) 2 ≡ some (tyInt w64, capacity-at)
-  pub head₂ : fieldOf (C .ty) 2 ≡ some (head, head-at)
+  pub head₃ : fieldOf (C .ty) 3 ≡ some (head, head-at)
   pub time₀ : fieldOf head 0 ≡ some (tyInt w64, 0)
   pub channel : T .like .Denot → ℕ → C .like .Denot
   pub changed : T .like .Denot → ℕ → C .like .Denot → T .like .Denot
@@ -99,7 +99,7 @@ module _ {M : Type 1} (𝓤 : URA M) (H : Heap 𝓤) (A : Atoms 𝓤) (W : Given
         let c = channelAt h j in
         within 𝓤 H A W q T.the-row C.the-row usize h h c c (c .head .now) (c .head .now) b o (seat o j) (clock o j) channel-read
         (within 𝓤 H A W q C.the-row E.the-row usize c c (c .head) (c .head) (c .head .now) (c .head .now) b (seat o j) (seat o j + head-at) (clock o j)
-        (cut-record 𝓤 H A q C.the-row E.the-type head-at c c (c .head) (c .head) (b, seat o j) (look-at 𝓤 H A W q C.the-type C′.the-laws 2 head-at refl refl (b, seat o j) c (C.struct .as-values c) refl))
+        (cut-record 𝓤 H A q C.the-row E.the-type head-at c c (c .head) (c .head) (b, seat o j) (look-at 𝓤 H A W q C.the-type C′.the-laws 3 head-at refl refl (b, seat o j) c (C.struct .as-values c) refl))
         (look-at 𝓤 H A W q E.the-type E′.the-laws 0 0 refl refl (b, seat o j + head-at) (c .head) (E.struct .as-values (c .head)) refl))
 
   pub count-read : Inside 𝓤 H A q T.the-row usize h h (h .count) (h .count) b o (o + count-at)
@@ -115,7 +115,7 @@ seats = record {
   field₀ = refl;
   field₁ = refl;
   field₂ = refl;
-  head₂ = refl;
+  head₃ = refl;
   time₀ = refl;
   channel = channelAt;
   changed = λ h j y. withChannels (set (h .channels) j y) h;

@@ -14,7 +14,10 @@ use Rattle.sampler.specs.declared.FrameAsked.{FrameAsked}
 use Rattle.sampler.specs.declared.RunAsked.{RunAsked}
 use Rattle.sampler.specs.declared.Ran.{Ran}
 use Rattle.sampler.specs.Refusals.{channelAt, goodSizes}
-use Rattle.lent_channel.specs.declared.Condition.{Condition}
+use Rattle.channel.specs.declared.Change.{Change}
+use Rattle.channel.specs.declared.Against.{Against}
+use Rattle.channel.specs.Tables.{asksOf}
+use Rattle.lent_channel.specs.declared.Asking.{Asking}
 use Rattle.lent_sampler.specs.declared.Readings.{Readings}
 use Rattle.lent_sampler.specs.declared.Framing.{Framing}
 use Rattle.lent_sampler.specs.declared.Running.{Running}
@@ -54,14 +57,18 @@ goodWithBy t size = goodBy (t .count) (t .capacity) (t .first) (t .second) && le
 
 -- ---- a change
 
--- `askedOf`, by what each of the two channels is judged to be
-abbrev pub askedBy : ℕ → ℕ → Condition → Condition → Asked
-askedBy count capacity first second = record {
-  good = goodBy count capacity (first .good) (second .good);
-  full = anyOf count (first .full ∷ second .full ∷ []);
-  recording = anyOf count (first .recording ∷ second .recording ∷ []);
-  capacity = capacity;
+-- `askedOf`, by whether the record is good and what each of the two channels has against the change
+abbrev pub askedBy : Bool → ℕ → Against → Against → Asked
+askedBy good count first second = record {
+  good = good;
+  against = record {
+    blocked = anyOf count (first .blocked ∷ second .blocked ∷ []);
+    short = anyOf count (first .short ∷ second .short ∷ []);
+  };
 }
+
+abbrev pub askingOf : Change → ℕ → Asking
+askingOf x capacity = record { ask = asksOf x; capacity = capacity }
 
 -- ---- a frame
 

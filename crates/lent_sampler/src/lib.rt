@@ -9,6 +9,10 @@ ghost use Rattle.sampler.specs.Samplers.{
   startRecordingOf,
   stopRecordingOf,
   setInterpolationOf,
+  choosePhraseOf,
+  deletePhraseOf,
+  gatherOf,
+  gatherMemory,
   resetOf,
   changeOf,
   sampleMemory,
@@ -48,6 +52,7 @@ ghost use Rattle.lent_sampler.specs.Numbers.{
   goodBy,
   goodWithBy,
   askedBy,
+  askingOf,
   frameAskedBy,
   framing,
   latestTime,
@@ -57,12 +62,13 @@ ghost use Rattle.lent_sampler.specs.Numbers.{
   runSeat,
 };
 ghost use Rattle.lent_sampler.specs.Hearing.{atVolume};
+use channel::Against;
 use channel::Change;
 use channel::Channel;
 use channel::HeadChange;
 use common_types::Note;
 use common_types::Params;
-use lent_channel::Condition;
+use lent_channel::Asking;
 use lent_channel::Heard;
 use questions::Counted;
 use questions::OffsetAnswer;
@@ -140,23 +146,25 @@ fn good(count: usize, capacity: usize, first: bool, second: bool) -> bool
     sampler::good_sizes(count, capacity) & all_of(count, first, second)
 }
 
-// The number of a change, from what each channel was judged to be.
-fn change_of(
-    count: usize,
-    capacity: usize,
-    first: Condition,
-    second: Condition,
-    change: Change,
-) -> u8
-    ensures { λ r. ⌜ r ≡ changeRows (askedBy count capacity first second) change ⌝ }
+// The number of a change, from whether the record is good and what each channel has against it.
+fn change_of(good: bool, count: usize, one: Against, other: Against, change: Change) -> u8
+    ensures { λ r. ⌜ r ≡ changeRows (askedBy good count one other) change ⌝ }
 {
-    let asked = Asked {
-        good: good(count, capacity, first.good, second.good),
-        full: any_of(count, first.full, second.full),
-        recording: any_of(count, first.recording, second.recording),
-        capacity,
+    let against = Against {
+        blocked: any_of(count, one.blocked, other.blocked),
+        short: any_of(count, one.short, other.short),
     };
+    let asked = Asked { good, against };
     sampler::change_rows(asked, change)
+}
+
+fn asking_of(change: Change, capacity: usize) -> Asking
+    ensures { λ r. ⌜ r ≡ askingOf change capacity ⌝ }
+{
+    Asking {
+        ask: channel::asks(change),
+        capacity,
+    }
 }
 
 // The number of a change, with no channel copied.
@@ -164,9 +172,13 @@ fn change_number(s: &Sampler, change: Change) -> u8
     ensures { λ r. ⌜ r ≡ changeNumber (now (s .entry)) change ⌝ }
 {
     let capacity = s.capacity;
-    let first = lent_channel::judged(&s.channels[0], capacity);
-    let second = lent_channel::judged(&s.channels[1], capacity);
-    change_of(s.count, capacity, first, second, change)
+    let first = lent_channel::good(&s.channels[0], capacity);
+    let second = lent_channel::good(&s.channels[1], capacity);
+    let asking = asking_of(change, capacity);
+    let one = lent_channel::against(&s.channels[0], asking);
+    let other = lent_channel::against(&s.channels[1], asking);
+    let good = good(s.count, capacity, first, second);
+    change_of(good, s.count, one, other, change)
 }
 
 // The call that makes a change of every channel, all or none, where the record stands. The names below are it, each at
@@ -228,6 +240,18 @@ fn interpolation_set(on: bool) -> Change
     Change::Head(HeadChange::Interpolate(on))
 }
 
+fn phrase_chosen(phrase: u8) -> Change
+    ensures { λ r. ⌜ r ≡ Change.Head (HeadChange.Choose phrase) ⌝ }
+{
+    Change::Head(HeadChange::Choose(phrase))
+}
+
+fn phrase_deleted(phrase: u8) -> Change
+    ensures { λ r. ⌜ r ≡ Change.Head (HeadChange.Delete phrase) ⌝ }
+{
+    Change::Head(HeadChange::Delete(phrase))
+}
+
 fn all_reset() -> Change
     ensures { λ r. ⌜ r ≡ Change.Reset ⌝ }
 {
@@ -278,10 +302,34 @@ pub fn set_interpolation(s: &mut Sampler, on: bool) -> u8
     change(s, interpolation_set(on))
 }
 
+// The phrase of that number is recorded and started from here on.
+pub fn choose_phrase(s: &mut Sampler, phrase: u8) -> u8
+    ensures { λ r. ⌜ record { sampler = now (s .exit); number = r } ≡ choosePhraseOf (now (s .entry)) phrase ⌝ }
+{
+    change(s, phrase_chosen(phrase))
+}
+
+// Empties a phrase that nothing uses.
+pub fn delete_phrase(s: &mut Sampler, phrase: u8) -> u8
+    ensures { λ r. ⌜ record { sampler = now (s .exit); number = r } ≡ deletePhraseOf (now (s .entry)) phrase ⌝ }
+{
+    change(s, phrase_deleted(phrase))
+}
+
 pub fn reset(s: &mut Sampler) -> u8
     ensures { λ r. ⌜ record { sampler = now (s .exit); number = r } ≡ resetOf (now (s .entry)) ⌝ }
 {
     change(s, all_reset())
+}
+
+// Moves the phrases of each channel down, so that all free room of its part is behind them.
+pub fn gather(s: &mut Sampler, memory: &mut [u32]) -> u8
+    ensures { λ r. ⌜ (record { sampler = now (s .exit); number = r } ≡ gatherOf (now (s .entry)) (now (memory .entry)))
+        × (now (memory .exit) ≡ gatherMemory (now (s .entry)) (now (memory .entry))) ⌝ }
+{
+    let r = s.gather(memory);
+    *s = r.sampler;
+    r.number
 }
 
 // What a sample of one channel answers: its output, the number of document 01, and how many voices moved up as others

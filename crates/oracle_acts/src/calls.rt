@@ -48,7 +48,7 @@ fn note_of(fields: &[u8]) -> Note
     Note::new(fields[1], fields[2])
 }
 
-// Kinds 2 to 7: the note at 1, its channel at 2, then floats from 4 on.
+// Kinds 2 to 7: the note at 1, its channel at 2, then floats from 4 on. Kinds 26 and 27: a phrase's number at 1.
 pub fn call(s: Sampler, p: Params, fields: &[u8]) -> Answer
     requires { ⌜ 64 ≤ length (now fields) ⌝ }
 {
@@ -58,6 +58,8 @@ pub fn call(s: Sampler, p: Params, fields: &[u8]) -> Answer
         4 => s.set_note_speed(note_of(fields), f32_at(fields, 4)),
         5 => s.start_recording(),
         6 => s.stop_recording(),
+        26 => s.choose_phrase(fields[1]),
+        27 => s.delete_phrase(fields[1]),
         _ => s.reset(),
     }
 }
@@ -135,6 +137,14 @@ fn frame_of(h: Heard, i: u32, p: Params, fields: &[u8], memory: &mut [u32]) -> H
     let s = h.sampler;
     let x = f32_at(fields, 4) + binary32::u32_to_f32(i) * f32_at(fields, 8);
     stepped(s, [x, -x, x], p, fields, memory)
+}
+
+// Kind 28: the samples of memory lent at 16.
+pub fn gather(s: Sampler, fields: &[u8], memory: &mut [u32]) -> Answer
+    requires { ⌜ 64 ≤ length (now fields) ⌝ }
+{
+    let n = lent(u32_at(fields, 16) as usize, memory.len());
+    s.gather(&mut memory[..n])
 }
 
 // Kind 21: a run of frames on these entries, which are made from the seed at 4; the samples of memory lent at 16.

@@ -1,7 +1,7 @@
 // Kind 10, which is no call. It puts the clocks on, which stands for a long silence, or a field of the record to its
-// limit or past it, for the records that are broken. What is put is the number at 1; it is of the channel at 2 and the
-// voice at 3. By the number n at 8 a field comes to stand n past its limit (past the clock, the data length or the
-// capacity), or is n; a float is read at 12, the length of a ramp at 16.
+// limit or past it, for the records that are broken. What is put is the number at 1; it is of the channel at 2 and of the
+// voice or the phrase at 3. By the number n at 8 a field comes to stand n past its limit (past the clock, the data length or the
+// capacity), or is n; a float is read at 12, the length of a ramp or of a phrase at 16.
 ghost use mathlib.Core.Path.{_≡_};
 ghost use Prim.Native.Nat.{_+_, _≤_, _<_};
 ghost use lib.ListN.{length};
@@ -10,7 +10,7 @@ use channel::Head;
 use clip::Clip;
 use oracle_lines::field::f32_at;
 use oracle_lines::field::u64_at;
-use oracle_lines::field::wide;
+use phrases::Phrase;
 use recorder::Recorder;
 use recorder::State;
 use sampler::Answer;
@@ -19,10 +19,10 @@ use std::num::wrapping_add_usize;
 use voice::Voice;
 use volume::Volume;
 
-// What to put: n past a limit, or x; m is the length of a ramp.
+// What to put: n past a limit, or x; m is the length of a ramp or of a phrase.
 struct Order {
     what: u8,
-    voice: usize,
+    voice: u8,
     n: usize,
     m: usize,
     x: f32,
@@ -41,7 +41,7 @@ fn put_of(fields: &[u8]) -> Order
 {
     Order {
         what: fields[1],
-        voice: wide(fields[3]) as usize,
+        voice: fields[3],
         n: u64_at(fields, 8) as usize,
         m: u64_at(fields, 16) as usize,
         x: f32_at(fields, 12),
@@ -89,7 +89,7 @@ fn put_in(s: Sampler, first: bool, p: Order) -> Sampler {
     r
 }
 
-// 3 the voice count, 4 to 7 and 14 of its head, 8 to 13 of a voice.
+// 3 the voice count, 4 to 7 and 14 of its head, 15 the number that is chosen, 17 a phrase, the others of a voice.
 fn put_channel(c: Channel, capacity: usize, p: Order) -> Channel {
     let mut r = c;
     let head = c.head;
@@ -98,8 +98,60 @@ fn put_channel(c: Channel, capacity: usize, p: Order) -> Channel {
         3 => r.count = p.n,
         4..=7 => r.head = put_head(head, capacity, p),
         14 => r.head = put_head(head, capacity, p),
+        15 => r = renumbered(c, (p.n % 256) as u8),
+        17 => r = put_phrase(c, p),
         _ => r = put_voices(c, p),
     }
+    r
+}
+
+// The recording under another number, whose own phrase is lost. That which it had has none.
+fn renumbered(c: Channel, k: u8) -> Channel {
+    let mut r = c;
+    let old = c.head.chosen as usize;
+    if old < 8 {
+        r.table[old] = Phrase::none();
+    }
+    r.head.chosen = k;
+    r
+}
+
+// A phrase of m samples from n on.
+fn put_phrase(c: Channel, p: Order) -> Channel {
+    let head = c.head;
+    if p.voice == head.chosen {
+        return with_recording(c, p);
+    }
+    let mut r = with_others(c);
+    let k = p.voice as usize;
+    if k < 8 {
+        r.table[k] = Phrase {
+            start: p.n,
+            length: p.m,
+        };
+    }
+    r
+}
+
+fn with_recording(c: Channel, p: Order) -> Channel {
+    let mut r = c;
+    r.head.start = p.n;
+    r.head.data_len = p.m;
+    r
+}
+
+// The channel with a table that is looked at: if it had none, with an empty one.
+fn with_others(c: Channel) -> Channel {
+    if c.several {
+        return c;
+    }
+    let mut r = c;
+    let mut k = 0;
+    while k < 8 {
+        r.table[k] = Phrase::none();
+        k += 1;
+    }
+    r.several = true;
     r
 }
 
@@ -154,7 +206,7 @@ fn ramp(now: usize, p: Order) -> Volume {
 
 fn put_voices(c: Channel, p: Order) -> Channel {
     let mut r = c;
-    let i = p.voice;
+    let i = p.voice as usize;
     if i < 32 {
         let v = c.voices[i];
         r.voices[i] = put_voice(v, c.head.now, p);
@@ -162,7 +214,7 @@ fn put_voices(c: Channel, p: Order) -> Channel {
     r
 }
 
-// 9 `finished_at` past the clock, 10 a ramp; the others are of its clip.
+// 9 `finished_at` past the clock, 10 a ramp, 16 its phrase; the others are of its clip.
 fn put_voice(v: Voice, now: usize, p: Order) -> Voice {
     let mut r = v;
     let clip2 = v.clip2;
@@ -171,6 +223,7 @@ fn put_voice(v: Voice, now: usize, p: Order) -> Voice {
     match what {
         9 => r.finished_at = past,
         10 => return at_level(v, ramp(now, p)),
+        16 => r.phrase = (p.n % 256) as u8,
         _ => r.clip2 = put_clip(clip2, past, p),
     }
     r

@@ -56,8 +56,8 @@ pub fn room(out: &[u8; 65536], at: usize) -> usize
 
 // The count of channels and the capacity, which end the line, and what is in use of the record.
 fn put_record(out: &mut [u8; 65536], at: usize, s: Sampler) -> usize
-    requires { ⌜ at + 13200 ≤ 65536 ⌝ }
-    ensures { λ r. ⌜ r ≤ at + 13200 ⌝ }
+    requires { ⌜ at + 14000 ≤ 65536 ⌝ }
+    ensures { λ r. ⌜ r ≤ at + 14000 ⌝ }
 {
     let first = put(out, at, 1, (s.count % 16) as u64);
     let second = put_u32(out, first, (s.capacity % 0x1_0000_0000) as u32);
@@ -173,10 +173,22 @@ impl Run {
         self.on(sampler, fourth)
     }
 
+    // A number that is made of the memory's words.
+    pub fn gathered(self, kind: u8, a: Answer, words: u32, out: &mut [u8; 65536], at: usize) -> Self
+        requires { ⌜ at ≤ 32768 ⌝ }
+        ensures { λ r. ⌜ r .at ≤ 65536 ⌝ }
+    {
+        let sampler = a.sampler;
+        let first = put_number(out, at, kind, a.number);
+        let second = put_u32(out, first, words);
+        let third = put_record(out, second, sampler);
+        self.on(sampler, third)
+    }
+
     // A line with no more than the kind, for a record that leaves the sampler as it is.
     pub fn told(self, kind: u8, out: &mut [u8; 65536], at: usize) -> Self
         requires { ⌜ at ≤ 32768 ⌝ }
-        ensures { λ r. ⌜ r .at ≤ 32773 ⌝ }
+        ensures { λ r. ⌜ r .at ≤ 32774 ⌝ }
     {
         let mut r = self;
         let first = put_number(out, at, kind, 0);

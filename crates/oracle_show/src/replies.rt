@@ -32,11 +32,11 @@ pub fn lent(n: usize, most: usize) -> usize
 
 // A record's kind and number, with which its text begins.
 pub fn put_number(out: &mut [u8; 65536], at: usize, kind: u8, number: u8) -> usize
-    requires { ⌜ at + 5 ≤ 65536 ⌝ }
-    ensures { λ r. ⌜ r ≡ at + 5 ⌝ }
+    requires { ⌜ at + 6 ≤ 65536 ⌝ }
+    ensures { λ r. ⌜ r ≡ at + 6 ⌝ }
 {
     let first = put(out, at, 2, kind as u64);
-    put(out, first, 1, number as u64)
+    put(out, first, 2, number as u64)
 }
 
 pub fn query(s: Sampler, p: Params, fields: &[u8], out: &mut [u8; 65536], at: usize) -> usize
@@ -72,8 +72,8 @@ pub fn waveform(
     at: usize,
 ) -> usize
     requires { ⌜ 64 ≤ length (now fields) ⌝ }
-    requires { ⌜ at + 40 ≤ 65536 ⌝ }
-    ensures { λ r. ⌜ r ≤ at + 40 ⌝ }
+    requires { ⌜ at + 41 ≤ 65536 ⌝ }
+    ensures { λ r. ⌜ r ≤ at + 41 ⌝ }
 {
     let mut list = [7.0; 4100];
     let n = lent(u32_at(fields, 12) as usize, 4100);
@@ -89,8 +89,8 @@ pub fn put_summary(
     a: WaveformSummary,
     list: &[f32; 4100],
 ) -> usize
-    requires { ⌜ at + 40 ≤ 65536 ⌝ }
-    ensures { λ r. ⌜ r ≡ at + 40 ⌝ }
+    requires { ⌜ at + 41 ≤ 65536 ⌝ }
+    ensures { λ r. ⌜ r ≡ at + 41 ⌝ }
 {
     let first = put_number(out, at, 20, a.number);
     let second = put_f32(out, first, a.smallest);
@@ -112,8 +112,8 @@ fn summed(list: &[f32; 4100]) -> u64 {
 
 // A line with a number of so many digits.
 fn put_line(out: &mut [u8; 65536], at: usize, kind: u8, number: u8, digits: usize, n: u64) -> usize
-    requires { ⌜ at + digits + 6 ≤ 65536 ⌝ }
-    ensures { λ r. ⌜ r ≡ at + digits + 6 ⌝ }
+    requires { ⌜ at + digits + 7 ≤ 65536 ⌝ }
+    ensures { λ r. ⌜ r ≡ at + digits + 7 ⌝ }
 {
     let first = put_number(out, at, kind, number);
     let second = put(out, first, digits, n);
@@ -121,8 +121,8 @@ fn put_line(out: &mut [u8; 65536], at: usize, kind: u8, number: u8, digits: usiz
 }
 
 pub fn put_count(out: &mut [u8; 65536], at: usize, kind: u8, a: Counted) -> usize
-    requires { ⌜ at + 22 ≤ 65536 ⌝ }
-    ensures { λ r. ⌜ r ≡ at + 22 ⌝ }
+    requires { ⌜ at + 23 ≤ 65536 ⌝ }
+    ensures { λ r. ⌜ r ≡ at + 23 ⌝ }
 {
     match a {
         Counted::Done(n) => put_line(out, at, kind, 0, 16, n as u64),
@@ -131,8 +131,8 @@ pub fn put_count(out: &mut [u8; 65536], at: usize, kind: u8, a: Counted) -> usiz
 }
 
 pub fn put_told(out: &mut [u8; 65536], at: usize, kind: u8, a: Told) -> usize
-    requires { ⌜ at + 7 ≤ 65536 ⌝ }
-    ensures { λ r. ⌜ r ≡ at + 7 ⌝ }
+    requires { ⌜ at + 8 ≤ 65536 ⌝ }
+    ensures { λ r. ⌜ r ≡ at + 8 ⌝ }
 {
     match a {
         Told::Done(yes) => put_line(out, at, kind, 0, 1, if yes { 1 } else { 0 }),
@@ -149,8 +149,8 @@ fn put_place(
     some: u64,
     offset: usize,
 ) -> usize
-    requires { ⌜ at + 24 ≤ 65536 ⌝ }
-    ensures { λ r. ⌜ r ≡ at + 24 ⌝ }
+    requires { ⌜ at + 25 ≤ 65536 ⌝ }
+    ensures { λ r. ⌜ r ≡ at + 25 ⌝ }
 {
     let first = put_number(out, at, kind, number);
     let second = put(out, first, 1, some);
@@ -159,8 +159,8 @@ fn put_place(
 }
 
 pub fn put_offset(out: &mut [u8; 65536], at: usize, kind: u8, a: OffsetAnswer) -> usize
-    requires { ⌜ at + 24 ≤ 65536 ⌝ }
-    ensures { λ r. ⌜ r ≡ at + 24 ⌝ }
+    requires { ⌜ at + 25 ≤ 65536 ⌝ }
+    ensures { λ r. ⌜ r ≡ at + 25 ⌝ }
 {
     match a {
         OffsetAnswer::Done(offset) => match offset {
@@ -173,8 +173,8 @@ pub fn put_offset(out: &mut [u8; 65536], at: usize, kind: u8, a: OffsetAnswer) -
 
 // The number and the count with which the line of a list begins.
 pub fn put_listed(out: &mut [u8; 65536], at: usize, kind: u8, a: Counted) -> usize
-    requires { ⌜ at + 8 ≤ 65536 ⌝ }
-    ensures { λ r. ⌜ r ≡ at + 8 ⌝ }
+    requires { ⌜ at + 9 ≤ 65536 ⌝ }
+    ensures { λ r. ⌜ r ≡ at + 9 ⌝ }
 {
     match a {
         Counted::Done(n) => put_size(out, at, kind, 0, n),
@@ -183,8 +183,8 @@ pub fn put_listed(out: &mut [u8; 65536], at: usize, kind: u8, a: Counted) -> usi
 }
 
 fn put_size(out: &mut [u8; 65536], at: usize, kind: u8, number: u8, n: usize) -> usize
-    requires { ⌜ at + 8 ≤ 65536 ⌝ }
-    ensures { λ r. ⌜ r ≡ at + 8 ⌝ }
+    requires { ⌜ at + 9 ≤ 65536 ⌝ }
+    ensures { λ r. ⌜ r ≡ at + 9 ⌝ }
 {
     let first = put_number(out, at, kind, number);
     put(out, first, 2, n as u64)
@@ -192,8 +192,8 @@ fn put_size(out: &mut [u8; 65536], at: usize, kind: u8, number: u8, n: usize) ->
 
 // How many bytes a file has that was asked for.
 pub fn put_written(out: &mut [u8; 65536], at: usize, kind: u8, a: Counted) -> usize
-    requires { ⌜ at + 22 ≤ 65536 ⌝ }
-    ensures { λ r. ⌜ r ≡ at + 22 ⌝ }
+    requires { ⌜ at + 23 ≤ 65536 ⌝ }
+    ensures { λ r. ⌜ r ≡ at + 23 ⌝ }
 {
     match a {
         Counted::Done(n) => put_total(out, at, kind, 0, n),
@@ -202,8 +202,8 @@ pub fn put_written(out: &mut [u8; 65536], at: usize, kind: u8, a: Counted) -> us
 }
 
 fn put_total(out: &mut [u8; 65536], at: usize, kind: u8, number: u8, n: usize) -> usize
-    requires { ⌜ at + 22 ≤ 65536 ⌝ }
-    ensures { λ r. ⌜ r ≡ at + 22 ⌝ }
+    requires { ⌜ at + 23 ≤ 65536 ⌝ }
+    ensures { λ r. ⌜ r ≡ at + 23 ⌝ }
 {
     let first = put_number(out, at, kind, number);
     put_u64(out, first, n as u64)
@@ -225,8 +225,8 @@ pub fn put_file(out: &mut [u8; 65536], at: usize, file: &[u8]) -> usize
 }
 
 fn error_text(s: Sampler, channel: usize, room: usize, out: &mut [u8; 65536], at: usize) -> usize
-    requires { ⌜ at + 201 ≤ 65536 ⌝ }
-    ensures { λ r. ⌜ r ≤ at + 201 ⌝ }
+    requires { ⌜ at + 202 ≤ 65536 ⌝ }
+    ensures { λ r. ⌜ r ≤ at + 202 ⌝ }
 {
     let mut text = [b'.'; 64];
     let n = lent(room, 64);
@@ -250,8 +250,8 @@ pub fn put_bytes(out: &mut [u8; 65536], at: usize, text: &[u8; 64]) -> usize
 }
 
 fn active_notes(s: Sampler, channel: usize, room: usize, out: &mut [u8; 65536], at: usize) -> usize
-    requires { ⌜ at + 587 ≤ 65536 ⌝ }
-    ensures { λ r. ⌜ r ≤ at + 587 ⌝ }
+    requires { ⌜ at + 588 ≤ 65536 ⌝ }
+    ensures { λ r. ⌜ r ≤ at + 588 ⌝ }
 {
     let mut notes = [u64::MAX; 34];
     let n = lent(room, 34);
@@ -276,8 +276,8 @@ pub fn put_notes(out: &mut [u8; 65536], at: usize, notes: &[u64; 34]) -> usize
 
 // The infos that the answer has.
 fn put_infos(out: &mut [u8; 65536], at: usize, a: VoiceInfos) -> usize
-    requires { ⌜ at + 873 ≤ 65536 ⌝ }
-    ensures { λ r. ⌜ r ≤ at + 873 ⌝ }
+    requires { ⌜ at + 874 ≤ 65536 ⌝ }
+    ensures { λ r. ⌜ r ≤ at + 874 ⌝ }
 {
     let n = places(a.count);
     let mut place = put_size(out, at, 18, a.number, a.count);

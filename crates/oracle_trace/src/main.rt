@@ -7,7 +7,7 @@
 // of one channel; 9 frame; 10 clocks put on, or a field put; 11 the recordings; 12 frames processed, 13 data length, 14
 // is recording, 15 last recorded offset, 16 error text, 17 active notes, 18 voice info; 19 many frames; 20 waveform
 // summary; 21 a run of frames; 22 request 7/12's setting; 23 a piece of a WAVE file, 24 the recordings written as a file,
-// 25 a file read. A set-up takes back the parameters to the defaults, and empties the file.
+// 25 a file read; 26 a phrase chosen, 27 one deleted, 28 all gathered. A set-up takes back the parameters to the defaults, and empties the file.
 ghost use mathlib.Core.Path.{_≡_};
 ghost use Prim.Native.Nat.{_+_, _*_, _≤_, _<_};
 ghost use lib.ListN.{length};
@@ -116,6 +116,10 @@ fn record(
         20 => run.on(run.sampler, waveform(run.sampler, fields, memory, out, at)),
         21 => ran(run, fields, memory, out, at),
         23..=25 => waved(run, fields, memory, file, out, at),
+        28 => {
+            let a = calls::gather(run.sampler, fields, memory);
+            run.gathered(kind, a, waves::mixed(memory), out, at)
+        }
         _ => plain(run, fields, out, at),
     }
 }
@@ -209,6 +213,7 @@ fn plain(run: Run, fields: &[u8], out: &mut [u8; 65536], at: usize) -> Run
         10 => run.answered(kind, puts::put(s, fields), out, at),
         12..=18 => run.on(s, query(s, p, fields, out, at)),
         22 => run.answered(kind, s.set_interpolation(fields[1] != 0), out, at),
+        26..=27 => run.answered(kind, calls::call(s, p, fields), out, at),
         _ => bad(run, out, at),
     }
 }

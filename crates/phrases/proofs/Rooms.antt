@@ -1,15 +1,15 @@
--- The samples of a phrase are those of its room, which lies within the memory; where the phrase does, it is its room. Assumes nothing.
+-- One phrase: it has samples or none. They are those of its room, which lies within the memory; where the phrase does, it is its room. Assumes nothing.
 use mathlib.Core.Path.{_≡_, refl, sym, ap, _∙_}
-use Prim.Native.Nat.{ℕ, _+_, _-_, _≤_, min}
-use native.Mathlib.Nat.{min-le-right, min-eq-left, min-eq-right, add-sub-cancel-left, le-of-lt, le-refl}
+use Prim.Native.Nat.{ℕ, _+_, _-_, _≤_, _<_, min}
+use native.Mathlib.Nat.{min-le-right, min-eq-left, min-eq-right, add-sub-cancel-left, le-of-lt, le-refl, pos-of-ne-zero}
 use native.Mathlib.Omega.{arith}
 use mathlib.Core.Bool.{Bool, true, false}
 use mathlib.Core.List.{List}
 use lib.Dec.{leb}
 use lib.ListN.{length, take, drop, length-drop, drop-of-length-le}
 use lib.Seq.{length-take-le, take-all}
-use borrow.Author.Tests.{le-leb, leb-true, leb-false}
-use Rattle.phrases.specs.Phrases.{endsBy, storedIn, roomOf}
+use borrow.Author.Tests.{le-leb, leb-true, leb-false, eqb-true, eqb-false, ne-eqb}
+use Rattle.phrases.specs.Phrases.{noSamples, endsBy, storedIn, roomOf}
 use Rattle.phrases.specs.declared.Phrase.{Phrase}
 
 -- a list has no more to take or to drop than there is
@@ -28,6 +28,20 @@ module _ (l : List ℕ) (n : ℕ) where
   drop-min = clipped (λ (k : ℕ). drop k l) (λ k. drop-of-length-le l (le-refl (length l)) ∙ sym (drop-of-length-le l k))
 
 module _ (p : Phrase) where
+  -- ---- samples or none
+  pub holds-some : noSamples p ≡ false → 0 < p .length
+  unfolding noSamples
+  holds-some e = pos-of-ne-zero (eqb-false (p .length) 0 e)
+
+  pub some-holds : 0 < p .length → noSamples p ≡ false
+  unfolding noSamples
+  some-holds h = ne-eqb (p .length) 0 (omega arith)
+
+  pub holds-none : noSamples p ≡ true → p .length ≡ 0
+  unfolding noSamples
+  holds-none e = eqb-true (p .length) 0 e
+
+  -- ---- its room
   pub room-inside : (size : ℕ) → (roomOf p size .from ≤ roomOf p size .to) × (roomOf p size .to ≤ size)
   unfolding roomOf
   room-inside size =

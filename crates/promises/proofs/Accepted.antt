@@ -18,16 +18,19 @@ use Rattle.binary32.specs.Leaves.{zero32}
 use Rattle.voice.specs.Soundness.{FittingParams}
 use Rattle.channel.specs.declared.Channel.{Channel}
 use Rattle.channel.specs.declared.Change.{Change}
+use Rattle.channel.specs.declared.Ask.the-variants.{Voice}
 use Rattle.channel.specs.Heads.{lastTime}
+use Rattle.channel.specs.Tables.{asksOf}
 use Rattle.channel.specs.Channels.{channelOf, fullOf}
 use Rattle.channel.specs.Channels.{processSampleOf as channelSampleOf}
 use Rattle.sampler.specs.declared.Sampler.{Sampler}
-use Rattle.sampler.specs.Refusals.{present, channelAt, goodSampler, goodWith, noChannel, badNote, badPosition, anyFull, atEnd, startRows, sampleNumber, frameNumber}
+use Rattle.sampler.specs.Refusals.{present, channelAt, goodSampler, goodWith, noChannel, badNote, badPosition, anyFull, againstAny, atEnd, startRows, sampleNumber, frameNumber}
 use Rattle.sampler.specs.Samplers.{partOf, playedAt, outputOf, processSampleOf, framed, entriesOf, framedOf}
 use Rattle.sampler.proofs.Rows.{passed, frame-steps}
+use Rattle.sampler.proofs.Against.{against-voice}
 use Rattle.sampler.proofs.Entries.{sample-reaches, frame-reaches}
-use Rattle.fates.specs.Events.{idle, changes, sounds}
-use Rattle.promises.specs.Runs.{World, Call, change, start, sample, frame, readWave, asks, code, chan, doneTo, event, output, FittingCall}
+use Rattle.fates.specs.Events.{idle, changes, gathers, sounds}
+use Rattle.promises.specs.Runs.{World, Call, change, start, sample, frame, readWave, gather, asks, code, chan, doneTo, event, output, FittingCall}
 use Rattle.walks.proofs.Tests.{neither}
 use Rattle.promises.proofs.Apart.{frame-output}
 use Rattle.promises.proofs.Calls.{Standing}
@@ -50,9 +53,9 @@ module _ {A : Type 0} (p : A → Bool) where
 
 -- ---- a start
 start-fits : (w : World) (position : Float) (note : Note) (velocity : Float) (p : Params) → code w (start position note velocity p) ≡ 0 → anyFull (w .sampler) ≡ false
-unfolding code startRows
+unfolding code startRows asksOf
 start-fits w position note velocity p h =
-    passed (anyFull (w .sampler)) 4 0 (passed (beyondLimits p) 3 _ (passed (badPosition position) 2 _ (passed (badNote note) 1 _ (passed (not (goodSampler (w .sampler))) 8 _ h .1) .1) .1) .1) .0
+    sym (against-voice (w .sampler)) ∙ passed (againstAny Voice (w .sampler) .blocked) 4 0 (passed (beyondLimits p) 3 _ (passed (badPosition position) 2 _ (passed (badNote note) 1 _ (passed (not (goodSampler (w .sampler))) 8 _ h .1) .1) .1) .1) .0
 
 pub start-room : (w : World) → Standing w → (j : ℕ) → j < w .sampler .count → (position : Float) (note : Note) (velocity : Float) (p : Params)
     → code w (start position note velocity p) ≡ 0 → eqb (chan w j .head .«data_len») 0 ≡ false → chan w j .count < 32
@@ -63,12 +66,12 @@ start-room w s j h position note velocity p k e =
 
 pub start-opens : (w : World) → Standing w → (position : Float) (note : Note) (velocity : Float) (p : Params) → goodSampler (w .sampler) ≡ true → badNote note ≡ false → badPosition position ≡ false
     → beyondLimits p ≡ false → ((j : ℕ) → j < w .sampler .count → fullOf (chan w j) ≡ false) → code w (start position note velocity p) ≡ 0
-unfolding code startRows
+unfolding code startRows asksOf
 start-opens w s position note velocity p g a b c f =
     let none : Channel = channelOf (record { «auto_passthru» = false }) in
     let l : length (present (w .sampler)) ≡ w .sampler .count = length-take-le (w .sampler .count) (w .sampler .channels) (omega (arith, s .two, s .few)) in
-    let e : anyFull (w .sampler) ≡ false
-    = any-none fullOf (present (w .sampler)) none
+    let e : againstAny Voice (w .sampler) .blocked ≡ false
+    = against-voice (w .sampler) ∙ any-none fullOf (present (w .sampler)) none
     (λ j k. ap fullOf (getD-take (w .sampler .count) (w .sampler .channels) j none (omega arith)) ∙ f j (omega arith)) in
     rw (g, a, b, c, e)
 
@@ -97,6 +100,9 @@ module _ (p : Params) (x : Float) (m : List ℕ) where
 
   not-change : (d : Change) → changes d ≡ sounds p x m → ⊥
   not-change d h = let z : _≡_ {A = ℕ} 0 1 = cc in omega arith
+
+  not-gather : (k : List ℕ) → gathers k ≡ sounds p x m → ⊥
+  not-gather k h = let z : _≡_ {A = ℕ} 0 1 = cc in omega arith
 
   done : (w : World) (c : Call) (j : ℕ) → event w c j ≡ sounds p x m → doneTo w c j ≡ sounds p x m
   unfolding event
@@ -181,4 +187,5 @@ module _ (w : World) (st : Standing w) (j : ℕ) (k : j < w .sampler .count) (p 
   heard (sample i y q) h = sample-heard i y q h
   heard (frame xs q) h = frame-heard xs q h
   heard (readWave f) h = absurd (not-change p x m _ (done p x m w (readWave f) j h))
+  heard gather h = absurd (not-gather p x m _ (done p x m w gather j h))
   heard (asks y) h = absurd (not-idle p x m (done p x m w (asks y) j h))

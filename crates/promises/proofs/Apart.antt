@@ -2,14 +2,14 @@
 use mathlib.Core.Path.{_≡_, refl, sym, ap, _∙_, subst}
 use mathlib.Core.Bool.{Bool, true, false, cond}
 use mathlib.Core.Logic.{_≢_, ⊎-elim}
-use mathlib.Core.List.{List, [], _∷_, _++_, append-assoc}
-use Prim.Native.Nat.{ℕ, zero, suc, _+_, _-_, _*_, _≤_, _<_}
+use mathlib.Core.List.{List}
+use Prim.Native.Nat.{ℕ, zero, suc, _+_, _*_, _≤_, _<_}
 use native.Mathlib.Nat.{le-trans, le-of-eq, mul-le-mul-right, suc-mul, zero-add, eq-or-lt-of-le, le-refl}
 use native.Mathlib.Omega.{arith}
 use borrow.Author.Tests.{ltb-true, ltb-false, eqb-true, eqb-false}
 use lib.Dec.{ltb, eqb}
-use lib.ListN.{length, take, drop, getD, length-set, length-append}
-use lib.Seq.{length-take-le, take-append-le, take-take, drop-append-add, drop-drop, drop-at, take-at, getD-set-same, getD-set-other}
+use lib.ListN.{length, getD, length-set}
+use lib.Seq.{getD-set-same, getD-set-other}
 use lib.Ieee.{Float, binary32, mul}
 use Rattle.common_types.specs.declared.Params.{Params}
 use Rattle.binary32.specs.Leaves.{zero32}
@@ -21,22 +21,9 @@ use Rattle.channel.proofs.Samples.{memory-kept}
 use Rattle.sampler.specs.declared.Sampler.{Sampler}
 use Rattle.sampler.specs.Refusals.{channelAt}
 use Rattle.sampler.specs.Samplers.{Steps, framed, partOf, playedAt, channelSteppedOf, outputOf, memoryAt, Framed, entryOf, entriesOf, movedAt, entriesMoved}
+use Rattle.sampler.proofs.Replaced.{replaced-apart, replaced-own}
 use Rattle.sampler.proofs.Entries.{part-length, memory-at-length}
 use Rattle.promises.specs.Tidies.{sumFrom}
-
--- ---- parts of a list
-module _ {A : Type 0} where
-  front-part : (n a b : ℕ) (l r : List A) → a + n ≤ b → b ≤ length l → take n (drop a (take b l ++ r)) ≡ take n (drop a l)
-  front-part n zero b l r h k = take-append-le n (take b l) r (omega (arith, length-take-le b l k)) ∙ take-take n b l (omega arith)
-  front-part n (suc a) zero l r h k = absurd (omega arith)
-  front-part n (suc a) (suc b) [] r h k = absurd (omega arith)
-  front-part n (suc a) (suc b) (x ∷ l) r h k = front-part n a b l r (omega arith) (omega arith)
-
-  back-part : (a b : ℕ) (p l : List A) → length p ≡ b → b ≤ a → drop a (p ++ drop b l) ≡ drop a l
-  back-part a b p l h k =
-      let e : a ≡ length p + (a - b) = omega arith in
-      let f : b + (a - b) ≡ a = omega arith in
-      ap (λ (n : ℕ). drop n (p ++ drop b l)) e ∙ drop-append-add p (drop b l) (a - b) ∙ drop-drop (a - b) b l ∙ ap (λ (n : ℕ). drop n l) f
 
 -- ---- a sample of channel i
 module _ (s : Sampler) (i : ℕ) (m : List ℕ) (h : i * s .capacity + s .capacity ≤ length m) where
@@ -48,34 +35,13 @@ module _ (s : Sampler) (i : ℕ) (m : List ℕ) (h : i * s .capacity + s .capaci
     unfolding written
     written-length = memory-kept x (channelAt s i) (partOf s i m) ∙ part-length s i m h
 
-    front-length : length (take (i * s .capacity) m ++ written) ≡ i * s .capacity + s .capacity
-    front-length = omega (arith, length-append (take (i * s .capacity) m) written, length-take-le (i * s .capacity) m (omega arith), written-length)
-
-    part-later : (j : ℕ) → i < j → partOf s j (memoryAt s i x m) ≡ partOf s j m
-    unfolding partOf memoryAt written
-    part-later j o =
-        let k : i * s .capacity + s .capacity ≤ j * s .capacity = le-trans (le-of-eq (sym (suc-mul i (s .capacity)))) (mul-le-mul-right (s .capacity) o) in
-        ap (λ (l : List ℕ). take (s .capacity) (drop (j * s .capacity) l)) (sym (append-assoc (take (i * s .capacity) m) written (drop (i * s .capacity + s .capacity) m)))
-        ∙ ap (take (s .capacity)) (back-part (j * s .capacity) (i * s .capacity + s .capacity) (take (i * s .capacity) m ++ written) m front-length k)
-
-    part-earlier : (j : ℕ) → j < i → partOf s j (memoryAt s i x m) ≡ partOf s j m
-    unfolding partOf memoryAt
-    part-earlier j o =
-        let k : j * s .capacity + s .capacity ≤ i * s .capacity = le-trans (le-of-eq (sym (suc-mul j (s .capacity)))) (mul-le-mul-right (s .capacity) o) in
-        front-part (s .capacity) (j * s .capacity) (i * s .capacity) m _ k (omega arith)
-
     pub part-apart : (j : ℕ) → j ≢ i → partOf s j (memoryAt s i x m) ≡ partOf s j m
-    part-apart j e = go (ltb i j) refl
-      where
-        go : (b : Bool) → ltb i j ≡ b → partOf s j (memoryAt s i x m) ≡ partOf s j m
-        go true k = part-later j (ltb-true i j k)
-        go false k = ⊎-elim (λ q. absurd (e q)) (λ q. part-earlier j q) (eq-or-lt-of-le (ltb-false i j k))
+    unfolding memoryAt written
+    part-apart j e = replaced-apart s i m written h written-length j e
 
     pub part-own : partOf s i (memoryAt s i x m) ≡ memoryOf x (channelAt s i) (partOf s i m)
-    unfolding partOf memoryAt written
-    part-own =
-        ap (take (s .capacity)) (drop-at (take (i * s .capacity) m) (written ++ drop (i * s .capacity + s .capacity) m) (i * s .capacity) (length-take-le (i * s .capacity) m (omega arith)))
-        ∙ take-at written (drop (i * s .capacity + s .capacity) m) (s .capacity) written-length
+    unfolding memoryAt written
+    part-own = replaced-own s i m written h written-length
 
 module _ (s : Sampler) (i : ℕ) (p : Params) (x : Float) (m : List ℕ) where
   pub channel-apart : (j : ℕ) → j ≢ i → channelAt (channelSteppedOf s i p x m) j ≡ channelAt s j

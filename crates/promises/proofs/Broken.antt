@@ -7,11 +7,12 @@ use mathlib.Core.Option.{some}
 use Prim.Native.Nat.{ℕ, zero, suc, _+_, _-_, _*_, _/_, _^_, _≤_, _<_, min}
 use native.Mathlib.Nat.{le-div-iff-mul-le, le-of-mul-le-mul-right}
 use native.Mathlib.Omega.{arith}
-use borrow.Author.Tests.{leb-true, le-leb, ltb-true, lt-ltb, eqb-true}
+use borrow.Author.Tests.{leb-true, le-leb, ltb-true, lt-ltb, eqb-true, eq-eqb}
 use lib.Dec.{leb, ltb, eqb}
-use lib.ListN.{take, getD, getElem?}
+use lib.ListN.{length, take, getD, getElem?}
 use lib.Ieee.{Float, le, ofInt}
 use Rattle.walks.specs.Walks.{every}
+use Rattle.walks.specs.Each.{Each}
 use Rattle.walks.proofs.Lists.Every.{both}
 use Rattle.volume.specs.declared.Volume.{Volume}
 use Rattle.volume.specs.declared.Volume.the-variants.{Static, Linear}
@@ -22,17 +23,22 @@ use Rattle.recorder.specs.Recording.{goodRecorder}
 use Rattle.binary32.specs.Leaves.{zero32, one32}
 use Rattle.clip.specs.declared.Clip.{Clip}
 use Rattle.clip.specs.Refusals.{most32, goodLength, goodClip}
-use Rattle.phrases.specs.Phrases.{endsBy}
+use Rattle.phrases.specs.declared.Phrase.{Phrase}
+use Rattle.phrases.specs.Phrases.{noPhrase, endsBy, apartOf, goodPhrases}
 use Rattle.phrases.proofs.Rooms.{ends-inside, inside-ends}
+use Rattle.phrases.proofs.Apart.{apart-cases, apart-empty, apart-from-empty, apart-before, apart-behind, good-within, good-apart, good-made}
 use Rattle.voice.specs.declared.Voice.{Voice}
 use Rattle.voice.specs.Voices.{goodVoice}
 use Rattle.channel.specs.declared.Channel.{Channel}
-use Rattle.channel.specs.Heads.{recordingIn, headOf, goodHead}
-use Rattle.channel.specs.Channels.{live, channelOf, goodVoicesOf, goodChannel}
+use Rattle.channel.specs.Heads.{recordingIn, phraseBy, goodHead}
+use Rattle.channel.specs.Tables.{goodTable}
+use Rattle.channel.specs.Channels.{live, phrasesIn, phraseAt, channelOf, goodVoicesOf, goodChannel}
+use Rattle.channel.proofs.Tables.{all-good, table-good, phrase-all}
+use Rattle.channel.proofs.Kept.{new-channel-sound}
 use Rattle.sampler.specs.declared.Sampler.{Sampler}
 use Rattle.sampler.specs.Refusals.{row, present, channelAt, goodSizes, goodSampler, goodWith, capacityOf, setUpNumber}
 use Rattle.sampler.proofs.Rows.{passed, is-true}
-use Rattle.promises.specs.Broken.{In, GoodClip, IsVoice, IsRamp, GoodChannel, GoodSizes, GoodRecord, RowNine}
+use Rattle.promises.specs.Broken.{In, GoodClip, IsVoice, IsRamp, NoOverlap, GoodChannel, GoodSizes, GoodRecord, Tabled, RowNine}
 
 -- ---- tests as facts
 pub join : (a b : Bool) → a ≡ true → b ≡ true → (a && b) ≡ true
@@ -63,6 +69,14 @@ unfolding every
 each-front p d l zero h = refl
 each-front p d [] (suc n) h = refl
 each-front p d (x ∷ l) (suc n) h = join (p x) (every p (take n l)) (h 0 (omega arith)) (each-front p d l n (λ j k. h (suc j) (omega arith)))
+
+-- what holds of the first n holds of each of them, where it holds past the end
+pub front-holds : {A : Type 0} (P : A → Type 0) (d : A) → P d → (l : List A) (n : ℕ) → Each P (take n l) → (j : ℕ) → j < n → P (getD l j d)
+unfolding Each
+front-holds P d g [] n h j k = g
+front-holds P d g (x ∷ l) zero h j k = absurd (omega arith)
+front-holds P d g (x ∷ l) (suc n) h zero k = h .0
+front-holds P d g (x ∷ l) (suc n) h (suc j) k = front-holds P d g l n (h .1) j (omega arith)
 
 -- ---- clips
 length-in : (x : Float) → goodLength x ≡ true → In 1 (2 ^ 22) x
@@ -171,8 +185,23 @@ voice-from now v h =
     (join ((s && f) && r) (goodClip (v .clip2)) (join (s && f) r (join s f (le-leb _ _ (h .since)) (le-leb _ _ (h .finished-at))) (volume-from now (v .volume) (h .ramps)))
     (clip-good (v .clip2) .1 (h .clip)))
 
+-- ---- phrases
+overlap-none : (p q : Phrase) → apartOf p q ≡ true → NoOverlap p q
+overlap-none p q h = apart-cases p q h (λ e. inl e) (λ e. inr (inl e)) (λ l. inr (inr (inl l))) (λ l. inr (inr (inr l)))
+
+none-overlap : (p q : Phrase) → NoOverlap p q → apartOf p q ≡ true
+none-overlap p q (inl e) = apart-empty p q e
+none-overlap p q (inr (inl e)) = apart-from-empty p q e
+none-overlap p q (inr (inr (inl l))) = apart-before p q l
+none-overlap p q (inr (inr (inr l))) = apart-behind p q l
+
+-- the recording is the phrase that is chosen
+pub phrase-chosen : (c : Channel) → phraseAt c (c .head .chosen) ≡ recordingIn (c .head)
+unfolding phraseBy
+phrase-chosen c = rw (eq-eqb (c .head .chosen) (c .head .chosen) refl)
+
 -- ---- channels
-module _ (capacity : ℕ) (c : Channel) where
+module _ (capacity : ℕ) (c : Channel) (eight : length (c .table) ≡ 8) where
   abbrev now : ℕ
   now = c .head .now
 
@@ -180,13 +209,21 @@ module _ (capacity : ℕ) (c : Channel) where
   abbrev lies : Bool
   lies = ltb (c .head .chosen) 8 && endsBy capacity (recordingIn (c .head))
 
+  abbrev tabled : Bool
+  tabled = goodTable capacity (c .head) (c .several) (c .table)
+
+  -- the phrase of a number, among all of them
+  of-all : (k : ℕ) → k < 8 → phraseAt c k ≡ getD (phrasesIn c) k noPhrase
+  of-all k l = phrase-all (c .head) (c .several) (c .table) eight k l
+
   channel-to : goodChannel capacity c ≡ true → GoodChannel capacity c
   unfolding goodChannel goodHead goodRecorder goodVoicesOf
   channel-to h = record {
     voices = leb-true _ _ (first .0);
     data-length = leb-true _ _ (recorder .1);
     chosen = ltb-true _ _ (placed .0);
-    within = ends-inside (recordingIn (c .head)) capacity (placed .1);
+    within = λ k l. rw (of-all k l) (ends-inside (getD (phrasesIn c) k noPhrase) capacity (good-within capacity (phrasesIn c) all k l));
+    apart = λ j k l m d. rw (of-all j l, of-all k m) (overlap-none _ _ (good-apart capacity (phrasesIn c) all j k l m d));
     phrase = λ v i. voice v i .phrase;
     write-place = writes-to (c .head .recorder .state) (c .head .«data_len») (recorder .0);
     clock = leb-true _ _ (timed .0);
@@ -198,8 +235,11 @@ module _ (capacity : ℕ) (c : Channel) where
     clip = λ v i. voice v i .clip;
   }
     where
-      whole : ((leb (c .count) 32 && goodHead capacity (c .head)) ≡ true) × (goodVoicesOf c ≡ true)
-      whole = both (leb (c .count) 32 && goodHead capacity (c .head)) (goodVoicesOf c) h
+      whole : ((leb (c .count) 32 && goodHead capacity (c .head)) ≡ true) × ((tabled && goodVoicesOf c) ≡ true)
+      whole = both (leb (c .count) 32 && goodHead capacity (c .head)) (tabled && goodVoicesOf c) h
+
+      second : (tabled ≡ true) × (goodVoicesOf c ≡ true)
+      second = both tabled (goodVoicesOf c) (whole .1)
 
       first : (leb (c .count) 32 ≡ true) × (goodHead capacity (c .head) ≡ true)
       first = both (leb (c .count) 32) (goodHead capacity (c .head)) (whole .0)
@@ -216,11 +256,14 @@ module _ (capacity : ℕ) (c : Channel) where
       placed : (ltb (c .head .chosen) 8 ≡ true) × (endsBy capacity (recordingIn (c .head)) ≡ true)
       placed = both (ltb (c .head .chosen) 8) (endsBy capacity (recordingIn (c .head))) (timed .1)
 
+      all : goodPhrases capacity (phrasesIn c) ≡ true
+      all = all-good (c .head) (c .several) (c .table) capacity (placed .1) (second .0)
+
       recorder : ((elim (c .head .recorder .state) [ Triggered write ↦ leb write (c .head .«data_len») | Idle ↦ true ]) ≡ true) × (leb (c .head .«data_len») capacity ≡ true)
       recorder = both _ (leb (c .head .«data_len») capacity) (head .1)
 
       voice : (v : Voice) → IsVoice c v → Judged now v
-      voice v (n, e) = voice-to now v (every-place (goodVoice now) (live c) (whole .1) n v e)
+      voice v (n, e) = voice-to now v (every-place (goodVoice now) (live c) (second .1) n v e)
 
       ramp : (a b : ℕ) → IsRamp c a b → Ramped a b now
       ramp a b (x, y, inl e) = volume-to now (c .head .«passthru_volume») (levels .1) a b x y e
@@ -229,16 +272,25 @@ module _ (capacity : ℕ) (c : Channel) where
   channel-from : GoodChannel capacity c → goodChannel capacity c ≡ true
   unfolding goodChannel goodHead goodRecorder goodVoicesOf
   channel-from h =
-      join (leb (c .count) 32 && goodHead capacity (c .head)) (goodVoicesOf c)
+      join (leb (c .count) 32 && goodHead capacity (c .head)) (tabled && goodVoicesOf c)
       (join (leb (c .count) 32) (goodHead capacity (c .head)) (le-leb _ _ (h .voices))
       (join ((leb now (2 ^ 48) && lies) && goodVolume now (c .head .«passthru_volume»)) (goodRecorder (c .head .recorder) (c .head .«data_len») capacity)
       (join (leb now (2 ^ 48) && lies) (goodVolume now (c .head .«passthru_volume»))
       (join (leb now (2 ^ 48)) lies (le-leb now (2 ^ 48) (h .clock))
-      (join (ltb (c .head .chosen) 8) (endsBy capacity (recordingIn (c .head))) (lt-ltb _ _ (h .chosen)) (inside-ends (recordingIn (c .head)) capacity (h .within))))
+      (join (ltb (c .head .chosen) 8) (endsBy capacity (recordingIn (c .head))) (lt-ltb _ _ (h .chosen))
+      (subst (λ (p : Phrase). endsBy capacity p ≡ true) (phrase-chosen c) (inside-ends (phraseAt c (c .head .chosen)) capacity (h .within (c .head .chosen) (h .chosen))))))
       (volume-from now (c .head .«passthru_volume») (λ a b x y e. ramp a b (x, y, inl e))))
       (join _ (leb (c .head .«data_len») capacity) (writes-from (c .head .recorder .state) (c .head .«data_len») (h .write-place)) (le-leb _ _ (h .data-length)))))
-      (place-every (goodVoice now) (live c) (λ n v e. voice-from now v (judged v (n, e))))
+      (join tabled (goodVoicesOf c) (table-good (c .head) (c .several) (c .table) capacity all) (place-every (goodVoice now) (live c) (λ n v e. voice-from now v (judged v (n, e)))))
     where
+      all : goodPhrases capacity (phrasesIn c) ≡ true
+      all =
+          good-made capacity (phrasesIn c)
+          (λ k l. subst (λ (p : Phrase). endsBy capacity p ≡ true) (of-all k l) (inside-ends (phraseAt c k) capacity (h .within k l)))
+          (λ j k m l. let i : j < 8 = omega arith in
+          let d : k ≢ j = λ e. omega arith in
+          rw (sym (of-all k l), sym (of-all j i)) (none-overlap _ _ (h .apart k j l i d)))
+
       ramp : (a b : ℕ) → IsRamp c a b → Ramped a b now
       ramp a b r = record { begun = h .ramp-start a b r; lasts = h .ramp-not-empty a b r; short = h .ramp-length a b r }
 
@@ -273,37 +325,40 @@ sizes-from count capacity h =
 
 -- ---- records
 
--- past the last channel stands one that is good
-blank-good : (capacity : ℕ) → goodChannel capacity (channelOf (record { «auto_passthru» = false })) ≡ true
-unfolding goodChannel goodHead endsBy goodRecorder goodVoicesOf goodVolume every channelOf headOf
-blank-good capacity = rw (le-leb 0 capacity (omega arith))
+-- past the last channel stands one that is good, with a table of eight
+abbrev blank : Channel
+blank = channelOf (record { «auto_passthru» = false })
 
-pub record-to : (s : Sampler) → goodSampler s ≡ true → GoodRecord s
+tables : (s : Sampler) → Tabled s → (j : ℕ) → j < s .count → length (channelAt s j .table) ≡ 8
+tables s t j k = front-holds (λ (c : Channel). length (c .table) ≡ 8) blank (new-channel-sound 0 (record { «auto_passthru» = false }) .fitting .entries) (s .channels) (s .count) t j k
+
+pub record-to : (s : Sampler) → Tabled s → goodSampler s ≡ true → GoodRecord s
 unfolding goodSampler
-record-to s h =
+record-to s t h =
     let g = both (goodSizes (s .count) (s .capacity)) (every (goodChannel (s .capacity)) (present s)) h in
     record {
       sizes = sizes-to (s .count) (s .capacity) (g .0);
-      channels = λ j k. channel-to (s .capacity) (channelAt s j) (front-each (goodChannel (s .capacity)) _ (blank-good (s .capacity)) (s .channels) (s .count) (g .1) j k);
+      channels = λ j k. channel-to (s .capacity) (channelAt s j) (tables s t j k)
+          (front-each (goodChannel (s .capacity)) blank (new-channel-sound (s .capacity) (record { «auto_passthru» = false }) .good) (s .channels) (s .count) (g .1) j k);
     }
 
-record-from : (s : Sampler) → GoodRecord s → goodSampler s ≡ true
+record-from : (s : Sampler) → Tabled s → GoodRecord s → goodSampler s ≡ true
 unfolding goodSampler
-record-from s h =
+record-from s t h =
     join (goodSizes (s .count) (s .capacity)) (every (goodChannel (s .capacity)) (present s)) (sizes-from (s .count) (s .capacity) (h .sizes))
-    (each-front (goodChannel (s .capacity)) _ (s .channels) (s .count) (λ j k. channel-from (s .capacity) (channelAt s j) (h .channels j k)))
+    (each-front (goodChannel (s .capacity)) _ (s .channels) (s .count) (λ j k. channel-from (s .capacity) (channelAt s j) (tables s t j k) (h .channels j k)))
 
-memory : (s : Sampler) (size : ℕ) → (goodWith s size ≡ true) ↔ (GoodRecord s × (s .count * s .capacity ≤ size))
+memory : (s : Sampler) (size : ℕ) → Tabled s → (goodWith s size ≡ true) ↔ (GoodRecord s × (s .count * s .capacity ≤ size))
 unfolding goodWith
-memory s size = (to, from)
+memory s size t = (to, from)
   where
     to : goodWith s size ≡ true → GoodRecord s × (s .count * s .capacity ≤ size)
     to h =
         let g = both (goodSampler s) (leb (s .count * s .capacity) size) h in
-        (record-to s (g .0), leb-true _ _ (g .1))
+        (record-to s t (g .0), leb-true _ _ (g .1))
 
     from : GoodRecord s × (s .count * s .capacity ≤ size) → goodWith s size ≡ true
-    from (g, k) = join (goodSampler s) (leb (s .count * s .capacity) size) (record-from s g) (le-leb _ _ k)
+    from (g, k) = join (goodSampler s) (leb (s .count * s .capacity) size) (record-from s t g) (le-leb _ _ k)
 
 -- ---- set-up
 capacity : (count size n : ℕ) → 0 < count → (n ≤ capacityOf count size) ↔ ((n * count ≤ size) × (n ≤ 2 ^ 22))
@@ -360,4 +415,4 @@ given count n = (to, from)
         record { channels = g .0; least = omega arith; most = omega arith }
 
 pub row-nine : RowNine
-row-nine = record { broken = λ s. (record-to s, record-from s); memory = memory; set-up = set-up; capacity = capacity; given = given }
+row-nine = record { broken = λ s t. (record-to s t, record-from s t); memory = memory; set-up = set-up; capacity = capacity; given = given }

@@ -19,15 +19,16 @@ use Rattle.channel.specs.declared.Change.{Change}
 use Rattle.channel.specs.Channels.{channelOf, changedOf}
 use Rattle.channel.specs.Channels.{processSampleOf as channelSampleOf}
 use Rattle.sampler.specs.declared.Sampler.{Sampler}
-use Rattle.sampler.specs.Refusals.{present, channelAt, goodSizes, capacityOf, setUpNumber, sampleNumber, frameNumber}
-use Rattle.sampler.specs.Samplers.{samplerOf, setUpOf, eachOf, answerOf, partOf, channelSteppedOf, processSampleOf, Framed, framed, entriesOf, framedOf}
+use Rattle.sampler.specs.Refusals.{present, channelAt, goodSizes, capacityOf, setUpNumber, gatherNumber, sampleNumber, frameNumber}
+use Rattle.sampler.specs.Samplers.{samplerOf, setUpOf, eachOf, answerOf, partOf, channelSteppedOf, processSampleOf, gatherOf, Framed, framed, entriesOf, framedOf}
 use Rattle.sampler.proofs.Rows.{sizes-count, frame-steps}
 use Rattle.sampler.proofs.Entries.{Kept, kept-refl, kept-trans, kept-step, kept-entries}
-use Rattle.fates.specs.Events.{idle, changes, sounds, act, acts}
+use Rattle.sampler.proofs.Gathered.{gather-same, gather-refused, gather-channel}
+use Rattle.fates.specs.Events.{idle, changes, gathers, sounds, act, acts}
 use Rattle.fates.specs.Places.{Housed}
 use Rattle.wave.specs.Reader.{judgedOf}
 use Rattle.recordings.specs.Waves.{readNumber, readWaveOf}
-use Rattle.promises.specs.Runs.{World, setUp, Call, change, sample, frame, readWave, asks, questionNumber, code, after, run, chan, doneTo, event, events}
+use Rattle.promises.specs.Runs.{World, setUp, Call, change, sample, frame, readWave, gather, asks, questionNumber, code, after, run, chan, doneTo, event, events}
 use Rattle.promises.proofs.Engine.{changes-same, sounds-same}
 use Rattle.fates.proofs.Housing.{housed, housed-new}
 use Rattle.promises.proofs.Apart.{channel-apart, channel-own, frame-channel}
@@ -105,6 +106,20 @@ module _ (w : World) (two : length (w .sampler .channels) ≡ 2) (few : w .sampl
       go true e = which (ltb j (length xs)) (frame-channel s xs p m (frame-steps s (length xs) p (length m) (eqb-true _ 0 e)) j (omega arith))
       go false e = refl
 
+  gather-done : chan (after w gather) j ≡ act (event w gather j) (chan w j)
+  unfolding after event code doneTo act
+  gather-done = go (eqb (gatherNumber s (length m)) 0) refl
+    where
+      s : Sampler
+      s = w .sampler
+
+      m : List ℕ
+      m = w .memory
+
+      go : (b : Bool) → eqb (gatherNumber s (length m)) 0 ≡ b → channelAt (gatherOf s m .sampler) j ≡ act (cond b (gathers (partOf s j m)) idle) (channelAt s j)
+      go true e = gather-channel s m (eqb-true _ 0 e) j h (omega arith)
+      go false e = ap (λ (r : Sampler). channelAt r j) (gather-refused s m (eqb-false _ 0 e))
+
   nothing : (b : Bool) → chan w j ≡ act (cond b idle idle) (chan w j)
   unfolding act
   nothing true = refl
@@ -116,6 +131,7 @@ module _ (w : World) (two : length (w .sampler .channels) ≡ 2) (few : w .sampl
   chan-after (sample i x p) = sample-channel i x p
   chan-after (frame xs p) = frame-channels xs p
   chan-after (readWave f) = answer-channel (readNumber (w .sampler) (judgedOf f) (length (w .memory))) _ (w .sampler) two few j h
+  chan-after gather = gather-done
   chan-after (asks q) = nothing (eqb (questionNumber w q) 0)
 
 -- ---- what no call changes
@@ -141,6 +157,7 @@ kept w (frame xs p) = go (eqb (frameNumber (w .sampler) (length xs) p (length (w
     go true = kept-entries p (length xs) 0 f
     go false = kept-refl (w .sampler)
 kept w (readWave f) = kept-answer _ _ (w .sampler)
+kept w gather = gather-same (w .sampler) (w .memory)
 kept w (asks q) = kept-refl (w .sampler)
 
 -- ---- from set-up on

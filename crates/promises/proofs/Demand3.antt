@@ -25,7 +25,7 @@ use Rattle.fates.specs.Engine.{bornOf, stepOf}
 use Rattle.fates.specs.Events.{Event, idle, sounds, act, acts, isReset, isSample, emptyAt, decayOf, lastOf, beforeLast}
 use Rattle.fates.specs.Places.{Housed, voiceAt, Place, at, gone, follow, becomes, addedBy, onward, followAll, stoppedIn, finishes}
 use Rattle.fates.specs.Sounding.{Sounds, First}
-use Rattle.promises.specs.Runs.{World, setUp, Call, change, start, sample, frame, readWave, asks, code, after, run, chan, doneTo, event, events, isResetCall, output, final, before}
+use Rattle.promises.specs.Runs.{World, setUp, Call, change, start, sample, frame, readWave, gather, asks, code, after, run, chan, doneTo, event, events, isResetCall, output, final, before}
 use Rattle.promises.specs.Demands.{isEmpty, Leaves, SoundsIn, FirstIn, Demand3}
 use Rattle.walks.proofs.Tests.{neither, either}
 use Rattle.fates.proofs.Tracks.{gone-never, tracks}
@@ -54,6 +54,7 @@ event-reset w (change d) j h = quiet (eqb (code w (change d)) 0) _ h
 event-reset w (sample i x p) j h = quiet (eqb (code w (sample i x p)) 0) _ (quiet (eqb i j) _ refl)
 event-reset w (frame xs p) j h = quiet (eqb (code w (frame xs p)) 0) _ (quiet (ltb j (length xs)) _ refl)
 event-reset w (readWave f) j h = quiet (eqb (code w (readWave f)) 0) _ refl
+event-reset w gather j h = quiet (eqb (code w gather) 0) _ refl
 event-reset w (asks q) j h = quiet (eqb (code w (asks q)) 0) idle refl
 
 pub events-reset : (w : World) (cs : List Call) (j : ℕ) → any isResetCall cs ≡ false → any isReset (events w cs j) ≡ false

@@ -29,12 +29,15 @@ use Rattle.clip.proofs.Indices.{adds-up}
 use Rattle.voice.proofs.Values.{value-off, value-whole}
 use Rattle.clip.proofs.Offsets.{clip-offset-inside, offset-within}
 use Rattle.channel.specs.declared.Change.{Change}
+use Rattle.channel.specs.Tables.{asksOf}
 use Rattle.channel.specs.Channels.{live, recordingOf}
 use Rattle.sampler.specs.declared.Sampler.{Sampler}
 use Rattle.sampler.specs.declared.Answer.{Answer}
 use Rattle.sampler.specs.declared.Ran.{Ran}
-use Rattle.sampler.specs.Refusals.{channelAt, goodSizes, goodSampler, capacityOf, goodWith, noChannel, row, setUpNumber, startRows, stopRows, speedRows, sampleNumber, frameNumber, runNumber, channelNumber}
+use Rattle.sampler.specs.Refusals.{channelAt, goodSizes, goodSampler, capacityOf, goodWith, noChannel, row, setUpNumber, startRows, stopRows, speedRows, sampleNumber, frameNumber, runNumber, gatherNumber, channelNumber}
 use Rattle.sampler.specs.Samplers.{samplerOf, setUpOf, eachOf, answerOf, processSampleOf, sampleMemory, channelSteppedOf, memoryAt, Framed, framed, entriesOf, framedOf, runAnswer}
+use Rattle.sampler.proofs.Against.{against-voice}
+use Rattle.sampler.proofs.Gathered.{gather-refused, gather-leaves}
 use Rattle.questions.specs.Questions.{recorderAt, notesOf, inFront, listNumber, listAfter, infoNumber, answered, noInfos, infosWith, getVoiceInfoOf}
 use Rattle.questions.specs.declared.VoiceInfos.{VoiceInfos}
 use Rattle.questions.specs.Waveforms.{columnOf, columnsFrom, smallestOf, largestOf, summaryWith, waveformNumber, waveformOf, getWaveformSummaryOf, waveformAfter}
@@ -45,7 +48,7 @@ use Rattle.channel.specs.declared.Change.the-variants.{Start, Stop, Speed, Head
 use Rattle.channel.specs.declared.HeadChange.the-variants.{Load}
 use Rattle.wave.specs.Reader.{judgedOf}
 use Rattle.wave.specs.Memory.{loadedOf}
-use Rattle.recordings.specs.Waves.{frontsIn, writeNumber, waveAfter, heldIn, readNumber, readWaveOf, readMemory}
+use Rattle.recordings.specs.Waves.{beginningsIn, writeNumber, waveAfter, heldIn, readNumber, readWaveOf, readMemory}
 use Rattle.promises.specs.Runs.{
   World,
   setUp,
@@ -63,8 +66,6 @@ use Rattle.promises.specs.Runs.{
   questionNumber,
   Call,
   change,
-  start,
-  stop,
   speed,
   startRecording,
   stopRecording,
@@ -72,6 +73,7 @@ use Rattle.promises.specs.Runs.{
   sample,
   frame,
   readWave,
+  gather,
   asks,
   code,
   after,
@@ -89,6 +91,9 @@ use Rattle.promises.proofs.Broken.{row-nine}
 use Rattle.promises.proofs.Rows.{row-tests}
 use Rattle.promises.proofs.SmallParts.{row-seven}
 use Rattle.promises.proofs.Recordings.{recordings}
+use Rattle.promises.proofs.Phrases.{phrases}
+use Rattle.promises.proofs.Phrases.Number.{eight}
+use Rattle.promises.proofs.Phrases.One.{one-phrase}
 use Rattle.promises.proofs.Whole.{memory-after, memory-run}
 use Rattle.promises.proofs.Turns.{in-turn}
 use Rattle.promises.proofs.Makes.{no-panic, third, old-removal, true-positions, spreads, count-makes, capacity-makes, whole}
@@ -130,7 +135,8 @@ after-held w (frame xs p) h =
     λ t. record { sampler = e t .sampler; memory = e t .memory }
 after-held w (readWave f) h =
     let n = readNumber (w .sampler) (judgedOf f) (length (w .memory)) in
-    λ t. record { sampler = other n (eachOf (Head (Load (heldIn (judgedOf f) .samples))) (w .sampler)) (w .sampler) h t; memory = other n (loadedOf f (frontsIn (w .sampler)) (w .memory)) (w .memory) h t }
+    λ t. record { sampler = other n (eachOf (Head (Load (heldIn (judgedOf f) .samples))) (w .sampler)) (w .sampler) h t; memory = other n (loadedOf f (beginningsIn (w .sampler)) (w .memory)) (w .memory) h t }
+after-held w gather h = λ t. record { sampler = gather-refused (w .sampler) (w .memory) h t; memory = gather-leaves (w .sampler) (w .memory) h t }
 after-held w (asks q) h = refl
 
 untouched : (w : World) (c : Call) (r : Outcome (on w c)) → Allows (on w c) r → code w c ≢ 0 → Untouched w c r
@@ -141,6 +147,7 @@ untouched w (frame xs p) r h n =
     let f = framed (w .sampler) xs (w .memory) in
     h .1 .frame ∙ ap (λ (g : Framed). g .frame) (other (frameNumber (w .sampler) (length xs) p (length (w .memory))) (entriesOf p (length xs) 0 f) f n)
 untouched w (readWave f) r h n = tt
+untouched w gather r h n = tt
 untouched w (asks (getFramesProcessed j)) r h n = tt
 untouched w (asks (getDataLen j)) r h n = tt
 untouched w (asks (isRecording j)) r h n = tt
@@ -160,7 +167,7 @@ untouched w (asks (writeWave rate out)) r h n = h .1 ∙ other (writeNumber (w .
 
 -- ---- a refused set-up
 empty-record : (p : InitParams) (m : List ℕ) (c : Call) → code (record { sampler = samplerOf 0 p 0; memory = m }) c ≡ 9
-unfolding code questionNumber startRows stopRows speedRows sampleNumber frameNumber channelNumber listNumber infoNumber waveformNumber writeNumber readNumber goodWith goodSampler goodSizes
+unfolding code questionNumber startRows stopRows speedRows sampleNumber frameNumber channelNumber listNumber infoNumber waveformNumber writeNumber readNumber gatherNumber goodWith goodSampler goodSizes
 empty-record p m (change (Start q position note velocity)) = refl
 empty-record p m (change (Stop q note)) = refl
 empty-record p m (change (Speed note s)) = refl
@@ -169,6 +176,7 @@ empty-record p m (change Reset) = refl
 empty-record p m (sample j x q) = refl
 empty-record p m (frame xs q) = refl
 empty-record p m (readWave f) = refl
+empty-record p m gather = refl
 empty-record p m (asks (getFramesProcessed j)) = refl
 empty-record p m (asks (getDataLen j)) = refl
 empty-record p m (asks (isRecording j)) = refl
@@ -216,7 +224,7 @@ summary-given w columns list n =
     (sym (done .0), sym (done .1) ∙ ap (λ (k : ℕ). waveform w columns ++ drop k list) count)
 
 demand1 : Demand1
-unfolding setUpOf setUpNumber code questionNumber startRows stopRows speedRows sampleNumber frameNumber infoNumber listNumber waveformNumber runNumber runAnswer
+unfolding setUpOf setUpNumber code questionNumber startRows stopRows speedRows sampleNumber frameNumber infoNumber listNumber waveformNumber runNumber runAnswer asksOf
 demand1 = record {
   takes = settled;
   one = one-outcome;
@@ -231,7 +239,7 @@ demand1 = record {
   unmade-run = unmade-run;
   sized = λ w c r h. ap (λ (v : World). length (v .memory)) (left-after w c r h) ∙ memory-after w c;
   numbered = number-code;
-  start-rows = λ w position note velocity p. refl;
+  start-rows = λ w position note velocity p. rw (against-voice (w .sampler)) refl;
   stop-rows = λ w note p. refl;
   speed-rows = λ w note s. refl;
   sample-rows = λ w j x p. refl;
@@ -325,6 +333,9 @@ demands = record {
   tidying = tidying;
   old-removal = old-removal;
   recordings = recordings;
+  phrases = phrases;
+  one-phrase = one-phrase;
+  eight = eight;
   in-turn = in-turn;
   spreads = spreads;
   count-stays = count-makes;

@@ -5,7 +5,7 @@ use mathlib.Core.List.{List, [], _∷_, _++_, map}
 use mathlib.Core.Option.{some}
 use Prim.Native.Nat.{ℕ, _+_, _-_, _^_}
 use lib.IntN.{pos, negsuc}
-use lib.ListN.{length, replicate}
+use lib.ListN.{length, set, replicate}
 use lib.Ieee.{Float, nan, inf, fin}
 use Rattle.volume.specs.declared.Volume.{Volume}
 use Rattle.volume.specs.declared.Volume.the-variants.{Static, Linear}
@@ -14,6 +14,8 @@ use Rattle.clip.specs.declared.Mode.the-variants.{Loop}
 use Rattle.binary32.specs.Leaves.{zero32, one32}
 use Rattle.recorder.specs.declared.State.{State}
 use Rattle.recorder.specs.declared.State.the-variants.{Triggered, Idle}
+use Rattle.phrases.specs.declared.Phrase.{Phrase}
+use Rattle.phrases.specs.Phrases.{noPhrases}
 use Rattle.voice.specs.declared.Voice.{Voice}
 use Rattle.channel.specs.declared.Head.{Head}
 use Rattle.channel.specs.declared.Channel.{Channel}
@@ -77,7 +79,11 @@ abbrev head : Head
 head = headWith 10 1 (Static zero32) Idle
 
 abbrev channelWith : List Voice → ℕ → Head → Channel
-channelWith vs n h = record { voices = vs; count = n; head = h }
+channelWith vs n h = record { voices = vs; table = noPhrases; count = n; head = h; several = false }
+
+-- with other phrases beside its recording
+abbrev tabled : Channel → List Phrase → Channel
+tabled c table = record { voices = c .voices; table = table; count = c .count; head = c .head; several = true }
 
 abbrev channel : Channel
 channel = channelWith (voice ∷ []) 1 head
@@ -136,6 +142,33 @@ lies start len = heads (headOn 7 start len 10 (Static one32) Idle)
 pub ends-of-phrases-judged : numbers (lies 1 3 ∷ lies 2 3 ∷ lies 4 0 ∷ lies 5 0 ∷ []) ≡ 0 ∷ 9 ∷ 0 ∷ 9 ∷ []
 unfolding computing
 ends-of-phrases-judged = refl
+
+-- so does every other one: phrase 5 behind the recording, which is the first sample; an empty one begins by the capacity's end
+abbrev lieIn : List Phrase → Sampler
+lieIn table = both channel (tabled channel table)
+
+abbrev span : ℕ → ℕ → Phrase
+span start length = record { start = start; length = length }
+
+abbrev fifth : ℕ → ℕ → List Phrase
+fifth start length = set noPhrases 5 (span start length)
+
+pub other-ends-judged : numbers (map lieIn (fifth 1 3 ∷ fifth 1 4 ∷ fifth 4 0 ∷ fifth 5 0 ∷ [])) ≡ 0 ∷ 9 ∷ 0 ∷ 9 ∷ []
+unfolding computing
+other-ends-judged = refl
+
+-- "phrases don't overlap": with the recording, with one before it, with one behind it; an empty one overlaps none
+pub overlaps-judged :
+    (numbers (map lieIn (fifth 0 1 ∷ fifth 0 0 ∷ [])) ≡ 9 ∷ 0 ∷ [])
+    × (numbers (map (λ (start : ℕ). lieIn (set (fifth 1 2) 2 (span start 1))) (1 ∷ 2 ∷ 3 ∷ [])) ≡ 9 ∷ 9 ∷ 0 ∷ [])
+    × (numbers (map (λ (start : ℕ). lieIn (set (fifth 2 2) 7 (span start 1))) (1 ∷ 2 ∷ 3 ∷ [])) ≡ 0 ∷ 9 ∷ 9 ∷ [])
+unfolding computing
+overlaps-judged = (refl, refl, refl)
+
+-- the chosen phrase's entry isn't judged, and where there aren't several phrases none is
+pub entries-unjudged : numbers (lieIn (set noPhrases 0 (span 5 5)) ∷ both channel (record { voices = voice ∷ []; table = fifth 0 5; count = 1; head = head; several = false }) ∷ []) ≡ 0 ∷ 0 ∷ []
+unfolding computing
+entries-unjudged = refl
 
 -- the number of a voice's phrase "is below eight"
 abbrev ofPhrase : ℕ → Sampler
@@ -292,6 +325,20 @@ pub own-phrases-heard :
     (heard (one-of 3 ∷ []) ≡ half ∷ two ∷ []) × (heard (one-of 7 ∷ []) ≡ zero32 ∷ zero32 ∷ []) × (heard (one-of 7 ∷ one-of 3 ∷ []) ≡ half ∷ two ∷ [])
 unfolding computing
 own-phrases-heard = (refl, refl, refl)
+
+-- with 1/4, the last sample, as phrase 7, its voice is heard too; the other's is as before
+abbrev tabled-so : List Voice → World
+tabled-so vs =
+    let w = phrased vs in
+    record { sampler = both channel (tabled (chan w 1) (set noPhrases 7 (span 3 1))); memory = w .memory }
+
+abbrev heard-so : List Voice → List Float
+heard-so vs = output (tabled-so vs) silence 1 ∷ output (after (tabled-so vs) silence) silence 1 ∷ []
+
+pub other-phrases-heard : (heard-so (one-of 7 ∷ []) ≡ fin false 1 (negsuc 1) ∷ fin false 1 (negsuc 1) ∷ []) × (heard-so (one-of 3 ∷ []) ≡ half ∷ two ∷ [])
+    × (heard-so (one-of 7 ∷ one-of 3 ∷ []) ≡ fin false 3 (negsuc 1) ∷ fin false 9 (negsuc 1) ∷ [])
+unfolding computing
+other-phrases-heard = (refl, refl, refl)
 
 -- on an empty phrase a voice stays as it is
 pub empty-phrase-rests : voiceAt (chan (after (phrased (one-of 7 ∷ one-of 3 ∷ [])) silence) 1) 0 ≡ some (one-of 7)

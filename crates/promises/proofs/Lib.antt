@@ -19,8 +19,10 @@ pub mod Table
 pub mod Broken
 pub mod Rows
 pub mod SmallParts
+pub mod Phrases
 pub mod Demands
 pub mod Examples
 pub mod WaveExamples
+pub mod PhraseExamples
 pub mod Edges
 pub mod Rules

@@ -9,17 +9,16 @@ use Rattle.walks.specs.Each.{Each}
 use Rattle.common_types.specs.declared.InitParams.{InitParams}
 use Rattle.common_types.specs.declared.Params.{Params}
 use Rattle.voice.specs.Soundness.{FittingParams}
-use Rattle.channel.specs.Soundness.{FittingChange}
 use Rattle.sampler.specs.Refusals.{capacityOf, setUpNumber}
 use Rattle.sampler.specs.Soundness.{SoundSampler}
-use Rattle.sampler.proofs.Kept.{set-up-sound, change-kept, sample-kept, frame-kept}
+use Rattle.sampler.proofs.Kept.{set-up-sound, change-kept, gather-kept, sample-kept, frame-kept}
 use Rattle.channel.specs.declared.Change.the-variants.{Head}
 use Rattle.channel.specs.declared.HeadChange.the-variants.{Load}
 use Rattle.channel.specs.Soundness.{FittingChange}
 use Rattle.wave.specs.Reader.{judgedOf}
 use Rattle.recordings.specs.Waves.{heldIn}
 use Rattle.recordings.proofs.Numbers.{read-sampler}
-use Rattle.promises.specs.Runs.{World, setUp, Call, change, sample, frame, readWave, asks, after, run, FittingCall, Made, one, frames, framesDone, frameCalls, spread, made, makes, spreadAll, FittingMade}
+use Rattle.promises.specs.Runs.{World, setUp, Call, change, sample, frame, readWave, gather, asks, after, run, FittingCall, Made, one, frames, framesDone, frameCalls, spread, made, makes, spreadAll, FittingMade}
 use Rattle.promises.specs.Demands.{NoPanic, Demand3, TruePositions, OldRemoval, Whole}
 use Rattle.promises.proofs.Calls.{count-kept, capacity-kept, standing-new}
 use Rattle.promises.proofs.Demand3.{standing-demand3}
@@ -40,6 +39,7 @@ sound-after w (change d) f h = change-kept (w .sampler) h d f
 sound-after w (sample j x p) f h = sample-kept (w .sampler) h j x p (w .memory) f
 sound-after w (frame xs p) f h = frame-kept (w .sampler) h xs p (w .memory) f
 sound-after w (readWave g) f h = read-sampler (w .sampler) g (w .memory) SoundSampler h (λ z. change-kept (w .sampler) h (Head (Load (heldIn (judgedOf g) .samples))) tt)
+sound-after w gather f h = gather-kept (w .sampler) h (w .memory)
 sound-after w (asks q) f h = h
 
 sound-run : (w : World) (cs : List Call) → Each FittingCall cs → SoundSampler (w .sampler) → SoundSampler (run w cs .sampler)

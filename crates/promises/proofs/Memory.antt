@@ -17,15 +17,16 @@ use Rattle.sampler.specs.declared.Sampler.{Sampler}
 use Rattle.sampler.specs.Refusals.{channelAt, sampleNumber, frameNumber}
 use Rattle.sampler.specs.Samplers.{partOf, memoryAt, sampleMemory, Framed, framed, entriesOf, framedOf}
 use Rattle.sampler.proofs.Rows.{sample-ready, frame-steps}
-use Rattle.fates.specs.Events.{Event, idle, changes, sounds, isSample}
-use Rattle.promises.specs.Runs.{World, Call, change, sample, frame, readWave, asks, code, after, chan, ownPart, doneTo, event, events, run, isRead}
+use Rattle.fates.specs.Events.{Event, idle, changes, gathers, sounds, isSample}
+use Rattle.promises.specs.Runs.{World, Call, change, sample, frame, readWave, gather, asks, code, after, chan, ownPart, doneTo, event, events, run, rewrites}
 use Rattle.promises.proofs.Apart.{part-apart, part-own, frame-part}
 use Rattle.promises.proofs.Calls.{kept}
 
--- what an event makes of the part m of its channel c
+-- what an event makes of the part m of its channel c, where it is no gather
 abbrev partBy : Event → Channel → List ℕ → List ℕ
 partBy idle c m = m
 partBy (changes d) c m = m
+partBy (gathers k) c m = m
 partBy (sounds p x k) c m = memoryOf x c k
 
 -- parts are told by the capacity alone
@@ -74,45 +75,49 @@ module _ (w : World) (j : ℕ) where
       go true e = which (ltb j (length xs)) (frame-part s xs p m (frame-steps s (length xs) p (length m) (eqb-true _ 0 e)) j)
       go false e = refl
 
-  -- of a call that is no read
-  part-after : (c : Call) → isRead c ≡ false → ownPart (after w c) j ≡ partBy (event w c j) (chan w j) (ownPart w j)
-  unfolding after event doneTo isRead s m
+  -- of a call that is neither a read nor a gather
+  part-after : (c : Call) → rewrites c ≡ false → ownPart (after w c) j ≡ partBy (event w c j) (chan w j) (ownPart w j)
+  unfolding after event doneTo rewrites s m
   part-after (change d) r = same-part s _ j m (kept w (change d) .capacity) ∙ still (eqb (code w (change d)) 0) (changes d) (chan w j) (ownPart w j) refl
   part-after (sample i x p) r = same-part s _ j (sampleMemory s i x p m) (kept w (sample i x p) .capacity) ∙ sample-part i x p
   part-after (frame xs p) r = frame-parts xs p
   part-after (readWave f) r = absurd (true≢false r)
+  part-after gather r = absurd (true≢false r)
   part-after (asks q) r = still (eqb (code w (asks q)) 0) idle (chan w j) (ownPart w j) refl
 
   not-sampled : (e : Event) (c : Channel) (k : List ℕ) → isSample e ≡ false → partBy e c k ≡ k
   unfolding isSample
   not-sampled idle c k h = refl
   not-sampled (changes d) c k h = refl
+  not-sampled (gathers l) c k h = refl
   not-sampled (sounds p x l) c k h = absurd (true≢false h)
 
-  pub part-unwritten : (c : Call) → isSample (event w c j) ≡ false → isRead c ≡ false → ownPart (after w c) j ≡ ownPart w j
+  pub part-unwritten : (c : Call) → isSample (event w c j) ≡ false → rewrites c ≡ false → ownPart (after w c) j ≡ ownPart w j
   part-unwritten c h r = part-after c r ∙ not-sampled (event w c j) (chan w j) (ownPart w j) h
 
-  -- a read is no sample
-  no-read : (c : Call) (p : Params) (x : Float) (k : List ℕ) → event w c j ≡ sounds p x k → isRead c ≡ false
-  unfolding event doneTo isRead isSample
-  no-read (change d) p x k h = refl
-  no-read (sample i y q) p x k h = refl
-  no-read (frame xs q) p x k h = refl
-  no-read (readWave f) p x k h = sym (ap isSample h) ∙ unsampled (eqb (code w (readWave f)) 0)
-    where
-      unsampled : (b : Bool) → isSample (cond b (doneTo w (readWave f) j) idle) ≡ false
-      unsampled true = refl
-      unsampled false = refl
-  no-read (asks q) p x k h = refl
+  unsampled : (b : Bool) (e : Event) → isSample e ≡ false → isSample (cond b e idle) ≡ false
+  unfolding isSample
+  unsampled true e h = h
+  unsampled false e h = refl
+
+  -- neither of these is a sample
+  no-rewrite : (c : Call) (p : Params) (x : Float) (k : List ℕ) → event w c j ≡ sounds p x k → rewrites c ≡ false
+  unfolding event doneTo rewrites isSample
+  no-rewrite (change d) p x k h = refl
+  no-rewrite (sample i y q) p x k h = refl
+  no-rewrite (frame xs q) p x k h = refl
+  no-rewrite (readWave f) p x k h = sym (ap isSample h) ∙ unsampled (eqb (code w (readWave f)) 0) (doneTo w (readWave f) j) refl
+  no-rewrite gather p x k h = sym (ap isSample h) ∙ unsampled (eqb (code w gather) 0) (doneTo w gather j) refl
+  no-rewrite (asks q) p x k h = refl
 
   pub part-written : (c : Call) (p : Params) (x : Float) (k : List ℕ) → event w c j ≡ sounds p x k → ownPart (after w c) j ≡ memoryOf x (chan w j) k
-  part-written c p x k h = part-after c (no-read c p x k h) ∙ ap (λ (e : Event). partBy e (chan w j) (ownPart w j)) h
+  part-written c p x k h = part-after c (no-rewrite c p x k h) ∙ ap (λ (e : Event). partBy e (chan w j) (ownPart w j)) h
 
 -- several calls
-pub parts-unwritten : (w : World) (cs : List Call) (j : ℕ) → any isSample (events w cs j) ≡ false → any isRead cs ≡ false → ownPart (run w cs) j ≡ ownPart w j
+pub parts-unwritten : (w : World) (cs : List Call) (j : ℕ) → any isSample (events w cs j) ≡ false → any rewrites cs ≡ false → ownPart (run w cs) j ≡ ownPart w j
 unfolding run events any
 parts-unwritten w [] j h r = refl
 parts-unwritten w (c ∷ cs) j h r =
     let a = neither (isSample (event w c j)) _ h in
-    let b = neither (isRead c) _ r in
+    let b = neither (rewrites c) _ r in
     parts-unwritten (after w c) cs j (a .1) (b .1) ∙ part-unwritten w j c (a .0) (b .0)

@@ -13,7 +13,7 @@ use Rattle.sampler.specs.declared.Answer.{Answer}
 use Rattle.sampler.specs.declared.SampleAnswer.{SampleAnswer}
 use Rattle.sampler.specs.Refusals.{channelAt, frameNumber}
 use Rattle.common_types.specs.declared.Params.{Params}
-use Rattle.sampler.specs.Samplers.{answerOf, processSampleOf, framedOf, frameMoved, ranOf, runAnswer}
+use Rattle.sampler.specs.Samplers.{answerOf, processSampleOf, gatherOf, gatherMemory, framedOf, frameMoved, ranOf, runAnswer}
 use Rattle.questions.specs.declared.VoiceInfos.{VoiceInfos}
 use Rattle.questions.specs.declared.Counted.the-variants as counted
 use Rattle.questions.specs.Lists.{countedOf, voiceInfoCounted, voiceInfoAfter}
@@ -42,6 +42,7 @@ use Rattle.promises.specs.Runs.{
   sample,
   frame,
   readWave,
+  gather,
   asks,
   code,
   after,
@@ -90,6 +91,11 @@ settled (on w (readWave f)) = record {
   allowed = (refl, refl);
   only = λ r h t. record { answer = (h .0) t; memory = (h .1) t };
 }
+settled (on w gather) = record {
+  outcome = record { answer = gatherOf (w .sampler) (w .memory); memory = gatherMemory (w .sampler) (w .memory) };
+  allowed = (refl, refl);
+  only = λ r h t. record { answer = (h .0) t; memory = (h .1) t };
+}
 settled (on w (asks (getFramesProcessed j))) = record { outcome = _; allowed = refl; only = λ r h. h }
 settled (on w (asks (getDataLen j))) = record { outcome = _; allowed = refl; only = λ r h. h }
 settled (on w (asks (isRecording j))) = record { outcome = _; allowed = refl; only = λ r h. h }
@@ -134,11 +140,12 @@ counted-number v = go (eqb (v .number) 0) refl
     go false e = refl
 
 pub number-code : (w : World) (c : Call) (r : Outcome (on w c)) → Allows (on w c) r → numberIn (on w c) r ≡ code w c
-unfolding code questionNumber answerOf processSampleOf readWaveOf
+unfolding code questionNumber answerOf processSampleOf readWaveOf gatherOf
 number-code w (change d) r h = ap (λ (a : Answer). a .number) h
 number-code w (sample j x p) r h = ap (λ (a : SampleAnswer). a .number) (h .0)
 number-code w (frame xs p) r h = h .0
 number-code w (readWave f) r h = ap (λ (a : ReadAnswer). a .read .number) (h .0)
+number-code w gather r h = ap (λ (a : Answer). a .number) (h .0)
 number-code w (asks (getFramesProcessed j)) r h = ap countedNumber h ∙ frames-number (w .sampler) j
 number-code w (asks (getDataLen j)) r h = ap countedNumber h ∙ data-len-number (w .sampler) j
 number-code w (asks (isRecording j)) r h = ap toldNumber h ∙ recording-number (w .sampler) j
@@ -158,6 +165,7 @@ left-after w (change d) r h = ap (leftBy w (change d)) h
 left-after w (sample j x p) r h = λ t. record { sampler = (h .0) t .sampler; memory = (h .1) t }
 left-after w (frame xs p) r h = λ t. record { sampler = (h .1 .sampler) t; memory = (h .1 .memory) t }
 left-after w (readWave f) r h = λ t. record { sampler = (h .0) t .sampler; memory = (h .1) t }
+left-after w gather r h = λ t. record { sampler = (h .0) t .sampler; memory = (h .1) t }
 left-after w (asks q) r h = refl
 
 -- ---- the output
@@ -167,6 +175,7 @@ output-answered w (change d) r h j = refl
 output-answered w (sample i x p) r h j = ap (λ (a : SampleAnswer). a .output) (h .0)
 output-answered w (frame xs p) r h j = λ t. outputIn w (frame xs p) (record { answer = r .answer; frame = (h .1 .frame) t; memory = r .memory }) j
 output-answered w (readWave f) r h j = refl
+output-answered w gather r h j = refl
 output-answered w (asks q) r h j = refl
 
 pub left-along : (w : World) (xs : List Float) (p : Params) (r : RunOutcome) → Allows (along w xs p) r → leftAlong r ≡ made w (frames xs p)

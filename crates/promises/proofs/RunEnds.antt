@@ -1,10 +1,10 @@
 -- What a run of frames answers and leaves: all as it was with 9, 10 and 4, every frame with 0, and with 6 what the run of the frames before the clock's end leaves. Assumes nothing.
 use mathlib.Core.Path.{_≡_, refl, sym, ap, _∙_, subst}
 use mathlib.Core.Logic.{_≢_}
-use mathlib.Core.Bool.{Bool, true, false, not}
+use mathlib.Core.Bool.{true, false, not}
 use mathlib.Core.List.{List, _++_, append-assoc}
 use Prim.Native.Nat.{ℕ, zero, suc, _+_, _*_, _/_, _%_, _≤_, _<_, min}
-use native.Mathlib.Nat.{le-trans, le-of-eq, le-refl, suc-mul, div-add-mod', mul-div-left, mul-mod-left}
+use native.Mathlib.Nat.{le-of-eq, suc-mul, div-add-mod', mul-div-left, mul-mod-left}
 use native.Mathlib.Omega.{arith}
 use borrow.Author.Tests.{ltb-false, le-ltb, eq-eqb, ne-eqb}
 use lib.Dec.{eqb, ltb}

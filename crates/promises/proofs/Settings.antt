@@ -15,7 +15,7 @@ use Rattle.sampler.specs.Refusals.{setUpNumber, capacityOf}
 use Rattle.sampler.specs.Samplers.{samplerOf, setUpOf}
 use Rattle.fates.specs.Events.{Event, idle, settingAfter}
 use Rattle.fates.proofs.Clocks.{setting-after}
-use Rattle.promises.specs.Runs.{World, setUp, Call, change, sample, frame, readWave, asks, code, after, run, chan, doneTo, event, settingBy, settingIn}
+use Rattle.promises.specs.Runs.{World, setUp, Call, change, sample, frame, readWave, gather, asks, code, after, run, chan, doneTo, event, settingBy, settingIn}
 use Rattle.promises.proofs.Calls.{Standing, count-kept, standing-after, standing-new}
 use Rattle.promises.proofs.Demand3.{next, still}
 
@@ -39,6 +39,7 @@ by-event w (change Reset) j on = kept _ (eqb (code w (change Reset)) 0) on refl
 by-event w (sample i x p) j on = kept _ (eqb (code w (sample i x p)) 0) on (kept _ (eqb i j) on refl)
 by-event w (frame xs p) j on = kept _ (eqb (code w (frame xs p)) 0) on (kept _ (ltb j (length xs)) on refl)
 by-event w (readWave f) j on = kept _ (eqb (code w (readWave f)) 0) on refl
+by-event w gather j on = kept _ (eqb (code w gather) 0) on refl
 by-event w (asks q) j on = kept idle (eqb (code w (asks q)) 0) on refl
 
 setting-run : (w : World) → Standing w → (j : ℕ) → j < w .sampler .count → (cs : List Call) → chan (run w cs) j .head .interpolates ≡ settingIn w (chan w j .head .interpolates) cs

@@ -32,7 +32,7 @@ use Rattle.sampler.specs.Samplers.{partOf, playedAt, movedAt, processSampleOf, 
 use Rattle.sampler.proofs.Rows.{passed, is-true, frame-steps}
 use Rattle.sampler.proofs.Entries.{sample-reaches, frame-reaches}
 use Rattle.fates.specs.Engine.{turnsIn}
-use Rattle.fates.specs.Events.{Event, idle, changes, sounds, act, isReset, emptyAt}
+use Rattle.fates.specs.Events.{Event, idle, changes, gathers, sounds, act, isReset, emptyAt}
 use Rattle.fates.specs.Places.{Place, at, gone, voiceAt, fateOf, follow}
 use Rattle.fates.proofs.Own.{own-leaves, step-moved, step-output}
 use Rattle.fates.proofs.Lives.{live-sounded}
@@ -294,6 +294,7 @@ event-none (changes d) c h = up-none (follow (changes d) c) (length (live c)) (�
     go : (n : ℕ) (b : Bool) → movesUp (cond b gone (at n)) n ≡ false
     go n true = refl
     go n false = ltb-self n
+event-none (gathers m) c h = idle-up c (length (live c))
 event-none (sounds p x m) c h = sounds-none p x m c h
 
 -- nothing leaves where all stay at their places
@@ -308,6 +309,7 @@ event-first (changes d) c n k v e h = go (isReset (changes d)) h
     go : (b : Bool) → cond b gone (at n) ≡ at k → (k < n) ↔ ((i : ℕ) × (i < n) × (cond b gone (at i) ≡ gone))
     go true h = absurd (gone-never k h)
     go false h = put-first n k h
+event-first (gathers m) c n k v e h = put-first n k h
 event-first (sounds p x m) c n k v e h = fate-first (turnsIn p x m c) (live c) n k v e h
 
 -- ---- sums

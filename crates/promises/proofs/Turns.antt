@@ -1,19 +1,18 @@
 -- A run of frames is its frame calls, one after the other: testing record, memory and parameters once equals testing them at each frame. Assumes nothing.
 use mathlib.Core.Path.{_≡_, refl, sym, ap, _∙_, subst}
 use mathlib.Core.Logic.{_⊎_, inl, inr}
-use mathlib.Core.Bool.{Bool, true, false, not, _&&_, _||_, cond, true≢false}
+use mathlib.Core.Bool.{Bool, true, false, not, cond}
 use mathlib.Core.List.{List, [], _∷_, _++_, append-assoc}
 use Prim.Native.Nat.{ℕ, zero, suc, _+_, _-_, _*_, _/_, _%_, _≤_, _<_, min, max, zero-le}
 use native.Mathlib.Nat.{le-refl, le-trans, le-of-eq, suc-mul, zero-mul, zero-add, min-le-right}
 use native.Mathlib.Omega.{arith}
-use borrow.Author.Tests.{leb-true, leb-false, ltb-true, eqb-true, le-leb, lt-leb, lt-ltb, le-ltb, eq-eqb}
+use borrow.Author.Tests.{leb-false, ltb-true, lt-leb, lt-ltb, le-ltb, eq-eqb}
 use lib.Dec.{leb, ltb, eqb}
 use lib.ListN.{length, take, drop, getD, length-drop}
 use lib.Seq.{length-take-le, getD-take, drop-drop}
 use lib.Ieee.{Float}
 use Rattle.walks.specs.Walks.{any, fold}
 use Rattle.walks.proofs.Lists.Every.{both}
-use Rattle.walks.proofs.Lists.Each.{each-at}
 use Rattle.binary32.specs.Leaves.{zero32}
 use Rattle.binary32.proofs.Truth.{no}
 use Rattle.common_types.specs.declared.Params.{Params}
@@ -23,7 +22,6 @@ use Rattle.channel.specs.declared.Channel.{Channel}
 use Rattle.channel.specs.Heads.{lastTime}
 use Rattle.channel.specs.Channels.{channelOf}
 use Rattle.channel.specs.Channels.{processSampleOf as channelSampleOf}
-use Rattle.channel.specs.Soundness.{FittingChannel}
 use Rattle.channel.proofs.Parts.{parts}
 use Rattle.sampler.specs.declared.Sampler.{Sampler}
 use Rattle.sampler.specs.Refusals.{present, channelAt, goodSampler, goodWith, atEnd, laterOf, latestOf, roomOf, frameNumber, runNumber, doneOf}
@@ -33,14 +31,14 @@ use Rattle.sampler.proofs.Rows.{fitting}
 use Rattle.sampler.proofs.RunRows.{working, run-begins, done-turns}
 use Rattle.sampler.proofs.Entries.{Kept, kept-refl, kept-trans, kept-entries, memory-at-length, entries-keep}
 use Rattle.sampler.proofs.Kept.{channel-sound, frame-kept}
-use Rattle.fates.specs.Events.{idle, sounds, act}
+use Rattle.fates.specs.Events.{sounds, act}
 use Rattle.fates.specs.Places.{Housed}
 use Rattle.fates.proofs.Clocks.{clock-moves}
 use Rattle.fates.proofs.Housing.{housed}
-use Rattle.promises.specs.Runs.{World, Call, frame, code, after, run, chan, ownPart, doneTo, event, Made, one, frames, framesDone, frameCalls, spread, made, makes, playedIn, playedBy, Accepted}
+use Rattle.promises.specs.Runs.{World, frame, code, after, run, chan, ownPart, doneTo, event, Made, one, frames, framesDone, frameCalls, spread, made, makes, playedIn, playedBy, Accepted}
 use Rattle.promises.specs.Demands.{InTurn}
 use Rattle.promises.proofs.Apart.{frame-channel}
-use Rattle.promises.proofs.Calls.{Standing, chan-after, kept, kept-run, standing-after, standing-run}
+use Rattle.promises.proofs.Calls.{Standing, chan-after, kept, kept-run, standing-after}
 use Rattle.promises.proofs.Accepted.{any-at, any-none}
 use Rattle.promises.proofs.Engine.{sounds-same}
 use Rattle.promises.proofs.Whole.{memory-after}

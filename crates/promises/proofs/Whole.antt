@@ -34,13 +34,13 @@ use Rattle.voice.proofs.Moves.{loop-length-good, moved-sound}
 use Rattle.voice.proofs.Kept.{index-recorded, next-recorded, clip-sound}
 use Rattle.channel.specs.Channels.{live, phraseAt, takenOf}
 use Rattle.channel.specs.Soundness.{FittingChange, SoundChannel}
-use Rattle.channel.proofs.Heads.{phrase-inside, phrase-within}
-use Rattle.channel.proofs.Parts.{parts, voice-at}
+use Rattle.channel.proofs.Parts.{phrase-inside, phrase-within, voice-at}
 use Rattle.channel.proofs.Samples.{taken-sound}
 use Rattle.sampler.specs.declared.Sampler.{Sampler}
-use Rattle.sampler.specs.Refusals.{channelAt, goodSampler, goodWith, anyRecording, noChannel, setUpNumber, frameNumber, channelNumber, row, roomOf, runNumber}
+use Rattle.sampler.specs.Refusals.{channelAt, goodSampler, goodWith, anyRecording, againstAny, noChannel, setUpNumber, frameNumber, gatherNumber, channelNumber, row, roomOf, runNumber}
 use Rattle.sampler.specs.Soundness.{SoundSampler, Reached, Unbroken}
 use Rattle.sampler.proofs.Entries.{part-length, sample-memory-length, frame-memory-length}
+use Rattle.sampler.proofs.Gathered.{gather-memory-length}
 use Rattle.sampler.proofs.Kept.{small, channel-sound}
 use Rattle.sampler.proofs.Reach.{passes, another, none, reached-sound, reached-unbroken}
 use Rattle.fates.specs.Engine.{momentAt, heldAt}
@@ -53,7 +53,8 @@ use Rattle.recordings.specs.Waves.{lengthsDiffer, layoutIn, writeNumber, badFil
 use Rattle.recordings.proofs.Numbers.{read-sampler, read-memory-length}
 use Rattle.channel.specs.declared.Change.the-variants.{Head}
 use Rattle.channel.specs.declared.HeadChange.the-variants.{Load}
-use Rattle.promises.specs.Runs.{World, setUp, Question, getFramesProcessed, getDataLen, isRecording, getLastRecordedOffset, printErrorInfo, iterActiveNotes, getVoiceInfo, fillVoiceInfo, getWaveformSummary, writeWave, questionNumber, Call, change, sample, frame, readWave, asks, code, after, run, chan, FittingCall}
+use Rattle.channel.specs.declared.Ask.the-variants.{Samples}
+use Rattle.promises.specs.Runs.{World, setUp, Question, getFramesProcessed, getDataLen, isRecording, getLastRecordedOffset, printErrorInfo, iterActiveNotes, getVoiceInfo, fillVoiceInfo, getWaveformSummary, writeWave, questionNumber, Call, change, sample, frame, readWave, gather, asks, code, after, run, chan, FittingCall}
 use Rattle.promises.specs.Demands.{lengthened, sped, toldLength, Asked, AllPlaced, Plays, NoPanic, Whole}
 use Rattle.walks.proofs.Lists.Looks.{look-below, look-value}
 use Rattle.fates.proofs.Own.{held-length}
@@ -68,6 +69,7 @@ reached-after size w (change d) f r = Reached.changed (w .sampler) d r f
 reached-after size w (sample j x p) f r = Reached.sampled (w .sampler) j x p (w .memory) r f
 reached-after size w (frame xs p) f r = Reached.framed (w .sampler) xs p (w .memory) r f
 reached-after size w (readWave g) f r = read-sampler (w .sampler) g (w .memory) (Reached size) r (λ z. Reached.changed (w .sampler) (Head (Load (heldIn (judgedOf g) .samples))) r tt)
+reached-after size w gather f r = Reached.gathered (w .sampler) (w .memory) r
 reached-after size w (asks q) f r = r
 
 pub memory-after : (w : World) (c : Call) → length (after w c .memory) ≡ length (w .memory)
@@ -76,6 +78,7 @@ memory-after w (change d) = refl
 memory-after w (sample j x p) = sample-memory-length (w .sampler) j _ p (w .memory)
 memory-after w (frame xs p) = frame-memory-length (w .sampler) xs p (w .memory)
 memory-after w (readWave f) = read-memory-length (w .sampler) f (w .memory)
+memory-after w gather = gather-memory-length (w .sampler) (w .memory)
 memory-after w (asks q) = refl
 
 reached-run : (size : ℕ) (w : World) (cs : List Call) → Each FittingCall cs → Reached size (w .sampler) → Reached size (run w cs .sampler)
@@ -116,7 +119,7 @@ asked-nine w g m (writeWave rate out) =
     (another (anyRecording (w .sampler)) 15 _ tt (another (lengthsDiffer (w .sampler)) 16 _ tt (another (ltb (length out) (bytesOf (layoutIn (w .sampler)))) 8 0 tt none)))
 
 no-nine : (w : World) → SoundSampler (w .sampler) → Unbroken (w .sampler) (length (w .memory)) → (c : Call) → code w c ≢ 9
-unfolding code readNumber
+unfolding code readNumber gatherNumber
 no-nine w h u (change d) = u .change d
 no-nine w h u (sample j x p) = u .sample j p
 no-nine w h u (frame xs p) = u .frame (length xs) p
@@ -124,7 +127,8 @@ no-nine w h u (readWave f) =
     let s = w .sampler in
     let held = heldIn (judgedOf f) in
     passes (goodWith s (length (w .memory))) _ (good-with s (length (w .memory)) u)
-    (another (anyRecording s) 15 _ tt (another (badFile (judgedOf f)) 17 _ tt (another (not (eqb (held .channels) (s .count))) 16 _ tt (another (ltb (s .capacity) (held .samples)) 18 0 tt none))))
+    (another (againstAny (Samples (held .samples)) s .blocked) 15 _ tt (another (badFile (judgedOf f)) 17 _ tt (another (not (eqb (held .channels) (s .count))) 16 _ tt (another (againstAny (Samples (held .samples)) s .short) 18 0 tt none))))
+no-nine w h u gather = passes (goodWith (w .sampler) (length (w .memory))) _ (good-with (w .sampler) (length (w .memory)) u) (another (anyRecording (w .sampler)) 21 0 tt none)
 no-nine w h u (asks q) = asked-nine w (h .good) (good-with (w .sampler) (length (w .memory)) u) q
 
 -- a run is tested for row 9 as a frame is
@@ -146,7 +150,7 @@ module _ (w : World) (st : Standing w) (h : SoundSampler (w .sampler)) (j n : �
   size = ap length (sounds-by .part) ∙ part-length (w .sampler) j (w .memory) (sounds-by .room)
 
   taken : SoundChannel (w .sampler .capacity) (takenOf m (chan w j))
-  taken = taken-sound (w .sampler .capacity) (chan w j) (channel-sound (w .sampler) h j (y .present)) m size
+  taken = taken-sound (w .sampler .capacity) (chan w j) (channel-sound (w .sampler) h j (y .present)) (small (w .sampler) h) m size
 
   place : n < chan w j .count
   place = omega (arith, look-below (live (chan w j)) n v (y .stands), live-length (chan w j) (st .housing j (y .present)))
@@ -162,14 +166,14 @@ module _ (w : World) (st : Standing w) (h : SoundSampler (w .sampler)) (j n : �
 
   -- its phrase lies within the capacity
   ends : endsBy (w .sampler .capacity) (phraseAt (takenOf m (chan w j)) (v .phrase)) ≡ true
-  ends = phrase-inside (w .sampler .capacity) (takenOf m (chan w j) .head) (parts taken .head) (v .phrase)
+  ends = phrase-inside (w .sampler .capacity) (takenOf m (chan w j)) taken (v .phrase)
 
   data-inside : lengthAt m (chan w j) v ≤ length (heldAt x m (chan w j) v)
   data-inside = le-of-eq (sym (held-length x m (chan w j) v (subst (λ (k : ℕ). endsBy k (phraseAt (takenOf m (chan w j)) (v .phrase)) ≡ true) (sym size) ends)))
 
   short : lengthAt m (chan w j) v ≤ 2 ^ 22
   unfolding momentAt
-  short = le-trans (phrase-within (w .sampler .capacity) (takenOf m (chan w j) .head) (parts taken .head) (v .phrase)) (small (w .sampler) h)
+  short = le-trans (phrase-within (w .sampler .capacity) (takenOf m (chan w j)) taken (v .phrase)) (small (w .sampler) h)
 
   sound : SoundVoice (chan w j .head .now) v
   unfolding takenOf

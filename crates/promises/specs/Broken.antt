@@ -6,15 +6,19 @@ use mathlib.Core.Bool.{true}
 use mathlib.Core.Logic.{_⊎_, _≢_, _↔_}
 use mathlib.Core.Option.{some}
 use Prim.Native.Nat.{ℕ, _+_, _*_, _^_, _≤_, _<_}
+use lib.ListN.{length}
 use lib.Ieee.{Float, le}
+use Rattle.walks.specs.Each.{Each}
 use Rattle.binary32.specs.Leaves.{asFloat}
 use Rattle.volume.specs.declared.Volume.the-variants.{Linear}
 use Rattle.recorder.specs.declared.State.the-variants.{Triggered}
 use Rattle.clip.specs.declared.Clip.{Clip}
 use Rattle.voice.specs.declared.Voice.{Voice}
+use Rattle.phrases.specs.declared.Phrase.{Phrase}
 use Rattle.channel.specs.declared.Channel.{Channel}
+use Rattle.channel.specs.Channels.{phraseAt}
 use Rattle.sampler.specs.declared.Sampler.{Sampler}
-use Rattle.sampler.specs.Refusals.{channelAt, goodSampler, goodWith, capacityOf, setUpNumber}
+use Rattle.sampler.specs.Refusals.{present, channelAt, goodSampler, goodWith, capacityOf, setUpNumber}
 use Rattle.fates.specs.Places.{voiceAt}
 
 -- a float from a to b, which a NaN is not
@@ -37,15 +41,21 @@ abbrev pub IsRamp : Channel → ℕ → ℕ → Type 0
 IsRamp c a b = (x : Float) × (y : Float)
     × ((c .head .«passthru_volume» ≡ Linear a b x y) ⊎ ((v : Voice) × IsVoice c v × (v .volume ≡ Linear a b x y)))
 
+-- no sample is of both: one of them has none, or one ends before the other begins
+abbrev pub NoOverlap : Phrase → Phrase → Type 0
+NoOverlap p q = (p .length ≡ 0)
+    ⊎ ((q .length ≡ 0) ⊎ ((p .start + p .length ≤ q .start) ⊎ (q .start + q .length ≤ p .start)))
+
 -- "a voice count exceeds 32, data length exceeds capacity, a write place exceeds the data length, the clock exceeds
 -- 2^48, a `since`, `finished_at` or ramp start lies after the clock, a ramp is empty or longer than 2^24, or a clip is
 -- bad. Only voices below the count are judged." And of request 11/12: the number of a voice's phrase "is below eight,
--- .. all lie within the channel's capacity", and there is a chosen phrase.
+-- phrases don't overlap, all lie within the channel's capacity", and there is a chosen phrase.
 pub record GoodChannel (capacity : ℕ) (c : Channel) : Type 0 where
   pub voices : c .count ≤ 32
   pub data-length : c .head .«data_len» ≤ capacity
   pub chosen : c .head .chosen < 8
-  pub within : c .head .start + c .head .«data_len» ≤ capacity
+  pub within : (k : ℕ) → k < 8 → phraseAt c k .start + phraseAt c k .length ≤ capacity
+  pub apart : (j k : ℕ) → j < 8 → k < 8 → j ≢ k → NoOverlap (phraseAt c j) (phraseAt c k)
   pub phrase : (v : Voice) → IsVoice c v → v .phrase < 8
   pub write-place : (write : ℕ) → c .head .recorder .state ≡ Triggered write → write ≤ c .head .«data_len»
   pub clock : c .head .now ≤ 2 ^ 48
@@ -67,11 +77,16 @@ pub record GoodRecord (s : Sampler) : Type 0 where
   pub sizes : GoodSizes (s .count) (s .capacity)
   pub channels : (j : ℕ) → j < s .count → GoodChannel (s .capacity) (channelAt s j)
 
+-- each table of phrases has eight entries, as in every record of a program
+abbrev pub Tabled : Sampler → Type 0
+Tabled s = Each (λ (c : Channel). length (c .table) ≡ 8) (present s)
+
 pub record RowNine : Type 0 where
   -- "a broken record"
-  pub broken : (s : Sampler) → (goodSampler s ≡ true) ↔ GoodRecord s
+  pub broken : (s : Sampler) → Tabled s → (goodSampler s ≡ true) ↔ GoodRecord s
   -- "sample memory shorter than channel count times capacity"
-  pub memory : (s : Sampler) (size : ℕ) → (goodWith s size ≡ true) ↔ (GoodRecord s × (s .count * s .capacity ≤ size))
+  pub memory : (s : Sampler) (size : ℕ) → Tabled s
+      → (goodWith s size ≡ true) ↔ (GoodRecord s × (s .count * s .capacity ≤ size))
   -- "set-up with another channel count or capacity 0"
   pub set-up : (count size : ℕ)
       → (setUpNumber count size ≡ 0) ↔ (((count ≡ 1) ⊎ (count ≡ 2)) × (capacityOf count size ≢ 0))

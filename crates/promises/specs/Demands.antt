@@ -34,19 +34,19 @@ pub record Demand1 : Type 0 where
   pub takes : (g : Given) → Settled g
   pub one : (g : Given) (r s : Outcome g) → Allows g r → Allows g s → r ≡ s
   -- and lent memory keeps its size. "Channel j owns the j-th part of that size. Only a sample that records writes
-  -- sample memory, at its write place in its channel's part", or a read (10/12: `Recordings.antt` says where). So a
-  -- call that is neither a sample of channel j nor a read leaves its part as it was, for every j, past the last channel
-  -- too; a sample x of it, alone or in a frame, leaves `memoryOf x` of it.
+  -- sample memory, at its write place in its channel's part", or a read (10/12: `Recordings.antt` says where) or a gather
+  -- (11/12: `Phrases.antt`). So a call that is neither a sample of channel j nor one of these leaves its part as it was,
+  -- for every j, past the last channel too; a sample x of it, alone or in a frame, leaves `memoryOf x` of it.
   pub sized : (w : World) (c : Call) (r : Outcome (on w c)) → Allows (on w c) r
       → length (leftBy w c r .memory) ≡ length (w .memory)
   pub unwritten : (w : World) (c : Call) (r : Outcome (on w c)) → Allows (on w c) r
-      → (j : ℕ) → isSample (event w c j) ≡ false → isRead c ≡ false → ownPart (leftBy w c r) j ≡ ownPart w j
+      → (j : ℕ) → isSample (event w c j) ≡ false → rewrites c ≡ false → ownPart (leftBy w c r) j ≡ ownPart w j
   pub written : (w : World) (c : Call) (r : Outcome (on w c)) → Allows (on w c) r
       → (j : ℕ) (p : Params) (x : Float) (m : List ℕ) → event w c j ≡ sounds p x m
       → ownPart (leftBy w c r) j ≡ memoryOf x (chan w j) m
   -- So it is of several calls, and of a run of frames, which is its frame calls (`in-turn`).
   pub unwritten-run : (w : World) (cs : List Call) (j : ℕ) → any isSample (events w cs j) ≡ false
-      → any isRead cs ≡ false → ownPart (run w cs) j ≡ ownPart w j
+      → any rewrites cs ≡ false → ownPart (run w cs) j ≡ ownPart w j
   pub run-sized : (w : World) → FittingSampler (w .sampler) → (xs : List Float) (p : Params) → FittingParams p
       → (r : RunOutcome) → Allows (along w xs p) r → length (leftAlong r .memory) ≡ length (w .memory)
   -- "voice info fills a lent list of `VoiceInfo` records", and "a lent list longer than the answer keeps its rest." The
@@ -623,6 +623,11 @@ pub record Demands : Type 0 where
       → (hs : List Made) (j : ℕ) → j < count → OldRemoval (makes (setUp count p m) hs) j
   -- 10/12: `Recordings.antt`
   pub recordings : (w : World) → Recordings w
+  -- 11/12: `Phrases.antt`
+  pub phrases : (w : World) → Phrases w
+  pub one-phrase : Base
+  pub eight : (count : ℕ) (p : InitParams) (m : List ℕ) → setUpNumber count (length m) ≡ 0
+      → (hs : List Made) → Each FittingMade hs → Eight (makes (setUp count p m) hs)
   -- "Demand 3 counts each frame of a run as a sample." What demand 3 says of calls it says of a run's frames: the run
   -- is its frame calls, each one event on the channel, and so are any calls of a host, runs among them.
   pub in-turn : (w : World) → FittingSampler (w .sampler) → (xs : List Float) (p : Params) → FittingParams p

@@ -1,6 +1,7 @@
 pub mod Runs
 pub mod Outcomes
 pub mod Recordings
+pub mod Phrases
 pub mod Tidies
 pub mod Table
 pub mod Broken

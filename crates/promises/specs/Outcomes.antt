@@ -19,6 +19,8 @@ use Rattle.sampler.specs.Refusals.{frameNumber}
 use Rattle.sampler.specs.Samplers.{
   setUpOf,
   changeOf,
+  gatherOf,
+  gatherMemory,
   processSampleOf,
   sampleMemory,
   Frames,
@@ -68,6 +70,7 @@ use Rattle.promises.specs.Runs.{
   sample,
   frame,
   readWave,
+  gather,
   asks,
   Made,
   one,
@@ -101,6 +104,10 @@ pub record ReadOutcome : Type 0 where
   pub answer : ReadAnswer
   pub memory : List ℕ
 
+pub record GatherOutcome : Type 0 where
+  pub answer : Answer
+  pub memory : List ℕ
+
 -- of a question that is answered in a lent list
 pub record ListOutcome : Type 0 where
   pub answer : Counted
@@ -120,6 +127,7 @@ Outcome (on w (change d)) = Answer
 Outcome (on w (sample j x p)) = SampleOutcome
 Outcome (on w (frame xs p)) = FrameOutcome
 Outcome (on w (readWave f)) = ReadOutcome
+Outcome (on w gather) = GatherOutcome
 Outcome (along w xs p) = RunOutcome
 Outcome (on w (asks (getFramesProcessed j))) = Counted
 Outcome (on w (asks (getDataLen j))) = Counted
@@ -144,6 +152,8 @@ Allows (on w (frame xs p)) r =
     × (r .answer .moved ≡ frameMoved (w .sampler) xs p (w .memory))
 Allows (on w (readWave f)) r =
     (r .answer ≡ readWaveOf (w .sampler) f (length (w .memory))) × (r .memory ≡ readMemory (w .sampler) f (w .memory))
+Allows (on w gather) r =
+    (r .answer ≡ gatherOf (w .sampler) (w .memory)) × (r .memory ≡ gatherMemory (w .sampler) (w .memory))
 Allows (along w xs p) r =
     (r .answer .ran ≡ runAnswer (w .sampler) (length xs) p (length (w .memory)))
     × Frames (ranOf (w .sampler) xs p (w .memory)) (r .answer .sampler) (r .run) (r .memory)
@@ -179,6 +189,7 @@ numberIn (on w (change d)) r = r .number
 numberIn (on w (sample j x p)) r = r .answer .number
 numberIn (on w (frame xs p)) r = r .answer .number
 numberIn (on w (readWave f)) r = r .answer .read .number
+numberIn (on w gather) r = r .answer .number
 numberIn (along w xs p) r = r .answer .ran .number
 numberIn (on w (asks (getFramesProcessed j))) r = countedNumber r
 numberIn (on w (asks (getDataLen j))) r = countedNumber r
@@ -197,6 +208,7 @@ leftBy w (change d) r = withSampler (r .sampler) w
 leftBy w (sample j x p) r = record { sampler = r .answer .sampler; memory = r .memory }
 leftBy w (frame xs p) r = record { sampler = r .answer .sampler; memory = r .memory }
 leftBy w (readWave f) r = record { sampler = r .answer .sampler; memory = r .memory }
+leftBy w gather r = record { sampler = r .answer .sampler; memory = r .memory }
 leftBy w (asks q) r = w
 
 -- the same after a run
@@ -209,6 +221,7 @@ outputIn w (change d) r j = zero32
 outputIn w (sample i x p) r j = r .answer .output
 outputIn w (frame xs p) r j = getD (r .frame) j zero32
 outputIn w (readWave f) r j = zero32
+outputIn w gather r j = zero32
 outputIn w (asks q) r j = zero32
 
 -- a frame or list that was lent holds what it held
@@ -217,6 +230,7 @@ Untouched w (change d) r = Unit {0}
 Untouched w (sample j x p) r = Unit {0}
 Untouched w (frame xs p) r = r .frame ≡ xs
 Untouched w (readWave f) r = Unit {0}
+Untouched w gather r = Unit {0}
 Untouched w (asks (getFramesProcessed j)) r = Unit {0}
 Untouched w (asks (getDataLen j)) r = Unit {0}
 Untouched w (asks (isRecording j)) r = Unit {0}

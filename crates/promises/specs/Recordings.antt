@@ -1,11 +1,12 @@
 -- Request 10/12, after demand 3: "Recordings out and in as WAVE", said of the calls. What a good file is, is said of its
 -- bytes alone in wave/specs/Grammar.antt (`IsWave`). Definitions only. Assumes nothing.
 use mathlib.Core.Path.{_≡_}
-use mathlib.Core.Bool.{not}
+use mathlib.Core.Bool.{Bool, not}
 use mathlib.Core.List.{List}
 use Prim.Native.Nat.{ℕ, _+_, _*_, _^_, _<_}
 use lib.Dec.{eqb, ltb}
 use lib.ListN.{length, take, drop}
+use Rattle.walks.specs.Walks.{any}
 use Rattle.walks.specs.Each.{Each}
 use Rattle.octets.specs.Octets.{Bytes}
 use Rattle.wave.specs.Files.{fileOf}
@@ -13,8 +14,11 @@ use Rattle.wave.specs.Grammar.{IsWave}
 use Rattle.wave.specs.Memory.{channelOf}
 use Rattle.recorder.specs.declared.State.the-variants.{Triggered, Idle}
 use Rattle.channel.specs.declared.Head.{Head}
-use Rattle.channel.specs.Channels.{withHead, recordingOf}
-use Rattle.sampler.specs.Refusals.{row, goodWith, anyRecording}
+use Rattle.channel.specs.declared.Channel.{Channel}
+use Rattle.channel.specs.Heads.{holdsOf}
+use Rattle.channel.specs.Channels.{withHead, recordingOf, besideIn, beginsIn}
+use Rattle.sampler.specs.declared.Sampler.{Sampler}
+use Rattle.sampler.specs.Refusals.{row, present, goodWith, anyRecording}
 use Rattle.questions.specs.declared.Counted.the-variants.{Done}
 use Rattle.recordings.specs.declared.WaveRead.{WaveRead}
 use Rattle.recordings.specs.Waves.{samplesOf, lengthsDiffer}
@@ -41,6 +45,11 @@ Two w = length (w .sampler .channels) ≡ 2
 abbrev pub writePlaceOf : Head → ℕ
 writePlaceOf h = elim (h .recorder .state) [ Triggered write ↦ write | Idle ↦ h .«data_len» ]
 
+-- one of the channels in use may not hold so many samples
+abbrev pub noRoom : Sampler → ℕ → Bool
+noRoom s samples =
+    any (λ (c : Channel). ltb (holdsOf (besideIn (s .capacity) c) (s .capacity) (c .head)) samples) (present s)
+
 -- ---- what a write leaves
 
 -- "58 bytes before the first sample", and then four a sample
@@ -62,13 +71,13 @@ pub record Written (w : World) (rate : ℕ) (out : List ℕ) (r : ListOutcome) :
 
 -- ---- what a read leaves, from w to u
 
--- a head whose recording is the first so many samples of its part
-abbrev pub beginning : ℕ → Head → Head
-beginning samples
+-- a head whose recording is so many samples from a place of its part on
+abbrev pub beginning : ℕ → ℕ → Head → Head
+beginning start samples
     h = record {
       now = h .now;
       «data_len» = samples;
-      start = 0;
+      start = start;
       «passthru_volume» = h .«passthru_volume»;
       recorder = h .recorder;
       «passthru_on» = h .«passthru_on»;
@@ -81,14 +90,18 @@ pub record Read (w u : World) (rate channels samples : ℕ) (words : List ℕ) (
   pub rated : answer ≡ record { rate = rate; number = 0 }
   -- "Reading replaces the recording of each channel"; "Demand 3's recording is then the one read."
   pub recordings : Filed u channels samples words
-  -- a part keeps what stands behind its recording, and the memory what stands behind the parts
-  pub rest : (j : ℕ) → j < channels → drop samples (ownPart u j) ≡ drop samples (ownPart w j)
+  -- where the recording of a channel began, or behind the other phrases if it was empty (11/12); a part keeps what stands
+  -- before and behind that, and the memory what stands behind the parts
+  pub before : (j : ℕ) → j < channels → take (beginsIn (chan w j)) (ownPart u j) ≡ take (beginsIn (chan w j)) (ownPart w j)
+  pub rest : (j : ℕ) → j < channels
+      → drop (beginsIn (chan w j) + samples) (ownPart u j) ≡ drop (beginsIn (chan w j) + samples) (ownPart w j)
   pub behind : drop (channels * w .sampler .capacity) (u .memory) ≡ drop (channels * w .sampler .capacity) (w .memory)
   -- "and puts the write place at its end;"
   pub write-place : (j : ℕ) → j < channels → writePlaceOf (chan u j .head) ≡ samples
   -- "voices already sounding go on as after any change of data": but for its place and its length nothing of a channel
   -- moves
-  pub else-kept : (j : ℕ) → j < channels → chan u j ≡ withHead (beginning samples (chan w j .head)) (chan w j)
+  pub else-kept : (j : ℕ) → j < channels → chan u j
+      ≡ withHead (beginning (beginsIn (chan w j)) samples (chan w j .head)) (chan w j)
 
 -- ---- of every record and memory
 pub record Recordings (w : World) : Type 0 where
@@ -97,12 +110,13 @@ pub record Recordings (w : World) : Type 0 where
       ≡ row (not (goodWith (w .sampler) (length (w .memory)))) 9
       (row (anyRecording (w .sampler)) 15
       (row (lengthsDiffer (w .sampler)) 16 (row (ltb (length out) (bytesIn w)) 8 0)))
-  -- "Reading: 15, 17, 16, 18." Of a good file, which is never answered with 17,
+  -- "Reading: 15, 17, 16, 18." 18 "means more than it may hold without moving another" (11/12: `Room`). Of a good file,
+  -- which is never answered with 17,
   pub read-rows : (f : List ℕ) (rate channels : ℕ) (words : List ℕ) (g : IsWave f rate channels words)
       → code w (readWave f)
       ≡ row (not (goodWith (w .sampler) (length (w .memory)))) 9
       (row (anyRecording (w .sampler)) 15
-      (row (not (eqb channels (w .sampler .count))) 16 (row (ltb (w .sampler .capacity) (g .samples)) 18 0)))
+      (row (not (eqb channels (w .sampler .count))) 16 (row (noRoom (w .sampler) (g .samples)) 18 0)))
   -- and of any other, which always is, where 9 and 15 let it.
   pub bad-rows : (f : List ℕ) → Bytes f
       → ((rate channels : ℕ) (words : List ℕ) → IsWave f rate channels words → ⊥)

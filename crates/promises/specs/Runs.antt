@@ -16,16 +16,18 @@ use Rattle.voice.specs.Soundness.{FittingParams}
 use Rattle.channel.specs.declared.Channel.{Channel}
 use Rattle.channel.specs.declared.Change.{Change}
 use Rattle.channel.specs.declared.Change.the-variants.{Start, Stop, Speed, Head, Reset}
-use Rattle.channel.specs.declared.HeadChange.the-variants.{StartRecording, StopRecording, Interpolate, Load}
+use Rattle.channel.specs.declared.HeadChange.the-variants.{StartRecording, StopRecording, Interpolate, Load, Choose, Delete}
 use Rattle.channel.specs.Heads.{interpolatesAfter}
 use Rattle.channel.specs.Soundness.{FittingChange}
 use Rattle.sampler.specs.declared.Sampler.{Sampler}
 use Rattle.recorder.specs.ErrorText.{errorText}
 use Rattle.channel.specs.Channels.{live}
-use Rattle.sampler.specs.Refusals.{channelAt, changeNumber, sampleNumber, frameNumber, channelNumber, doneOf}
+use Rattle.sampler.specs.Refusals.{channelAt, changeNumber, gatherNumber, sampleNumber, frameNumber, channelNumber, doneOf}
 use Rattle.sampler.specs.Samplers.{
   setUpOf,
   changeOf,
+  gatherOf,
+  gatherMemory,
   partOf,
   processSampleOf,
   sampleMemory,
@@ -37,7 +39,7 @@ use Rattle.questions.specs.Questions.{recorderAt, notesOf, listNumber, infoNumb
 use Rattle.questions.specs.Waveforms.{waveformNumber}
 use Rattle.wave.specs.Reader.{judgedOf}
 use Rattle.recordings.specs.Waves.{writeNumber, heldIn, readNumber, readWaveOf, readMemory}
-use Rattle.fates.specs.Events.{Event, idle, changes, sounds, isReset}
+use Rattle.fates.specs.Events.{Event, idle, changes, gathers, sounds, isReset}
 
 pub record World : Type 0 where
   pub sampler : Sampler
@@ -62,13 +64,14 @@ pub data Question : Type 0 where
   getWaveformSummary : (columns : ℕ) (list : List Float) → Question
   writeWave : (rate : ℕ) (out : List ℕ) → Question
 
--- every public call after set-up: a change of every channel, a sample, a frame, a read of a WAVE file (10/12), or a
--- question, which changes nothing
+-- every public call after set-up: a change of every channel, a sample, a frame, a read of a WAVE file (10/12), a gather
+-- of the phrases (11/12), or a question, which changes nothing
 pub data Call : Type 0 where
   change : (d : Change) → Call
   sample : (j : ℕ) (x : Float) (p : Params) → Call
   frame : (xs : List Float) (p : Params) → Call
   readWave : (file : List ℕ) → Call
+  gather : Call
   asks : (q : Question) → Call
 
 -- the changes under their names
@@ -90,6 +93,13 @@ stopRecording = change (Head StopRecording)
 -- request 7/12's setting
 abbrev pub setInterpolation : Bool → Call
 setInterpolation on = change (Head (Interpolate on))
+
+-- request 11/12
+abbrev pub choosePhrase : ℕ → Call
+choosePhrase k = change (Head (Choose k))
+
+abbrev pub deletePhrase : ℕ → Call
+deletePhrase k = change (Head (Delete k))
 
 abbrev pub reset : Call
 reset = change Reset
@@ -115,6 +125,7 @@ code w (change d) = changeNumber (w .sampler) d
 code w (sample j x p) = sampleNumber (w .sampler) j p (length (w .memory))
 code w (frame xs p) = frameNumber (w .sampler) (length xs) p (length (w .memory))
 code w (readWave f) = readNumber (w .sampler) (judgedOf f) (length (w .memory))
+code w gather = gatherNumber (w .sampler) (length (w .memory))
 code w (asks q) = questionNumber w q
 
 abbrev pub withSampler : Sampler → World → World
@@ -137,6 +148,11 @@ after w (readWave f) =
       sampler = readWaveOf (w .sampler) f (length (w .memory)) .sampler;
       memory = readMemory (w .sampler) f (w .memory);
     }
+after w gather =
+    record {
+      sampler = gatherOf (w .sampler) (w .memory) .sampler;
+      memory = gatherMemory (w .sampler) (w .memory);
+    }
 after w (asks q) = w
 
 unfoldable pub run : World → List Call → World
@@ -157,6 +173,7 @@ doneTo w (change d) j = changes d
 doneTo w (sample i x p) j = cond (eqb i j) (sounds p x (ownPart w j)) idle
 doneTo w (frame xs p) j = cond (ltb j (length xs)) (sounds p (getD xs j zero32) (ownPart w j)) idle
 doneTo w (readWave f) j = changes (Head (Load (heldIn (judgedOf f) .samples)))
+doneTo w gather j = gathers (ownPart w j)
 doneTo w (asks q) j = idle
 
 -- a refused call does nothing
@@ -179,6 +196,7 @@ settingBy accepted (change Reset) on = on
 settingBy accepted (sample j x p) on = on
 settingBy accepted (frame xs p) on = on
 settingBy accepted (readWave f) on = on
+settingBy accepted gather on = on
 settingBy accepted (asks q) on = on
 
 unfoldable pub settingIn : World → Bool → List Call → Bool
@@ -190,15 +208,17 @@ isResetCall (change d) = isReset (changes d)
 isResetCall (sample j x p) = false
 isResetCall (frame xs p) = false
 isResetCall (readWave f) = false
+isResetCall gather = false
 isResetCall (asks q) = false
 
--- a read, which alone writes memory beside samples
-unfoldable pub isRead : Call → Bool
-isRead (change d) = false
-isRead (sample j x p) = false
-isRead (frame xs p) = false
-isRead (readWave f) = true
-isRead (asks q) = false
+-- a read or a gather, which alone write memory beside samples
+unfoldable pub rewrites : Call → Bool
+rewrites (change d) = false
+rewrites (sample j x p) = false
+rewrites (frame xs p) = false
+rewrites (readWave f) = true
+rewrites gather = true
+rewrites (asks q) = false
 
 -- ---- the output that a call answers for channel j, where it is a sample of it
 unfoldable pub output : World → Call → ℕ → Float
@@ -206,6 +226,7 @@ output w (change d) j = zero32
 output w (sample i x p) j = processSampleOf (w .sampler) i x p (w .memory) .output
 output w (frame xs p) j = getD (framedOf (w .sampler) xs p (w .memory) .frame) j zero32
 output w (readWave f) j = zero32
+output w gather j = zero32
 output w (asks q) j = zero32
 
 -- ---- the last of the calls c ∷ cs, and the world as that one finds it
@@ -223,6 +244,7 @@ FittingCall (change d) = FittingChange d
 FittingCall (sample j x p) = FittingParams p
 FittingCall (frame xs p) = FittingParams p
 FittingCall (readWave f) = Unit {0}
+FittingCall gather = Unit {0}
 FittingCall (asks q) = Unit {0}
 
 -- ---- a host's calls: those above, and a run of frames (request 3/12), whose entries are lent frame after frame
@@ -267,6 +289,7 @@ playedIn w (change d) = []
 playedIn w (sample j x p) = []
 playedIn w (frame xs p) = framedOf (w .sampler) xs p (w .memory) .frame
 playedIn w (readWave f) = []
+playedIn w gather = []
 playedIn w (asks q) = []
 
 unfoldable pub playedBy : World → List Call → List Float

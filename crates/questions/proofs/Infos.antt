@@ -12,22 +12,17 @@ use Rattle.walks.proofs.Lists.Runs.{run-front}
 use Rattle.common_types.specs.declared.Params.{Params}
 use Rattle.common_types.specs.Settings.{loopLengthOf}
 use Rattle.phrases.specs.declared.Phrase.{Phrase}
-use Rattle.channel.specs.declared.Head.{Head}
 use Rattle.channel.specs.declared.Channel.{Channel}
-use Rattle.channel.specs.Heads.{phraseIn}
-use Rattle.channel.specs.Channels.{live}
+use Rattle.channel.specs.Channels.{live, phraseAt}
 use Rattle.voice.specs.declared.Voice.{Voice}
 use Rattle.questions.specs.declared.VoiceInfo.{VoiceInfo}
 use Rattle.questions.specs.declared.VoiceInfos.{VoiceInfos}
-use Rattle.questions.specs.Questions.{voiceInfoOf, inFront, noInfos, infosWith}
+use Rattle.questions.specs.Questions.{voiceInfoOf, inFront, noInfos, infosWith, figuresOf}
 
--- a voice's figures, by the heads of the two channels
-abbrev pub figuresBy : Params → Head → Head → Voice → VoiceInfo
-figuresBy p first own v =
-    voiceInfoOf (loopLengthOf p (phraseIn first (v .phrase) .length)) (asFloat (phraseIn own (v .phrase) .length)) v
-
-pub figured : (p : Params) (first own : Head) (v : Voice) (a b : Phrase) (size n : Float) (x : VoiceInfo) → a ≡ phraseIn first (v .phrase)
-    → b ≡ phraseIn own (v .phrase) → size ≡ loopLengthOf p (a .length) → n ≡ asFloat (b .length) → x ≡ voiceInfoOf size n v → x ≡ figuresBy p first own v
+-- a voice's figures, by its phrase on the two channels
+pub figured : (p : Params) (first own : Channel) (v : Voice) (a b : Phrase) (size n : Float) (x : VoiceInfo) → a ≡ phraseAt first (v .phrase)
+    → b ≡ phraseAt own (v .phrase) → size ≡ loopLengthOf p (a .length) → n ≡ asFloat (b .length) → x ≡ voiceInfoOf size n v → x ≡ figuresOf p first own v
+unfolding figuresOf
 figured p first own v a b size n x e f g h k = rw (k, g, h, e, f) refl
 
 -- what the rest of the walk gives, from place i on, where f gives a voice's figures

@@ -264,15 +264,13 @@ fn no_infos(count: usize, number: u8) -> VoiceInfos
 fn voice_infos(c: Channel, first: Channel, params: Params) -> VoiceInfos
     ensures { λ r. ⌜ r ≡ voiceInfosOf params first c ⌝ }
 {
-    let head = c.head;
-    let other = first.head;
     let n = channel::places(c.count);
     let mut answer = no_infos(c.count, 0);
     let mut i = 0;
     while i < n {
         let v = c.voices[i];
-        let whole = other.phrase_at(v.phrase);
-        let own = head.phrase_at(v.phrase);
+        let whole = first.phrase_at(v.phrase);
+        let own = c.phrase_at(v.phrase);
         let length = params.loop_length(whole.length);
         answer.infos[i] = voice_info(v, length, binary32::usize_to_f32(own.length));
         i += 1;

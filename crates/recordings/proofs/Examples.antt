@@ -11,17 +11,17 @@ use Rattle.wave.specs.Files.{formatOf, riffRow, formatRow, factRow, dataRow, he
 use Rattle.wave.specs.Reader.{paddedAt, metOf, chunkAt, walkFrom, walkOf, goodRiff, goodFormat, goodFact, countedOf, judgedAt, judgedOf}
 use Rattle.wave.specs.Memory.{fitsMemory, framesOf, storedOf, loadedOf}
 use Rattle.common_types.specs.declared.InitParams.{InitParams}
-use Rattle.walks.specs.Walks.{any, every}
+use Rattle.walks.specs.Walks.{any, every, fold}
 use Rattle.volume.specs.Levels.{goodVolume}
 use Rattle.recorder.specs.Recording.{inState, startOf, isRecordingOf, goodRecorder}
-use Rattle.phrases.specs.Phrases.{endsBy}
+use Rattle.phrases.specs.Phrases.{noSamples, endsBy, reachOf, apartOf, othersOf, everyBelow, goodAt, goodPhrases, besideWith, besideOf}
 use Rattle.channel.specs.declared.Channel.{Channel}
-use Rattle.channel.specs.declared.HeadChange.{HeadChange}
-use Rattle.channel.specs.declared.HeadChange.the-variants.{StartRecording, Load}
-use Rattle.channel.specs.Heads.{headOf, headChangedOf, goodHead}
-use Rattle.channel.specs.Channels.{withHead, channelOf, changedOf, goodVoicesOf, goodChannel}
+use Rattle.channel.specs.declared.HeadChange.the-variants.{StartRecording, Load, Choose}
+use Rattle.channel.specs.Heads.{beginsAt, holdsOf, headOf, phraseAfter, recorderAfter, interpolatesAfter, chosenAfter, headChangedOf, goodHead}
+use Rattle.channel.specs.Tables.{goodTable, tableAfter, severalAfter, headNames, foundBy, leavingOf, blockedBy, shortBy}
+use Rattle.channel.specs.Channels.{withHead, channelOf, usesOf, headChangedIn, changedOf, goodVoicesOf, goodChannel}
 use Rattle.sampler.specs.declared.Sampler.{Sampler}
-use Rattle.sampler.specs.Refusals.{channelAt, goodSizes, goodSampler, capacityOf, goodWith, setUpNumber}
+use Rattle.sampler.specs.Refusals.{channelAt, goodSizes, goodSampler, capacityOf, goodWith, againstAny, setUpNumber}
 use Rattle.sampler.specs.Samplers.{withChannels, setUpOf, eachOf, answerOf}
 use Rattle.questions.specs.declared.Counted.the-variants.{Done, Refused}
 use Rattle.questions.specs.Questions.{answered}
@@ -30,7 +30,7 @@ use Rattle.recordings.specs.declared.ReadAnswer.{ReadAnswer}
 
 -- whatever an answer computes by
 unfoldable pub computing : Unit {0}
-unfolding fromHex pairs digitsOf bytesAt littleOf littleBytes twoAt fourAt wordBytes listed formatOf riffRow formatRow factRow dataRow headerOf paddedAt metOf chunkAt walkFrom walkOf goodRiff goodFormat goodFact countedOf judgedAt judgedOf fitsMemory framesOf storedOf loadedOf any every goodVolume inState startOf isRecordingOf goodRecorder headOf headChangedOf endsBy goodHead channelOf changedOf goodVoicesOf goodChannel goodSizes goodSampler capacityOf goodWith setUpNumber setUpOf eachOf answerOf answered writeNumber writeWaveOf waveAfter readNumber readWaveOf readMemory
+unfolding fromHex pairs digitsOf bytesAt littleOf littleBytes twoAt fourAt wordBytes listed formatOf riffRow formatRow factRow dataRow headerOf paddedAt metOf chunkAt walkFrom walkOf goodRiff goodFormat goodFact countedOf judgedAt judgedOf fitsMemory framesOf storedOf loadedOf any every fold goodVolume inState startOf isRecordingOf goodRecorder noSamples endsBy reachOf apartOf othersOf everyBelow goodAt goodPhrases besideWith besideOf beginsAt holdsOf headOf phraseAfter recorderAfter interpolatesAfter chosenAfter headChangedOf goodHead goodTable tableAfter severalAfter headNames foundBy leavingOf blockedBy shortBy channelOf usesOf headChangedIn changedOf goodVoicesOf goodChannel goodSizes goodSampler capacityOf goodWith againstAny setUpNumber setUpOf eachOf answerOf answered writeNumber writeWaveOf waveAfter readNumber readWaveOf readMemory
 computing = tt
 
 -- ---- records: two channels with parts of three words, in a memory of seven
@@ -40,19 +40,16 @@ init = record { «auto_passthru» = false }
 abbrev new : Sampler
 new = setUpOf 2 init 7 .sampler
 
-abbrev changed : HeadChange → Channel → Channel
-changed d c = withHead (headChangedOf d (c .head)) c
-
 -- with recordings of a and b samples
 abbrev lasting : ℕ → ℕ → Sampler
-lasting a b = withChannels (changed (Load a) (channelAt new 0) ∷ changed (Load b) (channelAt new 1) ∷ []) new
+lasting a b = withChannels (headChangedIn (Load a) (channelAt new 0) ∷ headChangedIn (Load b) (channelAt new 1) ∷ []) new
 
 -- of which one channel records, and their lengths differ
 abbrev first-records : Sampler
-first-records = let s = lasting 2 1 in withChannels (changed StartRecording (channelAt s 0) ∷ channelAt s 1 ∷ []) s
+first-records = let s = lasting 2 1 in withChannels (headChangedIn StartRecording (channelAt s 0) ∷ channelAt s 1 ∷ []) s
 
 abbrev second-records : Sampler
-second-records = let s = lasting 2 1 in withChannels (channelAt s 0 ∷ changed StartRecording (channelAt s 1) ∷ []) s
+second-records = let s = lasting 2 1 in withChannels (channelAt s 0 ∷ headChangedIn StartRecording (channelAt s 1) ∷ []) s
 
 -- with the second channel not in use
 abbrev alone : Sampler → Sampler
@@ -76,6 +73,10 @@ begun place c =
 -- both of two samples
 abbrev beginning : ℕ → ℕ → Sampler
 beginning a b = let s = lasting 2 2 in withChannels (begun a (channelAt s 0) ∷ begun b (channelAt s 1) ∷ []) s
+
+-- with another phrase chosen, behind the recordings of a and b samples
+abbrev chosen : ℕ → Sampler → Sampler
+chosen k s = withChannels (headChangedIn (Choose k) (channelAt s 0) ∷ headChangedIn (Choose k) (channelAt s 1) ∷ []) s
 
 -- the first samples: a NaN with a payload and 1, -0 and 0.5
 abbrev memory : List ℕ
@@ -157,16 +158,17 @@ read-rows : number new (stereo 3) ∷ number new (stereo 4) ∷ number new (mono
 unfolding computing
 read-rows = refl
 
--- the record is that of recordings of two samples in front of their parts, whatever they were before, and the answer has the rate
+-- the record is that of recordings of two samples, each where its phrase was, and the answer has the rate
 abbrev answers : Sampler → ℕ → ℕ → ReadAnswer
 answers s rate n = record { sampler = s; read = record { rate = rate; number = n } }
 
-reads : map (λ (s : Sampler). readWaveOf s file 7) (new ∷ lasting 3 1 ∷ beginning 1 1 ∷ []) ≡ replicate 3 (answers (lasting 2 2) 44100 0)
+reads : map (λ (s : Sampler). readWaveOf s file 7) (new ∷ lasting 3 1 ∷ beginning 1 1 ∷ []) ≡ answers (lasting 2 2) 44100 0 ∷ answers (lasting 2 2) 44100 0 ∷ answers (beginning 1 1) 44100 0 ∷ []
 unfolding computing
 reads = refl
 
--- a part keeps its third word, and the memory its last one
-stored : map (λ (s : Sampler). readMemory s file others) (new ∷ beginning 1 1 ∷ []) ≡ replicate 2 (0x7FC00001 ∷ 0x3F800000 ∷ 32 ∷ 0x80000000 ∷ 0x3F000000 ∷ 42 ∷ 98 ∷ [])
+-- a part keeps the word beside them, and the memory its last one
+stored : map (λ (s : Sampler). readMemory s file others) (new ∷ beginning 1 1 ∷ [])
+    ≡ (0x7FC00001 ∷ 0x3F800000 ∷ 32 ∷ 0x80000000 ∷ 0x3F000000 ∷ 42 ∷ 98 ∷ []) ∷ (30 ∷ 0x7FC00001 ∷ 0x3F800000 ∷ 40 ∷ 0x80000000 ∷ 0x3F000000 ∷ 98 ∷ []) ∷ []
 unfolding computing
 stored = refl
 
@@ -177,6 +179,17 @@ reads-none = refl
 stores-none : readMemory (lasting 2 2) no-samples others ≡ others
 unfolding computing
 stores-none = refl
+
+-- an empty phrase begins behind the others: one sample fits, and no two. A phrase with one behind it holds what it did
+behind : number (chosen 1 (lasting 2 1)) (stereo 1) ∷ number (chosen 1 (lasting 2 1)) (stereo 2)
+    ∷ number (chosen 0 (readWaveOf (chosen 1 (lasting 2 1)) (stereo 1) 7 .sampler)) (stereo 1) ∷ number (chosen 0 (readWaveOf (chosen 1 (lasting 2 1)) (stereo 1) 7 .sampler)) (stereo 2) ∷ []
+    ≡ 0 ∷ 18 ∷ 0 ∷ 18 ∷ []
+unfolding computing
+behind = refl
+
+stored-behind : readMemory (chosen 1 (lasting 2 1)) (stereo 1) others ≡ 30 ∷ 31 ∷ 5 ∷ 40 ∷ 5 ∷ 42 ∷ 98 ∷ []
+unfolding computing
+stored-behind = refl
 
 -- refused: the record, the rate 0, and the memory
 refused : map (λ (f : List ℕ). readWaveOf (lasting 2 1) f 7) (stereo 4 ∷ mono 2 ∷ cut file ∷ []) ≡ answers (lasting 2 1) 0 18 ∷ answers (lasting 2 1) 0 16 ∷ answers (lasting 2 1) 0 17 ∷ []

@@ -1,3 +1,4 @@
+pub mod Element
 pub mod Parts
 pub mod Numbers
 pub mod Examples

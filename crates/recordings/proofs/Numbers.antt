@@ -2,10 +2,10 @@
 use mathlib.Core.Path.{_≡_, refl, sym, ap, _∙_, subst}
 use mathlib.Core.Bool.{Bool, true, false, not, cond}
 use mathlib.Core.List.{List}
-use Prim.Native.Nat.{ℕ, _+_, _*_, _^_, _≤_}
+use Prim.Native.Nat.{ℕ, _+_, _*_, _^_, _≤_, _<_}
 use native.Mathlib.Nat.{le-trans, le-of-eq, mul-le-mul-right}
 use native.Mathlib.Omega.{arith}
-use borrow.Author.Tests.{ne-eqb, eqb-true, le-leb, lt-ltb, le-ltb, ltb-false}
+use borrow.Author.Tests.{ne-eqb, eqb-true, le-leb, lt-ltb, ltb-false}
 use lib.Dec.{ltb, eqb}
 use lib.ListN.{length}
 use Rattle.binary32.proofs.Truth.{cond-split}
@@ -18,15 +18,21 @@ use Rattle.wave.specs.Memory.{fitsMemory, fitsFile, writes, bytesOf, writtenOf,
 use Rattle.wave.proofs.Calls.{length-loaded}
 use Rattle.channel.specs.declared.Change.the-variants.{Head}
 use Rattle.channel.specs.declared.HeadChange.the-variants.{Load}
+use Rattle.channel.specs.declared.Ask.the-variants.{Samples}
+use Rattle.channel.specs.declared.Channel.{Channel}
+use Rattle.channel.specs.Heads.{holdsOf}
+use Rattle.channel.specs.Tables.{asksOf, headAsks}
+use Rattle.channel.specs.Channels.{besideIn, beginsIn}
 use Rattle.sampler.specs.declared.Sampler.{Sampler}
-use Rattle.sampler.specs.Refusals.{goodWith, anyRecording, changeNumber}
+use Rattle.sampler.specs.Refusals.{channelAt, goodWith, records, anyRecording, againstAny, changeNumber}
 use Rattle.sampler.specs.Samplers.{eachOf, answerOf, changeOf}
 use Rattle.sampler.proofs.Rows.{passed, is-true, Fitting, fitting}
-use Rattle.sampler.proofs.Channels.{short-data}
+use Rattle.sampler.proofs.Channels.{good-at, short-data, read-within}
+use Rattle.sampler.proofs.Against.{against-samples, short-samples, none-at}
 use Rattle.questions.specs.declared.Counted.{Counted}
 use Rattle.questions.specs.declared.Counted.the-variants as counted
 use Rattle.questions.specs.Questions.{countedNumber, answered}
-use Rattle.recordings.specs.Waves.{samplesOf, lengthsDiffer, layoutIn, writeNumber, writeWaveOf, waveAfter, badFile, heldIn, readNumber, readWaveOf, frontsIn, readMemory}
+use Rattle.recordings.specs.Waves.{samplesOf, lengthsDiffer, layoutIn, writeNumber, writeWaveOf, waveAfter, badFile, heldIn, readNumber, readWaveOf, beginningsIn, readMemory}
 use Rattle.recordings.specs.declared.ReadAnswer.{ReadAnswer}
 use Rattle.recordings.proofs.Parts.{starts-fit}
 
@@ -114,7 +120,7 @@ module _ (s : Sampler) (f m : List ℕ) where
     unfolding readWaveOf readMemory answerOf
     read-refused h = (simp (← is, ← e, ne-eqb number 0 h), simp (← is, ← e, ne-eqb number 0 h))
 
-    pub read-done : number ≡ 0 → (x : Starts) → x ≡ frontsIn s → (after : List ℕ) → after ≡ loadedOf f x m → (w : Wave) → w ≡ heldIn j → (a : Sampler) → a ≡ eachOf (Head (Load (w .samples))) s
+    pub read-done : number ≡ 0 → (x : Starts) → x ≡ beginningsIn s → (after : List ℕ) → after ≡ loadedOf f x m → (w : Wave) → w ≡ heldIn j → (a : Sampler) → a ≡ eachOf (Head (Load (w .samples))) s
         → Reads (record { sampler = a; read = record { rate = w .rate; number = 0 } }) after
     unfolding readWaveOf readMemory answerOf
     read-done z x k after l w h a g = (rw (← is, ← e, z, g, h) refl, rw (← is, ← e, z, ← k) l)
@@ -125,32 +131,51 @@ pub record Loads (s : Sampler) (j : Judged) (size : ℕ) : Type 0 where
   pub idle : anyRecording s ≡ false
   pub whole : badFile j ≡ false
   pub counts : heldIn j .channels ≡ s .count
-  pub room : heldIn j .samples ≤ s .capacity
+  pub room : againstAny (Samples (heldIn j .samples)) s .short ≡ false
 
 pub read-says : (s : Sampler) (j : Judged) (size : ℕ) → readNumber s j size ≡ 0 → Loads s j size
 unfolding readNumber
 read-says s j size z =
+    let against = againstAny (Samples (heldIn j .samples)) s in
     let a = passed (not (goodWith s size)) 8 _ z in
-    let b = passed (anyRecording s) 14 _ (a .1) in
+    let b = passed (against .blocked) 14 _ (a .1) in
     let c = passed (badFile j) 16 _ (b .1) in
     let d = passed (not (eqb (heldIn j .channels) (s .count))) 15 _ (c .1) in
-    let e = passed (ltb (s .capacity) (heldIn j .samples)) 17 0 (d .1) in
+    let e = passed (against .short) 17 0 (d .1) in
     record {
       good = is-true (goodWith s size) (a .0);
-      idle = b .0;
+      idle = sym (against-samples s (heldIn j .samples)) ∙ b .0;
       whole = c .0;
       counts = eqb-true _ _ (is-true _ (d .0));
-      room = ltb-false (s .capacity) (heldIn j .samples) (e .0);
+      room = e .0;
     }
 
--- and then so many samples may be loaded by a change of every channel too
-pub loads-change : (s : Sampler) (j : Judged) (size : ℕ) → Loads s j size → changeNumber s (Head (Load (heldIn j .samples))) ≡ 0
-loads-change s j size l = rw (fitting s size (l .good) .good, l .idle, le-ltb (s .capacity) (heldIn j .samples) (l .room)) refl
+module _ (s : Sampler) (j : Judged) (size : ℕ) (l : Loads s j size) where
+  -- each channel may hold so many
+  pub loads-few : (i : ℕ) → i < s .count → i < length (s .channels)
+      → heldIn j .samples ≤ holdsOf (besideIn (s .capacity) (channelAt s i)) (s .capacity) (channelAt s i .head)
+  loads-few i below seated =
+      let n = heldIn j .samples in
+      ltb-false _ n
+      (none-at s (λ (c : Channel). ltb (holdsOf (besideIn (s .capacity) c) (s .capacity) (c .head)) n) (sym (short-samples s n) ∙ l .room) i below seated)
+
+  -- and they have room in its part
+  pub loads-room : length (s .channels) ≡ 2 → ((i : ℕ) → i < s .count → length (channelAt s i .table) ≡ 8)
+      → (i : ℕ) → i < s .count → beginsIn (channelAt s i) + heldIn j .samples ≤ s .capacity
+  loads-room two eight i below =
+      let g = fitting s size (l .good) in
+      let seated : i < length (s .channels) = omega (arith, two, g .few) in
+      read-within (s .capacity) (channelAt s i) (good-at s i (g .good) below) (eight i below) (none-at s records (l .idle) i below seated) (heldIn j .samples) (loads-few i below seated)
+
+  -- and then so many samples may be loaded by a change of every channel too
+  pub loads-change : changeNumber s (Head (Load (heldIn j .samples))) ≡ 0
+  unfolding asksOf headAsks
+  loads-change = rw (fitting s size (l .good) .good, against-samples s (heldIn j .samples), l .idle, l .room) refl
 
 module _ (s : Sampler) (f m : List ℕ) where
   pub read-memory-length : length (readMemory s f m) ≡ length m
   unfolding readMemory
-  read-memory-length = cond-split (λ (x : List ℕ). length x ≡ length m) (eqb (readNumber s (judgedOf f) (length m)) 0) _ _ (λ _. length-loaded f (frontsIn s) m) (λ _. refl)
+  read-memory-length = cond-split (λ (x : List ℕ). length x ≡ length m) (eqb (readNumber s (judgedOf f) (length m)) 0) _ _ (λ _. length-loaded f (beginningsIn s) m) (λ _. refl)
 
   -- a read leaves the record as a change does, or as it was
   pub read-sampler : (P : Sampler → Type 0) → P s → (changeNumber s (Head (Load (heldIn (judgedOf f) .samples))) ≡ 0 → P (changeOf s (Head (Load (heldIn (judgedOf f) .samples))) .sampler)) → P (readWaveOf s f (length m) .sampler)

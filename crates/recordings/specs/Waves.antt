@@ -18,7 +18,9 @@ use Rattle.channel.specs.declared.Channel.{Channel}
 use Rattle.channel.specs.declared.Change.the-variants.{Head}
 use Rattle.channel.specs.declared.HeadChange.the-variants.{Load}
 use Rattle.sampler.specs.declared.Sampler.{Sampler}
-use Rattle.sampler.specs.Refusals.{present, channelAt, row, goodWith, anyRecording}
+use Rattle.channel.specs.declared.Ask.the-variants.{Samples}
+use Rattle.channel.specs.Channels.{beginsIn}
+use Rattle.sampler.specs.Refusals.{present, channelAt, row, goodWith, anyRecording, againstAny}
 use Rattle.sampler.specs.Samplers.{answerOf}
 use Rattle.questions.specs.declared.Counted.{Counted}
 use Rattle.questions.specs.declared.Counted.the-variants as counted
@@ -74,12 +76,14 @@ abbrev pub heldIn : Judged → Wave
 heldIn (Is w) = w
 heldIn Refused = record { rate = 0; channels = 0; samples = 0; first = 0 }
 
--- "16 for .. another channel count", "18 for more samples than capacity"
+-- "16 for .. another channel count"; request 11/12: "18 means more than it may hold without moving another", on one of the
+-- channels in use
 unfoldable pub readNumber : Sampler → Judged → ℕ → ℕ
-readNumber s j size = row (not (goodWith s size)) 9
-    (row (anyRecording s) 15
-    (row (badFile j) 17
-    (row (not (eqb (heldIn j .channels) (s .count))) 16 (row (ltb (s .capacity) (heldIn j .samples)) 18 0))))
+readNumber s j size =
+    let a = againstAny (Samples (heldIn j .samples)) s in
+    row (not (goodWith s size)) 9
+    (row (a .blocked) 15
+    (row (badFile j) 17 (row (not (eqb (heldIn j .channels) (s .count))) 16 (row (a .short) 18 0))))
 
 -- the record: each channel's recording is as long as the file's. The answer has the rate, 0 where it is refused
 unfoldable pub readWaveOf : Sampler → List ℕ → ℕ → ReadAnswer
@@ -91,10 +95,13 @@ readWaveOf s f size =
       read = record { rate = cond (eqb number 0) (heldIn j .rate) 0; number = number };
     }
 
--- where each channel's part begins
-abbrev pub frontsIn : Sampler → Starts
-frontsIn s = record { first = 0; second = s .capacity }
+-- where what is read for each channel begins: where a recording of its chosen phrase does
+abbrev pub beginningsIn : Sampler → Starts
+beginningsIn s = record {
+  first = beginsIn (channelAt s 0);
+  second = cond (eqb (s .count) 2) (s .capacity + beginsIn (channelAt s 1)) 0;
+}
 
--- the memory: the front of each channel's part is the file's channel
+-- the memory: from there on it is the file's channel
 unfoldable pub readMemory : Sampler → List ℕ → List ℕ → List ℕ
-readMemory s f m = cond (eqb (readNumber s (judgedOf f) (length m)) 0) (loadedOf f (frontsIn s) m) m
+readMemory s f m = cond (eqb (readNumber s (judgedOf f) (length m)) 0) (loadedOf f (beginningsIn s) m) m

@@ -18,9 +18,10 @@ ghost use Rattle.recordings.specs.Waves.{
   heldIn,
   readNumber,
   readWaveOf,
-  frontsIn,
+  beginningsIn,
   readMemory,
 };
+use channel::Ask;
 use questions::Counted;
 use sampler::Sampler;
 use sampler::first_of;
@@ -41,13 +42,27 @@ pub struct ReadAnswer {
     pub read: WaveRead,
 }
 
-// Where each channel's part begins in the memory.
-fn fronts(s: Sampler) -> Starts
-    ensures { λ r. ⌜ r ≡ frontsIn s ⌝ }
+// Where what is read for the second channel begins in the memory. One that isn't in use may have any start.
+fn second_begins(s: Sampler) -> usize
+    requires { ⌜ goodSampler s ≡ true ⌝ }
+    ensures { λ r. ⌜ r ≡ beginningsIn s .second ⌝ }
 {
+    if s.count == 2 {
+        let c = s.channels[1];
+        return s.capacity + c.begins();
+    }
+    0
+}
+
+// Where what is read for each channel begins.
+fn beginnings(s: Sampler) -> Starts
+    requires { ⌜ goodSampler s ≡ true ⌝ }
+    ensures { λ r. ⌜ r ≡ beginningsIn s ⌝ }
+{
+    let one = s.channels[0];
     Starts {
-        first: 0,
-        second: s.capacity,
+        first: one.begins(),
+        second: second_begins(s),
     }
 }
 
@@ -150,10 +165,11 @@ fn read_number(s: Sampler, judged: Judged, size: usize) -> u8
     ensures { λ r. ⌜ r ≡ readNumber s judged size ⌝ }
 {
     let w = held(judged);
-    let long = first_of(s.capacity < w.samples, 18, 0);
+    let against = s.against(Ask::Samples(w.samples));
+    let long = first_of(against.short, 18, 0);
     let other = first_of(w.channels != s.count, 16, long);
     let bad = first_of(bad_file(judged), 17, other);
-    let recording = first_of(s.any_recording(), 15, bad);
+    let recording = first_of(against.blocked, 15, bad);
     first_of(!s.good_with(size), 9, recording)
 }
 
@@ -170,7 +186,7 @@ pub fn read_wave(s: Sampler, file: &[u8], memory: &mut [u32]) -> ReadAnswer
             read: WaveRead { rate: 0, number },
         };
     }
-    wave::load(file, fronts(s), memory);
+    wave::load(file, beginnings(s), memory);
     let w = held(judged);
     let sampler = s.loaded(w.samples);
     ReadAnswer {

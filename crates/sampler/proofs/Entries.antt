@@ -1,13 +1,13 @@
 -- A sample and a frame keep the memory's length, and what each entry of a frame keeps, the frame keeps. Assumes nothing.
 use mathlib.Core.Path.{_≡_, refl, sym, _∙_, subst}
 use mathlib.Core.Bool.{not}
-use mathlib.Core.List.{List, _++_}
+use mathlib.Core.List.{List}
 use Prim.Native.Nat.{ℕ, zero, suc, _+_, _*_, _≤_, _<_}
 use native.Mathlib.Nat.{le-trans, le-of-eq, mul-le-mul-right, suc-mul, zero-add}
 use native.Mathlib.Omega.{arith}
 use borrow.Author.Tests.{ltb-true, ltb-false}
 use lib.Dec.{T, ltb, eqb, eqb→eq}
-use lib.ListN.{length, take, drop, getD, length-set, length-append, length-take, length-drop}
+use lib.ListN.{length, take, drop, getD, length-set, length-take, length-drop}
 use lib.Ieee.{Float}
 use Rattle.binary32.proofs.Truth.{no, cond-split}
 use Rattle.binary32.specs.Leaves.{zero32}
@@ -19,6 +19,7 @@ use Rattle.sampler.specs.Refusals.{channelAt, goodWith, noChannel, sampl
 use Rattle.sampler.specs.Samplers.{partOf, playedAt, channelSteppedOf, memoryAt, sampleMemory, Framed, framed, entryOf, entriesOf, framedOf}
 use Rattle.sampler.specs.declared.Sampler.{Sampler}
 use Rattle.sampler.proofs.Rows.{passed, is-true, sample-ready, frame-steps}
+use Rattle.sampler.proofs.Replaced.{replaced-length}
 
 -- ---- what no call changes
 pub record Kept (s r : Sampler) : Type 0 where
@@ -63,12 +64,9 @@ module _ (s : Sampler) (p : Params) (size : ℕ) where
 
 -- ---- the memory's length
 
--- a part of that length, and a list with a part replaced
+-- a part of that length
 part-size : (a c : ℕ) (m : List ℕ) → a + c ≤ length m → length (take c (drop a m)) ≡ c
 part-size a c m h = simp (length-take, length-drop) (omega arith)
-
-replaced-size : (a c : ℕ) (m k : List ℕ) → a + c ≤ length m → length k ≡ c → length (take a m ++ (k ++ drop (a + c) m)) ≡ length m
-replaced-size a c m k h e = simp (length-append, length-take, length-drop, e) (omega arith)
 
 module _ (s : Sampler) (j : ℕ) (m : List ℕ) (within : j * s .capacity + s .capacity ≤ length m) where
   pub part-length : length (partOf s j m) ≡ s .capacity
@@ -78,7 +76,7 @@ module _ (s : Sampler) (j : ℕ) (m : List ℕ) (within : j * s .capacity + s .c
   pub memory-at-length : (x : Float) → length (memoryAt s j x m) ≡ length m
   unfolding memoryAt
   memory-at-length x =
-      replaced-size (j * s .capacity) (s .capacity) m (memoryOf x (channelAt s j) (partOf s j m)) within (memory-kept x (channelAt s j) (partOf s j m) ∙ part-length)
+      replaced-length s j m (memoryOf x (channelAt s j) (partOf s j m)) within (memory-kept x (channelAt s j) (partOf s j m) ∙ part-length)
 
 pub sample-memory-length : (s : Sampler) (j : ℕ) (x : Float) (p : Params) (m : List ℕ) → length (sampleMemory s j x p m) ≡ length m
 unfolding sampleMemory

@@ -4,8 +4,8 @@ use Prim.Native.Nat.{ℕ, _^_, _≤_, _<_}
 use native.Mathlib.Nat.{le-trans, le-of-eq}
 use mathlib.Core.Bool.{true, false, not, _&&_, _||_}
 use mathlib.Core.List.{List, [], _∷_, map}
-use borrow.Author.Tests.{leb-true, ltb-false}
-use lib.Dec.{leb, ltb, eqb, eqb→eq}
+use borrow.Author.Tests.{leb-true, leb-false, ltb-false}
+use lib.Dec.{leb, eqb, eqb→eq}
 use lib.ListN.{length, take, getD, set, length-set}
 use lib.Seq.{sets, length-sets, getD-take, length-take-le}
 use lib.Ieee.{Float, le}
@@ -22,17 +22,22 @@ use Rattle.voice.specs.Soundness.{FittingParams, SoundParams}
 use Rattle.channel.specs.declared.Channel.{Channel}
 use Rattle.channel.specs.declared.Change.{Change}
 use Rattle.channel.specs.declared.Change.the-variants as change
-use Rattle.channel.specs.declared.HeadChange.the-variants.{StartRecording, StopRecording, Interpolate, Load}
-use Rattle.channel.specs.Channels.{channelOf, changedOf, goodChannel}
+use Rattle.channel.specs.declared.HeadChange.the-variants.{StartRecording, StopRecording, Interpolate, Load, Choose, Delete}
+use Rattle.channel.specs.declared.Ask.the-variants as ask
+use Rattle.channel.specs.declared.Ask.the-variants.{Samples, Choice}
+use Rattle.channel.specs.Tables.{asksOf, headAsks, leavingOf, blockedBy, shortBy}
+use Rattle.channel.specs.Channels.{channelOf, againstOf, changedOf, gatheredIn, goodChannel}
 use Rattle.channel.specs.Soundness.{FittingChannel, SoundChannel, FittingChange, SoundHeadChange, SoundChange}
 use Rattle.channel.proofs.Kept.{new-channel-sound, change-sound}
+use Rattle.channel.proofs.Gathers.{gathered-sound}
 use Rattle.channel.proofs.Samples.{sample-sound}
-use Rattle.sampler.specs.Refusals.{present, channelAt, goodSizes, goodSampler, badNote, badPosition, records, anyRecording, startRows, stopRows, changeNumber, setUpNumber, sampleNumber, capacityOf}
-use Rattle.sampler.specs.Samplers.{withChannels, samplerOf, setUpOf, eachOf, answerOf, changeOf, partOf, playedAt, channelSteppedOf, processSampleOf, Framed, entryOf, framedOf}
+use Rattle.sampler.specs.Refusals.{present, channelAt, goodSizes, goodSampler, badNote, badPosition, againstAny, startRows, stopRows, changeNumber, setUpNumber, sampleNumber, capacityOf}
+use Rattle.sampler.specs.Samplers.{withChannels, samplerOf, setUpOf, eachOf, answerOf, changeOf, partOf, playedAt, channelSteppedOf, processSampleOf, Gathered, gatherChannel, gatherOf, Framed, entryOf, framedOf}
 use Rattle.sampler.specs.Soundness.{SoundSampler}
 use Rattle.sampler.specs.declared.Sampler.{Sampler}
 use Rattle.sampler.proofs.Rows.{passed, is-true, sizes-count}
 use Rattle.sampler.proofs.Entries.{Reaches, sample-reaches, part-length, frame-keeps}
+use Rattle.sampler.proofs.Gathered.{gather-keeps}
 
 -- ---- a sound record by its parts
 record Parts (s : Sampler) : Type 0 where
@@ -96,14 +101,20 @@ module _ (s : Sampler) (h : SoundSampler s) where
   of-each : (x : Change) → ((c : Channel) → SoundChange (s .capacity) c x) → Each (SoundOn x) (present s)
   of-each x ok = each-weaker (SoundChannel (s .capacity)) (SoundOn x) (λ c k. (k, ok c)) (present s) (parts h .channels)
 
-  -- where no channel records, a recording that it has room for
-  load-on : (samples : ℕ) → anyRecording s ≡ false → samples ≤ s .capacity → Each (SoundOn (change.Head (Load samples))) (present s)
-  unfolding SoundChange SoundHeadChange
-  load-on samples idle few =
-      any-each (SoundChannel (s .capacity)) (SoundOn (change.Head (Load samples))) records (λ c e k. (k, (e, few))) (present s) idle (parts h .channels)
+  -- what none of them has anything in its way of
+  of-blocked : (x : Change) → againstAny (asksOf x) s .blocked ≡ false → ((c : Channel) → againstOf (s .capacity) (asksOf x) c .blocked ≡ false → SoundChange (s .capacity) c x) → Each (SoundOn x) (present s)
+  unfolding againstAny
+  of-blocked x free ok =
+      any-each (SoundChannel (s .capacity)) (SoundOn x) (λ (c : Channel). againstOf (s .capacity) (asksOf x) c .blocked) (λ c e k. (k, ok c e)) (present s) free (parts h .channels)
 
-  pub load-kept : (samples : ℕ) → anyRecording s ≡ false → samples ≤ s .capacity → SoundSampler (eachOf (change.Head (Load samples)) s)
-  load-kept samples idle few = each-sound (change.Head (Load samples)) (load-on samples idle few)
+  -- where none records, a recording that each has room for
+  load-on : (samples : ℕ) → againstAny (Samples samples) s .blocked ≡ false → againstAny (Samples samples) s .short ≡ false → Each (SoundOn (change.Head (Load samples))) (present s)
+  unfolding againstAny blockedBy shortBy SoundChange SoundHeadChange
+  load-on samples idle room =
+      let x : Change = change.Head (Load samples) in
+      let P : Channel → Type 0 = λ c. SoundChannel (s .capacity) c × (againstOf (s .capacity) (Samples samples) c .blocked ≡ false) in
+      any-each P (SoundOn x) (λ (c : Channel). againstOf (s .capacity) (Samples samples) c .short) (λ c e k. (k .0, (k .1, ltb-false _ samples e))) (present s) room
+      (any-each (SoundChannel (s .capacity)) P (λ (c : Channel). againstOf (s .capacity) (Samples samples) c .blocked) (λ c e k. (k, e)) (present s) idle (parts h .channels))
 
 -- ---- set-up
 pub set-up-sound : (count : ℕ) (p : InitParams) (size : ℕ) → setUpNumber count size ≡ 0 → SoundSampler (setUpOf count p size .sampler)
@@ -118,7 +129,7 @@ set-up-sound count p size h =
 
 -- what the number 0 says of a change
 change-let-through : (s : Sampler) (g : SoundSampler s) (x : Change) → changeNumber s x ≡ 0 → FittingChange x → Each (SoundOn s g x) (present s)
-unfolding startRows stopRows FittingChange SoundChange SoundHeadChange
+unfolding startRows stopRows asksOf headAsks leavingOf blockedBy FittingChange SoundChange SoundHeadChange
 change-let-through s g (change.Start p position note velocity) h f =
     let a = passed (not (goodSampler s)) 8 _ h .1 in
     let b = passed (badPosition position) 2 _ (passed (badNote note) 1 _ a .1) in
@@ -133,8 +144,14 @@ change-let-through s g (change.Head StartRecording) h f = of-each s g (change.He
 change-let-through s g (change.Head StopRecording) h f = of-each s g (change.Head StopRecording) (λ c. tt)
 change-let-through s g (change.Head (Interpolate on)) h f = of-each s g (change.Head (Interpolate on)) (λ c. tt)
 change-let-through s g (change.Head (Load samples)) h f =
-    let a = passed (anyRecording s) 14 _ (passed (not (goodSampler s)) 8 _ h .1) in
-    load-on s g samples (a .0) (ltb-false (s .capacity) samples (passed (ltb (s .capacity) samples) 17 0 (a .1) .0))
+    let a = passed (againstAny (Samples samples) s .blocked) 14 _ (passed (not (goodSampler s)) 8 _ h .1) in
+    load-on s g samples (a .0) (passed (againstAny (Samples samples) s .short) 17 0 (a .1) .0)
+change-let-through s g (change.Head (Choose k)) h f =
+    let a = passed (leb 8 k) 18 _ (passed (not (goodSampler s)) 8 _ h .1) in
+    of-blocked s g (change.Head (Choose k)) (passed (againstAny (Choice k) s .blocked) 20 0 (a .1) .0) (λ c e. (leb-false 8 k (a .0), e))
+change-let-through s g (change.Head (Delete k)) h f =
+    let a = passed (leb 8 k) 18 _ (passed (not (goodSampler s)) 8 _ h .1) in
+    of-blocked s g (change.Head (Delete k)) (passed (againstAny (ask.Delete k) s .blocked) 19 0 (a .1) .0) (λ c e. (leb-false 8 k (a .0), e))
 change-let-through s g change.Reset h f = of-each s g change.Reset (λ c. tt)
 
 pub change-kept : (s : Sampler) → SoundSampler s → (x : Change) → FittingChange x → SoundSampler (changeOf s x .sampler)
@@ -166,3 +183,19 @@ unfolding entryOf
 frame-kept s h frame p m f =
     frame-keeps (λ (g : Framed). SoundSampler (g .sampler)) p
     (λ k j g r i. step-kept p (record { within = k; fitting = f }) (g .sampler) i j (getD (g .frame) j zero32) (g .memory) r) s frame m h
+
+-- ---- a gather
+gathers-kept : (j : ℕ) (g : Gathered) → Reaches (g .sampler) j (length (g .memory)) → SoundSampler (g .sampler) → SoundSampler (gatherChannel j g .sampler)
+unfolding gatherChannel
+gathers-kept j g r h =
+    let s = g .sampler in
+    let part = partOf s j (g .memory) in
+    let c = gatheredIn (channelAt s j) part in
+    let long = part-length s j (g .memory) (r .part) in
+    channels-changed s h (set (s .channels) j c) (length-set (s .channels) j c)
+    (each-set (SoundChannel (s .capacity)) (s .channels) (s .count) j c (parts h .channels)
+    (subst (λ (n : ℕ). SoundChannel n c) long
+    (gathered-sound (channelAt s j) part (subst (λ (n : ℕ). SoundChannel n (channelAt s j)) (sym long) (channel-sound s h j (r .below))))))
+
+pub gather-kept : (s : Sampler) → SoundSampler s → (m : List ℕ) → SoundSampler (gatherOf s m .sampler)
+gather-kept s h m = gather-keeps (λ (g : Gathered). SoundSampler (g .sampler)) gathers-kept s m h

@@ -1,10 +1,14 @@
 pub mod Seats
 pub mod Channels
+pub mod Against
 pub mod Rows
+pub mod Replaced
 pub mod Parts
 pub mod Framing
 pub mod Entries
 pub mod Running
 pub mod RunRows
+pub mod Gathers
+pub mod Gathered
 pub mod Kept
 pub mod Reach

@@ -11,7 +11,7 @@ use Rattle.binary32.proofs.Truth.{same-test}
 use Rattle.common_types.specs.declared.Params.{Params}
 use Rattle.walks.proofs.Lists.Every.{both}
 use Rattle.channel.specs.Channels.{live}
-use Rattle.sampler.specs.Refusals.{row, channelAt, goodSizes, goodSampler, goodWith, sampleNumber, frameAskedOf, frameRows, frameNumber}
+use Rattle.sampler.specs.Refusals.{row, channelAt, goodSizes, goodSampler, goodWith, anyRecording, gatherNumber, sampleNumber, frameAskedOf, frameRows, frameNumber}
 use Rattle.sampler.specs.Samplers.{Ready, Steps}
 use Rattle.sampler.specs.declared.Sampler.{Sampler}
 use Rattle.sampler.specs.declared.FrameAsked.{FrameAsked}
@@ -92,6 +92,16 @@ frame-steps s n p size h =
       below = le-trans b (f .few);
       parts = le-trans (mul-le-mul-right (s .capacity) b) (f .fits);
     }
+
+-- ---- a gather
+pub gather-says : (s : Sampler) (size : ℕ) → gatherNumber s size ≡ 0 → (goodWith s size ≡ true) × (anyRecording s ≡ false)
+unfolding gatherNumber
+gather-says s size h =
+    let g = passed (not (goodWith s size)) 8 _ h in
+    (is-true (goodWith s size) (g .0), passed (anyRecording s) 20 0 (g .1) .0)
+
+pub gather-steps : (s : Sampler) (size : ℕ) → gatherNumber s size ≡ 0 → Steps s (s .count) size
+gather-steps s size h = let f = fitting s size (gather-says s size h .0) in record { below = f .few; parts = f .fits }
 
 -- what is asked of the record gives its number
 pub frame-asked : (s : Sampler) (n : ℕ) (p : Params) (size number : ℕ) (a : FrameAsked) → number ≡ frameRows a n p → a ≡ frameAskedOf s n size → number ≡ frameNumber s n p size

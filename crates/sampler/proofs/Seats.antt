@@ -13,8 +13,7 @@ use Rattle.channel.specs.declared.Change.{Change}
 use Rattle.channel.specs.declared.Channel.{Channel}
 use Rattle.channel.specs.declared.Change.the-variants.{Head}
 use Rattle.channel.specs.declared.HeadChange.{HeadChange}
-use Rattle.channel.specs.Heads.{headChangedOf}
-use Rattle.channel.specs.Channels.{withHead, changedOf}
+use Rattle.channel.specs.Channels.{headChangedIn, changedOf}
 use Rattle.sampler.specs.Samplers.{withChannels}
 use Rattle.sampler.specs.declared.Sampler.{Sampler}
 
@@ -22,6 +21,7 @@ use Rattle.sampler.specs.declared.Sampler.{Sampler}
 abbrev pub none : Channel
 none = record {
   voices = [];
+  table = [];
   count = 0;
   head = record {
     now = 0;
@@ -33,6 +33,7 @@ none = record {
     interpolates = false;
     chosen = 0;
   };
+  several = false;
 }
 
 -- a walk that stores what a change makes of each channel
@@ -44,7 +45,7 @@ pub each-on : (change : Change) (s : Sampler) (j : ℕ) (c d : Channel) (cs : Li
 each-on change s j c d cs e = rw (e, add-one j)
 
 -- the same where no voice is touched
-pub head-on : (h : HeadChange) (s : Sampler) (j : ℕ) (c d : Channel) (cs : List Channel) → d ≡ withHead (headChangedOf h (c .head)) c
+pub head-on : (h : HeadChange) (s : Sampler) (j : ℕ) (c d : Channel) (cs : List Channel) → d ≡ headChangedIn h c
     → eachFrom (Head h) s j (c ∷ cs) ≡ eachFrom (Head h) (withChannels (set (s .channels) j d) s) (j + 1) cs
 unfolding changedOf
 head-on h s j c d cs e = each-on (Head h) s j c d cs e

@@ -15,10 +15,20 @@ use Rattle.recorder.specs.Recording.{isRecordingOf}
 use Rattle.channel.specs.declared.Change.{Change}
 use Rattle.channel.specs.declared.Change.the-variants as change
 use Rattle.channel.specs.declared.HeadChange.{HeadChange}
-use Rattle.channel.specs.declared.HeadChange.the-variants.{StartRecording, StopRecording, Interpolate, Load}
+use Rattle.channel.specs.declared.HeadChange.the-variants.{
+  StartRecording,
+  StopRecording,
+  Interpolate,
+  Load,
+  Choose,
+  Delete,
+}
+use Rattle.channel.specs.declared.Ask.{Ask}
+use Rattle.channel.specs.declared.Against.{Against}
 use Rattle.channel.specs.declared.Channel.{Channel}
 use Rattle.channel.specs.Heads.{lastTime}
-use Rattle.channel.specs.Channels.{channelOf, fullOf, goodChannel}
+use Rattle.channel.specs.Tables.{asksOf}
+use Rattle.channel.specs.Channels.{channelOf, fullOf, againstOf, goodChannel}
 use Rattle.sampler.specs.declared.Sampler.{Sampler}
 use Rattle.sampler.specs.declared.Asked.{Asked}
 use Rattle.sampler.specs.declared.FrameAsked.{FrameAsked}
@@ -69,18 +79,20 @@ records c = isRecordingOf (c .head .recorder)
 abbrev pub anyRecording : Sampler → Bool
 anyRecording s = any records (present s)
 
+-- what the channels in use have against what a change asks: one of them has something in its way, or too little room
+unfoldable pub againstAny : Ask → Sampler → Against
+againstAny a s = record {
+  blocked = any (λ (c : Channel). againstOf (s .capacity) a c .blocked) (present s);
+  short = any (λ (c : Channel). againstOf (s .capacity) a c .short) (present s);
+}
+
 -- the clock of a channel that would be stepped stands at its end
 abbrev pub atEnd : Channel → Bool
 atEnd c = leb lastTime (c .head .now)
 
 -- ---- what the rows of a call ask of the record. Each engine answers in its own way, and the rows stand once
-abbrev pub askedOf : Sampler → Asked
-askedOf s = record {
-  good = goodSampler s;
-  full = anyFull s;
-  recording = anyRecording s;
-  capacity = s .capacity;
-}
+abbrev pub askedOf : Sampler → Change → Asked
+askedOf s x = record { good = goodSampler s; against = againstAny (asksOf x) s }
 
 -- a frame of n entries steps the first n channels
 abbrev pub frameAskedOf : Sampler → ℕ → ℕ → FrameAsked
@@ -96,7 +108,7 @@ setUpNumber count size = row (not (goodSizes count (capacityOf count size))) 9 0
 unfoldable pub startRows : Asked → Float → Note → Params → ℕ
 startRows a position note p =
     row (not (a .good)) 9
-    (row (badNote note) 2 (row (badPosition position) 3 (row (beyondLimits p) 4 (row (a .full) 5 0))))
+    (row (badNote note) 2 (row (badPosition position) 3 (row (beyondLimits p) 4 (row (a .against .blocked) 5 0))))
 
 unfoldable pub stopRows : Asked → Note → Params → ℕ
 stopRows a note p = row (not (a .good)) 9 (row (badNote note) 2 (row (beyondLimits p) 4 0))
@@ -105,12 +117,16 @@ unfoldable pub speedRows : Asked → Note → ℕ
 speedRows a note = row (not (a .good)) 9 (row (badNote note) 2 0)
 
 -- what a change of the heads has behind row 9: start and stop of recording, and request 7/12's setting, nothing; a
--- recording that is loaded (10/12), "15 while recording" and "18 for more samples than capacity"
+-- recording that is loaded (10/12), "15 while recording" and "18 for more samples" than it may hold; a choice and a delete
+-- (11/12) "19 for a phrase number of eight or more", then "21 for .. a new choice of phrase while recording", "20 for a
+-- delete of a phrase in use or being recorded"
 abbrev pub headRows : Asked → HeadChange → ℕ
 headRows a StartRecording = 0
 headRows a StopRecording = 0
 headRows a (Interpolate on) = 0
-headRows a (Load samples) = row (a .recording) 15 (row (ltb (a .capacity) samples) 18 0)
+headRows a (Load samples) = row (a .against .blocked) 15 (row (a .against .short) 18 0)
+headRows a (Choose k) = row (leb 8 k) 19 (row (a .against .blocked) 21 0)
+headRows a (Delete k) = row (leb 8 k) 19 (row (a .against .blocked) 20 0)
 
 -- a call that changes every channel, by its change
 abbrev pub changeRows : Asked → Change → ℕ
@@ -121,7 +137,7 @@ changeRows a (change.Head d) = row (not (a .good)) 9 (headRows a d)
 changeRows a change.Reset = row (not (a .good)) 9 0
 
 abbrev pub changeNumber : Sampler → Change → ℕ
-changeNumber s x = changeRows (askedOf s) x
+changeNumber s x = changeRows (askedOf s x) x
 
 unfoldable pub sampleNumber : Sampler → ℕ → Params → ℕ → ℕ
 sampleNumber s j p size = row (not (goodWith s size)) 9
@@ -171,6 +187,10 @@ doneOf s n p size = doneWith (runNumber s n p size) (runAskedOf s size) n
 -- both
 unfoldable pub runDone : RunAsked → ℕ → Params → Ran
 runDone a n p = record { frames = doneWith (runRows a n p) a n; number = runRows a n p }
+
+-- a gather of the phrases (11/12): "21 for a gather .. while recording"
+unfoldable pub gatherNumber : Sampler → ℕ → ℕ
+gatherNumber s size = row (not (goodWith s size)) 9 (row (anyRecording s) 21 0)
 
 -- a question of one channel
 unfoldable pub channelNumber : Sampler → ℕ → ℕ

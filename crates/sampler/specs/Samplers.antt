@@ -14,10 +14,16 @@ use Rattle.common_types.specs.declared.Params.{Params}
 use Rattle.common_types.specs.declared.Note.{Note}
 use Rattle.channel.specs.declared.Change.{Change}
 use Rattle.channel.specs.declared.Change.the-variants as change
-use Rattle.channel.specs.declared.HeadChange.the-variants.{StartRecording, StopRecording, Interpolate}
+use Rattle.channel.specs.declared.HeadChange.the-variants.{
+  StartRecording,
+  StopRecording,
+  Interpolate,
+  Choose,
+  Delete,
+}
 use Rattle.channel.specs.declared.Channel.{Channel}
 use Rattle.channel.specs.declared.Played.{Played}
-use Rattle.channel.specs.Channels.{channelOf, changedOf, memoryOf}
+use Rattle.channel.specs.Channels.{channelOf, changedOf, gatheredIn, gatheredMemory, memoryOf}
 use Rattle.channel.specs.Channels.{processSampleOf as channelSampleOf}
 use Rattle.sampler.specs.Refusals.{
   present,
@@ -25,6 +31,7 @@ use Rattle.sampler.specs.Refusals.{
   capacityOf,
   setUpNumber,
   changeNumber,
+  gatherNumber,
   sampleNumber,
   frameNumber,
   runNumber,
@@ -80,6 +87,13 @@ stopRecordingOf s = changeOf s (change.Head StopRecording)
 abbrev pub setInterpolationOf : Sampler → Bool → Answer
 setInterpolationOf s on = changeOf s (change.Head (Interpolate on))
 
+-- request 11/12: "Choice, delete and gather act on all channels or none"
+abbrev pub choosePhraseOf : Sampler → ℕ → Answer
+choosePhraseOf s k = changeOf s (change.Head (Choose k))
+
+abbrev pub deletePhraseOf : Sampler → ℕ → Answer
+deletePhraseOf s k = changeOf s (change.Head (Delete k))
+
 abbrev pub resetOf : Sampler → Answer
 resetOf s = changeOf s change.Reset
 
@@ -134,6 +148,36 @@ processSampleOf s j x p m =
 
 unfoldable pub sampleMemory : Sampler → ℕ → Float → Params → List ℕ → List ℕ
 sampleMemory s j x p m = cond (eqb (sampleNumber s j p (length m)) 0) (memoryAt s j x m) m
+
+-- ---- a gather (request 11/12): the phrases of each channel in use are moved down in its part
+pub record Gathered : Type 0 where
+  pub sampler : Sampler
+  pub memory : List ℕ
+
+unfoldable pub gatherChannel : ℕ → Gathered → Gathered
+gatherChannel j g =
+    let s = g .sampler in
+    record {
+      sampler = withChannels (set (s .channels) j (gatheredIn (channelAt s j) (partOf s j (g .memory)))) s;
+      memory = take (j * s .capacity) (g .memory)
+          ++ (gatheredMemory (channelAt s j) (partOf s j (g .memory)) ++ drop (j * s .capacity + s .capacity) (g .memory));
+    }
+
+-- n channels from j on
+unfoldable pub gatherChannels : ℕ → ℕ → Gathered → Gathered
+gatherChannels zero j g = g
+gatherChannels (suc n) j g = gatherChannels n (j + 1) (gatherChannel j g)
+
+abbrev pub gatheredAll : Sampler → List ℕ → Gathered
+gatheredAll s m = gatherChannels (s .count) 0 (record { sampler = s; memory = m })
+
+unfoldable pub gatherOf : Sampler → List ℕ → Answer
+gatherOf s m =
+    let number = gatherNumber s (length m) in
+    record { sampler = cond (eqb number 0) (gatheredAll s m .sampler) s; number = number }
+
+unfoldable pub gatherMemory : Sampler → List ℕ → List ℕ
+gatherMemory s m = cond (eqb (gatherNumber s (length m)) 0) (gatheredAll s m .memory) m
 
 -- ---- a frame: a sample of each channel in turn, each entry replaced by its output
 pub record Framed : Type 0 where

@@ -18,11 +18,12 @@ use Rattle.sampler.specs.Refusals.{
   goodSampler,
   setUpNumber,
   changeNumber,
+  gatherNumber,
   sampleNumber,
   frameNumber,
   channelNumber,
 }
-use Rattle.sampler.specs.Samplers.{setUpOf, changeOf, processSampleOf, framedOf}
+use Rattle.sampler.specs.Samplers.{setUpOf, changeOf, processSampleOf, framedOf, gatherOf}
 use Rattle.sampler.specs.declared.Sampler.{Sampler}
 
 -- two channels, as in every sampler of a program
@@ -44,10 +45,12 @@ pub data Reached (size : ℕ) : Sampler → Type 0 where
       → Reached size (processSampleOf s j x p m .sampler)
   framed : (s : Sampler) (frame : List Float) (p : Params) (m : List ℕ) → Reached size s → FittingParams p
       → Reached size (framedOf s frame p m .sampler)
+  gathered : (s : Sampler) (m : List ℕ) → Reached size s → Reached size (gatherOf s m .sampler)
 
 -- row 9 answers no call, with memory of that size
 pub record Unbroken (s : Sampler) (size : ℕ) : Type 0 where
   pub change : (x : Change) → changeNumber s x ≢ 9
   pub sample : (j : ℕ) (p : Params) → sampleNumber s j p size ≢ 9
   pub frame : (n : ℕ) (p : Params) → frameNumber s n p size ≢ 9
+  pub gather : gatherNumber s size ≢ 9
   pub question : (j : ℕ) → channelNumber s j ≢ 9

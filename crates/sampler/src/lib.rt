@@ -10,7 +10,7 @@ ghost use Rattle.binary32.specs.Leaves.{zero32, one32};
 ghost use Rattle.walks.specs.Walks.{any, every};
 ghost use Rattle.channel.specs.declared.Change.the-variants.{Head};
 ghost use Rattle.channel.specs.declared.HeadChange.the-variants.{Load};
-ghost use Rattle.channel.specs.Channels.{fullOf, goodChannel};
+ghost use Rattle.channel.specs.Channels.{goodChannel};
 ghost use Rattle.sampler.specs.Refusals.{
   present,
   channelAt,
@@ -20,6 +20,7 @@ ghost use Rattle.sampler.specs.Refusals.{
   capacityOf,
   goodWith,
   anyRecording,
+  againstAny,
   atEnd,
   setUpNumber,
   askedOf,
@@ -28,6 +29,7 @@ ghost use Rattle.sampler.specs.Refusals.{
   speedRows,
   headRows,
   changeRows,
+  gatherNumber,
   sampleNumber,
   frameAskedOf,
   frameRows,
@@ -50,7 +52,12 @@ ghost use Rattle.sampler.specs.Samplers.{
   startRecordingOf,
   stopRecordingOf,
   setInterpolationOf,
+  choosePhraseOf,
+  deletePhraseOf,
   resetOf,
+  gatheredAll,
+  gatherOf,
+  gatherMemory,
   channelSteppedOf,
   outputOf,
   movedAt,
@@ -70,6 +77,8 @@ ghost use Rattle.sampler.specs.Samplers.{
   ranOf,
   runAnswer,
 };
+use channel::Against;
+use channel::Ask;
 use channel::Change;
 use channel::Channel;
 use channel::HeadChange;
@@ -121,13 +130,11 @@ pub struct RunAnswer {
     pub ran: Ran,
 }
 
-// What the rows of a change ask of a record: whether it is good, whether a channel takes no further voice, whether one
-// records, and how many samples a channel holds. Each engine answers in its own way, and the rows stand once.
+// What the rows of a change ask of a record: whether it is good, and what its channels have against the change. Each
+// engine answers in its own way, and the rows stand once.
 pub struct Asked {
     pub good: bool,
-    pub full: bool,
-    pub recording: bool,
-    pub capacity: usize,
+    pub against: Against,
 }
 
 // What those of a frame ask: whether record and memory are good, how many channels there are, and whether the clock of
@@ -248,19 +255,23 @@ impl Sampler {
         }
     }
 
-    fn any_full(self) -> bool
-        ensures { λ r. ⌜ r ≡ any fullOf (present self) ⌝ }
+    // What the channels in use have against what a change asks.
+    pub fn against(self, ask: Ask) -> Against
+        ensures { λ r. ⌜ r ≡ againstAny ask self ⌝ }
     {
+        let capacity = self.capacity;
         let n = places(self.count);
+        let mut blocked = false;
+        let mut short = false;
         let mut j = 0;
         while j < n {
             let c = self.channels[j];
-            if c.full() {
-                return true;
-            }
+            let a = c.against(ask, capacity);
+            blocked = blocked | a.blocked;
+            short = short | a.short;
             j += 1;
         }
-        false
+        Against { blocked, short }
     }
 
     // Whether one of the channels in use records.
@@ -349,6 +360,48 @@ impl Sampler {
         self
     }
 
+    fn gather_number(self, size: usize) -> u8
+        ensures { λ r. ⌜ r ≡ gatherNumber self size ⌝ }
+    {
+        let recording = first_of(self.any_recording(), 21, 0);
+        first_of(!self.good_with(size), 9, recording)
+    }
+
+    // Moves the phrases of each channel down, so that all free room of its part is behind them.
+    pub fn gather(self, memory: &mut [u32]) -> Answer
+        ensures { λ r. ⌜ r ≡ gatherOf self (now (memory .entry)) ⌝ }
+        ensures { λ r. ⌜ now (memory .exit) ≡ gatherMemory self (now (memory .entry)) ⌝ }
+    {
+        let number = self.gather_number(memory.len());
+        if number != 0 {
+            return Answer {
+                sampler: self,
+                number,
+            };
+        }
+        let sampler = self.gathered(memory);
+        Answer { sampler, number: 0 }
+    }
+
+    // Each channel in use gathered on its part of the memory.
+    fn gathered(mut self, memory: &mut [u32]) -> Sampler
+        requires { ⌜ Steps self (self .count) (length (now memory)) ⌝ }
+        ensures { λ r. ⌜ r ≡ gatheredAll self (now (memory .entry)) .sampler ⌝ }
+        ensures { λ r. ⌜ now (memory .exit) ≡ gatheredAll self (now (memory .entry)) .memory ⌝ }
+    {
+        let capacity = self.capacity;
+        let n = self.count;
+        let mut j = 0;
+        while j < n {
+            let c = self.channels[j];
+            let start = part_start(j, capacity);
+            let end = start + capacity;
+            self.channels[j] = c.gathered(&mut memory[start..end]);
+            j += 1;
+        }
+        self
+    }
+
     // The change where the number is 0.
     fn answer(self, number: u8, change: Change) -> Answer
         ensures { λ r. ⌜ r ≡ answerOf number change self ⌝ }
@@ -367,16 +420,13 @@ impl Sampler {
     }
 
     // What the rows of a change ask of the record.
-    fn asked(self) -> Asked
-        ensures { λ r. ⌜ r ≡ askedOf self ⌝ }
+    fn asked(self, change: Change) -> Asked
+        ensures { λ r. ⌜ r ≡ askedOf self change ⌝ }
     {
-        let full = self.any_full();
-        let recording = self.any_recording();
+        let against = self.against(channel::asks(change));
         Asked {
             good: self.good(),
-            full,
-            recording,
-            capacity: self.capacity,
+            against,
         }
     }
 
@@ -439,7 +489,7 @@ impl Sampler {
     pub fn changed(self, change: Change) -> Answer
         ensures { λ r. ⌜ r ≡ changeOf self change ⌝ }
     {
-        let number = change_rows(self.asked(), change);
+        let number = change_rows(self.asked(change), change);
         self.answer(number, change)
     }
 
@@ -482,6 +532,20 @@ impl Sampler {
         ensures { λ r. ⌜ r ≡ stopRecordingOf self ⌝ }
     {
         self.changed(Change::Head(HeadChange::StopRecording))
+    }
+
+    // The phrase of that number is recorded and started from here on.
+    pub fn choose_phrase(self, phrase: u8) -> Answer
+        ensures { λ r. ⌜ r ≡ choosePhraseOf self phrase ⌝ }
+    {
+        self.changed(Change::Head(HeadChange::Choose(phrase)))
+    }
+
+    // Empties a phrase that nothing uses.
+    pub fn delete_phrase(self, phrase: u8) -> Answer
+        ensures { λ r. ⌜ r ≡ deletePhraseOf self phrase ⌝ }
+    {
+        self.changed(Change::Head(HeadChange::Delete(phrase)))
     }
 
     pub fn reset(self) -> Answer
@@ -647,7 +711,8 @@ pub fn first_of(test: bool, number: u8, rest: u8) -> u8
 fn start_rows(asked: Asked, position: f32, note: Note, params: Params) -> u8
     ensures { λ r. ⌜ r ≡ startRows asked position note params ⌝ }
 {
-    let full = first_of(asked.full, 5, 0);
+    let against = asked.against;
+    let full = first_of(against.blocked, 5, 0);
     let beyond = first_of(params.beyond_limits(), 4, full);
     let position = first_of(!in_range(position), 3, beyond);
     first_of(!asked.good, 9, first_of(note.channel > 15, 2, position))
@@ -670,17 +735,14 @@ fn speed_rows(asked: Asked, note: Note) -> u8
 fn head_rows(asked: Asked, change: HeadChange) -> u8
     ensures { λ r. ⌜ r ≡ headRows asked change ⌝ }
 {
+    let against = asked.against;
     match change {
         HeadChange::StartRecording => 0,
         HeadChange::StopRecording => 0,
         HeadChange::Interpolate(_) => 0,
-        HeadChange::Load(samples) => {
-            first_of(
-                asked.recording,
-                15,
-                first_of(asked.capacity < samples, 18, 0),
-            )
-        }
+        HeadChange::Load(_) => first_of(against.blocked, 15, first_of(against.short, 18, 0)),
+        HeadChange::Choose(k) => first_of(8 <= k, 19, first_of(against.blocked, 21, 0)),
+        HeadChange::Delete(k) => first_of(8 <= k, 19, first_of(against.blocked, 20, 0)),
     }
 }
 

@@ -23,6 +23,9 @@ enum-told c = search needs
 enum-known-change-3 : tie.Need-enum-known-change-3
 enum-known-change-3 c = search needs
 
+finds-requires : tie.Need-finds-requires
+finds-requires c κs = search needs
+
 changed-requires : tie.Need-changed-requires
 changed-requires c κs = search needs
 
@@ -46,7 +49,7 @@ returns-3 c = simp (c .enum-told .given .1)
 
 returns-4 : tie.Need-returns-4
 unfolding endedOf
-returns-4 c = simp (c .changed .ensures, c .before .before .change3 .given .1)
+returns-4 c = simp (c .changed .ensures, c .before .finds .ensures, c .before .before .before .change3 .given .1)
 
 returns-5 : tie.Need-returns-5
 unfolding endedOf ofBits
@@ -62,6 +65,7 @@ ending-spec =
     handled-requires-2
     enum-told
     enum-known-change-3
+    finds-requires
     changed-requires
     enum-told-2
     new-requires

@@ -168,7 +168,7 @@ module _ {M : Type 1} (𝓤 : URA M) (H : Heap 𝓤) (A : Atoms 𝓤) (W : Given
         move ! (1 ∷ []) $ fsplit ! $ fsplit3 ! $ drop ! $ move ! (3 ∷ []) $ split ! $ move ! (1 ∷ 4 ∷ []) $ drop ! $ drop ! $ move ! (1 ∷ 2 ∷ 0 ∷ []) $ opens ! tt C.the-row {h = h} b o (λ vs.
         spelt ! C.the-row (Is C.the-row) (shows 𝓤 H A C.the-row) (LL.vals C.the-type C′.the-laws) (LL.tells C.the-type C′.the-laws) fullShare h vs b o $
         use1 W (‵ (fat fullShare C′.mir b o (cv h))) (W .laws .raw-at fullShare C′.mir b o (cv h)) $ move ! (1 ∷ []) $
-        peeks ! C.the-row (Is C.the-row) (shows 𝓤 H A C.the-row) h (cv h ∷ []) (λ g. drop ! $ let ist : Is E.the-row t (ev t ∷ []) = LL.owed C.the-type C′.the-laws h _ g .1 .1 .0 in let parts = LL.owed E.the-type E′.the-laws t _ ist in
+        peeks ! C.the-row (Is C.the-row) (shows 𝓤 H A C.the-row) h (cv h ∷ []) (λ g. drop ! $ let ist : Is E.the-row t (ev t ∷ []) = LL.owed C.the-type C′.the-laws h _ g .1 .1 .1 .0 in let parts = LL.owed E.the-type E′.the-laws t _ ist in
         -- what is heard, and whether pass-through rests
         puts ! (of-opd ! (reads-head b o h ! (held ! refl))) (fills ! refl (head .typed 𝓤 H A W t _ ist)) $
         asks ! (known .mixed) (t, (x, (s, tt))) (ist, ((refl, x-fits), (iss, tt))) (and-then ! (its ! refl) (and-then ! (its ! refl) (and-then ! (its ! refl) (no-more !)))) (fills ! refl) (λ is.
@@ -180,14 +180,14 @@ module _ {M : Type 1} (𝓤 : URA M) (H : Heap 𝓤) (A : Atoms 𝓤) (W : Given
         -- the clock alone is stored
         puts ! (of-opd ! (reads-time b o h ! (held ! refl))) (fills ! refl (tt, record { fits = parts .0 .1 })) $
         asks ! (known .ticked) (t .now, tt) (parts .0, tt) (and-then ! (its ! refl) (no-more !)) (fills ! refl) (λ is-next.
-        assigns-last ! (of-opd ! (its ! refl)) (beyond ! (held ! refl) (fld ! {τ = head .ty} {d = head-at} refl (fld ! {τ = tyInt w64} {d = time-at} refl (stop !)))) (store-in ! 0 (sub ! 0 {τ = tyInt w64} {d = time-at} refl (sub ! 2 {τ = head .ty} {d = head-at} refl (whole !))) (tt, record { fits = is-next .1 })) $
+        assigns-last ! (of-opd ! (its ! refl)) (beyond ! (held ! refl) (fld ! {τ = head .ty} {d = head-at} refl (fld ! {τ = tyInt w64} {d = time-at} refl (stop !)))) (store-in ! 0 (sub ! 0 {τ = tyInt w64} {d = time-at} refl (sub ! 3 {τ = head .ty} {d = head-at} refl (whole !))) (tt, record { fits = is-next .1 })) $
         let so : clockedOf t ≡ t′ = sym (closed-resting p u t (holds (restsOf wanted t) y)) in rewrite ! 0 (λ (z : Head). ‵ (fat fullShare C′.mir b o (cv (withHead z h)))) so refl $ leaves-only ! (env (code.function .locals) at) 10 refl $
         by ! (shuts at g is (subst (λ (z : Head). Is E.the-row z (ev z ∷ [])) so (LL.owes E.the-type E′.the-laws (clockedOf t) (is-next, parts .1))))))
         (λ _.
         -- the head is stored
         puts ! (of-opd ! (reads-head b o h ! (held ! refl))) (fills ! refl (head .typed 𝓤 H A W t _ ist)) $
         asks ! (known .closed) (t, (p, (u, tt))) (ist, (isp, (refl, tt))) (and-then ! (its ! refl) (and-then ! (its ! refl) (and-then ! (its ! refl) (no-more !)))) (fills ! refl) (λ ist′.
-        assigns-last ! (of-opd ! (its ! refl)) (beyond ! (held ! refl) (fld ! {τ = head .ty} {d = head-at} refl (stop !))) (store-in ! 0 (sub ! 2 {τ = head .ty} {d = head-at} refl (whole !)) (head .typed 𝓤 H A W t′ _ ist′)) $ leaves-only ! (env (code.function .locals) at) 10 refl $
+        assigns-last ! (of-opd ! (its ! refl)) (beyond ! (held ! refl) (fld ! {τ = head .ty} {d = head-at} refl (stop !))) (store-in ! 0 (sub ! 3 {τ = head .ty} {d = head-at} refl (whole !)) (head .typed 𝓤 H A W t′ _ ist′)) $ leaves-only ! (env (code.function .locals) at) 10 refl $
         by ! (shuts at g is ist′)))))))))
 
   close-walks : Walks 𝓤 H A f.ended stayed (WpFn 𝓤 H (𝓣 .C) (𝓣 .Λ) code.function) (f.clauses 𝓤 H A at-mem run)

@@ -71,7 +71,7 @@ use Rattle.lent_channel.specs.declared.Going.{Going}
 use Rattle.lent_channel.specs.declared.Heard.{Heard}
 use Rattle.lent_channel.specs.Turns.{begun, movedBy, Onward, heardOf}
 use Rattle.lent_channel.proofs.Bytes.{count-at}
-use Rattle.lent_channel.proofs.Turns.{onward, onward-head, same-turning, begins, ended-heard, ended-channel}
+use Rattle.lent_channel.proofs.Turns.{onward, onward-else, same-turning, begins, ended-heard, ended-channel}
 use Rattle.lent_channel.proofs.Places.{cv, yv, places-are}
 use Rattle.lent_channel.proofs.Sharing.{places, count-fits}
 use Rattle.lent_channel.proofs.Holding.{params, measure, going, sounded, reads-count}
@@ -213,7 +213,7 @@ module _ {M : Type 1} (𝓤 : URA M) (H : Heap 𝓤) (A : Atoms 𝓤) (W : Given
           kept-fits = omega (arith, kept-few)
 
           counted-is : Is C.the-row (s .channel) (cv (s .channel) ∷ []) → Is C.the-row (last s) (cv (last s) ∷ [])
-          counted-is is = LL.owes C.the-type C′.the-laws (last s) (LL.owed C.the-type C′.the-laws (s .channel) _ is .0, ((refl, kept-fits), (LL.owed C.the-type C′.the-laws (s .channel) _ is .1 .1 .0, tt)))
+          counted-is is = let all = LL.owed C.the-type C′.the-laws (s .channel) _ is in LL.owes C.the-type C′.the-laws (last s) (all .0, (all .1 .0, ((refl, kept-fits), all .1 .1 .1)))
 
           leaves : (X : SProp 𝓤) → ent 𝓤 (⋆ 𝓤 H A (At s)) (Wp 𝓤 H (𝓣 .C) (𝓣 .Λ) En code.Mir.turn-1 (afterTurn 𝓤 H X Left))
           unfolding afterTurn
@@ -222,7 +222,7 @@ module _ {M : Type 1} (𝓤 : URA M) (H : Heap 𝓤) (A : Atoms 𝓤) (W : Given
               puts ! (no-less ! (field-of ! refl refl) (its ! refl) end) (fills ! refl (tt, tt)) $ leaves-loop ! (its ! refl) $ exec ! (𝓣 .C) (𝓣 .Λ) En (after 5 (code.function .body)) (atRet En Post) $
               opened ! fullShare C.the-row (Is C.the-row) (shows 𝓤 H A C.the-row) (LL.vals C.the-type C′.the-laws) (LL.tells C.the-type C′.the-laws) (s .channel) b o (λ is.
               use1 W (‵ (fat fullShare C′.mir b o (cv (s .channel)))) (W .laws .raw-at fullShare C′.mir b o (cv (s .channel))) $
-              assigns ! (of-opd ! (field-of ! refl refl)) (beyond ! (held ! refl) (fld ! {τ = tyInt w64} {d = count-at} refl (stop !))) (store-in ! 0 (sub ! 1 {τ = tyInt w64} {d = count-at} refl (whole !)) (tt, record { fits = kept-fits })) $
+              assigns ! (of-opd ! (field-of ! refl refl)) (beyond ! (held ! refl) (fld ! {τ = tyInt w64} {d = count-at} refl (stop !))) (store-in ! 0 (sub ! 2 {τ = tyInt w64} {d = count-at} refl (whole !)) (tt, record { fits = kept-fits })) $
               move ! (1 ∷ []) $ drop ! $ owned ! C.the-row (Is C.the-row) (LL.makes C.the-type C′.the-plain 𝓤 H A) (last s) _ (counted-is is) $ move ! (1 ∷ 0 ∷ []) $
               use2 W (‵ (partAt C.the-row fullShare (last s) b o)) (part-in 𝓤 H A W C.the-row refl fullShare (last s) b o (cv (last s))) $
               use0 W (raw (Moved 𝓤 H A at-mem run .pre (to-moved g))) (goes-moved g (kept-few, still .on .stands .first) (still .is)) $
@@ -245,7 +245,7 @@ module _ {M : Type 1} (𝓤 : URA M) (H : Heap 𝓤) (A : Atoms 𝓤) (W : Given
           -- turns have gone on
           goes-further : (e : Channel) (z : Going) → (s .at .place < z .place) × Onward (turningIn p c ms) n c (s .at) e z → Is N.the-row z (going .val z ∷ []) → Still (record { at = z; channel = e }) r
           goes-further e z said is = record {
-            on = onward (still .on) (subst (λ (u : Turning). Onward u n c (s .at) e z) (same-turning p ms h c (onward-head (still .on))) (said .1));
+            on = onward (still .on) (subst (λ (u : Turning). Onward u n c (s .at) e z) (same-turning p ms h c (onward-else (still .on))) (said .1));
             left = omega (arith, still .left, said .0);
             is = is;
           }

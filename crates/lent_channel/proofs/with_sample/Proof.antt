@@ -283,9 +283,9 @@ module _ {M : Type 1} (𝓤 : URA M) (H : Heap 𝓤) (A : Atoms 𝓤) (W : Given
         leaves-only ! (env (code.function .locals) at) 5 refl $ stands ! (over (‵ (partAt C.the-row fullShare h₁ b o) ∷ ‵ (fobor κ q (Body (mem C.the-row) b o γ)) ∷ ‵ (fobs γ (C.the-row .coded .code h)) ∷ ‵ (fauth γ (C.the-row .coded .code h)) ∷ ‵ (flft κ₁ q₁) ∷ ‵ (MutSlice (named 1) κ₁ u32 .own (xm γ₁ ms′) (sl ∷ [])) ∷ []) (env (code.function .locals) at) (none ∷ some (vptr b o) ∷ some (params .val p) ∷ some (vfloat binary32 x) ∷ some sl ∷ [])) refl $
         asks ! known-Silence tt tt (no-more !) (fills ! refl) (λ is₀.
         puts ! (of-opd ! (false-lit !)) (fills ! refl (tt, tt)) $
-        opened ! fullShare C.the-row (Is C.the-row) (shows 𝓤 H A C.the-row) (LL.vals C.the-type C′.the-laws) (LL.tells C.the-type C′.the-laws) h₁ b o (λ g. let count-fits : h₁ .count < 2 ^ 64 = LL.owed C.the-type C′.the-laws h₁ _ g .1 .0 .1 in
+        opened ! fullShare C.the-row (Is C.the-row) (shows 𝓤 H A C.the-row) (LL.vals C.the-type C′.the-laws) (LL.tells C.the-type C′.the-laws) h₁ b o (λ g. let count-fits : h₁ .count < 2 ^ 64 = LL.owed C.the-type C′.the-laws h₁ _ g .1 .1 .0 .1 in
         use1 W (‵ (fat fullShare C′.mir b o (cv h₁))) (W .laws .raw-at fullShare C′.mir b o (cv h₁)) $
-        puts ! (of-opd ! (load ! (beyond ! (holds ! refl) (fld ! {τ = tyInt w64} {d = count-at} refl (stop !))) (look-in ! 0 (sub ! 1 {τ = tyInt w64} {d = count-at} refl (whole !))))) (fills ! refl (tt, record { fits = count-fits })) $
+        puts ! (of-opd ! (load ! (beyond ! (holds ! refl) (fld ! {τ = tyInt w64} {d = count-at} refl (stop !))) (look-in ! 0 (sub ! 2 {τ = tyInt w64} {d = count-at} refl (whole !))))) (fills ! refl (tt, record { fits = count-fits })) $
         puts ! (bin ! (its ! refl) (lit ! tt) tt) (fills ! refl (tt, tt)) $
         first ! $ branches ! (its ! refl)
         (λ y.

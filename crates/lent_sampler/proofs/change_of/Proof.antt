@@ -3,9 +3,6 @@ use borrow.Author.Needs.{needs}
 use Rattle.lent_sampler.proofs.change_of.Statement.{statement}
 use Rattle.lent_sampler.proofs.change_of.Tie as tie
 
-good-requires : tie.Need-good-requires
-good-requires c κs = search needs
-
 any-of-requires : tie.Need-any-of-requires
 any-of-requires c κs = search needs
 
@@ -16,7 +13,7 @@ change-rows-requires : tie.Need-change-rows-requires
 change-rows-requires c κs = search needs
 
 returns : tie.Need-returns
-returns c = simp (c .change-rows .ensures, c .before .any-of2 .ensures, c .before .before .any-of .ensures, c .before .before .before .good2 .ensures)
+returns c = simp (c .change-rows .ensures, c .before .any-of2 .ensures, c .before .before .any-of .ensures)
 
 pub change-of-spec : {M : Type 1} → statement M
-change-of-spec = tie.close (tie.spec good-requires any-of-requires any-of-requires-2 change-rows-requires returns)
+change-of-spec = tie.close (tie.spec any-of-requires any-of-requires-2 change-rows-requires returns)

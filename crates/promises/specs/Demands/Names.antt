@@ -116,7 +116,7 @@ pub use Rattle.promises.specs.Runs.{
   events,
   settingIn,
   isResetCall,
-  isRead,
+  rewrites,
   output,
   final,
   before,
@@ -158,3 +158,4 @@ pub use Rattle.promises.specs.Table.{TableHolds}
 pub use Rattle.promises.specs.Broken.{RowNine}
 pub use Rattle.promises.specs.Rows.{RowTests}
 pub use Rattle.promises.specs.SmallParts.{RowSeven}
+pub use Rattle.promises.specs.Phrases.{Phrases, Eight, Base}

@@ -5,18 +5,18 @@ use Rattle.walks.proofs.Lists.Loops.{Walk, turns, ends, long, begins}
 use Rattle.channel.specs.Channels.{live}
 use Rattle.channel.proofs.Slots.{none}
 use Rattle.questions.specs.Questions.{figuresOf, voiceInfosOf}
-use Rattle.questions.proofs.Infos.{figuresBy, figured, filled, filled-on, filled-front}
+use Rattle.questions.proofs.Infos.{figured, filled, filled-on, filled-front}
 use borrow.Author.Needs.{needs}
 use Rattle.questions.proofs.voice_infos.Statement.{statement}
 use Rattle.questions.proofs.voice_infos.Tie as tie
 
 abbrev Inv-loop : tie.InvT-loop
-Inv-loop params c head other n answer₀ i₀ answer i =
-    let f = figuresBy params other head in
+Inv-loop first params c n answer₀ i₀ answer i =
+    let f = figuresOf params first c in
     Walk (filled f answer₀ 0 (live c)) (filled f answer i) (c .voices) n i
 
 abbrev μ-loop : tie.MeasureT-loop
-μ-loop params c head other n answer₀ i₀ answer i = n - i
+μ-loop first params c n answer₀ i₀ answer i = n - i
 
 places-requires : tie.Need-places-requires Inv-loop μ-loop
 places-requires c κs = search needs
@@ -26,7 +26,7 @@ no-infos-requires c κs = search needs
 
 loop-holds : tie.Need-loop-holds Inv-loop μ-loop
 loop-holds c =
-    let at = c .before .before .before .before in
+    let at = c .before .before in
     begins (filled _ (c .no-infos .result) 0) (at .args .t1 .voices) (at .args .t1 .count) _ 32 (long _ (at .args .t1 .voices) 32 (at .good .0 .1 .1 .0 .1 .0 .1)) (c .before .places .ensures)
 
 mul-v : tie.Need-mul-v Inv-loop μ-loop
@@ -50,8 +50,8 @@ usize-to-f32-requires c κs = search needs
 voice-info-requires : tie.Need-voice-info-requires Inv-loop μ-loop
 voice-info-requires c κs = search needs
 
-mul-t17 : tie.Need-mul-t17 Inv-loop μ-loop
-mul-t17 c = search needs
+mul-t15 : tie.Need-mul-t15 Inv-loop μ-loop
+mul-t15 c = search needs
 
 element-set-from-answer : tie.Need-element-set-from-answer Inv-loop μ-loop
 element-set-from-answer c = search needs
@@ -71,9 +71,9 @@ loop-again c =
     (figured _ _ _ _ _ _ _ _ _ (b .phrase-at .ensures) (c .before .before .before .phrase-at2 .ensures) (c .before .before .loop-length .ensures) (c .before .usize-to-f32 .ensures) (c .voice-info .ensures)))
 
 returns : tie.Need-returns Inv-loop μ-loop
-unfolding voiceInfosOf figuresOf
+unfolding voiceInfosOf
 returns c =
-    let at = c .before .before .before .before .before .before in
+    let at = c .before .before .before .before in
     ends (c .before .loop .inv) (c .loop-test .left)
     ∙ simp (c .before .before .no-infos .ensures)
     (filled-front _ (at .args .t1) (long _ (at .args .t1 .voices) 32 (at .good .0 .1 .1 .0 .1 .0 .1)))
@@ -94,7 +94,7 @@ voice-infos-spec =
     loop-length-requires
     usize-to-f32-requires
     voice-info-requires
-    mul-t17
+    mul-t15
     element-set-from-answer
     add-i
     loop-less

@@ -1,5 +1,7 @@
 -- `read_wave` meets its contract: the request's rows in their order, and then the file's words and length. Assumes nothing.
-use Rattle.recordings.proofs.Numbers.{read-refused, read-done}
+use mathlib.Core.Path.{sym, _∙_}
+use Rattle.sampler.proofs.Rows.{fitting}
+use Rattle.recordings.proofs.Numbers.{read-refused, read-done, read-says}
 use borrow.Author.Needs.{needs}
 use Rattle.recordings.proofs.read_wave.Statement.{statement}
 use Rattle.recordings.proofs.read_wave.Tie as tie
@@ -13,8 +15,8 @@ read-number-requires c κs = search needs
 returns : tie.Need-returns
 returns c = let a = c .before .before .before .before .before .args in read-refused (a .s) (a .file .now) (a .memory .now) _ (c .before .before .judge .ensures) _ (c .before .read-number .ensures) (c .if1 .taken)
 
-fronts-requires : tie.Need-fronts-requires
-fronts-requires c κs = search needs
+beginnings-requires : tie.Need-beginnings-requires
+beginnings-requires c κs = fitting _ _ (read-says _ _ _ (sym (c .before .read-number .ensures) ∙ c .if1 .left) .good) .good
 
 load-requires : tie.Need-load-requires
 load-requires c κs = search needs
@@ -33,7 +35,7 @@ returns-2 c =
     let b = c .before .before .before .before in
     let d = b .before .before .before in
     let a = d .before .before .before .before .before .args in
-    read-done (a .s) (a .file .now) (a .memory .now) _ (d .before .before .judge .ensures) _ (d .before .read-number .ensures) (d .if1 .left) _ (b .before .before .fronts .ensures) _ (b .load .ensures .1) _ (c .before .held .ensures) _ (c .loaded .ensures)
+    read-done (a .s) (a .file .now) (a .memory .now) _ (d .before .before .judge .ensures) _ (d .before .read-number .ensures) (d .if1 .left) _ (b .before .before .beginnings .ensures) _ (b .load .ensures .1) _ (c .before .held .ensures) _ (c .loaded .ensures)
 
 pub read-wave-spec : {M : Type 1} → statement M
 read-wave-spec =
@@ -42,7 +44,7 @@ read-wave-spec =
     judge-requires
     read-number-requires
     returns
-    fronts-requires
+    beginnings-requires
     load-requires
     held-requires
     loaded-requires

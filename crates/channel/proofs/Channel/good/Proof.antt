@@ -16,12 +16,25 @@ returns-2 : tie.Need-returns-2
 unfolding goodChannel
 returns-2 c = simp (le-leb _ _ (c .before .before .before .if1 .left), ← (c .before .good2 .ensures), not-true (c .before .good2 .result) (c .if2 .taken))
 
-good-voices-requires : tie.Need-good-voices-requires
-good-voices-requires c κs = search needs
+good-phrases-requires : tie.Need-good-phrases-requires
+good-phrases-requires c κs = search needs
 
 returns-3 : tie.Need-returns-3
 unfolding goodChannel
-returns-3 c = simp (le-leb _ _ (c .before .before .before .before .if1 .left), ← (c .before .before .good2 .ensures), not-false (c .before .before .good2 .result) (c .before .if2 .left), c .good-voices .ensures)
+returns-3 c =
+    let head = c .before .before .before .good2 in
+    let table = c .before .good-phrases in
+    simp (le-leb _ _ (c .before .before .before .before .before .if1 .left), ← (head .ensures), not-false (head .result) (c .before .before .if2 .left), ← (table .ensures), not-true (table .result) (c .if3 .taken))
+
+good-voices-requires : tie.Need-good-voices-requires
+good-voices-requires c κs = search needs
+
+returns-4 : tie.Need-returns-4
+unfolding goodChannel
+returns-4 c =
+    let head = c .before .before .before .before .good2 in
+    let table = c .before .before .good-phrases in
+    simp (le-leb _ _ (c .before .before .before .before .before .before .if1 .left), ← (head .ensures), not-false (head .result) (c .before .before .before .if2 .left), ← (table .ensures), not-false (table .result) (c .before .if3 .left), c .good-voices .ensures)
 
 pub good-spec : {M : Type 1} → statement M
-good-spec = tie.close (tie.spec returns good-requires returns-2 good-voices-requires returns-3)
+good-spec = tie.close (tie.spec returns good-requires returns-2 good-phrases-requires returns-3 good-voices-requires returns-4)

@@ -7,6 +7,9 @@ use Rattle.channel.proofs.Channel.new.Tie as tie
 blank-requires : tie.Need-blank-requires
 blank-requires c κs = search needs
 
+none-requires : tie.Need-none-requires
+none-requires c κs = search needs
+
 first-level-requires : tie.Need-first-level-requires
 first-level-requires c κs = search needs
 
@@ -15,7 +18,7 @@ new-requires c κs = search needs
 
 returns : tie.Need-returns
 unfolding channelOf
-returns c = simp (c .new .ensures, c .before .first-level .ensures, c .before .before .blank .ensures)
+returns c = simp (c .new .ensures, c .before .first-level .ensures, c .before .before .none .ensures, c .before .before .before .blank .ensures)
 
 pub new-spec : {M : Type 1} → statement M
-new-spec = tie.close (tie.spec blank-requires first-level-requires new-requires returns)
+new-spec = tie.close (tie.spec blank-requires none-requires first-level-requires new-requires returns)

@@ -1,11 +1,12 @@
 -- `Channel::play` meets its contract, by the law of loops that store: each turn is a law of `Turns`. Assumes nothing.
-use mathlib.Core.Path.{sym, ap, _∙_}
+use mathlib.Core.Path.{_≡_, refl, sym, ap, _∙_}
 use mathlib.Core.Logic.{⊎-elim}
 use Prim.Native.Nat.{_≤_, _-_}
 use lib.ListN.{getD}
 use lib.Ieee.{ofBits}
 use Rattle.walks.proofs.Lists.Loops.{Walk, turns, stores, ends, long, begins}
-use Rattle.channel.specs.Channels.{live, turningIn}
+use Rattle.channel.specs.Channels.{withVoices, live, phraseAt, turningIn}
+use Rattle.channel.specs.declared.Channel.{Channel}
 use Rattle.channel.specs.declared.Turned.{Turned}
 use Rattle.channel.proofs.Slots.{none}
 use Rattle.channel.proofs.Turns.{turned-there, restOf, rest-start, rest-end, rest-keep, rest-gone, tidiedFrom, tidied-start, tidied-end, tidied-keep, tidied-gone, step-up}
@@ -18,7 +19,7 @@ abbrev Inv-loop : tie.InvT-loop
 Inv-loop params «data» self₀ head n output₀ moved₀ k₀ i₀ self output moved k i =
     let s = turningIn params self₀ «data» in
     Walk (restOf s self₀ 0 output₀ (live self₀)) (restOf s self k output) (self .voices) n i
-    × (k ≤ i) × Walk (tidiedFrom s 0 0 0 (live self₀)) (tidiedFrom s moved k i) (self .voices) n i × (moved ≤ i) × (n ≤ 32)
+    × (k ≤ i) × Walk (tidiedFrom s 0 0 0 (live self₀)) (tidiedFrom s moved k i) (self .voices) n i × (moved ≤ i) × (n ≤ 32) × (self ≡ withVoices (self .voices) (self .count) self₀)
 
 abbrev μ-loop : tie.MeasureT-loop
 μ-loop params «data» self₀ head n output₀ moved₀ k₀ i₀ self output moved k i = n - i
@@ -37,6 +38,7 @@ loop-holds c =
       begins (tidiedFrom s 0 0 0) (b .args .t1 .voices) (b .args .t1 .count) _ 32 all (c .places .ensures),
       search needs,
       omega (arith, c .places .ensures),
+      refl,
     )
 
 mul-v : tie.Need-mul-v Inv-loop μ-loop
@@ -98,7 +100,7 @@ loop-again c =
     let room = c .before .before .before .before .room in
     let moment = c .before .before .before .moment-on in
     let r = c .before .take-turn .result in
-    let same = turned-there (a .params) (a .t1) (a .«data» .now) v (phrase .result) (phrase .ensures) (h .output) (room .result) (moment .result) r (room .ensures .0) (moment .ensures) (c .before .take-turn .ensures) in
+    let same = turned-there (a .params) (a .t1) (a .«data» .now) v (phrase .result) (phrase .ensures ∙ ap (λ (d : Channel). phraseAt d (v .phrase)) (h .inv .5)) (h .output) (room .result) (moment .result) r (room .ensures .0) (moment .ensures) (c .before .take-turn .ensures) in
     let turned = ap (λ (x : Turned). x .voice) same in
     let sounds = ap (λ (x : Turned). x .output) same in
     let stays = ap (λ (x : Turned). x .stays) same in
@@ -111,6 +113,7 @@ loop-again c =
           (λ vs. tidied-keep s (h .self) (h .k) _ _ _ _ _ turned sounds is vs (h .moved) (h .i) (h .inv .1) _ (w .1 .ensures) (sym stays ∙ w .0 .taken)),
       step-up (h .moved) (h .k) (h .i) _ (h .inv .3) (w .1 .ensures),
       h .inv .4,
+      ap (withVoices _ _) (h .inv .5),
     ))
     (λ w. rw (w .1, w .2, w .3) (
       turns none (h .inv .0) below (λ vs. rest-gone s (h .self) _ _ _ _ _ _ turned sounds is vs (sym stays ∙ w .0 .left)),
@@ -118,6 +121,7 @@ loop-again c =
       turns none (h .inv .2) below (λ vs. tidied-gone s (h .self) (h .k) _ _ _ _ _ turned sounds is vs (h .moved) (h .i) (h .inv .1) (sym stays ∙ w .0 .left)),
       omega arith,
       h .inv .4,
+      h .inv .5,
     ))
     (c .if1 .came)
 

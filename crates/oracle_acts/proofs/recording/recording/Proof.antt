@@ -1,20 +1,23 @@
--- `oracle_trace::recording::recording` meets its contract. The invariant: the text is never empty, and fits. The measure is how many samples are left. Assumes nothing.
+-- `oracle_acts::recording::recording` meets its contract. The invariant: the text is never empty, and fits. The measure is how many samples are left. Assumes nothing.
 use Prim.Native.Nat.{_-_, _≤_, _<_}
 use borrow.Author.Needs.{needs}
 use Rattle.oracle_acts.proofs.recording.recording.Statement.{statement}
 use Rattle.oracle_acts.proofs.recording.recording.Tie as tie
 
 abbrev Inv-loop : tie.InvT-loop
-Inv-loop memory start n out₀ at from place₀ last i₀ out place i = (0 < place) × (place ≤ 65536)
+Inv-loop k memory start n out₀ at from first place₀ last i₀ out place i = (0 < place) × (place ≤ 65536)
 
 abbrev μ-loop : tie.MeasureT-loop
-μ-loop memory start n out₀ at from place₀ last i₀ out place i = last - i
+μ-loop k memory start n out₀ at from first place₀ last i₀ out place i = last - i
 
 room-requires : tie.Need-room-requires Inv-loop μ-loop
 room-requires c κs = search needs
 
 tag-requires : tie.Need-tag-requires Inv-loop μ-loop
 tag-requires c κs = search needs
+
+put-requires : tie.Need-put-requires Inv-loop μ-loop
+put-requires c κs = search needs
 
 end-of-requires : tie.Need-end-of-requires Inv-loop μ-loop
 end-of-requires c κs = search needs
@@ -57,6 +60,7 @@ recording-spec =
     μ-loop
     room-requires
     tag-requires
+    put-requires
     end-of-requires
     loop-holds
     room-requires-2

@@ -1,4 +1,4 @@
--- `oracle_show::record::put_voices` meets its contract. The invariant: each voice passed has its 200 bytes. The measure is how many are left. Assumes nothing.
+-- `oracle_show::record::put_voices` meets its contract. The invariant: each voice passed has its 203 bytes. The measure is how many are left. Assumes nothing.
 use Prim.Native.Nat.{_+_, _*_, _-_, _≤_}
 use mathlib.Core.Path.{_≡_}
 use borrow.Author.Needs.{needs}
@@ -6,7 +6,7 @@ use Rattle.oracle_show.proofs.record.put_voices.Statement.{statement}
 use Rattle.oracle_show.proofs.record.put_voices.Tie as tie
 
 abbrev Inv-loop : tie.InvT-loop
-Inv-loop out₀ at n c place₀ i₀ out place i = (i ≤ n) × (place ≡ at + 200 * i)
+Inv-loop out₀ at n c place₀ i₀ out place i = (i ≤ n) × (place ≡ at + 203 * i)
 
 abbrev μ-loop : tie.MeasureT-loop
 μ-loop out₀ at n c place₀ i₀ out place i = n - i

@@ -6,7 +6,7 @@ use Rattle.oracle_show.proofs.replies.put_infos.Statement.{statement}
 use Rattle.oracle_show.proofs.replies.put_infos.Tie as tie
 
 abbrev Inv-loop : tie.InvT-loop
-Inv-loop out₀ at a n place₀ i₀ out place i = (i ≤ 32) × (n ≤ 32) × (place ≡ at + 8 + 27 * i)
+Inv-loop out₀ at a n place₀ i₀ out place i = (i ≤ 32) × (n ≤ 32) × (place ≡ at + 9 + 27 * i)
 
 abbrev μ-loop : tie.MeasureT-loop
 μ-loop out₀ at a n place₀ i₀ out place i = n - i

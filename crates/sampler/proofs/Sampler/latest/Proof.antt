@@ -1,6 +1,5 @@
 -- `Sampler::latest` meets its contract, by the law of loops. Assumes nothing.
 use Prim.Native.Nat.{_-_}
-use lib.ListN.{take}
 use Rattle.walks.specs.Walks.{fold}
 use Rattle.walks.proofs.Lists.Loops.{Walk, turns, ends, long, begins}
 use Rattle.sampler.specs.Refusals.{laterOf, latestOf, present}
