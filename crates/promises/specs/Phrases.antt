@@ -27,7 +27,19 @@ use Rattle.sampler.specs.declared.Answer.{Answer}
 use Rattle.sampler.specs.Refusals.{row, present, goodSampler, goodWith, records, anyRecording}
 use Rattle.sampler.specs.Soundness.{FittingSampler}
 use Rattle.fates.specs.Events.{Event, changes, sounds, act}
-use Rattle.promises.specs.Runs.{World, Call, startRecording, choosePhrase, deletePhrase, readWave, gather, code, chan, ownPart, event}
+use Rattle.promises.specs.Runs.{
+  World,
+  Call,
+  startRecording,
+  choosePhrase,
+  deletePhrase,
+  readWave,
+  gather,
+  code,
+  chan,
+  ownPart,
+  event,
+}
 use Rattle.promises.specs.Outcomes.{on, Outcome, ReadOutcome, GatherOutcome, Allows, leftBy}
 use Rattle.promises.specs.Recordings.{writePlaceOf}
 
@@ -70,7 +82,7 @@ pub record Deleted (w u : World) (j k : ℕ) : Type 0 where
   pub write-place : records (chan w j) ≡ false → writePlaceOf (chan u j .head) ≡ phrase u j (chosen u j) .length
   pub else-kept : OnlyPhrases (chan w j) (chan u j)
 
--- all of them
+-- the phrases of channel j, by their numbers
 abbrev pub phrasesIn : World → ℕ → List Phrase
 phrasesIn w j = phrase w j 0 ∷ phrase w j 1 ∷ phrase w j 2 ∷ phrase w j 3 ∷ phrase w j 4 ∷ phrase w j 5
     ∷ phrase w j 6 ∷ phrase w j 7 ∷ []
