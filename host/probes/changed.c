@@ -1,7 +1,7 @@
-/* Records that C changed, which it promises not to: a good record with one byte changed, COUNT times, from SEED on, and all of
- * its bytes for a tenth as many. A call on such a record answers a number, or the program is ended by a signal: that is
- * counted. Record, memory and frame end where a page ends that nothing may touch, so that a step beyond them is seen, and a
- * refused call leaves what it was lent.
+/* Records that C changed, which it promises not to: a good record with one byte changed, COUNT times, from SEED on, each
+ * fourth time a byte of the parameters too, and all bytes of the record for a tenth as many. A call on such a record answers
+ * a number, or the program is ended by a signal: that is counted. Record, memory and frame end where a page begins that
+ * nothing may touch, so that a step beyond them is seen. A refused call leaves what it was lent.
  *
  *     changed SEED COUNT */
 #define _DEFAULT_SOURCE
@@ -19,7 +19,7 @@
 static vusatica_sampler good, *s, *kept;
 static uint32_t *memory;
 static float *frame;
-static vusatica_params params;
+static vusatica_params good_params, params;
 static sigjmp_buf back;
 static uint64_t state;
 
@@ -115,6 +115,7 @@ int main(int words, char **word) {
     memory = ending(SAMPLES * sizeof *memory);
     frame = ending(2 * sizeof *frame);
     make_good();
+    good_params = params;
     memset(&action, 0, sizeof action);
     action.sa_handler = caught;
     action.sa_flags = SA_NODEFER;
@@ -124,6 +125,8 @@ int main(int words, char **word) {
         *s = good;
         if (i < count) ((unsigned char *)s)[at] = (unsigned char)random_word();
         else for (b = 0; b < sizeof *s; b++) ((unsigned char *)s)[b] = (unsigned char)random_word();
+        params = good_params;
+        if (i % 4 == 3) ((unsigned char *)&params)[random_word() % sizeof params] = (unsigned char)random_word();
         tried(at);
     }
     printf("changed: %ld changes of a record: a frame done %ld, refused 9 %ld, otherwise %ld; ended by a signal %ld; refused, and changed %ld\n",
