@@ -7,8 +7,9 @@
  * Note on and off start and stop keys; controller 80 records while it is 64 or more; controller 81 switches interpolation in
  * the same way; a program change chooses a phrase, 1 to 8. Only JACK's thread touches the engine: main prints what was refused.
  *
- * Tried by a second client that sends keys at known frames and looks for the sound in them (host/probes/keys.c):
- *     jackd -r -d dummy -p 256 & sleep 2; sleep 30 | ./vusatica & sleep 1; ./keys */
+ * host/probes/jack tries it under a server without a sound card, with a second program that sends keys at known frames and
+ * looks for the sound in them:
+ *     host/probes/jack target/host */
 #include <jack/jack.h>
 #include <jack/midiport.h>
 #include <stdio.h>
