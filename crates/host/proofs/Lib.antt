@@ -1,0 +1,3 @@
+pub mod Arguments
+pub mod Passing
+pub mod Answered
