@@ -11,8 +11,8 @@ use lib.Ieee.{binary32}
 use Rattle.questions.specs.Waveforms.{getWaveformSummaryOf, waveformAfter}
 use Rattle.walks.proofs.Steps.Data.{word, float}
 use Rattle.lent_sampler.proofs.Lent.{sampler, summary}
-use Rattle.host.proofs.Arguments.{value, slice, shared}
-use Rattle.host.proofs.Passing.{seen, passed}
+use Rattle.walks.proofs.Lending.Arguments.{value, slice, shared}
+use Rattle.walks.proofs.Lending.Passing.{seen, passed}
 use Rattle.lent_sampler.proofs.get_waveform_summary as g
 use Rattle.lent_sampler.proofs.get_waveform_summary.Symbol as g-def
 use Rattle.lent_sampler.proofs.get_waveform_summary.Symbol.{name as #g}

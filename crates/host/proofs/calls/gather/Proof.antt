@@ -9,8 +9,8 @@ use denote.Ref.{now}
 use Rattle.sampler.specs.Samplers.{gatherOf, gatherMemory}
 use Rattle.walks.proofs.Steps.Data.{word}
 use Rattle.lent_sampler.proofs.Lent.{sampler}
-use Rattle.host.proofs.Arguments.{slice}
-use Rattle.host.proofs.Passing.{lent, passed}
+use Rattle.walks.proofs.Lending.Arguments.{slice}
+use Rattle.walks.proofs.Lending.Passing.{lent, passed}
 use Rattle.lent_sampler.proofs.gather as g
 use Rattle.lent_sampler.proofs.gather.Symbol as g-def
 use Rattle.lent_sampler.proofs.gather.Symbol.{name as #g}

@@ -10,8 +10,8 @@ use Rattle.songs.specs.Plays.{playOf}
 use Rattle.host.proofs.Answered.{played}
 use Rattle.walks.proofs.Steps.Data.{word}
 use Rattle.lent_sampler.proofs.Lent.{sampler, params}
-use Rattle.host.proofs.Arguments.{value, shared}
-use Rattle.host.proofs.Passing.{lent, passed}
+use Rattle.walks.proofs.Lending.Arguments.{value, shared}
+use Rattle.walks.proofs.Lending.Passing.{lent, passed}
 use Rattle.lent_songs.proofs.play as g
 use Rattle.lent_songs.proofs.play.Symbol as g-def
 use Rattle.lent_songs.proofs.play.Symbol.{name as #g}

@@ -12,8 +12,8 @@ use Rattle.sampler.specs.Samplers.{Frames, framedOf, frameMoved}
 use Rattle.sampler.specs.Refusals.{frameNumber}
 use Rattle.walks.proofs.Steps.Data.{word, float}
 use Rattle.lent_sampler.proofs.Lent.{sampler, params, frame-done}
-use Rattle.host.proofs.Arguments.{value, slice}
-use Rattle.host.proofs.Passing.{lent, passed}
+use Rattle.walks.proofs.Lending.Arguments.{value, slice}
+use Rattle.walks.proofs.Lending.Passing.{lent, passed}
 use Rattle.lent_sampler.proofs.process_frame as g
 use Rattle.lent_sampler.proofs.process_frame.Symbol as g-def
 use Rattle.lent_sampler.proofs.process_frame.Symbol.{name as #g}

@@ -11,8 +11,8 @@ use lib.Ieee.{binary32}
 use Rattle.sampler.specs.Samplers.{Frames, ranOf, runAnswer}
 use Rattle.walks.proofs.Steps.Data.{word, float}
 use Rattle.lent_sampler.proofs.Lent.{sampler, params, ran}
-use Rattle.host.proofs.Arguments.{value, slice}
-use Rattle.host.proofs.Passing.{lent, passed}
+use Rattle.walks.proofs.Lending.Arguments.{value, slice}
+use Rattle.walks.proofs.Lending.Passing.{lent, passed}
 use Rattle.lent_sampler.proofs.process_frames as g
 use Rattle.lent_sampler.proofs.process_frames.Symbol as g-def
 use Rattle.lent_sampler.proofs.process_frames.Symbol.{name as #g}

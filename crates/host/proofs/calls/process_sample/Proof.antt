@@ -10,8 +10,8 @@ use lib.Ieee.{binary32}
 use Rattle.sampler.specs.Samplers.{processSampleOf, sampleMemory}
 use Rattle.walks.proofs.Steps.Data.{word, float}
 use Rattle.lent_sampler.proofs.Lent.{sampler, params, sampled}
-use Rattle.host.proofs.Arguments.{value, slice}
-use Rattle.host.proofs.Passing.{lent, passed}
+use Rattle.walks.proofs.Lending.Arguments.{value, slice}
+use Rattle.walks.proofs.Lending.Passing.{lent, passed}
 use Rattle.lent_sampler.proofs.process_sample as g
 use Rattle.lent_sampler.proofs.process_sample.Symbol as g-def
 use Rattle.lent_sampler.proofs.process_sample.Symbol.{name as #g}

@@ -10,8 +10,8 @@ use lib.ListN.{length}
 use Rattle.recordings.specs.Waves.{readWaveOf, readMemory}
 use Rattle.walks.proofs.Steps.Data.{word}
 use Rattle.lent_sampler.proofs.Lent.{sampler, waveRead}
-use Rattle.host.proofs.Arguments.{slice, shared}
-use Rattle.host.proofs.Passing.{lent, passed}
+use Rattle.walks.proofs.Lending.Arguments.{slice, shared}
+use Rattle.walks.proofs.Lending.Passing.{lent, passed}
 use Rattle.lent_sampler.proofs.read_wave as g
 use Rattle.lent_sampler.proofs.read_wave.Symbol as g-def
 use Rattle.lent_sampler.proofs.read_wave.Symbol.{name as #g}

@@ -8,8 +8,8 @@ use mathlib.Core.Path.{_≡_}
 use Rattle.sampler.specs.Samplers.{setInterpolationOf}
 use Rattle.walks.proofs.Steps.Data.{word, truth}
 use Rattle.lent_sampler.proofs.Lent.{sampler}
-use Rattle.host.proofs.Arguments.{value}
-use Rattle.host.proofs.Passing.{lent, passed}
+use Rattle.walks.proofs.Lending.Arguments.{value}
+use Rattle.walks.proofs.Lending.Passing.{lent, passed}
 use Rattle.lent_sampler.proofs.set_interpolation as g
 use Rattle.lent_sampler.proofs.set_interpolation.Symbol as g-def
 use Rattle.lent_sampler.proofs.set_interpolation.Symbol.{name as #g}

@@ -8,7 +8,7 @@ use mathlib.Core.Path.{_≡_}
 use Rattle.sampler.specs.Samplers.{stopRecordingOf}
 use Rattle.walks.proofs.Steps.Data.{word}
 use Rattle.lent_sampler.proofs.Lent.{sampler}
-use Rattle.host.proofs.Passing.{lent, passed}
+use Rattle.walks.proofs.Lending.Passing.{lent, passed}
 use Rattle.lent_sampler.proofs.stop_recording as g
 use Rattle.lent_sampler.proofs.stop_recording.Symbol as g-def
 use Rattle.lent_sampler.proofs.stop_recording.Symbol.{name as #g}

@@ -1,9 +1,9 @@
 -- One walk for every function `fn f(s, x₀, .., xₙ) -> Q { g(s, x₀, .., xₙ) }` that hands a record on, lent (`&mut T`) or shared (`&T`), and for every `.. { k(g(s, x₀, .., xₙ)) }`, where k makes other plain data of g's answer. Whatever the other arguments are, values and lent slices. Over the data of `Steps.Data`.
 --     Way              the record is lent, or seen
 --     Turn             g's answer is f's as it is, or turned by k:  ensures λ r. r ≡ does i
---     g has            ensures λ i. Says of now (s .entry), x₀ .. xₙ, i, now (s .exit), and of the slices at exit
---     f has            ensures λ r. Said of the same, where Says of i is Said of what i is turned into
---     passed, turned   f meets its contract, from g's; from g's and k's
+--     Speaks           what g ensures: of now (s .entry), x₀ .. xₙ, its answer, now (s .exit), and the slices at exit
+--     passed           f has g's contract
+--     turned           of a question: where g answers i, f answers k's of i, and what g says of the slices (Telling) is f's to say
 -- The record goes to g as it is. Assumes `Given`.
 use mathlib.Core.Path.{_≡_, refl, _∙_, ap, subst}
 use Prim.Native.Nat.{ℕ, suc}
@@ -39,25 +39,9 @@ use denote.Triple.Call.{calls-at}
 use denote.Triple.Clauses.{Ended, Clauses, Lasts, atExit, ensured, lasts, closing}
 use denote.Triple.Walked.{says, Stay, Stays, gave-ref, stay-dropped, fitsOf, hasOf, walkOf, Goes, goes-gave-ref, goes-dropped, ends-at, walked, walk-meets}
 use denote.Exit.{Seen, Last, left, see, yes}
 use Rattle.walks.proofs.Steps.Data.{Datum, row}
 use Rattle.walks.proofs.Steps.Calls.{Callee, Says as Answers, asks}
-use Rattle.host.proofs.Arguments.{Arg, value, slice, shared, outer, In, Out, Sound, Blocks, Again, Stand-again, handed, locals, again, past, lends, operands, env, env-again, no-local, behind, stands, stands-again, spells-out, each-out, machine, machine-out, tell-all, are-sound, stays, lets-go, allocates, allocates-again, passes-all, lends-all, reads-all, frees-all, frees-again, from-at, finds}
-
--- the machine values that are read are those that the callee takes
-same-machine : {m : ℕ} (As : List (Arg m)) (κs : Lfts (suc m)) (a : Out As κs) → machine As (κs .1) (handed As κs a) ≡ machine-out As κs a
-same-machine [] κs a = refl
-same-machine (value P ∷ As) κs a = ap (λ (l : List Val). P .val (a .0) ∷ l) (same-machine As κs (a .1))
-same-machine (slice i ok E ∷ As) κs a = ap (λ (l : List Val). sliceVal (ptr (a .0)) (length (now (a .0))) ∷ l) (same-machine As κs (a .1))
-same-machine (shared i ok E ∷ As) κs a = ap (λ (l : List Val). sliceVal (ptr (a .0)) (length (now (a .0))) ∷ l) (same-machine As κs (a .1))
-
--- what the callee says at its exit is what the function has at its own: `Arguments.antt`'s `ends`, for a callee that has the function's own lifetimes
-ends-out : {M : Type 1} {𝓤 : URA M} {H : Heap 𝓤} {A : Atoms 𝓤} {K : Type 0} {W : Given 𝓤 H A} {m : ℕ} → K → (As : List (Arg m)) (κs : Lfts (suc m)) (a : Out As κs) (ws : Fins κs (outer As) (all yes (outer As)) a) (vss : Valss (typesAt (outer As) κs)) {Γ : List (Item 𝓤)} {G : Goal 𝓤 H}
-    → (fitsOf κs (outer As) (all yes (outer As)) (stays As) a ws → Seq K W (‵ (hasOf κs (outer As) (all yes (outer As)) (stays As) a ws vss) ∷ Γ) G)
-    → Seq K W (‵ (lastsOf κs (outer As) (all yes (outer As)) a ws) ∷ Γ) G
-ends-out t [] κs a ws vss k = k tt
-ends-out t (value P ∷ As) κs a ws vss k = fsplit t $ move t (1 ∷ []) $ ends-out t As κs (a .1) (ws .1) (vss .1) (λ fit. move t (1 ∷ 0 ∷ []) $ fjoin t $ k (tt, fit))
-ends-out t (shared i ok E ∷ As) κs a ws vss k = fsplit t $ move t (1 ∷ []) $ ends-out t As κs (a .1) (ws .1) (vss .1) (λ fit. move t (1 ∷ 0 ∷ []) $ fjoin t $ k (tt, fit))
-ends-out t (slice i ok E ∷ As) κs a ws vss k = fsplit t $ fsplit t $ move t (1 ∷ []) $ feqL t (λ len. move t (1 ∷ []) $ ends-out t As κs (a .1) (ws .1) (vss .1) (λ fit. move t (1 ∷ 0 ∷ []) $ fjoin t $ k (len, fit)))
+use Rattle.walks.proofs.Lending.Arguments.{Arg, outer, In, Out, Sound, Blocks, Again, Stand-again, handed, locals, again, past, lends, operands, env, env-again, no-local, behind, stands, stands-again, spells-out, each-out, machine-out, same-machine, tell-all, are-sound, stays, lets-go, ends-out, allocates, allocates-again, passes-all, lends-all, reads-all, frees-all, frees-again, from-at, finds}
 
 -- ---- how the record is handed on: one that is lent by a local more, and one that is seen as it is
 pub data Way : Type 0 where
@@ -386,10 +370,25 @@ module _ (T : Datum) (w : Way) (m : ℕ) (As : List (Arg m)) where
     pub passed : {M : Type 1} (𝓤 : URA M) (H : Heap 𝓤) (A : Atoms 𝓤) (W : Given 𝓤 H A) (𝓣 : Tables 𝓤 H) → Triple 𝓤 (𝓣 .C g) (agreed 𝓤 H A Q Says) → Meeting 𝓤 H A 𝓣 (function Q as-it-is g) Q Says
     passed 𝓤 H A W 𝓣 known = meets Q as-it-is g Says Says (λ κs s v i s′ e said. said) 𝓤 H A W 𝓣 known tt
 
-  module _ (I Q : Datum) (g k : Name) (does : I .like .Denot → Q .like .Denot) (Says : Speaks I) (Said : Speaks Q) where
+  -- a question's answer is i, alone or beside what is said of the slices
+  pub data Telling : Type 1 where
+    alone : Telling
+    beside : ((κs : Lfts (suc m)) → T .like .Denot → Out As κs → Outs κs (outer As) (all yes (outer As)) → Type 0) → Telling
+
+  abbrev telling : Telling → (D : Datum) → ((κs : Lfts (suc m)) → T .like .Denot → Out As κs → D .like .Denot) → Speaks D
+  telling alone D i κs s v r s′ e = r ≡ i κs s v
+  telling (beside B) D i κs s v r s′ e = (r ≡ i κs s v) × B κs s v e
+
+  module _ (I Q : Datum) (g k : Name) (does : I .like .Denot → Q .like .Denot) (B : Telling) (i : (κs : Lfts (suc m)) → T .like .Denot → Out As κs → I .like .Denot) where
     abbrev by-k : Turn I
     by-k = turned-by Q k does
 
-    pub turned : ((κs : Lfts (suc m)) (s : T .like .Denot) (v : Out As κs) (i : I .like .Denot) (s′ : T .like .Denot) (e : Outs κs (outer As) (all yes (outer As))) → Says κs s v i s′ e → Said κs s v (does i) s′ e)
-        → {M : Type 1} (𝓤 : URA M) (H : Heap 𝓤) (A : Atoms 𝓤) (W : Given 𝓤 H A) (𝓣 : Tables 𝓤 H) → Triple 𝓤 (𝓣 .C g) (agreed 𝓤 H A I Says) → Known I 𝓤 H A 𝓣 by-k → Meeting 𝓤 H A 𝓣 (function I by-k g) Q Said
-    turned so 𝓤 H A W 𝓣 known known-k = meets I by-k g Says Said so 𝓤 H A W 𝓣 known known-k
+    abbrev done-to : (κs : Lfts (suc m)) → T .like .Denot → Out As κs → Q .like .Denot
+    done-to κs s v = does (i κs s v)
+
+    pub turned : {M : Type 1} (𝓤 : URA M) (H : Heap 𝓤) (A : Atoms 𝓤) (W : Given 𝓤 H A) (𝓣 : Tables 𝓤 H) → Triple 𝓤 (𝓣 .C g) (agreed 𝓤 H A I (telling B I i)) → Known I 𝓤 H A 𝓣 by-k → Meeting 𝓤 H A 𝓣 (function I by-k g) Q (telling B Q done-to)
+    turned 𝓤 H A W 𝓣 known known-k = meets I by-k g (telling B I i) (telling B Q done-to) (so B) 𝓤 H A W 𝓣 known known-k
+      where
+        so : (B : Telling) (κs : Lfts (suc m)) (s : T .like .Denot) (v : Out As κs) (r : I .like .Denot) (s′ : T .like .Denot) (e : Outs κs (outer As) (all yes (outer As))) → telling B I i κs s v r s′ e → telling B Q done-to κs s v (does r) s′ e
+        so alone κs s v r s′ e said = ap does said
+        so (beside B) κs s v r s′ e said = (ap does (said .0), said .1)
