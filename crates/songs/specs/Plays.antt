@@ -8,6 +8,8 @@ use lib.Dec.{leb, eqb}
 use lib.ListN.{length, drop}
 use Rattle.binary32.specs.Leaves.{asFloat}
 use Rattle.walks.specs.Walks.{fold}
+use Rattle.channel.specs.declared.Change.{Change}
+use Rattle.channel.specs.declared.Change.the-variants as change
 use Rattle.common_types.specs.Notes.{fromU64Of}
 use Rattle.common_types.specs.declared.Params.{Params}
 use Rattle.sampler.specs.Samplers.{startPlayingOf, stopPlayingOf}
@@ -22,6 +24,12 @@ unfoldable pub callOf : Sampler → Cue → Params → Answer
 callOf s c p =
     cond (c .starts) (startPlayingOf s (asFloat 0) (fromU64Of (c .note)) (c .velocity) p)
     (stopPlayingOf s (fromU64Of (c .note)) p)
+
+-- the change that it makes
+unfoldable pub changeBy : Cue → Params → Change
+changeBy c p =
+    cond (c .starts) (change.Start p (asFloat 0) (fromU64Of (c .note)) (c .velocity))
+    (change.Stop p (fromU64Of (c .note)))
 
 -- a refused call is counted
 unfoldable pub oneMore : ℕ → ℕ → ℕ
