@@ -3,7 +3,7 @@
 #include <stdarg.h>
 #include "play.h"
 
-enum { WIDE = 1000, LEFT = 70, RIGHT = 980, TOP = 86, LOW = 226, VIEW_TOP = 310, VIEW_HIGH = 150, VIEW_STEP = 216 };
+enum { WIDE = 1000, LEFT = 70, RIGHT = 980, TOP = 100, LOW = 240, VIEW_TOP = 330, VIEW_HIGH = 150, VIEW_STEP = 216 };
 
 static void draw(out *o, const char *format, ...) {
     char text[512];
@@ -49,7 +49,7 @@ static void lags(out *o, const lag_picture *p) {
     double top = p->most < 8 ? 8 : (double)p->most, end = 1;
     for (size_t i = 0; i < p->count; i++) end = fmax(end, (double)p->keys[i].due);
     double seconds = end / p->rate, step = step_of(top, 5), across = step_of(seconds, 10);
-    text(o, "", LEFT, TOP - 12, "lag of each key, in samples");
+    text(o, "", LEFT, TOP - 12, "The lag of each key, in samples:");
     for (double y = 0; y <= top; y += step) {
         double at = LOW - y / top * (LOW - TOP);
         rule(o, y > 0 ? "grid" : "axis", LEFT, at, RIGHT, at);
@@ -106,7 +106,7 @@ void picture_written(const char *name, const lag_picture *p) {
     size_t rows = (p->view_count + 1) / 2;
     head(&o, p, VIEW_TOP + (double)rows * VIEW_STEP - 20);
     lags(&o, p);
-    if (rows > 0) text(&o, "", LEFT, VIEW_TOP - 30, "the sound around the first keys, sample by sample (channel 0; red: the frame that the file gives; orange: the first sample in which the key is heard)");
+    if (rows > 0) text(&o, "", LEFT, VIEW_TOP - 28, "The sound around the first keys, sample by sample. Red: the frame that the file gives. Orange: the key is heard.");
     for (size_t i = 0; i < p->view_count; i++) {
         frame_of_view f = { &p->views[i], i % 2 == 0 ? LEFT : 545, VIEW_TOP + 24 + (double)(i / 2) * VIEW_STEP, 435, scale_of(&p->views[i]) };
         view_drawn(&o, &f);
