@@ -3,7 +3,7 @@
 
 int is_lines(const job *j) { return j->task == PLAY && j->wav == NULL && j->recording == NULL && j->lag == NULL; }
 
-static void outs_judged(const job *j) {
+void outs_judged(const job *j) {
     if (j->wav != NULL) out_asked(j->wav);
     if (j->recording != NULL) out_asked(j->recording);
     if (j->lag != NULL) out_asked(j->lag);
@@ -19,8 +19,7 @@ static void phrases_judged(const job *j) {
     }
 }
 
-void job_judged(const job *j) {
-    outs_judged(j);
+void files_judged(const job *j) {
     phrases_judged(j);
     if (j->take != NULL) wave_judged(bytes_of(j->take, "the take"), "the take");
     if (j->song == NULL) return;

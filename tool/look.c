@@ -4,6 +4,7 @@
 
 int main(int count, char **words) {
     job j = job_of(count, words);
-    job_judged(&j);
+    outs_judged(&j);
+    files_judged(&j);
     return DONE;
 }

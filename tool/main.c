@@ -31,7 +31,7 @@ static void cues_of(const job *j) {
 int main(int count, char **words) {
     job j = job_of(count, words);
     if (vusatica_version() != VUSATICA_VERSION) fail(REFUSED, "the library is of version %u, and the tool of %u", vusatica_version(), VUSATICA_VERSION);
-    job_judged(&j);
+    outs_judged(&j);
     switch (j.task) {
     case CUES: cues_of(&j); break;
     case WAVEFORM: shown(&j); break;

@@ -102,7 +102,10 @@ void wave_judged(bytes file, const char *what);
 
 /* Whether the lines of a song's frames are printed: nothing else is asked for. */
 int is_lines(const job *j);
-void job_judged(const job *j);
+/* Whether each output could be written. */
+void outs_judged(const job *j);
+/* Whether each input is of a form that is read. */
+void files_judged(const job *j);
 
 /* ---- faults.c: where a song breaks the document */
 
