@@ -2,8 +2,8 @@
  * kit's compiler passes them: a slice is a pointer to its place and length, a record is a pointer, and a result that is a
  * record comes first, as the place that it is written to. host/module holds the functions to these shapes and sizes.
  *
- * It is compiled part by part, each part with what its calls reach of the engine: in one object what a frame, a run, a key
- * and a song share would stand apart, and take more of the frame's stack. A program links the parts that it calls. */
+ * It is compiled part by part, a call each, with what the call reaches of the engine (host/parts): in one object what the
+ * calls share would stand apart, and a frame and a key would take more stack. A program links the calls that it makes. */
 #pragma GCC visibility push(default)
 #include "vusatica.h"
 #pragma GCC visibility pop
@@ -35,8 +35,6 @@ static inline int told(size_t *to, counted c) {
     return c.number;
 }
 
-#if PART == 1 /* set-up, keys and the frame */
-
 uint32_t host_vusatica_version(void);
 void host_params_made(made *, const vusatica_settings *);
 void host_set_up(vusatica_sampler *, size_t, _Bool, const slice *);
@@ -50,69 +48,7 @@ uint8_t host_set_interpolation(vusatica_sampler *, _Bool);
 uint8_t host_choose_phrase(vusatica_sampler *, size_t);
 uint8_t host_delete_phrase(vusatica_sampler *, size_t);
 void host_process_frame(frame_done *, vusatica_sampler *, const slice *, const vusatica_params *, const slice *);
-
-uint32_t vusatica_version(void) { return host_vusatica_version(); }
-size_t vusatica_sampler_size(void) { return sizeof(vusatica_sampler); }
-size_t vusatica_params_size(void) { return sizeof(vusatica_params); }
-size_t vusatica_settings_size(void) { return sizeof(vusatica_settings); }
-
-int vusatica_params_make(vusatica_params *params, const vusatica_settings *settings) {
-    made m;
-    host_params_made(&m, settings);
-    if (m.number == 0) *params = m.params;
-    return m.number;
-}
-
-int vusatica_init(vusatica_sampler *s, size_t channels, int auto_passthru, const uint32_t *memory, size_t samples) {
-    slice m = of(memory, samples);
-    host_set_up(s, channels, auto_passthru != 0, &m);
-    return ((const unsigned char *)s)[offsetof(answer, number)];
-}
-
-int vusatica_start(vusatica_sampler *s, float position, uint8_t note, uint8_t channel, float velocity,
-                   const vusatica_params *params) {
-    return host_start_playing(s, position, note, channel, velocity, params);
-}
-
-int vusatica_stop(vusatica_sampler *s, uint8_t note, uint8_t channel, const vusatica_params *params) {
-    return host_stop_playing(s, note, channel, params);
-}
-
-int vusatica_note_speed(vusatica_sampler *s, uint8_t note, uint8_t channel, float speed) {
-    return host_set_note_speed(s, note, channel, speed);
-}
-
-int vusatica_record(vusatica_sampler *s) { return host_start_recording(s); }
-int vusatica_record_stop(vusatica_sampler *s) { return host_stop_recording(s); }
-int vusatica_reset(vusatica_sampler *s) { return host_reset(s); }
-int vusatica_interpolate(vusatica_sampler *s, int on) { return host_set_interpolation(s, on != 0); }
-int vusatica_choose(vusatica_sampler *s, size_t phrase) { return host_choose_phrase(s, phrase); }
-int vusatica_delete(vusatica_sampler *s, size_t phrase) { return host_delete_phrase(s, phrase); }
-
-int vusatica_frame(vusatica_sampler *s, float *frame, size_t entries, const vusatica_params *params, uint32_t *memory,
-                   size_t samples, int *moved) {
-    slice f = of(frame, entries), m = of(memory, samples);
-    frame_done done;
-    host_process_frame(&done, s, &f, params, &m);
-    if (moved) *moved = done.moved;
-    return done.number;
-}
-
-#elif PART == 2 /* the run of frames */
-
 void host_process_frames(ran *, vusatica_sampler *, const slice *, const vusatica_params *, const slice *);
-
-int vusatica_frames(vusatica_sampler *s, float *run, size_t entries, const vusatica_params *params, uint32_t *memory,
-                    size_t samples, size_t *frames) {
-    slice f = of(run, entries), m = of(memory, samples);
-    ran done;
-    host_process_frames(&done, s, &f, params, &m);
-    if (frames) *frames = done.frames;
-    return done.number;
-}
-
-#elif PART == 3 /* questions */
-
 void host_frames_processed(counted *, const vusatica_sampler *, size_t);
 void host_data_length(counted *, const vusatica_sampler *, size_t);
 void host_is_recording(counted *, const vusatica_sampler *, size_t);
@@ -121,116 +57,95 @@ void host_error_text(counted *, const vusatica_sampler *, size_t, const slice *)
 void host_active_notes(counted *, const vusatica_sampler *, size_t, const slice *);
 void host_voices(counted *, const vusatica_sampler *, size_t, const vusatica_params *, const slice *);
 void host_waveform(summary *, const vusatica_sampler *, size_t, const slice *, const slice *);
-
-int vusatica_frames_processed(const vusatica_sampler *s, size_t channel, size_t *count) {
-    counted c;
-    host_frames_processed(&c, s, channel);
-    return told(count, c);
-}
-
-int vusatica_data_length(const vusatica_sampler *s, size_t channel, size_t *count) {
-    counted c;
-    host_data_length(&c, s, channel);
-    return told(count, c);
-}
-
-int vusatica_is_recording(const vusatica_sampler *s, size_t channel, int *is) {
-    counted c;
-    host_is_recording(&c, s, channel);
-    if (is) *is = (int)c.count;
-    return c.number;
-}
-
-int vusatica_last_recorded_offset(const vusatica_sampler *s, size_t channel, size_t *at, int *is) {
-    offset o;
-    host_last_recorded_offset(&o, s, channel);
-    if (at) *at = o.at;
-    if (is) *is = o.found;
-    return o.number;
-}
-
-int vusatica_error_text(const vusatica_sampler *s, size_t channel, char *text, size_t room, size_t *count) {
-    slice t = of(text, room);
-    counted c;
-    host_error_text(&c, s, channel, &t);
-    return told(count, c);
-}
-
-int vusatica_active_notes(const vusatica_sampler *s, size_t channel, uint64_t *notes, size_t room, size_t *count) {
-    slice n = of(notes, room);
-    counted c;
-    host_active_notes(&c, s, channel, &n);
-    return told(count, c);
-}
-
-int vusatica_voices(const vusatica_sampler *s, size_t channel, const vusatica_params *params, vusatica_voice *list,
-                    size_t room, size_t *count) {
-    slice l = of(list, room);
-    counted c;
-    host_voices(&c, s, channel, params, &l);
-    return told(count, c);
-}
-
-int vusatica_waveform(const vusatica_sampler *s, size_t columns, float *values, size_t room, const uint32_t *memory,
-                      size_t samples, float *smallest, float *largest) {
-    slice v = of(values, room), m = of(memory, samples);
-    summary w;
-    host_waveform(&w, s, columns, &v, &m);
-    if (smallest) *smallest = w.smallest;
-    if (largest) *largest = w.largest;
-    return w.number;
-}
-
-#elif PART == 4 /* songs */
-
 void host_read_song(counted *, const slice *, uint32_t, const slice *);
 void host_play_song(played *, vusatica_sampler *, const slice *, size_t, uint64_t, const vusatica_params *);
-
-int vusatica_read_song(const uint8_t *file, size_t length, uint32_t rate, uint64_t *list, size_t room, size_t *count) {
-    slice f = of(file, length), l = of(list, room);
-    counted c;
-    host_read_song(&c, &f, rate, &l);
-    return told(count, c);
-}
-
-size_t vusatica_play_song(vusatica_sampler *s, const uint64_t *list, size_t entries, size_t *next, uint64_t frame,
-                          const vusatica_params *params) {
-    slice l = of(list, 2 * entries);
-    played p;
-    host_play_song(&p, s, &l, *next, frame, params);
-    *next = p.next;
-    return p.refused;
-}
-
-#elif PART == 5 /* what copies the record: WAVE files, the gather, the sample of one channel */
-
 void host_write_wave(counted *, const vusatica_sampler *, uint32_t, const slice *, const slice *);
 void host_read_wave(rate_read *, vusatica_sampler *, const slice *, const slice *);
 uint8_t host_gather(vusatica_sampler *, const slice *);
 void host_process_sample(sampled *, vusatica_sampler *, size_t, float, const vusatica_params *, const slice *);
 
-int vusatica_write_wave(const vusatica_sampler *s, uint32_t rate, const uint32_t *memory, size_t samples, uint8_t *file,
-                        size_t room, size_t *length) {
-    slice m = of(memory, samples), f = of(file, room);
-    counted c;
-    host_write_wave(&c, s, rate, &m, &f);
-    return told(length, c);
-}
+#ifdef PART_about
+uint32_t vusatica_version(void) { return host_vusatica_version(); }
+size_t vusatica_sampler_size(void) { return sizeof(vusatica_sampler); }
+size_t vusatica_params_size(void) { return sizeof(vusatica_params); }
+size_t vusatica_settings_size(void) { return sizeof(vusatica_settings); }
+#endif
 
-int vusatica_read_wave(vusatica_sampler *s, const uint8_t *file, size_t length, uint32_t *memory, size_t samples,
-                       uint32_t *rate) {
-    slice f = of(file, length), m = of(memory, samples);
-    rate_read r;
-    host_read_wave(&r, s, &f, &m);
-    if (rate) *rate = r.rate;
-    return r.number;
+#ifdef PART_params_make
+int vusatica_params_make(vusatica_params *params, const vusatica_settings *settings) {
+    made m;
+    host_params_made(&m, settings);
+    if (m.number == 0) *params = m.params;
+    return m.number;
 }
+#endif
 
-int vusatica_gather(vusatica_sampler *s, uint32_t *memory, size_t samples) {
+#ifdef PART_init
+int vusatica_init(vusatica_sampler *s, size_t channels, int auto_passthru, const uint32_t *memory, size_t samples) {
     slice m = of(memory, samples);
-    return host_gather(s, &m);
+    host_set_up(s, channels, auto_passthru != 0, &m);
+    return ((const unsigned char *)s)[offsetof(answer, number)];
 }
+#endif
 
+#ifdef PART_start
+int vusatica_start(vusatica_sampler *s, float position, uint8_t note, uint8_t channel, float velocity,
+                   const vusatica_params *params) {
+    return host_start_playing(s, position, note, channel, velocity, params);
+}
+#endif
+
+#ifdef PART_stop
+int vusatica_stop(vusatica_sampler *s, uint8_t note, uint8_t channel, const vusatica_params *params) {
+    return host_stop_playing(s, note, channel, params);
+}
+#endif
+
+#ifdef PART_note_speed
+int vusatica_note_speed(vusatica_sampler *s, uint8_t note, uint8_t channel, float speed) {
+    return host_set_note_speed(s, note, channel, speed);
+}
+#endif
+
+#ifdef PART_record
+int vusatica_record(vusatica_sampler *s) { return host_start_recording(s); }
+#endif
+
+#ifdef PART_record_stop
+int vusatica_record_stop(vusatica_sampler *s) { return host_stop_recording(s); }
+#endif
+
+#ifdef PART_reset
+int vusatica_reset(vusatica_sampler *s) { return host_reset(s); }
+#endif
+
+#ifdef PART_interpolate
+int vusatica_interpolate(vusatica_sampler *s, int on) { return host_set_interpolation(s, on != 0); }
+#endif
+
+#ifdef PART_frame
+int vusatica_frame(vusatica_sampler *s, float *frame, size_t entries, const vusatica_params *params, uint32_t *memory,
+                   size_t samples, int *moved) {
+    slice f = of(frame, entries), m = of(memory, samples);
+    frame_done done;
+    host_process_frame(&done, s, &f, params, &m);
+    if (moved) *moved = done.moved;
+    return done.number;
+}
+#endif
+
+#ifdef PART_frames
+int vusatica_frames(vusatica_sampler *s, float *run, size_t entries, const vusatica_params *params, uint32_t *memory,
+                    size_t samples, size_t *frames) {
+    slice f = of(run, entries), m = of(memory, samples);
+    ran done;
+    host_process_frames(&done, s, &f, params, &m);
+    if (frames) *frames = done.frames;
+    return done.number;
+}
+#endif
+
+#ifdef PART_sample
 int vusatica_sample(vusatica_sampler *s, size_t channel, float input, const vusatica_params *params, uint32_t *memory,
                     size_t samples, float *output, int *moved) {
     slice m = of(memory, samples);
@@ -240,5 +155,135 @@ int vusatica_sample(vusatica_sampler *s, size_t channel, float input, const vusa
     if (moved) *moved = done.moved;
     return done.number;
 }
+#endif
 
+#ifdef PART_frames_processed
+int vusatica_frames_processed(const vusatica_sampler *s, size_t channel, size_t *count) {
+    counted c;
+    host_frames_processed(&c, s, channel);
+    return told(count, c);
+}
+#endif
+
+#ifdef PART_data_length
+int vusatica_data_length(const vusatica_sampler *s, size_t channel, size_t *count) {
+    counted c;
+    host_data_length(&c, s, channel);
+    return told(count, c);
+}
+#endif
+
+#ifdef PART_is_recording
+int vusatica_is_recording(const vusatica_sampler *s, size_t channel, int *is) {
+    counted c;
+    host_is_recording(&c, s, channel);
+    if (is) *is = (int)c.count;
+    return c.number;
+}
+#endif
+
+#ifdef PART_last_recorded_offset
+int vusatica_last_recorded_offset(const vusatica_sampler *s, size_t channel, size_t *at, int *is) {
+    offset o;
+    host_last_recorded_offset(&o, s, channel);
+    if (at) *at = o.at;
+    if (is) *is = o.found;
+    return o.number;
+}
+#endif
+
+#ifdef PART_error_text
+int vusatica_error_text(const vusatica_sampler *s, size_t channel, char *text, size_t room, size_t *count) {
+    slice t = of(text, room);
+    counted c;
+    host_error_text(&c, s, channel, &t);
+    return told(count, c);
+}
+#endif
+
+#ifdef PART_active_notes
+int vusatica_active_notes(const vusatica_sampler *s, size_t channel, uint64_t *notes, size_t room, size_t *count) {
+    slice n = of(notes, room);
+    counted c;
+    host_active_notes(&c, s, channel, &n);
+    return told(count, c);
+}
+#endif
+
+#ifdef PART_voices
+int vusatica_voices(const vusatica_sampler *s, size_t channel, const vusatica_params *params, vusatica_voice *list,
+                    size_t room, size_t *count) {
+    slice l = of(list, room);
+    counted c;
+    host_voices(&c, s, channel, params, &l);
+    return told(count, c);
+}
+#endif
+
+#ifdef PART_waveform
+int vusatica_waveform(const vusatica_sampler *s, size_t columns, float *values, size_t room, const uint32_t *memory,
+                      size_t samples, float *smallest, float *largest) {
+    slice v = of(values, room), m = of(memory, samples);
+    summary w;
+    host_waveform(&w, s, columns, &v, &m);
+    if (smallest) *smallest = w.smallest;
+    if (largest) *largest = w.largest;
+    return w.number;
+}
+#endif
+
+#ifdef PART_write_wave
+int vusatica_write_wave(const vusatica_sampler *s, uint32_t rate, const uint32_t *memory, size_t samples, uint8_t *file,
+                        size_t room, size_t *length) {
+    slice m = of(memory, samples), f = of(file, room);
+    counted c;
+    host_write_wave(&c, s, rate, &m, &f);
+    return told(length, c);
+}
+#endif
+
+#ifdef PART_read_wave
+int vusatica_read_wave(vusatica_sampler *s, const uint8_t *file, size_t length, uint32_t *memory, size_t samples,
+                       uint32_t *rate) {
+    slice f = of(file, length), m = of(memory, samples);
+    rate_read r;
+    host_read_wave(&r, s, &f, &m);
+    if (rate) *rate = r.rate;
+    return r.number;
+}
+#endif
+
+#ifdef PART_choose
+int vusatica_choose(vusatica_sampler *s, size_t phrase) { return host_choose_phrase(s, phrase); }
+#endif
+
+#ifdef PART_delete
+int vusatica_delete(vusatica_sampler *s, size_t phrase) { return host_delete_phrase(s, phrase); }
+#endif
+
+#ifdef PART_gather
+int vusatica_gather(vusatica_sampler *s, uint32_t *memory, size_t samples) {
+    slice m = of(memory, samples);
+    return host_gather(s, &m);
+}
+#endif
+
+#ifdef PART_read_song
+int vusatica_read_song(const uint8_t *file, size_t length, uint32_t rate, uint64_t *list, size_t room, size_t *count) {
+    slice f = of(file, length), l = of(list, room);
+    counted c;
+    host_read_song(&c, &f, rate, &l);
+    return told(count, c);
+}
+#endif
+
+#ifdef PART_play_song
+size_t vusatica_play_song(vusatica_sampler *s, const uint64_t *list, size_t entries, size_t *next, uint64_t frame,
+                          const vusatica_params *params) {
+    slice l = of(list, 2 * entries);
+    played p;
+    host_play_song(&p, s, &l, *next, frame, params);
+    *next = p.next;
+    return p.refused;
+}
 #endif

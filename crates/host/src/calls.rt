@@ -25,6 +25,7 @@ ghost use Rattle.sampler.specs.Samplers.{
 };
 ghost use Rattle.sampler.specs.Refusals.{frameNumber};
 ghost use Rattle.recordings.specs.Waves.{readWaveOf, readMemory};
+ghost use Rattle.songs.specs.Plays.{playOf};
 ghost use Rattle.host.specs.Crossing.{phraseBy};
 use channel::Change;
 use channel::HeadChange;
@@ -32,6 +33,7 @@ use common_types::Note;
 use common_types::Params;
 use lent_sampler::FrameDone;
 use lent_sampler::Sampled;
+use lent_songs::Played;
 use recordings::WaveRead;
 use sampler::Ran;
 use sampler::Sampler;
@@ -202,4 +204,12 @@ pub fn process_sample(
         × (now (memory .exit) ≡ sampleMemory (now (s .entry)) channel input params (now (memory .entry))) ⌝ }
 {
     lent_sampler::process_sample(s, channel, input, params, memory)
+}
+
+// The calls of a song's list that are due before that frame, from the entry `next` on.
+pub fn play_song(s: &mut Sampler, list: &[u64], next: usize, frame: u64, params: Params) -> Played
+    ensures { λ r. ⌜ record { sampler = now (s .exit); next = r .next; refused = r .refused }
+        ≡ playOf (now (s .entry)) (now (list .entry)) next frame params ⌝ }
+{
+    lent_songs::play(s, list, next, frame, params)
 }
