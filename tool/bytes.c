@@ -1,15 +1,7 @@
 /* Files that are read whole, and the numbers in them. */
 #include <errno.h>
-#include <stdlib.h>
 #include <string.h>
 #include "tool.h"
-
-static bytes grown(bytes file, size_t *space, const char *what) {
-    *space = *space == 0 ? 65536 : 2 * *space;
-    file.at = realloc(file.at, *space);
-    if (file.at == NULL) fail(REFUSED, "there is no memory for %s", what);
-    return file;
-}
 
 bytes bytes_of(const char *path, const char *what) {
     bytes file = { NULL, 0 };
@@ -17,7 +9,10 @@ bytes bytes_of(const char *path, const char *what) {
     FILE *stream = strcmp(path, "-") == 0 ? stdin : fopen(path, "rb");
     if (stream == NULL) fail(WRONG, "%s, '%s', can't be opened: %s", what, path, strerror(errno));
     do {
-        if (file.length == space) file = grown(file, &space, what);
+        if (file.length == space) {
+            space = 4 * space + 65536;
+            file.at = room_grown(file.at, file.length, space, 1);
+        }
         got = fread(file.at + file.length, 1, space - file.length, stream);
         file.length += got;
     } while (got > 0);

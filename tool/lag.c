@@ -2,7 +2,6 @@
  * the copies, with that start and without it: the first frame in which the outputs differ is the one in which the key is heard. Frames that have nothing to
  * hear are not counted: silence at the beginning of the recording, the level 0 at which an attack begins, and a sound that is too quiet to change the sum. */
 #include <math.h>
-#include <stdlib.h>
 #include <string.h>
 #include "play.h"
 
@@ -144,8 +143,7 @@ void lag_after(lag *l, const player *p, cue c) {
     key k = measured(l, p, c);
     if (l->count == l->space) {
         l->space = 2 * l->space + 64;
-        l->keys = realloc(l->keys, l->space * sizeof *l->keys);
-        if (l->keys == NULL) fail(REFUSED, "there is no memory for %zu keys", l->space);
+        l->keys = room_grown(l->keys, l->count, l->space, sizeof *l->keys);
     }
     l->keys[l->count++] = k;
     for (size_t i = 0; i < l->view_count; i++)

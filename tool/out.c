@@ -58,7 +58,6 @@ void out_asked(const char *name) {
     if (stat(folder, &s) != 0) fail(LOST, "'%s' can't be written: there is no folder '%s'", name, folder);
     if (!S_ISDIR(s.st_mode)) fail(LOST, "'%s' can't be written: '%s' is no folder", name, folder);
     if (access(folder, W_OK | X_OK) != 0) fail(LOST, "'%s' can't be written: %s", name, strerror(errno));
-    free(folder);
 }
 
 static void unwritten(const out *o) {
@@ -69,8 +68,9 @@ static void beside(out *o) {
     mode_t mask = umask(0);
     umask(mask);
     /* A link stays one: what it leads to is written. */
-    o->target = realpath(o->name, NULL);
-    if (o->target == NULL) o->target = joined(o->name, strlen(o->name), "");
+    char *real = realpath(o->name, NULL);
+    o->target = real != NULL ? joined(real, strlen(real), "") : joined(o->name, strlen(o->name), "");
+    free(real);
     o->beside = joined(o->target, strlen(o->target), ".XXXXXX");
     int descriptor = mkstemp(o->beside);
     if (descriptor < 0) unwritten(o);
@@ -101,8 +101,6 @@ void out_closed(out *o) {
     if (o->beside == NULL) return;
     if (rename(o->beside, o->target) != 0) unwritten(o);
     halfway = NULL;
-    free(o->beside);
-    free(o->target);
 }
 
 void out_shown(void) {

@@ -1,5 +1,4 @@
 /* All of a song, in runs of frames, to a WAVE file or to none. */
-#include <stdlib.h>
 #include "play.h"
 
 enum { RUN = 4096 };
@@ -18,5 +17,4 @@ void sound_played(player *p, const char *name, uint32_t rate) {
         progress_told(&g, p->frame);
     }
     if (name != NULL) out_closed(&o);
-    free(run);
 }

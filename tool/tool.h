@@ -18,9 +18,11 @@ void refuse(const char *what, int number, const char *words, ...);
 /* The words of a number of document 01 or 02, where nothing more is known. */
 const char *words_of(int number);
 
-/* ---- room.c: memory of the heap, zeroed */
+/* ---- room.c: memory of the heap, zeroed, until the program ends */
 
 void *room(size_t count, size_t size);
+/* The same with what the first `used` places of another had. */
+void *room_grown(const void *old, size_t used, size_t count, size_t size);
 
 /* ---- bytes.c: files that are read whole */
 
