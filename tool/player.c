@@ -3,16 +3,20 @@
 #include <string.h>
 #include "play.h"
 
+/* The frame before which a call is made. */
+static uint64_t call_at(const player *p, size_t entry) { return (p->song.list[2 * entry] + p->block - 1) / p->block * p->block; }
+
 /* To the last start or stop, and for a decay after it. */
-static uint64_t frames_of(const song *s, uint64_t decay) {
-    return s->count == 0 ? 0 : s->list[2 * (s->count - 1)] + decay + 1;
+static uint64_t frames_of(const player *p) {
+    size_t count = p->song.count;
+    return count == 0 ? 0 : call_at(p, count - 1) + p->engine->settings.decay_samples + 1;
 }
 
 player player_of(engine *e, song s, const job *j) {
     player p;
     memset(&p, 0, sizeof p);
     p.engine = e, p.song = s, p.block = j->block, p.phrases = j->phrase_count, p.pitch = j->pitch;
-    p.frames = frames_of(&s, e->settings.decay_samples);
+    p.frames = frames_of(&p);
     return p;
 }
 
@@ -43,18 +47,14 @@ static void called(player *p) {
     if (p->lag != NULL) lag_after(p->lag, p, c);
 }
 
-/* The frame before which the next call is made; the song's end, where there is none. */
-static uint64_t next_call(const player *p) {
-    if (p->next >= p->song.count) return p->frames;
-    uint64_t due = p->song.list[2 * p->next];
-    return (due + p->block - 1) / p->block * p->block;
-}
+/* That of the next call; the song's end, where there is none. */
+static uint64_t next_call(const player *p) { return p->next < p->song.count ? call_at(p, p->next) : p->frames; }
 
 size_t player_run(player *p, float *run, size_t most) {
     size_t entries = p->engine->channels;
     while (p->next < p->song.count && next_call(p) <= p->frame) called(p);
-    uint64_t end = next_call(p) < p->frames ? next_call(p) : p->frames;
-    size_t frames = end - p->frame < most ? (size_t)(end - p->frame) : most;
+    uint64_t left = next_call(p) - p->frame;
+    size_t frames = left < most ? (size_t)left : most;
     if (frames == 0) return 0;
     memset(run, 0, frames * entries * sizeof *run);
     engine_run(p->engine, run, frames);

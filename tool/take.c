@@ -24,10 +24,10 @@ static void engine_for(engine *e, form f, size_t capacity, bytes file, const cha
     engine_made(e, f.channels, 0, capacity);
 }
 
-static uint32_t wave_loaded(engine *e, bytes file) {
+static uint32_t wave_loaded(engine *e, bytes file, const char *what) {
     form f = form_of(file);
-    engine_for(e, f, samples_of(file, f), file, "the take");
-    return phrase_read(e, 0, file, "the take");
+    engine_for(e, f, samples_of(file, f), file, what);
+    return phrase_read(e, 0, file, what);
 }
 
 static uint32_t phrases_loaded(engine *e, const job *j) {
@@ -80,7 +80,7 @@ static int is_listing_loaded(engine *e, const job *j, uint32_t *rate) {
     }
     bytes file = bytes_of(j->take, "the take");
     if (kind_of(file) == SONG) refuse("the take", 17, "it is a song, where a WAVE file or a listing is asked for");
-    if (kind_of(file) == WAVE) *rate = wave_loaded(e, file);
+    if (kind_of(file) == WAVE) *rate = wave_loaded(e, file, "the take");
     else listing_played(e, file);
     return kind_of(file) == LISTING;
 }
@@ -100,6 +100,6 @@ uint32_t take_loaded(engine *e, const job *j) {
 void file_loaded(engine *e, const char *path) {
     bytes file = bytes_of(path, "the file");
     if (kind_of(file) == SONG) refuse("the file", 17, "it is a song, where a listing or a WAVE file is asked for");
-    if (kind_of(file) == WAVE) wave_loaded(e, file);
+    if (kind_of(file) == WAVE) wave_loaded(e, file, "the file");
     else listing_played(e, file);
 }
