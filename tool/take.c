@@ -89,7 +89,7 @@ uint32_t take_loaded(engine *e, const job *j) {
     uint32_t own = 0;
     int is_listing = is_listing_loaded(e, j, &own);
     uint32_t rate = j->rate != NULL ? rate_of(j->rate) : is_listing ? 44100 : own;
-    if (!is_listing && rate != own) say("the take is of %u samples a second, and is played at %u: at %g times its pitch", own, rate, (double)rate / own);
+    if (!is_listing && rate != own && rate > 0) say("the take is of %u samples a second, and is played at %u: at %g times its pitch", own, rate, (double)rate / own);
     vusatica_settings s = settings_of(e, j, is_listing, rate);
     int number = engine_set(e, &s);
     if (number != 0) refuse("the take's setting", number, "%s", words_of(number));

@@ -104,6 +104,9 @@ job job_of(int count, char **words) {
         valued(&j, words[i], words[i + 1]);
         i++;
     }
+    /* what ./play sees to before */
+    if (j.song == NULL) fail(WRONG, "no file is named: --song FILE; ./play --help says what to ask for");
+    if ((j.task == PLAY || j.task == BENCH) && j.take == NULL && j.phrase_count == 0) fail(WRONG, "no take is named: --take TAKE");
     return j;
 }
 
