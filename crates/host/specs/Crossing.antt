@@ -1,22 +1,9 @@
 -- What a host's numbers mean, and the plain numbers that answers become. Definitions only. Assumes nothing.
 use Prim.Native.Nat.{ℕ, min}
 use mathlib.Core.Bool.{Bool, _&&_, cond}
-use mathlib.Core.List.{List, [], _∷_}
 use lib.Dec.{leb, eqb}
-use lib.Ieee.{Float}
-use lib.ListN.{getD}
-use Rattle.common_types.specs.Modes.{loopModeFromIndexOf, noteOffFromIndexOf}
 use Rattle.common_types.specs.Settings.{defaultParams}
 use Rattle.common_types.specs.declared.Params.{Params}
-use Rattle.common_types.specs.declared.LoopMode.{LoopMode}
-use Rattle.common_types.specs.declared.LoopMode.the-variants.{PingPong}
-use Rattle.common_types.specs.declared.LoopModeAnswer.the-variants as loop-mode
-use Rattle.common_types.specs.declared.NoteOffBehaviour.{NoteOffBehaviour}
-use Rattle.common_types.specs.declared.NoteOffBehaviour.the-variants.{DecayAndZeroCrossing}
-use Rattle.common_types.specs.declared.NoteOffBehaviourAnswer.the-variants as note-off
-use Rattle.common_types.specs.declared.time_value.TimeOrRatio.{TimeOrRatio}
-use Rattle.common_types.specs.declared.time_value.TimeOrRatio.the-variants.{Time, Ratio, WholeBars}
-use Rattle.common_types.specs.declared.time_value.TimeValue.the-variants.{QuarterNotes, Samples, Seconds, Bars}
 use Rattle.recorder.specs.declared.LastOffset.the-variants.{At, Nothing}
 use Rattle.sampler.specs.declared.Answer.{Answer}
 use Rattle.sampler.specs.Samplers.{setUpOf}
@@ -29,6 +16,7 @@ use Rattle.questions.specs.declared.OffsetAnswer.the-variants as offset
 use Rattle.smf.specs.declared.Counted.{Counted as SongCounted}
 use Rattle.smf.specs.declared.Counted.the-variants as song
 use Rattle.smf.specs.Cues.{numberOf}
+use Rattle.listing.specs.Records.{loopLengthOf, loopModeOf, noteOffOf}
 use Rattle.host.specs.declared.settings.Settings.{Settings}
 use Rattle.host.specs.declared.settings.Made.{Made}
 use Rattle.host.specs.declared.answers.Count.{Count}
@@ -40,21 +28,7 @@ use Rattle.host.specs.declared.answers.Offset.{Offset}
 unfoldable pub known : Settings → Bool
 known s = ((leb (s .«length_kind») 5 && leb (s .«loop_mode») 2) && leb (s .«note_off») 2) && leb (s .«auto_passthru») 1
 
--- the kinds of length by document 01's numbers 0 to 4, and by 4/12's, 5 for whole bars
-abbrev pub firstLengths : Float → List TimeOrRatio
-firstLengths x = Time (QuarterNotes x) ∷ Time (Samples x) ∷ Time (Seconds x) ∷ Time (Bars x) ∷ Ratio x ∷ []
-
-unfoldable pub lengthBy : ℕ → Float → TimeOrRatio
-lengthBy kind x = getD (firstLengths x) kind (WholeBars x)
-
--- the modes by their index, as the engine numbers them; for one that it refuses, the last
-unfoldable pub loopModeBy : ℕ → LoopMode
-loopModeBy index = elim (loopModeFromIndexOf index) [ loop-mode.Done mode ↦ mode | loop-mode.Refused ↦ PingPong ]
-
-unfoldable pub noteOffBy : ℕ → NoteOffBehaviour
-noteOffBy index = elim
-    (noteOffFromIndexOf index) [ note-off.Done behaviour ↦ behaviour | note-off.Refused ↦ DecayAndZeroCrossing ]
-
+-- length, modes and pass-through by the event listing's numbers
 unfoldable pub paramsBy : Settings → Params
 paramsBy s = record {
   «attack_samples» = s .«attack_samples»;
@@ -65,13 +39,13 @@ paramsBy s = record {
     «time_sig_numerator» = s .«time_sig_numerator»;
     «time_sig_denominator» = s .«time_sig_denominator»;
   };
-  «loop_length» = lengthBy (s .«length_kind») (s .length);
+  «loop_length» = loopLengthOf (s .«length_kind») (s .length);
   speed = s .speed;
   «reverse_speed» = s .«reverse_speed»;
   volume = s .volume;
   «auto_passthru» = eqb (s .«auto_passthru») 1;
-  «loop_mode» = loopModeBy (s .«loop_mode»);
-  «note_off_behavior» = noteOffBy (s .«note_off»);
+  «loop_mode» = loopModeOf (s .«loop_mode»);
+  «note_off_behavior» = noteOffOf (s .«note_off»);
 }
 
 -- 7 where a byte names nothing

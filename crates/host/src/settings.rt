@@ -1,24 +1,13 @@
-// Parameters from plain numbers, and set-up.
+// Parameters from plain numbers, those of the event listing, and set-up.
 ghost use mathlib.Core.Path.{_≡_};
 ghost use lib.ListN.{length};
-ghost use Rattle.host.specs.Crossing.{
-  known,
-  lengthBy,
-  loopModeBy,
-  noteOffBy,
-  paramsBy,
-  madeBy,
-  setUpBy,
-};
+ghost use Rattle.host.specs.Crossing.{known, paramsBy, madeBy, setUpBy};
 use common_types::InitParams;
-use common_types::LoopMode;
-use common_types::LoopModeAnswer;
-use common_types::NoteOffBehaviour;
-use common_types::NoteOffBehaviourAnswer;
 use common_types::Params;
 use common_types::Transport;
-use common_types::time_value::TimeOrRatio;
-use common_types::time_value::TimeValue;
+use listing::records::loop_length;
+use listing::records::loop_mode;
+use listing::records::note_off;
 use sampler::Answer;
 use sampler::Sampler;
 
@@ -52,37 +41,6 @@ fn is_known(s: Settings) -> bool
     (s.length_kind <= 5) & (s.loop_mode <= 2) & (s.note_off <= 2) & (s.auto_passthru <= 1)
 }
 
-fn length_by(kind: u8, value: f32) -> TimeOrRatio
-    ensures { λ r. ⌜ r ≡ lengthBy kind value ⌝ }
-{
-    match kind {
-        0 => TimeOrRatio::Time(TimeValue::QuarterNotes(value)),
-        1 => TimeOrRatio::Time(TimeValue::Samples(value)),
-        2 => TimeOrRatio::Time(TimeValue::Seconds(value)),
-        3 => TimeOrRatio::Time(TimeValue::Bars(value)),
-        4 => TimeOrRatio::Ratio(value),
-        _ => TimeOrRatio::WholeBars(value),
-    }
-}
-
-fn loop_mode_by(index: u8) -> LoopMode
-    ensures { λ r. ⌜ r ≡ loopModeBy index ⌝ }
-{
-    match LoopMode::from_index(index as usize) {
-        LoopModeAnswer::Done(mode) => mode,
-        LoopModeAnswer::Refused => LoopMode::PingPong,
-    }
-}
-
-fn note_off_by(index: u8) -> NoteOffBehaviour
-    ensures { λ r. ⌜ r ≡ noteOffBy index ⌝ }
-{
-    match NoteOffBehaviour::from_index(index as usize) {
-        NoteOffBehaviourAnswer::Done(behaviour) => behaviour,
-        NoteOffBehaviourAnswer::Refused => NoteOffBehaviour::DecayAndZeroCrossing,
-    }
-}
-
 fn params_by(s: Settings) -> Params
     ensures { λ r. ⌜ r ≡ paramsBy s ⌝ }
 {
@@ -95,13 +53,13 @@ fn params_by(s: Settings) -> Params
             time_sig_numerator: s.time_sig_numerator,
             time_sig_denominator: s.time_sig_denominator,
         },
-        loop_length: length_by(s.length_kind, s.length),
+        loop_length: loop_length(s.length_kind, s.length),
         speed: s.speed,
         reverse_speed: s.reverse_speed,
         volume: s.volume,
         auto_passthru: s.auto_passthru == 1,
-        loop_mode: loop_mode_by(s.loop_mode),
-        note_off_behavior: note_off_by(s.note_off),
+        loop_mode: loop_mode(s.loop_mode),
+        note_off_behavior: note_off(s.note_off),
     }
 }
 

@@ -24,7 +24,7 @@ fn change_at(list: &[u64], place: usize, params: Params) -> Change
     songs::change_of(Cue::new(list[2 * place], list[2 * place + 1]), params)
 }
 
-fn played(next: usize, refused: usize) -> Played
+fn answer(next: usize, refused: usize) -> Played
     ensures { λ r. ⌜ r ≡ record { next = next; refused = refused } ⌝ }
 {
     Played { next, refused }
@@ -45,5 +45,5 @@ pub fn play(s: &mut Sampler, list: &[u64], next: usize, at: u64, params: Params)
         refused = songs::one_more(refused, number);
         place += 1;
     }
-    played(end, refused)
+    answer(end, refused)
 }

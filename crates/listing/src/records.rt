@@ -154,7 +154,7 @@ fn good_record(h: Header, r: &[u8]) -> bool
     (r.len() == size + 2) & (size == length_of(h, kind)) & ((kind != 0) | good_settings(h, r))
 }
 
-fn loop_mode(index: u8) -> LoopMode
+pub fn loop_mode(index: u8) -> LoopMode
     ensures { λ r. ⌜ r ≡ loopModeOf index ⌝ }
 {
     match LoopMode::from_index(index as usize) {
@@ -163,7 +163,7 @@ fn loop_mode(index: u8) -> LoopMode
     }
 }
 
-fn note_off(index: u8) -> NoteOffBehaviour
+pub fn note_off(index: u8) -> NoteOffBehaviour
     ensures { λ r. ⌜ r ≡ noteOffOf index ⌝ }
 {
     match NoteOffBehaviour::from_index(index as usize) {
@@ -172,7 +172,7 @@ fn note_off(index: u8) -> NoteOffBehaviour
     }
 }
 
-fn loop_length(kind: u8, value: f32) -> TimeOrRatio
+pub fn loop_length(kind: u8, value: f32) -> TimeOrRatio
     ensures { λ r. ⌜ r ≡ loopLengthOf kind value ⌝ }
 {
     match kind {

@@ -9,7 +9,7 @@
 --     rooms, cells, rooms-again, cells-again      those locals, empty and full
 --     allocates, passes-all, allocates-again, lends-all, reads-all, frees-all, frees-again     `Run.antt`'s rules, for all of them
 --     finds, from-at       a local by its number, where the environment has it.        behind, behind-again, stands, stands-again     it has
---     stays, lets-go, ends     at exit a value and a shared slice are dropped, and what the callee says of a slice is said of it
+--     stays, lets-go, ends, ends-out     at exit a value and a shared slice are dropped, and what the callee says of a slice is said of it
 -- Assumes `Given`.
 use mathlib.Core.Path.{_≡_, refl, sym, subst, ap}
 use Prim.Native.Nat.{ℕ, zero, suc}
@@ -23,7 +23,7 @@ use base.Logic.{SProp, ent, sep, id⊢, via}
 use base.Fml.{Fml, ftrue, fsep, fat, froom, fdies}
 use prog.Wp.{Heap, Env, Spot, Calls, Loops, walk}
 use ghost.Atoms.{Atoms}
-use types.Kit.{Given, Item, ‵, ⋆, Post, Seq, Step, step, Goal, runs, allocs, passes, frees, _$_, _∵_, !, qed, move, drop, fsplit, fsplit3, fjoin, fjoin3, feqL, done}
+use types.Kit.{Given, Item, ‵, ⋆, Post, Seq, Step, step, Goal, runs, allocs, passes, frees, _$_, _∵_, !, qed, rewrite, move, drop, fsplit, fsplit3, fjoin, fjoin3, feqL, done}
 use types.Part.{agg, whole, sub, look-in}
 use types.Run.{Walks, Finds, Opds, look, init, forget, stop, hop, fld, load, addr, and-then, no-more, assigns, alloc1, pass1, pass0, free1}
 use contract.Monad.{fact, factI, fact-use}
@@ -38,7 +38,7 @@ use denote.Signature.{Slot, plain, typesAt}
 use denote.Steps.{nothing}
 use denote.Triple.End.{Fins, Outs, outs, lastsOf, all}
 use denote.Triple.Walked.{needs, Stays, stay-dropped, gave-slice, fitsOf, hasOf, AllGo, goes-dropped, goes-gave-slice}
-use denote.Exit.{yes}
+use denote.Exit.{left as left-by, yes}
 use Rattle.walks.proofs.Steps.Data.{Datum, row}
 
 pub data Arg (m : ℕ) : Type 2 where
@@ -162,6 +162,13 @@ module _ {m : ℕ} where
   same-owned (slice i ok E ∷ As) κs a = ap (λ (F : Fml). fsep (MutSlice (named i) (lftAt m i ok (κs .1)) (row E) .own (a .0) (slice-vals (a .0))) F) (same-owned As κs (a .1))
   same-owned (shared i ok E ∷ As) κs a = ap (λ (F : Fml). fsep (ShrSlice (named i) (lftAt m i ok (κs .1)) (row E) .own (a .0) (slice-vals (a .0))) F) (same-owned As κs (a .1))
 
+  -- and their machine values are those that it takes
+  pub same-machine : (As : List (Arg m)) (κs : Lfts (suc m)) (a : Out As κs) → machine As (κs .1) (handed As κs a) ≡ machine-out As κs a
+  same-machine [] κs a = refl
+  same-machine (value P ∷ As) κs a = ap (λ (l : List Val). P .val (a .0) ∷ l) (same-machine As κs (a .1))
+  same-machine (slice i ok E ∷ As) κs a = ap (λ (l : List Val). sliceVal (ptr (a .0)) (length (now (a .0))) ∷ l) (same-machine As κs (a .1))
+  same-machine (shared i ok E ∷ As) κs a = ap (λ (l : List Val). sliceVal (ptr (a .0)) (length (now (a .0))) ∷ l) (same-machine As κs (a .1))
+
   -- ---- locals
   abbrev ty : Arg m → Ty
   ty (value P) = P .ty
@@ -237,7 +244,7 @@ module _ {m : ℕ} where
   Stand [] bs E n = Unit {0}
   Stand (x ∷ As) bs E n = (getD E n no-local ≡ (ty x, bs .0)) × Stand As (bs .1) E (suc n)
 
-  abbrev Stand-again : (As : List (Arg m)) → Again As → List (Ty × ℕ) → ℕ → Type 0
+  abbrev pub Stand-again : (As : List (Arg m)) → Again As → List (Ty × ℕ) → ℕ → Type 0
   Stand-again [] ts E n = Unit {0}
   Stand-again (value P ∷ As) ts E n = Stand-again As ts E n
   Stand-again (shared i ok D ∷ As) ts E n = Stand-again As ts E n
@@ -332,6 +339,13 @@ module _ {m : ℕ} where
   left-last (shared j ok E ∷ As) κs a ws = λ i. (a .0, left-last As κs (a .1) (ws .1) i)
   left-last (slice j ok E ∷ As) κs a ws = λ i. (at-last (a .0) (ws .0), left-last As κs (a .1) (ws .1) i)
 
+  same-lasts : (As : List (Arg m)) (κs : Lfts (suc m)) (a : Out As κs) (ws : Fins (κs .1) (inner As) (all yes (inner As)) (handed As κs a))
+      → lastsOf (κs .1) (inner As) (all yes (inner As)) (handed As κs a) ws ≡ lastsOf κs (outer As) (all yes (outer As)) a (last As κs a ws)
+  same-lasts [] κs a ws = refl
+  same-lasts (value P ∷ As) κs a ws = ap (λ (F : Fml). fsep ftrue F) (same-lasts As κs (a .1) (ws .1))
+  same-lasts (shared i ok E ∷ As) κs a ws = ap (λ (F : Fml). fsep ftrue F) (same-lasts As κs (a .1) (ws .1))
+  same-lasts (slice i ok E ∷ As) κs a ws = ap (λ (F : Fml). fsep (left-by (MutSlice (named i) (lftAt m i ok (κs .1)) (row E) .exit yes) (a .0) (ws .0)) F) (same-lasts As κs (a .1) (ws .1))
+
 module _ {M : Type 1} (𝓤 : URA M) (H : Heap 𝓤) (A : Atoms 𝓤) (W : Given 𝓤 H A) (m : ℕ) where
   pub lets-go : (As : List (Arg m)) → AllGo 𝓤 H A W (suc m) (outer As) (all yes (outer As)) (stays As)
   lets-go [] = tt
@@ -352,14 +366,19 @@ module _ {M : Type 1} {𝓤 : URA M} {H : Heap 𝓤} {A : Atoms 𝓤} {K : Type 
   across {Γ′ = Γ′} out back os = record { go = λ Kt h. via 𝓤 (⋆ 𝓤 H A Γ′) out (os .go Kt (via 𝓤 _ back h)) }
 
 module _ {M : Type 1} {𝓤 : URA M} {H : Heap 𝓤} {A : Atoms 𝓤} {K : Type 0} {W : Given 𝓤 H A} {m : ℕ} where
-  -- what the callee says at its exit is what the function has at its own
+  -- what a callee says at its exit is what the function has at its own: one that has the function's own lifetimes, and one that has the arguments' alone
+  pub ends-out : K → (As : List (Arg m)) (κs : Lfts (suc m)) (a : Out As κs) (ws : Fins κs (outer As) (all yes (outer As)) a) (vss : Valss (typesAt (outer As) κs)) {Γ : List (Item 𝓤)} {G : Goal 𝓤 H}
+      → (fitsOf κs (outer As) (all yes (outer As)) (stays As) a ws → Seq K W (‵ (hasOf κs (outer As) (all yes (outer As)) (stays As) a ws vss) ∷ Γ) G)
+      → Seq K W (‵ (lastsOf κs (outer As) (all yes (outer As)) a ws) ∷ Γ) G
+  ends-out t [] κs a ws vss k = k tt
+  ends-out t (value P ∷ As) κs a ws vss k = fsplit t $ move t (1 ∷ []) $ ends-out t As κs (a .1) (ws .1) (vss .1) (λ fit. move t (1 ∷ 0 ∷ []) $ fjoin t $ k (tt, fit))
+  ends-out t (shared i ok E ∷ As) κs a ws vss k = fsplit t $ move t (1 ∷ []) $ ends-out t As κs (a .1) (ws .1) (vss .1) (λ fit. move t (1 ∷ 0 ∷ []) $ fjoin t $ k (tt, fit))
+  ends-out t (slice i ok E ∷ As) κs a ws vss k = fsplit t $ fsplit t $ move t (1 ∷ []) $ feqL t (λ len. move t (1 ∷ []) $ ends-out t As κs (a .1) (ws .1) (vss .1) (λ fit. move t (1 ∷ 0 ∷ []) $ fjoin t $ k (len, fit)))
+
   pub ends : K → (As : List (Arg m)) (κs : Lfts (suc m)) (a : Out As κs) (ws : Fins (κs .1) (inner As) (all yes (inner As)) (handed As κs a)) (vss : Valss (typesAt (outer As) κs)) {Γ : List (Item 𝓤)} {G : Goal 𝓤 H}
       → (fitsOf κs (outer As) (all yes (outer As)) (stays As) a (last As κs a ws) → Seq K W (‵ (hasOf κs (outer As) (all yes (outer As)) (stays As) a (last As κs a ws) vss) ∷ Γ) G)
       → Seq K W (‵ (lastsOf (κs .1) (inner As) (all yes (inner As)) (handed As κs a) ws) ∷ Γ) G
-  ends t [] κs a ws vss k = k tt
-  ends t (value P ∷ As) κs a ws vss k = fsplit t $ move t (1 ∷ []) $ ends t As κs (a .1) (ws .1) (vss .1) (λ fit. move t (1 ∷ 0 ∷ []) $ fjoin t $ k (tt, fit))
-  ends t (shared i ok E ∷ As) κs a ws vss k = fsplit t $ move t (1 ∷ []) $ ends t As κs (a .1) (ws .1) (vss .1) (λ fit. move t (1 ∷ 0 ∷ []) $ fjoin t $ k (tt, fit))
-  ends t (slice i ok E ∷ As) κs a ws vss k = fsplit t $ fsplit t $ move t (1 ∷ []) $ feqL t (λ len. move t (1 ∷ []) $ ends t As κs (a .1) (ws .1) (vss .1) (λ fit. move t (1 ∷ 0 ∷ []) $ fjoin t $ k (len, fit)))
+  ends t As κs a ws vss k = rewrite t 0 (λ (F : Fml). ‵ F) (same-lasts As κs a ws) refl $ ends-out t As κs a (last As κs a ws) vss k
 
   pub allocates : K → (As : List (Arg m)) {Γ : List (Item 𝓤)} {ls : List Local} {Kt : Env 𝓤 H → Goal 𝓤 H} → ((bs : Blocks As) → Seq K W (‵ (rooms As bs) ∷ Γ) (allocs ls (λ E. Kt (env As bs E)))) → Seq K W Γ (allocs (locals As ls) Kt)
   allocates t [] k = nothing t $ k tt
