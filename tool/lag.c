@@ -14,6 +14,7 @@ struct lag {
     uint32_t *memory; /* a copy, which the copies of the record are lent */
     vusatica_sampler before;
     int smooth;
+    int64_t sounds[8][128]; /* the first sound of each phrase and note, and 2 more: 0 where it isn't known yet */
     key *keys;
     size_t count, space;
     view views[SHOWN];
@@ -45,7 +46,7 @@ static void views_made(lag *l, const player *p) {
         v->key.due = c.frame;
         v->key.heard = NEVER;
         v->from = c.frame < BEFORE ? 0 : c.frame - BEFORE;
-        v->frames = 2 * BEFORE + p->block + 15;
+        v->frames = 2 * BEFORE + 15 + (p->block < 1000 ? p->block : 1000);
         v->sound = room(v->frames, sizeof *v->sound);
         l->view_count++;
     }
@@ -75,10 +76,12 @@ static int sounds_at(const lag *l, bytes recording, size_t channels, float place
     return 0;
 }
 
+static size_t phrase_of(const player *p, cue c) { return p->phrases > 0 ? c.channel : 0; }
+
 /* The first frame of a voice that has a sound of its own, by the recording: NEVER where there is none. */
-static int64_t first_sound(const lag *l, const player *p, cue c) {
+static int64_t first_looked_for(const lag *l, const player *p, cue c) {
     const vusatica_settings *s = &p->engine->settings;
-    bytes recording = l->recordings[p->phrases > 0 ? c.channel : 0];
+    bytes recording = l->recordings[phrase_of(p, c)];
     float speed = s->speed * s->reverse_speed * (p->pitch >= 0 ? speed_of(c.note, p->pitch) : 1.0f);
     size_t samples;
     recorded(recording, &samples);
@@ -87,11 +90,17 @@ static int64_t first_sound(const lag *l, const player *p, cue c) {
     return NEVER;
 }
 
+static int64_t first_sound(lag *l, const player *p, cue c) {
+    int64_t *known = &l->sounds[phrase_of(p, c)][c.note];
+    if (*known == 0) *known = first_looked_for(l, p, c) + 2;
+    return *known - 2;
+}
+
 /* A key alone. */
 static vusatica_sampler alone_of(const lag *l, const player *p, cue c) {
     vusatica_sampler alone = l->solo.sampler;
     size_t entry = p->next - 1;
-    vusatica_choose(&alone, p->phrases > 0 ? c.channel : 0);
+    vusatica_choose(&alone, phrase_of(p, c));
     vusatica_play_song(&alone, p->song.list, p->next, &entry, p->frame, &l->solo.params);
     if (p->pitch >= 0) vusatica_note_speed(&alone, c.note, c.channel, speed_of(c.note, p->pitch));
     return alone;

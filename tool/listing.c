@@ -28,9 +28,9 @@ static void header_judged(bytes file) {
     if (file.at[2] > 1) bad(0, "auto pass-through %d, where 0 is off and 1 on", file.at[2]);
 }
 
-static size_t length_of(int kind, size_t channels) {
+static size_t length_of(int record, size_t channels) {
     static const uint8_t lengths[] = { 45, 11, 3, 7, 1, 1, 5, 1 };
-    return kind == 6 && channels == 2 ? 9 : lengths[kind];
+    return record == 6 && channels == 2 ? 9 : lengths[record];
 }
 
 /* r is a record's kind, at the byte `at` of its length. */

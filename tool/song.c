@@ -14,7 +14,7 @@ song song_of(const char *path, uint32_t rate, int show) {
 }
 
 cue cue_at(const song *s, size_t entry) {
-    uint64_t key = s->list[2 * entry + 1];
-    cue c = { s->list[2 * entry], (uint8_t)(key / 256), (uint8_t)key, (uint8_t)(key / 65536) };
+    uint64_t word = s->list[2 * entry + 1];
+    cue c = { s->list[2 * entry], (uint8_t)(word / 256), (uint8_t)word, (uint8_t)(word / 65536) };
     return c;
 }
