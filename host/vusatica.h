@@ -6,11 +6,12 @@
  * record. A pointer for an answer may be NULL where the answer isn't wanted; a refused call answers 0 there.
  *
  * What a host promises, and what comes of it where it doesn't:
- *  1. Only the library writes records and parameters; a copy of one, whole, is as good. Else: 9, or any sound, or a crash.
+ *  1. Only the library writes records and parameters; a copy of one, whole, is as good. Else: 9, or any sound; no more.
  *  2. A pointer leads to as many elements as its count says, aligned for their type, and one that is written through to
  *     nothing that another argument reaches; with a count of 0 it may be NULL. Else: what C says of such an access.
  *  3. The memory of set-up, or a copy of it, comes with each call that asks for it. Else: 9 if it is shorter, another sound.
- *  4. The processor rounds to nearest and flushes no small float to zero, as a C program starts. Else: other outputs.
+ *  4. The processor rounds to nearest and flushes no small float to zero, as a C program starts. Else: other outputs, of
+ *     which nothing is proved.
  */
 #ifndef VUSATICA_H
 #define VUSATICA_H
