@@ -1,7 +1,10 @@
-/* How many times faster than it sounds a song is played: the best of three times, nothing written. */
+/* How many times faster than it sounds a song is played: processor time, which other work beside it doesn't lengthen, the best of three; nothing is written. */
+#include <time.h>
 #include "play.h"
 
 enum { ROUNDS = 3 };
+
+static double processor_seconds(void) { return (double)clock() / CLOCKS_PER_SEC; }
 
 void bench_printed(const job *j) {
     engine *loaded = room(1, sizeof *loaded);
@@ -13,11 +16,12 @@ void bench_printed(const job *j) {
         /* The memory is the same: a song records nothing. */
         engine e = *loaded;
         p = player_of(&e, s, j);
-        double began = seconds_now();
+        double began = processor_seconds();
         sound_played(&p, NULL, rate);
-        if (seconds_now() - began < best) best = seconds_now() - began;
+        double took = processor_seconds() - began;
+        if (took < best) best = took;
     }
     player_told(&p);
-    printf("%.1f s of sound, %zu starts and stops, in %.4f s: %.0f times faster than it sounds\n", seconds, s.count, best, best > 0 ? seconds / best : 0);
+    printf("%.1f s of sound, %zu starts and stops, in %.4f s of processor time: %.0f times faster than it sounds\n", seconds, s.count, best, best > 0 ? seconds / best : 0);
     out_shown();
 }
