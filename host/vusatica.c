@@ -1,9 +1,11 @@
-/* The C side of the library. Each call of vusatica.h hands its pointers to the proved function of the same work, as the
- * kit's compiler passes them: a slice is a pointer to its place and length, a record is a pointer, and a result that is a
- * record comes first, as the place that it is written to. host/module holds the functions to these shapes and sizes.
+/* The C side of the library. Each call of vusatica.h hands its pointers to the proved function of the same work, as
+ * the kit's compiler passes them: a slice is a pointer to its place and length, a record is a pointer, and a result
+ * that is a record comes first, as the place that it is written to. host/module holds the functions to these shapes
+ * and sizes.
  *
- * It is compiled part by part, a call each, with what the call reaches of the engine (host/parts): in one object what the
- * calls share would stand apart, and a frame and a key would take more stack. A program links the calls that it makes. */
+ * It is compiled part by part, a call each, with what the call reaches of the engine (host/parts): in one object what
+ * the calls share would stand apart, and a frame and a key would take more stack. A program links the calls that it
+ * makes. */
 #pragma GCC visibility push(default)
 #include "vusatica.h"
 #pragma GCC visibility pop

@@ -1,18 +1,20 @@
-/* vusatica.h: the sound engine of a two-channel stage sampler, for hosts in C, C++ and Rust. Its page is docs/HOSTS.md.
+/* vusatica.h: the sound engine of a two-channel stage sampler, for hosts in C, C++ and Rust. Its page is
+ * docs/HOSTS.md.
  *
- * Each call answers a number: 0 for done, or why it is refused. A refused call changes nothing, neither the record nor what
- * is lent with it, but for a run of frames that reaches the clock's end (6): the frames that it counts stand. No call
- * allocates, locks, keeps a pointer or makes a system call, and each ends. Any thread may call, one call at a time on a
- * record. A pointer for an answer may be NULL where the answer isn't wanted; a refused call answers 0 there.
+ * Each call answers a number: 0 for done, or why it is refused. A refused call changes nothing, neither the record nor
+ * what is lent with it, but for a run of frames that reaches the clock's end (6): the frames that it counts stand. No
+ * call allocates, locks, keeps a pointer or makes a system call, and each ends. Any thread may call, one call at a
+ * time on a record. A pointer for an answer may be NULL where the answer isn't wanted; a refused call answers 0 there.
  *
  * What a host promises, and what comes of it where it doesn't:
- *  1. Only the library writes records and parameters; a copy of one, whole, is as good. Else: 9, or any sound; no more.
- *  2. A pointer leads to as many elements as its count says, aligned for their type, and one that is written through to
- *     nothing that another argument reaches; with a count of 0 it may be NULL. Else: what C says of such an access.
- *  3. The memory of set-up, or a copy of it, comes with each call that asks for it. Else: 9 if it is shorter, another sound.
- *  4. The processor rounds to nearest and flushes no small float to zero, as a C program starts. Else: other outputs, of
- *     which nothing is proved.
- */
+ *  1. Only the library writes records and parameters; a copy of one, whole, is as good. Else: 9, or any sound; no
+ *     more.
+ *  2. A pointer leads to as many elements as its count says, aligned for their type, and one that is written through
+ *     to nothing that another argument reaches; with a count of 0 it may be NULL. Else: what C says of such an access.
+ *  3. The memory of set-up, or a copy of it, comes with each call that asks for it. Else: 9 if it is shorter, another
+ *     sound.
+ *  4. The processor rounds to nearest and flushes no small float to zero, as a C program starts. Else: other outputs,
+ *     of which nothing is proved. */
 #ifndef VUSATICA_H
 #define VUSATICA_H
 
@@ -104,8 +106,8 @@ int vusatica_params_make(vusatica_params *params, const vusatica_settings *setti
  * this record until it is set up. */
 int vusatica_init(vusatica_sampler *s, size_t channels, int auto_passthru, const uint32_t *memory, size_t samples);
 
-/* Keys, recorder, reset, and 7/12's setting: a key that is started before a frame sounds in that frame. Start: 9 2 3 4 5.
- * Stop: 9 2 4. Note speed: 9 2. The others: 9. */
+/* Keys, recorder, reset, and 7/12's setting: a key that is started before a frame sounds in that frame. Start: 9 2 3 4
+ * 5. Stop: 9 2 4. Note speed: 9 2. The others: 9. */
 int vusatica_start(vusatica_sampler *s, float position, uint8_t note, uint8_t channel, float velocity,
                    const vusatica_params *params);
 int vusatica_stop(vusatica_sampler *s, uint8_t note, uint8_t channel, const vusatica_params *params);
@@ -115,8 +117,8 @@ int vusatica_record_stop(vusatica_sampler *s);
 int vusatica_reset(vusatica_sampler *s);
 int vusatica_interpolate(vusatica_sampler *s, int on);
 
-/* A frame: an entry for each channel, which becomes its output. *moved: how many voices moved up as others left, at most
- * 62. 9 1 4 6. */
+/* A frame: an entry for each channel, which becomes its output. *moved: how many voices moved up as others left, at
+ * most 62. 9 1 4 6. */
 int vusatica_frame(vusatica_sampler *s, float *frame, size_t entries, const vusatica_params *params, uint32_t *memory,
                    size_t samples, int *moved);
 
@@ -149,18 +151,19 @@ int vusatica_write_wave(const vusatica_sampler *s, uint32_t rate, const uint32_t
 int vusatica_read_wave(vusatica_sampler *s, const uint8_t *file, size_t length, uint32_t *memory, size_t samples,
                        uint32_t *rate);
 
-/* Phrases, eight a channel: the chosen one is recorded, read, written and started. A gather puts all free room behind them.
- * Choose: 9 19 21. Delete: 9 19 20. Gather: 9 21. */
+/* Phrases, eight a channel: the chosen one is recorded, read, written and started. A gather puts all free room behind
+ * them. Choose: 9 19 21. Delete: 9 19 20. Gather: 9 21. */
 int vusatica_choose(vusatica_sampler *s, size_t phrase);
 int vusatica_delete(vusatica_sampler *s, size_t phrase);
 int vusatica_gather(vusatica_sampler *s, uint32_t *memory, size_t samples);
 
-/* The starts and stops of a Standard MIDI File of format 0, for so many frames a second: two words an entry, of which the
- * first is its frame, in a list of `room` words. *count: the entries. 22, then 12 13 14, then 8 with as many as there are. */
+/* The starts and stops of a Standard MIDI File of format 0, for so many frames a second: two words an entry, of which
+ * the first is its frame, in a list of `room` words. *count: the entries. 22, then 12 13 14, then 8 with as many as
+ * there are. */
 int vusatica_read_song(const uint8_t *file, size_t length, uint32_t rate, uint64_t *list, size_t room, size_t *count);
 
-/* Makes the calls of the list, of so many entries, that are due at this frame, from entry *next on, which begins at 0: to be
- * called before the frame is played. It answers how many calls were refused. */
+/* Makes the calls of the list, of so many entries, that are due at this frame, from entry *next on, which begins at 0:
+ * to be called before the frame is played. It answers how many calls were refused. */
 size_t vusatica_play_song(vusatica_sampler *s, const uint64_t *list, size_t entries, size_t *next, uint64_t frame,
                           const vusatica_params *params);
 
@@ -171,9 +174,11 @@ size_t vusatica_play_song(vusatica_sampler *s, const uint64_t *list, size_t entr
 #endif
 
 #if defined(__cplusplus) && __cplusplus >= 201103L
-static_assert(sizeof(size_t) == 8 && sizeof(vusatica_settings) == 56 && sizeof(vusatica_voice) == 12, "vusatica: 64-bit machines");
+static_assert(sizeof(size_t) == 8 && sizeof(vusatica_settings) == 56 && sizeof(vusatica_voice) == 12,
+              "vusatica: 64-bit machines");
 #elif defined(__STDC_VERSION__) && __STDC_VERSION__ >= 201112L
-_Static_assert(sizeof(size_t) == 8 && sizeof(vusatica_settings) == 56 && sizeof(vusatica_voice) == 12, "vusatica: 64-bit machines");
+_Static_assert(sizeof(size_t) == 8 && sizeof(vusatica_settings) == 56 && sizeof(vusatica_voice) == 12,
+               "vusatica: 64-bit machines");
 #endif
 
 #endif

@@ -1,12 +1,12 @@
-/* Plays a song in blocks of 64 frames, as a sound card asks for them, on the two samples that first.c records, and prints a
- * line for each frame: its time and its output.
+/* Plays a song in blocks of 64 frames, as a sound card asks for them, on the two samples that first.c records, and
+ * prints a line for each frame: its time and its output.
  *
  *     blocks SONG.mid RATE [cut | frames | between]
  *
- * `cut`, which is what a host should do, cuts each block at the next key: it plays the frames up to it by one call, makes the
- * key's call, and goes on. No key is late, and there are no more calls than keys and blocks. `frames` plays frame by frame,
- * which sounds the same. `between` makes the calls only between blocks: each key waits for the next block, up to 63 frames.
- * Standard error has how late the keys were. */
+ * `cut`, which is what a host should do, cuts each block at the next key: it plays the frames up to it by one call,
+ * makes the key's call, and goes on. No key is late, and there are no more calls than keys and blocks. `frames` plays
+ * frame by frame, which sounds the same. `between` makes the calls only between blocks: each key waits for the next
+ * block, up to 63 frames. Standard error has how late the keys were. */
 #include <stdio.h>
 #include <stdlib.h>
 #include <string.h>
@@ -120,7 +120,7 @@ int main(int count, char **words) {
             printf("F %lu %08lX\n", (unsigned long)(time + at + i), (unsigned long)bits);
         }
     }
-    fprintf(stderr, "blocks: %lu keys, %lu of them late, the latest by %lu frames; %lu refused\n", (unsigned long)entries,
-            (unsigned long)late, (unsigned long)latest, (unsigned long)refused);
+    fprintf(stderr, "blocks: %lu keys, %lu of them late, the latest by %lu frames; %lu refused\n",
+            (unsigned long)entries, (unsigned long)late, (unsigned long)latest, (unsigned long)refused);
     return fflush(stdout) == 0 ? 0 : 1;
 }

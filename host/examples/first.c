@@ -1,5 +1,5 @@
-/* A host as small as it can be: the calls of examples/first.hex, each answer tested, and the lines that ./play prints of
- * them. Two samples are recorded and played in a loop while a key is held.
+/* A host as small as it can be: the calls of examples/first.hex, each answer tested, and the lines that ./play prints
+ * of them. Two samples are recorded and played in a loop while a key is held.
  *
  *     cc -I target/host host/examples/first.c target/host/libvusatica.a -lm -o first
  *     cc host/examples/first.c $(pkg-config --cflags --libs vusatica) -o first          where it is installed */

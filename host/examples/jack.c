@@ -1,14 +1,15 @@
-/* The sampler as a JACK client: two channels in and out, keys by MIDI. Each period is cut at its events' frames, so that a key
- * sounds in the frame that JACK gives it.
+/* The sampler as a JACK client: two channels in and out, keys by MIDI. Each period is cut at its events' frames, so
+ * that a key sounds in the frame that JACK gives it.
  *
  *     cc -O2 -I target/host host/examples/jack.c target/host/libvusatica.a -lm -ljack -o vusatica
  *     ./vusatica                             ports vusatica:in_1, in_2, out_1, out_2, midi; an empty line ends it
  *
- * Note on and off start and stop keys; controller 80 records while it is 64 or more; controller 81 switches interpolation in
- * the same way; a program change chooses a phrase, 1 to 8. Only JACK's thread touches the engine: main prints what was refused.
+ * Note on and off start and stop keys; controller 80 records while it is 64 or more; controller 81 switches
+ * interpolation in the same way; a program change chooses a phrase, 1 to 8. Only JACK's thread touches the engine:
+ * main prints what was refused.
  *
- * host/probes/jack tries it under a server without a sound card, with a second program that sends keys at known frames and
- * looks for the sound in them:
+ * host/probes/jack tries it under a server without a sound card, with a second program that sends keys at known frames
+ * and looks for the sound in them:
  *     host/probes/jack target/host */
 #include <jack/jack.h>
 #include <jack/midiport.h>

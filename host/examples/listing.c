@@ -2,8 +2,8 @@
  *
  *     listing [FRAMES]        each frame by a call, or up to FRAMES frames that stand in a row by one
  *
- * A run doesn't say how many voices play after each of its frames: a copy of record and memory is played frame by frame for
- * that, and its outputs aren't printed. */
+ * A run doesn't say how many voices play after each of its frames: a copy of record and memory is played frame by
+ * frame for that, and its outputs aren't printed. */
 #include <stdio.h>
 #include <stdlib.h>
 #include <string.h>

@@ -1,7 +1,7 @@
-/* How long a block of 64 frames takes at its worst: two channels with 32 voices each, by default and with the setting of 7/12,
- * every block cut at a key that is let go and pressed again. It asks for real time (SCHED_FIFO, memory locked) and says what
- * it was given. Between blocks it sleeps until the next is due, as a host does that waits for its sound card: one that never
- * sleeps is stopped by Linux for 50 ms of each second.
+/* How long a block of 64 frames takes at its worst: two channels with 32 voices each, by default and with the setting
+ * of 7/12, every block cut at a key that is let go and pressed again. It asks for real time (SCHED_FIFO, memory
+ * locked) and says what it was given. Between blocks it sleeps until the next is due, as a host does that waits for
+ * its sound card: one that never sleeps is stopped by Linux for 50 ms of each second.
  *
  *     cc -O2 -I target/host host/examples/worst.c target/host/libvusatica.a -lm -o worst
  *     sudo ./worst [BLOCKS]         10,000 of each unless given, which is 29 seconds */
@@ -92,8 +92,9 @@ static void measure(const char *what, int interpolated, long blocks, double *tim
         sum += times[i];
     }
     qsort(times, (size_t)blocks, sizeof *times, order);
-    printf("%s: mean %.1f us, 999 of 1000 within %.1f, worst %.1f: %.1f%% of the %.0f us that a block lasts\n", what, sum / (double)blocks,
-           times[blocks - 1 - blocks / 1000], times[blocks - 1], times[blocks - 1] * RATE / BLOCK / 1e4, BLOCK / RATE * 1e6);
+    printf("%s: mean %.1f us, 999 of 1000 within %.1f, worst %.1f: %.1f%% of the %.0f us that a block lasts\n", what,
+           sum / (double)blocks, times[blocks - 1 - blocks / 1000], times[blocks - 1],
+           times[blocks - 1] * RATE / BLOCK / 1e4, BLOCK / RATE * 1e6);
 }
 
 int main(int count, char **words) {
@@ -105,7 +106,8 @@ int main(int count, char **words) {
     priority.sched_priority = 80;
     locked = mlockall(MCL_CURRENT | MCL_FUTURE) == 0;
     fifo = sched_setscheduler(0, SCHED_FIFO, &priority) == 0;
-    printf("%s, memory %s\n", fifo ? "SCHED_FIFO, priority 80" : "no real time: it was not granted", locked ? "locked" : "not locked");
+    printf("%s, memory %s\n", fifo ? "SCHED_FIFO, priority 80" : "no real time: it was not granted",
+           locked ? "locked" : "not locked");
     measure("32 voices on each of 2 channels", 0, blocks, times);
     measure("the same, interpolated", 1, blocks, times);
     free(times);

@@ -1,5 +1,5 @@
-/* Every call of vusatica.h, each number that it can be brought to answer (all but 6, which takes 2^48 frames), and that a
- * refused call leaves record, memory and lists as they were. Its last line is `calls: N tries, M failed`. */
+/* Every call of vusatica.h, each number that it can be brought to answer (all but 6, which takes 2^48 frames), and
+ * that a refused call leaves record, memory and lists as they were. Its last line is `calls: N tries, M failed`. */
 #include <stdio.h>
 #include <string.h>
 #include "vusatica.h"

@@ -1,7 +1,7 @@
-/* Records that C changed, which it promises not to: a good record with one byte changed, COUNT times, from SEED on, each
- * fourth time a byte of the parameters too, and all bytes of the record for a tenth as many. A call on such a record answers
- * a number, or the program is ended by a signal: that is counted. Record, memory and frame end where a page begins that
- * nothing may touch, so that a step beyond them is seen. A refused call leaves what it was lent.
+/* Records that C changed, which it promises not to: a good record with one byte changed, COUNT times, from SEED on,
+ * each fourth time a byte of the parameters too, and all bytes of the record for a tenth as many. A call on such a
+ * record answers a number, or the program is ended by a signal: that is counted. Record, memory and frame end where a
+ * page begins that nothing may touch, so that a step beyond them is seen. A refused call leaves what it was lent.
  *
  *     changed SEED COUNT */
 #define _DEFAULT_SOURCE
@@ -34,7 +34,8 @@ static uint32_t random_word(void) {
 static void *ending(size_t bytes) {
     size_t page = (size_t)sysconf(_SC_PAGESIZE), pages = (bytes + page - 1) / page;
     char *at = mmap(NULL, (pages + 2) * page, PROT_READ | PROT_WRITE, MAP_PRIVATE | MAP_ANONYMOUS, -1, 0);
-    if (at == MAP_FAILED || mprotect(at, page, PROT_NONE) != 0 || mprotect(at + (pages + 1) * page, page, PROT_NONE) != 0) exit(2);
+    if (at == MAP_FAILED || mprotect(at, page, PROT_NONE) != 0) exit(2);
+    if (mprotect(at + (pages + 1) * page, page, PROT_NONE) != 0) exit(2);
     return at + (pages + 1) * page - bytes;
 }
 
@@ -129,7 +130,7 @@ int main(int words, char **word) {
         if (i % 4 == 3) ((unsigned char *)&params)[random_word() % sizeof params] = (unsigned char)random_word();
         tried(at);
     }
-    printf("changed: %ld changes of a record: a frame done %ld, refused 9 %ld, otherwise %ld; ended by a signal %ld; refused, and changed %ld\n",
-           count + count / 10, done, nine, other, signals, wrong);
+    printf("changed: %ld changes of a record: a frame done %ld, refused 9 %ld, otherwise %ld; ended by a signal %ld; "
+           "refused, and changed %ld\n", count + count / 10, done, nine, other, signals, wrong);
     return signals != 0 || wrong != 0;
 }

@@ -1,5 +1,6 @@
-/* Two JACK clients in one program, before and behind host/examples/jack.c: one sends a take and then keys at known frames, the
- * other looks in which frames the sound begins and ends. It fails where one isn't heard in the very frame of its key.
+/* Two JACK clients in one program, before and behind host/examples/jack.c: one sends a take and then keys at known
+ * frames, the other looks in which frames the sound begins and ends. It fails where one isn't heard in the very frame
+ * of its key.
  *
  *     cc -O2 host/probes/keys.c -ljack -o keys
  *     ./keys [KEYS]              100 unless given */
@@ -106,9 +107,10 @@ int main(int words, char **word) {
         if (k >= n_began || k >= n_ended || began[k] != pressed[k] || ended[k] != released[k]) late++;
         if (pressed[k] % period != 0) inside++;
     }
-    printf("keys: period %u, %d keys sent, %d begun and %d ended; %u were due inside a period; not in their frames: %d\n", (unsigned)period, count, n_began,
-           n_ended, (unsigned)inside, late);
+    printf("keys: period %u, %d keys sent, %d begun and %d ended; %u were due inside a period; not in their frames: %d\n",
+           (unsigned)period, count, n_began, n_ended, (unsigned)inside, late);
     for (k = 0; k < 5 && k < count && late > 0; k++)
-        printf("keys: due %u to %u, heard %u to %u\n", (unsigned)pressed[k], (unsigned)released[k], (unsigned)began[k], (unsigned)ended[k]);
+        printf("keys: due %u to %u, heard %u to %u\n", (unsigned)pressed[k], (unsigned)released[k], (unsigned)began[k],
+               (unsigned)ended[k]);
     return late != 0;
 }
