@@ -1,4 +1,5 @@
-/* How many times faster than it sounds a song is played: processor time, which other work beside it doesn't lengthen, the best of three; nothing is written. */
+/* How many times faster than it sounds a song is played: processor time, which other work beside it doesn't
+ * lengthen, the best of three; nothing is written. */
 #include <time.h>
 #include "play.h"
 
@@ -22,6 +23,7 @@ void bench_printed(const job *j) {
         if (took < best) best = took;
     }
     player_told(&p);
-    printf("%.1f s of sound, %zu starts and stops, in %.4f s of processor time: %.0f times faster than it sounds\n", seconds, s.count, best, best > 0 ? seconds / best : 0);
+    printf("%.1f s of sound, %zu starts and stops, in %.4f s of processor time: %.0f times faster than it sounds\n",
+        seconds, s.count, best, best > 0 ? seconds / best : 0);
     out_shown();
 }

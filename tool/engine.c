@@ -12,7 +12,8 @@ void engine_made(engine *e, size_t channels, int auto_passthru, size_t capacity)
     e->channels = channels;
     e->samples = channels * capacity;
     e->memory = room(e->samples, sizeof *e->memory);
-    if (vusatica_init(&e->sampler, channels, auto_passthru, e->memory, e->samples) != 0) fail(REFUSED, "the engine could not be set up");
+    if (vusatica_init(&e->sampler, channels, auto_passthru, e->memory, e->samples) != 0)
+        fail(REFUSED, "the engine could not be set up");
     if (engine_set(e, &settings) != 0) fail(REFUSED, "the library refuses its own default settings");
 }
 

@@ -1,5 +1,6 @@
-/* Where a song breaks the Standard MIDI File document, for a person: the library answers a number alone. The reader walks as `smf` does; it is believed
- * only where it comes to the library's number, and oracle/songs holds it to a third reader. */
+/* Where a song breaks the Standard MIDI File document, for a person: the library answers a number alone. The reader
+ * walks as `smf` does; it is believed only where it comes to the library's number, and oracle/songs holds it to a third
+ * reader. */
 #include <string.h>
 #include "tool.h"
 
@@ -107,7 +108,8 @@ static event behind_time(walk *w, uint32_t *running) {
     return e;
 }
 
-/* The events of a track, with the frame of each note: whole frames, and what is over in parts of which `unit` make one. */
+/* The events of a track, with the frame of each note: whole frames, and what is over in parts of which `unit` make
+ * one. */
 static void events(walk *w, uint32_t rate, uint32_t division) {
     uint64_t unit = (uint64_t)division * 1000000, frames = 0, rest = 0;
     uint32_t running = 0, tempo = 500000;

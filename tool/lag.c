@@ -1,6 +1,7 @@
-/* How long after its frame each key is heard, measured from outside. Around the call of each start the record is copied, and the next frames are played on
- * the copies, with that start and without it: the first frame in which the outputs differ is the one in which the key is heard. Frames that have nothing to
- * hear are not counted: silence at the beginning of the recording, the level 0 at which an attack begins, and a sound that is too quiet to change the sum. */
+/* How long after its frame each key is heard, measured from outside. Around the call of each start the record is
+ * copied, and the next frames are played on the copies, with that start and without it: the first frame in which the
+ * outputs differ is the one in which the key is heard. Frames that have nothing to hear are not counted: silence at the
+ * beginning of the recording, the level 0 at which an attack begins, and a sound too quiet to change the sum. */
 #include <math.h>
 #include <string.h>
 #include "play.h"
@@ -71,7 +72,8 @@ static int sounds_at(const lag *l, bytes recording, size_t channels, float place
     for (size_t j = 0; j < channels; j++) {
         /* but for the sign of a zero */
         if (low4(words + 4 * (i * channels + j)) << 1 != 0) return 1;
-        if (l->smooth && place > (float)i && i + 1 < samples && low4(words + 4 * ((i + 1) * channels + j)) << 1 != 0) return 1;
+        if (l->smooth && place > (float)i && i + 1 < samples && low4(words + 4 * ((i + 1) * channels + j)) << 1 != 0)
+            return 1;
     }
     return 0;
 }
@@ -111,10 +113,12 @@ static void sounded(vusatica_sampler *s, float *frame, const player *p, uint32_t
     vusatica_frame(s, frame, p->engine->channels, &p->engine->params, memory, p->engine->samples, NULL);
 }
 
-/* Frames behind a start: the first in which it is heard, the first in which it sounds where it is alone, and the first of these that changes the sum. */
+/* Frames behind a start: the first in which it is heard, the first in which it sounds where it is alone, and the
+ * first of these that changes the sum. */
 typedef struct { int64_t heard, alone, summed; } firsts;
 
-static void first_seen(firsts *f, int64_t k, size_t channels, const float *with, const float *without, const float *alone) {
+static void first_seen(firsts *f, int64_t k, size_t channels, const float *with, const float *without,
+    const float *alone) {
     for (size_t j = 0; j < channels; j++) {
         if (f->heard == NEVER && bits_of(with[j]) != bits_of(without[j])) f->heard = k;
         if (f->alone == NEVER && alone[j] != 0) f->alone = k;
@@ -175,8 +179,10 @@ static void silence_told(const lag *l, const player *p) {
         quiet += l->keys[i].quiet > 0;
         never += l->keys[i].heard == NEVER;
     }
-    if (silent > 0 && p->engine->settings.attack_samples > 0) say("an attack starts at level 0, and lags are counted from the first sound: up to %lld samples behind a start", (long long)silent);
-    else if (silent > 0) say("the recording begins with silence, and lags are counted from its first sound: up to %lld samples behind a start", (long long)silent);
+    int is_attack = p->engine->settings.attack_samples > 0;
+    const char *why = is_attack ? "an attack starts at level 0" : "the recording begins with silence";
+    if (silent > 0)
+        say("%s, and lags are counted from the first sound: up to %lld samples behind a start", why, (long long)silent);
     if (quiet > 0) say("%zu keys begin too quietly to change the sum: their lag is counted from where they do", quiet);
     if (never > 0) say("%zu keys are never heard", never);
 }

@@ -1,5 +1,5 @@
-/* Plays an event listing (docs/LISTING.md) without a word, by the calls that its records stand for. A bad header or record ends the program, with its line
- * and its reason, which are those of `events`. */
+/* Plays an event listing (docs/LISTING.md) without a word, by the calls that its records stand for. A bad header or
+ * record ends the program, with its line and its reason, which are those of `events`. */
 #include <stdarg.h>
 #include <stdlib.h>
 #include <string.h>
@@ -50,8 +50,10 @@ static size_t record_judged(bytes file, size_t at) {
     if (size > 45) bad(at, "a length of %zu, where no kind has more than 45", size);
     if (left - 2 < size) bad(at, "the record is cut short: %zu of its %zu bytes are there", left - 2, size);
     if (r[0] > 7) bad(at, "unknown kind %d, where there are 0 to 7", r[0]);
-    if (size != length_of(r[0], channels) && r[0] == 6) bad(at, "a length of %zu, where kind 6 has 5 with one channel and 9 with two: here %zu", size, length_of(6, channels));
-    if (size != length_of(r[0], channels)) bad(at, "a length of %zu, where kind %d has %zu", size, r[0], length_of(r[0], channels));
+    size_t asked = length_of(r[0], channels);
+    if (size != asked && r[0] == 6)
+        bad(at, "a length of %zu, where kind 6 has 5 with one channel and 9 with two: here %zu", size, asked);
+    if (size != asked) bad(at, "a length of %zu, where kind %d has %zu", size, r[0], asked);
     if (r[0] == 0) settings_judged(r, at, file.at[0] == 2 ? 5 : 4);
     return size;
 }
@@ -116,5 +118,6 @@ void listing_played(engine *e, bytes file) {
         at += 2 + size;
     }
     vusatica_data_length(&e->sampler, 0, &samples);
-    if (samples > LISTING_ROOM) say("the listing records %zu samples; played alone, it has room for %d", samples, LISTING_ROOM);
+    if (samples > LISTING_ROOM)
+        say("the listing records %zu samples; played alone, it has room for %d", samples, LISTING_ROOM);
 }

@@ -1,5 +1,5 @@
-/* look: the tool without the library. It judges the words and files that it is given as the tool would, before anything is proved or built, and says
- * nothing where they are good. */
+/* look: the tool without the library. It judges the words and files that it is given as the tool would, before
+ * anything is proved or built, and says nothing where they are good. */
 #include "tool.h"
 
 int main(int count, char **words) {

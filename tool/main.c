@@ -30,7 +30,8 @@ static void cues_of(const job *j) {
 
 int main(int count, char **words) {
     job j = job_of(count, words);
-    if (vusatica_version() != VUSATICA_VERSION) fail(REFUSED, "the library is of version %u, and the tool of %u", vusatica_version(), VUSATICA_VERSION);
+    if (vusatica_version() != VUSATICA_VERSION)
+        fail(REFUSED, "the library is of version %u, and the tool of %u", vusatica_version(), VUSATICA_VERSION);
     outs_judged(&j);
     switch (j.task) {
     case CUES: cues_of(&j); break;

@@ -28,10 +28,12 @@ static void text(out *o, const char *class, double x, double y, const char *form
 }
 
 static void head(out *o, const lag_picture *p, double high) {
-    draw(o, "<svg xmlns=\"http://www.w3.org/2000/svg\" width=\"%d\" height=\"%.0f\" viewBox=\"0 0 %d %.0f\" font-family=\"sans-serif\">\n", WIDE, high, WIDE, high);
-    draw(o, "<style>text{font-size:13px;fill:#222} .title{font-size:18px;font-weight:bold} .end{text-anchor:end} .mid{text-anchor:middle}\n");
+    draw(o, "<svg xmlns=\"http://www.w3.org/2000/svg\" width=\"%d\" height=\"%.0f\" ", WIDE, high);
+    draw(o, "viewBox=\"0 0 %d %.0f\" font-family=\"sans-serif\">\n<style>\n", WIDE, high);
+    draw(o, "text{font-size:13px;fill:#222} .title{font-size:18px;font-weight:bold}\n");
+    draw(o, ".end{text-anchor:end} .mid{text-anchor:middle} .red{fill:#c0392b} .dot{fill:#2b6ca3}\n");
     draw(o, ".axis{stroke:#222;stroke-width:1} .grid{stroke:#ddd;stroke-width:1} .stem{stroke:#2b6ca3;stroke-width:1.5}\n");
-    draw(o, ".due{stroke:#c0392b;stroke-width:1.5;stroke-dasharray:5 3} .dot{fill:#2b6ca3} .heard{fill:#e08214;stroke:#222} .red{fill:#c0392b}</style>\n");
+    draw(o, ".due{stroke:#c0392b;stroke-width:1.5;stroke-dasharray:5 3} .heard{fill:#e08214;stroke:#222}\n</style>\n");
     draw(o, "<rect width=\"100%%\" height=\"100%%\" fill=\"#fff\"/>\n");
     text(o, "title", LEFT, 30, "%zu keys, lag %lld samples at most", p->count, (long long)p->most);
     if (p->block == 1) text(o, "", LEFT, 52, "Each run of frames is cut at the next key.");
@@ -63,14 +65,19 @@ static void lags(out *o, const lag_picture *p) {
     for (size_t i = 0; i < p->count; i++) {
         const key *k = &p->keys[i];
         if (k->heard == NEVER) continue;
-        draw(o, "<circle class=\"dot\" cx=\"%.1f\" cy=\"%.1f\" r=\"3.5\"/>\n", LEFT + (double)k->due / end * (RIGHT - LEFT), LOW - (double)k->late / top * (LOW - TOP));
+        draw(o, "<circle class=\"dot\" cx=\"%.1f\" cy=\"%.1f\" r=\"3.5\"/>\n",
+            LEFT + (double)k->due / end * (RIGHT - LEFT), LOW - (double)k->late / top * (LOW - TOP));
     }
 }
 
-/* One view, at a place of its own: its samples from the middle line, the key's own instant, and the sample in which it is heard. */
+/* One view, at a place of its own: its samples from the middle line, the key's own instant, and the sample in which
+ * it is heard. */
 typedef struct { const view *view; double left, top, wide, scale; } frame_of_view;
 
-static double x_of(const frame_of_view *f, double frame) { return f->left + (frame - (double)f->view->from + 0.5) * f->wide / (double)f->view->frames; }
+static double x_of(const frame_of_view *f, double frame) {
+    return f->left + (frame - (double)f->view->from + 0.5) * f->wide / (double)f->view->frames;
+}
+
 static double y_of(const frame_of_view *f, double value) { return f->top + VIEW_HIGH / 2.0 * (1 - value / f->scale); }
 
 static double scale_of(const view *v) {
@@ -85,7 +92,8 @@ static void samples(out *o, const frame_of_view *f) {
         double at = (double)(v->from + i), x = x_of(f, at), y = y_of(f, (double)v->sound[i]);
         int is_heard = v->key.heard == (int64_t)(v->from + i);
         rule(o, "stem", x, y_of(f, 0), x, y);
-        draw(o, "<circle class=\"%s\" cx=\"%.1f\" cy=\"%.1f\" r=\"%s\"/>\n", is_heard ? "heard" : "dot", x, y, is_heard ? "4" : "2");
+        draw(o, "<circle class=\"%s\" cx=\"%.1f\" cy=\"%.1f\" r=\"%s\"/>\n", is_heard ? "heard" : "dot", x, y,
+            is_heard ? "4" : "2");
     }
 }
 
@@ -94,7 +102,9 @@ static void view_drawn(out *o, const frame_of_view *f) {
     double due = x_of(f, (double)k->due);
     text(o, "", f->left, f->top - 22, "note %d at frame %llu", k->note, (unsigned long long)k->due);
     if (k->heard == NEVER) text(o, "", f->left + 190, f->top - 22, "never heard");
-    else text(o, "", f->left + 190, f->top - 22, "heard in frame %lld: lag %lld", (long long)k->heard, (long long)k->late);
+    else
+        text(o, "", f->left + 190, f->top - 22, "heard in frame %lld: lag %lld", (long long)k->heard,
+            (long long)k->late);
     rule(o, "axis", f->left, y_of(f, 0), f->left + f->wide, y_of(f, 0));
     rule(o, "due", due, f->top, due, f->top + VIEW_HIGH);
     text(o, "mid red", due, f->top - 5, "due");
@@ -106,9 +116,11 @@ void picture_written(const char *name, const lag_picture *p) {
     size_t rows = (p->view_count + 1) / 2;
     head(&o, p, VIEW_TOP + (double)rows * VIEW_STEP - 20);
     lags(&o, p);
-    if (rows > 0) text(&o, "", LEFT, VIEW_TOP - 28, "The sound around the first keys, sample by sample. Red: the frame that the file gives. Orange: the key is heard.");
+    if (rows > 0) text(&o, "", LEFT, VIEW_TOP - 28, "The sound around the first keys, sample by sample. %s",
+        "Red: the frame that the file gives. Orange: the key is heard.");
     for (size_t i = 0; i < p->view_count; i++) {
-        frame_of_view f = { &p->views[i], i % 2 == 0 ? LEFT : 545, VIEW_TOP + 24 + (double)(i / 2) * VIEW_STEP, 435, scale_of(&p->views[i]) };
+        frame_of_view f = { &p->views[i], i % 2 == 0 ? LEFT : 545, VIEW_TOP + 24 + (double)(i / 2) * VIEW_STEP, 435,
+            scale_of(&p->views[i]) };
         view_drawn(&o, &f);
     }
     draw(&o, "</svg>\n");

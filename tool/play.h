@@ -65,7 +65,8 @@ typedef struct {
 player player_of(engine *e, song s, const job *j);
 /* The speed of a note where another key has the recorded pitch. */
 float speed_of(int note, int pitch);
-/* Plays the next frames, at most so many, into a run, each channel's entries beside the other's: how many. 0 at the end. */
+/* Plays the next frames, at most so many, into a run, each channel's entries beside the other's: how many. 0 at the
+ * end. */
 size_t player_run(player *p, float *run, size_t most);
 void player_told(const player *p);
 

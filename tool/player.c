@@ -1,10 +1,13 @@
-/* A song on an engine. Each run of frames is cut at the next call, so that no key is late; with --block N on purpose only at multiples of N. */
+/* A song on an engine. Each run of frames is cut at the next call, so that no key is late; with --block N on purpose
+ * only at multiples of N. */
 #include <math.h>
 #include <string.h>
 #include "play.h"
 
 /* The frame before which a call is made. */
-static uint64_t call_at(const player *p, size_t entry) { return (p->song.list[2 * entry] + p->block - 1) / p->block * p->block; }
+static uint64_t call_at(const player *p, size_t entry) {
+    return (p->song.list[2 * entry] + p->block - 1) / p->block * p->block;
+}
 
 /* To the last start or stop, and for a decay after it. */
 static uint64_t frames_of(const player *p) {

@@ -20,5 +20,6 @@ void progress_told(progress *g, uint64_t frame) {
     int is_terminal = isatty(STDERR_FILENO), is_end = frame == g->frames;
     if (is_end ? g->told == g->began : now - g->told < (is_terminal ? 0.5 : 5)) return;
     g->told = now;
-    fprintf(stderr, "play: %.0f of %.0f s of the song%s", (double)frame / g->rate, (double)g->frames / g->rate, is_terminal && !is_end ? " \r" : "\n");
+    fprintf(stderr, "play: %.0f of %.0f s of the song%s", (double)frame / g->rate, (double)g->frames / g->rate,
+        is_terminal && !is_end ? " \r" : "\n");
 }

@@ -9,7 +9,8 @@ void song_refused(bytes file, uint32_t rate, int number, int show) {
     fault f = song_fault(file, rate);
     if (show) printf("R %d\n", number);
     if (number == 22 || f.number != number) refuse("the song", number, "%s%s", words_of(number), advice_of(number));
-    if (kind_of(file) == WAVE) refuse("the song", number, "byte %zu: %s; this is a WAVE file: --take plays a song on it", f.at, f.words);
+    if (kind_of(file) == WAVE)
+        refuse("the song", number, "byte %zu: %s; this is a WAVE file: --take plays a song on it", f.at, f.words);
     refuse("the song", number, "byte %zu: %s%s", f.at, f.words, advice_of(number));
 }
 
@@ -24,8 +25,10 @@ static int is_floats(form f) { return f.tag == 3 && f.bits == 32 && f.size == 18
 
 /* What another form is. */
 static void other_form(form f, const char *what) {
-    if (f.real_tag == 1) refuse(what, 17, "a WAVE file of %u-bit whole numbers, where 32-bit floats are read%s", f.bits, TURN);
-    if (f.real_tag == 3 && f.bits != 32) refuse(what, 17, "a WAVE file of %u-bit floats, where 32-bit floats are read%s", f.bits, TURN);
+    if (f.real_tag == 1)
+        refuse(what, 17, "a WAVE file of %u-bit whole numbers, where 32-bit floats are read%s", f.bits, TURN);
+    if (f.real_tag == 3 && f.bits != 32)
+        refuse(what, 17, "a WAVE file of %u-bit floats, where 32-bit floats are read%s", f.bits, TURN);
     if (f.real_tag == 3) refuse(what, 17, "a WAVE file whose `fmt ` has %u bytes, where 18 are read%s", f.size, TURN);
     refuse(what, 17, "a WAVE file with the tag %u, where 3 (floats) is read%s", f.real_tag, TURN);
 }
@@ -38,7 +41,8 @@ void wave_judged(bytes file, const char *what) {
 
 void wave_refused(bytes file, const char *what, int number) {
     form f = form_of(file);
-    if (number == 16 && f.tag != 0) refuse(what, number, "it has %u channels, where 1 or 2 are played, the same in every phrase", f.channels);
+    if (number == 16 && f.tag != 0)
+        refuse(what, number, "it has %u channels, where 1 or 2 are played, the same in every phrase", f.channels);
     if (number == 17 && f.tag == 0) refuse(what, number, "a WAVE file without a whole `fmt `");
     if (number == 17 && !is_floats(f)) other_form(f, what);
     if (number == 17) refuse(what, number, "a WAVE file that is cut short, or whose sizes disagree");

@@ -8,7 +8,8 @@ song song_of(const char *path, uint32_t rate, int show) {
     size_t words = 2 * (file.length / 3 + 1);
     s.list = room(words, sizeof *s.list);
     int number = vusatica_read_song(file.at, file.length, rate, s.list, words, &s.count);
-    if (number == 13 && song_turned(&file)) number = vusatica_read_song(file.at, file.length, rate, s.list, words, &s.count);
+    if (number == 13 && song_turned(&file))
+        number = vusatica_read_song(file.at, file.length, rate, s.list, words, &s.count);
     if (number != 0) song_refused(file, rate, number, show);
     return s;
 }

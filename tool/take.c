@@ -13,7 +13,8 @@ static uint32_t phrase_read(engine *e, size_t phrase, bytes file, const char *wh
     uint32_t rate = 0;
     int number = vusatica_choose(&e->sampler, phrase);
     if (number == 0) number = vusatica_read_wave(&e->sampler, file.at, file.length, e->memory, e->samples, &rate);
-    if (number == 17 && wave_turned(&file)) number = vusatica_read_wave(&e->sampler, file.at, file.length, e->memory, e->samples, &rate);
+    if (number == 17 && wave_turned(&file))
+        number = vusatica_read_wave(&e->sampler, file.at, file.length, e->memory, e->samples, &rate);
     if (number != 0) wave_refused(file, what, number);
     e->chosen = phrase;
     return rate;
@@ -44,7 +45,8 @@ static uint32_t phrases_loaded(engine *e, const job *j) {
         sprintf(what, "phrase %zu", i);
         uint32_t rate = phrase_read(e, i, files[i], what);
         if (i == 0) first = rate;
-        if (rate != first) say("phrase %zu has the rate %u, where phrase 0 has %u: it is played at that", i, rate, first);
+        if (rate != first)
+            say("phrase %zu has the rate %u, where phrase 0 has %u: it is played at that", i, rate, first);
     }
     return first;
 }
@@ -89,7 +91,9 @@ uint32_t take_loaded(engine *e, const job *j) {
     uint32_t own = 0;
     int is_listing = is_listing_loaded(e, j, &own);
     uint32_t rate = j->rate != NULL ? rate_of(j->rate) : is_listing ? 44100 : own;
-    if (!is_listing && rate != own && rate > 0) say("the take is of %u samples a second, and is played at %u: at %g times its pitch", own, rate, (double)rate / own);
+    if (!is_listing && rate != own && rate > 0)
+        say("the take is of %u samples a second, and is played at %u: at %g times its pitch", own, rate,
+            (double)rate / own);
     vusatica_settings s = settings_of(e, j, is_listing, rate);
     int number = engine_set(e, &s);
     if (number != 0) refuse("the take's setting", number, "%s", words_of(number));

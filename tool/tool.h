@@ -1,5 +1,6 @@
-/* tool.h: what the files of the tool have of one another. The tool is a host in C on libvusatica: it plays songs on takes, and shows them. `play` launches it.
- * Each function that can fail ends the program with a sentence and a status, and leaves no file half written. */
+/* tool.h: what the files of the tool have of one another. The tool is a host in C on libvusatica: it plays songs on
+ * takes, and shows them. `play` launches it. Each function that can fail ends the program with a sentence and a status,
+ * and leaves no file half written. */
 #ifndef TOOL_H
 #define TOOL_H
 

@@ -1,4 +1,5 @@
-/* A WAVE file of 32-bit floats as request 10/12 has it: RIFF, `fmt ` of 18 bytes with tag 3, `fact`, `data`: 58 bytes before the first sample. */
+/* A WAVE file of 32-bit floats as request 10/12 has it: RIFF, `fmt ` of 18 bytes with tag 3, `fact`, `data`: 58
+ * bytes before the first sample. */
 #include <string.h>
 #include "play.h"
 
@@ -17,7 +18,8 @@ static uint8_t *put_name(uint8_t *b, const char *name) {
 void wav_head(out *o, uint32_t rate, size_t channels, uint64_t frames) {
     uint8_t head[58], *b = head;
     uint32_t wide = (uint32_t)(4 * channels);
-    if (frames > (UINT32_MAX - 50) / wide) fail(REFUSED, "the song has %llu frames: a WAVE file has no room for them", (unsigned long long)frames);
+    if (frames > (UINT32_MAX - 50) / wide)
+        fail(REFUSED, "the song has %llu frames: a WAVE file has no room for them", (unsigned long long)frames);
     uint32_t size = (uint32_t)frames * wide;
     b = put4(put_name(b, "RIFF"), size + 50);
     b = put4(put_name(put_name(b, "WAVE"), "fmt "), 18);

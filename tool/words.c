@@ -15,7 +15,8 @@ static int is_whole(const char *word) {
 
 static size_t whole(const char *option, const char *word, size_t least, size_t most) {
     size_t n = is_whole(word) ? strtoul(word, NULL, 10) : most + 1;
-    if (n < least || n > most) fail(WRONG, "%s asks for a whole number from %zu to %zu, not '%s'", option, least, most, word);
+    if (n < least || n > most)
+        fail(WRONG, "%s asks for a whole number from %zu to %zu, not '%s'", option, least, most, word);
     return n;
 }
 
@@ -42,7 +43,8 @@ static span span_of(const char *option, const char *word) {
     if (strcmp(rest, "ms") == 0) s.value /= 1000;
     if (strcmp(rest, "ms") == 0 || strcmp(rest, "s") == 0) s.seconds = 1;
     else if (*rest != '\0') s.value = -1;
-    if (!(s.value >= 0 && s.value < 1e15)) fail(WRONG, "%s asks for samples (100) or seconds (0.5, 2s, 20ms), not '%s'", option, word);
+    if (!(s.value >= 0 && s.value < 1e15))
+        fail(WRONG, "%s asks for samples (100) or seconds (0.5, 2s, 20ms), not '%s'", option, word);
     return s;
 }
 
@@ -80,7 +82,8 @@ static void valued(job *j, const char *option, char *word) {
     else if (strcmp(option, "--volume") == 0) j->volume_given = 1, j->volume = volume_of(word);
     else if (strcmp(option, "--pitch") == 0) j->pitch = (int)whole(option, word, 0, 127);
     else if (strcmp(option, "--block") == 0) j->block = whole(option, word, 1, 1000000);
-    else if (strcmp(option, "--waveform") == 0) j->task = WAVEFORM, j->columns = is_whole(word) ? strtoul(word, NULL, 10) : SIZE_MAX;
+    else if (strcmp(option, "--waveform") == 0)
+        j->task = WAVEFORM, j->columns = is_whole(word) ? strtoul(word, NULL, 10) : SIZE_MAX;
     else fail(WRONG, "there is no option %s", option);
 }
 
@@ -106,7 +109,8 @@ job job_of(int count, char **words) {
     }
     /* what ./play sees to before */
     if (j.song == NULL) fail(WRONG, "no file is named: --song FILE; ./play --help says what to ask for");
-    if ((j.task == PLAY || j.task == BENCH) && j.take == NULL && j.phrase_count == 0) fail(WRONG, "no take is named: --take TAKE");
+    if ((j.task == PLAY || j.task == BENCH) && j.take == NULL && j.phrase_count == 0)
+        fail(WRONG, "no take is named: --take TAKE");
     return j;
 }
 
