@@ -1,0 +1,21 @@
+/* The starts and stops of a song. */
+#include "play.h"
+
+song song_of(const char *path, uint32_t rate, int show) {
+    bytes file = bytes_of(path, "the song");
+    song s;
+    /* A start or a stop takes at least three bytes of the file, and two words of the list. */
+    size_t words = 2 * (file.length / 3 + 1);
+    s.list = room(words, sizeof *s.list);
+    int number = vusatica_read_song(file.at, file.length, rate, s.list, words, &s.count);
+    if (number == 13 && song_turned(&file))
+        number = vusatica_read_song(file.at, file.length, rate, s.list, words, &s.count);
+    if (number != 0) song_refused(file, rate, number, show);
+    return s;
+}
+
+cue cue_at(const song *s, size_t entry) {
+    uint64_t word = s->list[2 * entry + 1];
+    cue c = { s->list[2 * entry], (uint8_t)(word / 256), (uint8_t)word, (uint8_t)(word / 65536) };
+    return c;
+}
