@@ -55,7 +55,7 @@ fn rounded(n: u64, drop: u32) -> f32
 }
 
 // n / unit as the nearest whole number, a tie to the even one.
-fn nearest(n: u64, unit: u64) -> u64
+pub fn nearest(n: u64, unit: u64) -> u64
     requires { ⌜ (1 < unit) × (unit ≤ 2 ^ 63) ⌝ }
     ensures { λ r. ⌜ r ≡ closest n unit ⌝ }
 {

@@ -1,9 +1,9 @@
 // Recordings as RIFF WAVE files of 32-bit floats, on bytes alone: a file is judged, its words are copied to a memory,
 // and a memory's are written to a file. It takes every list of bytes, and each public function equals a definition in
 // specs/, for every value of its arguments.
-mod chunks;
-mod fields;
-mod headers;
+pub mod chunks;
+pub mod fields;
+pub mod headers;
 mod ids;
 mod words;
 
@@ -61,7 +61,7 @@ impl Judged {
     }
 }
 
-fn good_riff(file: &[u8]) -> bool
+pub fn good_riff(file: &[u8]) -> bool
     ensures { λ r. ⌜ r ≡ goodRiff (now (file .entry)) ⌝ }
 {
     let all = file.len();
