@@ -1,11 +1,18 @@
 // A number of a file as a float of 32 bits, rounded once: its word. All go through `narrowed`, by whole numbers alone.
 ghost use mathlib.Core.Path.{_≡_};
 ghost use mathlib.Core.Bool.{true, false};
-ghost use Prim.Native.Nat.{_*_, _/_, _^_, _≤_, _<_};
+ghost use Prim.Native.Nat.{_-_, _*_, _/_, _^_, _≤_, _<_};
 ghost use lib.Ieee.{binary32, binary64, round, ofBits, toBits, ofFields};
 ghost use lib.Ieee.Nearest.{closest};
 ghost use Rattle.wave_forms.specs.Values.{wholeOf, narrowOf, wordOf};
 ghost use Rattle.wave_forms.specs.Reader.{known};
+
+// a - b, or 0 where b is more.
+fn less(a: u32, b: u32) -> u32
+    ensures { λ r. ⌜ r ≡ a - b ⌝ }
+{
+    if a < b { 0 } else { a - b }
+}
 
 // n / 2^drop as the nearest whole number, a tie to the even one.
 fn kept(n: u64, drop: u32) -> u64
@@ -32,8 +39,9 @@ fn narrowed(m: u64, x: u32) -> u32
     }
     let zeros = u64::leading_zeros(m);
     let end = x + 64 - zeros;
-    let exponent = if end < 949 { 0 } else { end - 949 };
-    let pattern = (exponent as u64) * 0x80_0000 + kept(m << (zeros - 1), 988 + exponent - end);
+    let exponent = less(end, 949);
+    let digits = kept(m << (zeros - 1), 988 + exponent - end);
+    let pattern = exponent as u64 * 0x80_0000 + digits;
     if pattern < 0x7f80_0000 {
         pattern as u32
     } else {

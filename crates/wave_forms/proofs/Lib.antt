@@ -1,0 +1,4 @@
+pub mod Narrowing
+pub mod Doubles
+pub mod Widths
+pub mod Copies

@@ -1,0 +1,83 @@
+-- `values::narrowed` meets its contract: `Narrowing`, of the numbers that the code works with. Assumes nothing.
+use mathlib.Core.Path.{_≡_, sym, ap, _∙_}
+use mathlib.Core.Bool.{false}
+use Prim.Native.Nat.{ℕ, _*_, _^_, _<_}
+use native.Mathlib.Nat.{mod-eq-of-lt, le-of-eq, lt-of-le-of-lt}
+use native.Mathlib.Omega.{arith}
+use lib.Ieee.{binary32, round, toBits}
+use borrow.Author.Needs.{needs}
+use Rattle.wave_forms.proofs.Narrowing.{zero-bits, zeros-of, moved-below, digits-few, narrowed-below, narrowed-over}
+use Rattle.wave_forms.proofs.values.narrowed.Statement.{statement}
+use Rattle.wave_forms.proofs.values.narrowed.Tie as tie
+
+zero-is : (m x : ℕ) → m ≡ 0 → 0 ≡ toBits binary32 (round binary32 false (m * 2 ^ x) (2 ^ 1074))
+zero-is m x e = zero-bits x ∙ ap (λ (n : ℕ). toBits binary32 (round binary32 false (n * 2 ^ x) (2 ^ 1074))) (sym e)
+
+returns : tie.Need-returns
+returns c = (zero-is _ _ (c .if1 .taken), omega arith)
+
+add-end : tie.Need-add-end
+add-end c = search needs
+
+sub-end : tie.Need-sub-end
+sub-end c = let z = zeros-of (c .before .args .m) (omega arith) (c .before .pre .0) in omega arith
+
+less-requires : tie.Need-less-requires
+less-requires c κs = search needs
+
+sub-kept : tie.Need-sub-kept
+sub-kept c = zeros-of (c .before .before .args .m) (omega arith) (c .before .before .pre .0) .above
+
+cast-kept : tie.Need-cast-kept
+cast-kept c = let z = zeros-of (c .before .before .args .m) (omega arith) (c .before .before .pre .0) in omega arith
+
+shl-kept : tie.Need-shl-kept
+shl-kept c = let z = zeros-of (c .before .before .args .m) (omega arith) (c .before .before .pre .0) in omega arith
+
+add-kept : tie.Need-add-kept
+add-kept c = search needs
+
+sub-kept-2 : tie.Need-sub-kept-2
+sub-kept-2 c = search needs
+
+kept-requires : tie.Need-kept-requires
+kept-requires c κs = (moved-below (c .before .before .args .m) (omega arith) (c .before .before .pre .0), omega arith)
+
+cast-pattern : tie.Need-cast-pattern
+cast-pattern c = search needs
+
+mul-pattern : tie.Need-mul-pattern
+mul-pattern c = search needs
+
+add-pattern : tie.Need-add-pattern
+add-pattern c = let few = digits-few _ _ _ _ (c .before .before .if1 .left) (c .before .before .before .pre .0) (c .before .less .ensures) (c .kept .ensures) in omega arith
+
+cast-result : tie.Need-cast-result
+cast-result c = search needs
+
+returns-2 : tie.Need-returns-2
+returns-2 c = (narrowed-below _ _ _ _ (c .before .before .before .if1 .left) (c .before .before .before .before .pre .0) (c .before .before .less .ensures) (c .before .kept .ensures) (c .if2 .taken), omega arith)
+
+returns-3 : tie.Need-returns-3
+returns-3 c = (narrowed-over _ _ _ _ (c .before .before .before .if1 .left) (c .before .before .before .before .pre .0) (c .before .before .less .ensures) (c .before .kept .ensures) (c .if2 .left), omega arith)
+
+pub narrowed-spec : {M : Type 1} → statement M
+narrowed-spec =
+    tie.close
+    (tie.spec
+    returns
+    add-end
+    sub-end
+    less-requires
+    sub-kept
+    cast-kept
+    shl-kept
+    add-kept
+    sub-kept-2
+    kept-requires
+    cast-pattern
+    mul-pattern
+    add-pattern
+    cast-result
+    returns-2
+    returns-3)
