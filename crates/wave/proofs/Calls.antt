@@ -1,11 +1,11 @@
 -- What `write` and `load` answer and leave, case by case. Assumes nothing.
-use mathlib.Core.Path.{_≡_, refl, ap, _∙_}
+use mathlib.Core.Path.{_≡_, refl, _∙_}
 use mathlib.Core.Bool.{true, false}
-use mathlib.Core.List.{List}
-use Prim.Native.Nat.{ℕ, _+_, _*_}
+use mathlib.Core.List.{List, _++_}
+use Prim.Native.Nat.{ℕ, _+_, _*_, _≤_}
 use native.Mathlib.Nat.{zero-add}
 use native.Mathlib.Omega.{arith}
-use lib.ListN.{length, length-append}
+use lib.ListN.{length, drop, length-append}
 use lib.Seq.{sets}
 use Rattle.walks.proofs.Lists.Runs.{run-front}
 use Rattle.wave.specs.Fields.{wordBytes}
@@ -31,6 +31,14 @@ length-frames l m = length-listed _ 0 (l .channels * l .samples)
 pub length-file : (rate channels samples : ℕ) (words : List ℕ) → length (fileOf rate channels samples words) ≡ 58 + 4 * length words
 length-file rate channels samples words = length-append (headerOf rate channels samples) (wordBytes words) ∙ rw (length-header rate channels samples, length-words words)
 
+-- a header, and words behind it
+pub file-put : (rate channels samples : ℕ) (words out : List ℕ) {x y : List ℕ} → 58 + 4 * length words ≤ length out → x ≡ sets out 0 (headerOf rate channels samples)
+    → y ≡ sets x 58 (wordBytes words) → y ≡ fileOf rate channels samples words ++ drop (58 + 4 * length words) out
+file-put rate channels samples words out room h k =
+    let long = length-file rate channels samples words in
+    let stored = after out 0 58 (headerOf rate channels samples) (wordBytes words) (zero-add _ ∙ length-header rate channels samples) h k in
+    rw (← long) (stored ∙ run-front out (fileOf rate channels samples words) (omega arith))
+
 module _ (rate : ℕ) (l : Layout) (m out : List ℕ) where
   pub write-unfit : fitsMemory l (length m) ≡ false → (0 ≡ writtenOf l (length m) (length out)) × (out ≡ outputOf rate l m out)
   unfolding writtenOf outputOf writes
@@ -44,11 +52,9 @@ module _ (rate : ℕ) (l : Layout) (m out : List ℕ) where
       → y ≡ sets x 58 (wordBytes (framesOf l m)) → (bytesOf l ≡ writtenOf l (length m) (length out)) × (y ≡ outputOf rate l m out)
   unfolding writtenOf outputOf writes
   write-done e g h k =
-      let whole = fileOf rate (l .channels) (l .samples) (framesOf l m) in
-      let long : length whole ≡ bytesOf l = length-file rate (l .channels) (l .samples) (framesOf l m) ∙ ap (λ (n : ℕ). 58 + 4 * n) (length-frames l m) in
+      let long = length-frames l m in
       let room = file-true l (length out) g .room-fits in
-      let stored = after out 0 58 (headerOf rate (l .channels) (l .samples)) (wordBytes (framesOf l m)) (zero-add _ ∙ length-header rate (l .channels) (l .samples)) h k in
-      (rw (e, g), rw (e, g, ← long) (stored ∙ run-front out whole (omega arith)))
+      (rw (e, g), rw (e, g, ← long) (file-put rate (l .channels) (l .samples) (framesOf l m) out (omega arith) h k))
 
 -- ---- reading
 module _ (f : List ℕ) (starts : Starts) (m : List ℕ) where

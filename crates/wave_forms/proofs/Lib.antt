@@ -2,3 +2,5 @@ pub mod Narrowing
 pub mod Doubles
 pub mod Widths
 pub mod Copies
+pub mod Judgements
+pub mod Sources

@@ -1,6 +1,6 @@
 -- The kinds of numbers: what the reader's test says of them, and how wide they are. Assumes nothing.
 use mathlib.Core.Path.{_≡_, refl, sym, _∙_}
-use mathlib.Core.Bool.{Bool, true, false, cond, _&&_, _||_}
+use mathlib.Core.Bool.{Bool, true, false, _&&_, _||_}
 use Prim.Native.Nat.{ℕ, _/_, _^_, _≤_, _<_}
 use native.Mathlib.Omega.{arith}
 use lib.Dec.{eqb}
@@ -25,18 +25,16 @@ either P false b e f g = g e
 
 pub kind-of : (tag bits : ℕ) → known tag bits ≡ true → Kind tag bits
 unfolding known
-kind-of tag bits = go (eqb tag 1) refl
+kind-of tag bits e =
+    either (Kind tag bits) (eqb tag 1 && (eqb bits 16 || eqb bits 24 || eqb bits 32)) _ e
+    (λ h. let a = and-both (eqb tag 1) _ h in
+    either (Kind tag bits) (eqb bits 16 || eqb bits 24) (eqb bits 32) (a .1)
+    (λ g. either (Kind tag bits) (eqb bits 16) (eqb bits 24) g (λ k. kind (a .0) k whole16) (λ k. kind (a .0) k whole24)) (λ k. kind (a .0) k whole32))
+    (λ h. let a = and-both (eqb tag 3) _ h in
+    either (Kind tag bits) (eqb bits 32) (eqb bits 64) (a .1) (λ k. kind (a .0) k float32) (λ k. kind (a .0) k float64))
   where
     kind : {t b : ℕ} → eqb tag t ≡ true → eqb bits b ≡ true → Kind t b → Kind tag bits
     kind {t} {b} h k x = rw (eqb-true tag t h, eqb-true bits b k) x
-
-    go : (s : Bool) → eqb tag 1 ≡ s → cond s (eqb bits 16 || eqb bits 24 || eqb bits 32) (eqb tag 3 && (eqb bits 32 || eqb bits 64)) ≡ true → Kind tag bits
-    go true h e =
-        either (Kind tag bits) (eqb bits 16 || eqb bits 24) (eqb bits 32) e
-        (λ g. either (Kind tag bits) (eqb bits 16) (eqb bits 24) g (λ k. kind h k whole16) (λ k. kind h k whole24)) (λ k. kind h k whole32)
-    go false h e =
-        let a = and-both (eqb tag 3) _ e in
-        either (Kind tag bits) (eqb bits 32) (eqb bits 64) (a .1) (λ k. kind (a .0) k float32) (λ k. kind (a .0) k float64)
 
 -- ---- widths
 pub bytes-few : {tag bits : ℕ} → Kind tag bits → (2 ≤ bits / 8) × (bits / 8 ≤ 8)

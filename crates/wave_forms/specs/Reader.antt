@@ -25,15 +25,15 @@ plainAt f at = eqb (fourAt f (at + 4)) 16 || (eqb (fourAt f (at + 4)) 18 && eqb 
 -- the 14 bytes of a sub-format behind its tag
 unfoldable pub subFormatAt : List ℕ → ℕ → Bool
 subFormatAt f at =
-    eqb (fourAt f (at + 34)) 0 && (eqb (fourAt f (at + 38)) 0x00800010
-    && (eqb (fourAt f (at + 42)) 0x3800aa00 && eqb (twoAt f (at + 46)) 0x719b))
+    eqb (fourAt f (at + 34)) 0 && eqb (fourAt f (at + 38)) 0x00800010 && eqb (fourAt f (at + 42)) 0x3800aa00
+    && eqb (twoAt f (at + 46)) 0x719b
 
 -- 40 bytes, 22 of which follow: no more valid bits than there are, any speakers, and a sub-format. Fewer valid bits are the
 -- upper ones, so that the value is the same
 unfoldable pub extensibleAt : List ℕ → ℕ → Bool
 extensibleAt f at =
-    eqb (fourAt f (at + 4)) 40 && (eqb (twoAt f (at + 8)) 0xfffe && (eqb (twoAt f (at + 24)) 22
-    && (leb (twoAt f (at + 26)) (twoAt f (at + 22)) && subFormatAt f at)))
+    eqb (fourAt f (at + 4)) 40 && eqb (twoAt f (at + 8)) 0xfffe && eqb (twoAt f (at + 24)) 22
+    && leb (twoAt f (at + 26)) (twoAt f (at + 22)) && subFormatAt f at
 
 -- 0 where it is neither
 unfoldable pub tagAt : List ℕ → ℕ → ℕ
@@ -51,13 +51,13 @@ formAt f at = record {
 -- whole numbers of 16, 24 or 32 bits, floats of 32 or 64
 unfoldable pub known : ℕ → ℕ → Bool
 known tag bits =
-    cond (eqb tag 1) (eqb bits 16 || eqb bits 24 || eqb bits 32) (eqb tag 3 && (eqb bits 32 || eqb bits 64))
+    (eqb tag 1 && (eqb bits 16 || eqb bits 24 || eqb bits 32)) || (eqb tag 3 && (eqb bits 32 || eqb bits 64))
 
 -- at least a channel, and no more than a block of 10/12's form has room for; blocks of whole numbers, unwrapped
 unfoldable pub goodForm : Form → Bool
 goodForm o =
-    leb 1 (o .channels) && (leb (o .channels) 0x3fff
-    && (known (o .tag) (o .bits) && eqb (o .block) (o .channels * (o .bits / 8))))
+    leb 1 (o .channels) && leb (o .channels) 0x3fff && known (o .tag) (o .bits)
+    && eqb (o .block) (o .channels * (o .bits / 8))
 
 -- ---- so many bytes of data from a place on: whole frames, and no more than 10/12's form has room for
 unfoldable pub countedOf : Form → ℕ → ℕ → Judged

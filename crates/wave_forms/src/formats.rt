@@ -20,13 +20,7 @@ fn plain_at(file: &[u8], at: usize) -> bool
     ensures { λ r. ⌜ r ≡ plainAt (now (file .entry)) at ⌝ }
 {
     let size = four_at(file, at + 4);
-    if size == 16 {
-        return true;
-    }
-    if size != 18 {
-        return false;
-    }
-    two_at(file, at + 24) == 0
+    (size == 16) | ((size == 18) & (two_at(file, at + 24) == 0))
 }
 
 // The 14 bytes of a sub-format behind its tag.
@@ -34,35 +28,21 @@ fn sub_format_at(file: &[u8], at: usize) -> bool
     requires { ⌜ at < 2 ^ 63 ⌝ }
     ensures { λ r. ⌜ r ≡ subFormatAt (now (file .entry)) at ⌝ }
 {
-    if four_at(file, at + 34) != 0 {
-        return false;
-    }
-    if four_at(file, at + 38) != 0x0080_0010 {
-        return false;
-    }
-    if four_at(file, at + 42) != 0x3800_aa00 {
-        return false;
-    }
-    two_at(file, at + 46) == 0x719b
+    (four_at(file, at + 34) == 0)
+        & (four_at(file, at + 38) == 0x0080_0010)
+        & (four_at(file, at + 42) == 0x3800_aa00)
+        & (two_at(file, at + 46) == 0x719b)
 }
 
 fn extensible_at(file: &[u8], at: usize) -> bool
     requires { ⌜ at < 2 ^ 63 ⌝ }
     ensures { λ r. ⌜ r ≡ extensibleAt (now (file .entry)) at ⌝ }
 {
-    if four_at(file, at + 4) != 40 {
-        return false;
-    }
-    if two_at(file, at + 8) != 0xfffe {
-        return false;
-    }
-    if two_at(file, at + 24) != 22 {
-        return false;
-    }
-    if two_at(file, at + 22) < two_at(file, at + 26) {
-        return false;
-    }
-    sub_format_at(file, at)
+    (four_at(file, at + 4) == 40)
+        & (two_at(file, at + 8) == 0xfffe)
+        & (two_at(file, at + 24) == 22)
+        & (two_at(file, at + 26) <= two_at(file, at + 22))
+        & sub_format_at(file, at)
 }
 
 fn tag_at(file: &[u8], at: usize) -> u32
@@ -94,28 +74,16 @@ pub fn form_at(file: &[u8], at: usize) -> Form
 fn known(tag: u32, bits: u32) -> bool
     ensures { λ r. ⌜ r ≡ known tag bits ⌝ }
 {
-    if tag == 1 {
-        return (bits == 16) | (bits == 24) | (bits == 32);
-    }
-    if tag == 3 {
-        return (bits == 32) | (bits == 64);
-    }
-    false
+    ((tag == 1) & ((bits == 16) | (bits == 24) | (bits == 32)))
+        | ((tag == 3) & ((bits == 32) | (bits == 64)))
 }
 
 // The file that is written has room for four bytes of each channel in a block of less than 2^16.
 pub fn good_form(o: Form) -> bool
     ensures { λ r. ⌜ r ≡ goodForm o ⌝ }
 {
-    if o.channels < 1 {
-        return false;
-    }
-    if 0x3fff < o.channels {
-        return false;
-    }
-    if known(o.tag, o.bits) {
-        o.block == o.channels * (o.bits / 8)
-    } else {
-        false
-    }
+    (1 <= o.channels)
+        & (o.channels <= 0x3fff)
+        & known(o.tag, o.bits)
+        & (o.block as u64 == o.channels as u64 * (o.bits / 8) as u64)
 }

@@ -1,48 +1,47 @@
+-- `judged_at` meets its contract: a good form has blocks of some bytes. Assumes nothing.
+use mathlib.Core.Path.{_≡_, sym, ap, _∙_}
+use mathlib.Core.Bool.{Bool}
+use Prim.Native.Nat.{ℕ}
+use Rattle.wave_forms.specs.Reader.{goodForm, countedOf}
+use Rattle.wave_forms.specs.declared.formats.Form.{Form}
+use Rattle.wave_forms.proofs.Judgements.{form-true, block-some, judged-none, judged-other, judged-is}
 use borrow.Author.Needs.{needs}
 use Rattle.wave_forms.proofs.judged_at.Statement.{statement}
 use Rattle.wave_forms.proofs.judged_at.Tie as tie
-use Rattle.wave_forms.proofs.judged_at.Reads as reads
-use Rattle.wave_forms.proofs.judged_at.Lts as lts
-use Rattle.wave.proofs.fields.four_at.Reads as four-at-reads
-use Rattle.wave_forms.proofs.counted.Reads as counted-reads
-use Rattle.wave_forms.proofs.formats.form_at.Reads as form-at-reads
-use Rattle.wave_forms.proofs.formats.good_form.Reads as good-form-reads
 
--- src/lib.rt:66:9
+-- by what was read
+counted-of : (first : ℕ) {o p : Form} {size n : ℕ} → o ≡ p → size ≡ n → countedOf o first size ≡ countedOf p first n
+counted-of first e h = cc
+
 returns : tie.Need-returns
-returns c = ?
+returns c = sym (judged-none _ _ (c .if1 .taken))
 
--- src/lib.rt:68:9
 form-at-requires : tie.Need-form-at-requires
 form-at-requires c κs = search needs
 
--- src/lib.rt:69:8
 good-form-requires : tie.Need-good-form-requires
 good-form-requires c κs = search needs
 
--- src/lib.rt:70:20
 add-counted : tie.Need-add-counted
 add-counted c = search needs
 
--- src/lib.rt:70:47
 add-four-at : tie.Need-add-four-at
 add-four-at c = search needs
 
--- src/lib.rt:70:33
 four-at-requires : tie.Need-four-at-requires
 four-at-requires c κs = search needs
 
--- src/lib.rt:70:9
 counted-requires : tie.Need-counted-requires
-counted-requires c κs = ?
+counted-requires c κs = block-some _ (form-true _ (sym (c .before .before .before .before .good-form .ensures) ∙ c .before .before .before .if2 .taken))
 
--- src/lib.rt:61:1
 returns-2 : tie.Need-returns-2
-returns-2 c = ?
+returns-2 c =
+    let o = c .before .before .before .before .before .before .form-at .ensures in
+    c .counted .ensures ∙ counted-of _ o (c .before .four-at .ensures)
+    ∙ sym (judged-is _ _ (c .before .before .before .before .before .before .before .if1 .left) (ap goodForm (sym o) ∙ sym (c .before .before .before .before .before .good-form .ensures) ∙ c .before .before .before .before .if2 .taken))
 
--- src/lib.rt:61:1
 returns-3 : tie.Need-returns-3
-returns-3 c = ?
+returns-3 c = sym (judged-other _ _ (c .before .before .before .if1 .left) (ap goodForm (sym (c .before .before .form-at .ensures)) ∙ sym (c .before .good-form .ensures) ∙ c .if2 .left))
 
 pub judged-at-spec : {M : Type 1} → statement M
 judged-at-spec =
