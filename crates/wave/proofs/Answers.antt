@@ -95,7 +95,7 @@ judged-inside f w e =
     (⊎-elim (λ z. absurd (r .some z)) (λ ends. omega arith) (places-within f p (r .met) .1))
 
 -- ---- fields one behind the other
-seven : (a b c d e g h rest : List ℕ) {x y z u v w t : List ℕ} → x ≡ a ++ y → y ≡ b ++ z → z ≡ c ++ u → u ≡ d ++ v → v ≡ e ++ w → w ≡ g ++ t → t ≡ h ++ rest
+pub seven : (a b c d e g h rest : List ℕ) {x y z u v w t : List ℕ} → x ≡ a ++ y → y ≡ b ++ z → z ≡ c ++ u → u ≡ d ++ v → v ≡ e ++ w → w ≡ g ++ t → t ≡ h ++ rest
     → x ≡ a ++ b ++ c ++ d ++ e ++ g ++ h ++ rest
 seven a b c d e g h rest p q r s t u v = simp append-assoc (cc)
 

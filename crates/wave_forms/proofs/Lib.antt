@@ -4,3 +4,5 @@ pub mod Widths
 pub mod Copies
 pub mod Judgements
 pub mod Sources
+pub mod Bodies
+pub mod Answers

@@ -44,6 +44,20 @@ bytes-few whole32 = (omega arith, omega arith)
 bytes-few float32 = (omega arith, omega arith)
 bytes-few float64 = (omega arith, omega arith)
 
+pub kind-small : {tag bits : ℕ} → Kind tag bits → (tag < 2 ^ 16) × (bits < 2 ^ 16)
+kind-small whole16 = (omega arith, omega arith)
+kind-small whole24 = (omega arith, omega arith)
+kind-small whole32 = (omega arith, omega arith)
+kind-small float32 = (omega arith, omega arith)
+kind-small float64 = (omega arith, omega arith)
+
+pub kind-some : {tag bits : ℕ} → Kind tag bits → tag ≡ 0 → ⊥
+kind-some whole16 e = omega arith
+kind-some whole24 e = omega arith
+kind-some whole32 e = omega arith
+kind-some float32 e = omega arith
+kind-some float64 e = omega arith
+
 pub whole-fits : {tag bits : ℕ} → Kind tag bits → tag ≡ 1 → (n : ℕ) → n < 256 ^ (bits / 8) → (0 < bits) × (bits ≤ 32) × (n < 2 ^ bits)
 whole-fits whole16 e n h = (omega arith, omega arith, h)
 whole-fits whole24 e n h = (omega arith, omega arith, h)

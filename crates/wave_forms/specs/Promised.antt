@@ -62,4 +62,4 @@ pub record Promised : Type 0 where
   -- a file holds one recording
   pub one-form : (f : List ℕ) (rate channels tag bits rate₁ channels₁ tag₁ bits₁ : ℕ) (numbers numbers₁ : List ℕ)
       → IsForm f rate channels tag bits numbers → IsForm f rate₁ channels₁ tag₁ bits₁ numbers₁
-      → (rate ≡ rate₁) × (channels ≡ channels₁) × (wordsOf tag bits numbers ≡ wordsOf tag₁ bits₁ numbers₁)
+      → (rate ≡ rate₁) × (channels ≡ channels₁) × (tag ≡ tag₁) × (bits ≡ bits₁) × (numbers ≡ numbers₁)
