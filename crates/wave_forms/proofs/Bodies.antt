@@ -186,10 +186,15 @@ module _ (f : List ℕ) (at : ℕ) where
       let e1 = two-from f tag (at + 32) (at + 34) _ (omega arith) e0 in
       let e2 = four-from f 0 (at + 34) (at + 38) _ (omega arith) e1 in
       let e3 = four-from f 0x00800010 (at + 38) (at + 42) _ (omega arith) e2 in
-      let e4 = four-from f 0x3800aa00 (at + 42) (at + 46) _ (omega arith) e3 in
-      (two-stands tag f (at + 32) _ small e0,
-      simp (four-stands 0 f (at + 34) _ (omega arith) e1, four-stands 0x00800010 f (at + 38) _ (omega arith) e2, four-stands 0x3800aa00 f (at + 42) _ (omega arith) e3,
-      two-stands 0x719b f (at + 46) _ (omega arith) e4))
+      let e4 = four-from f 0x3800aa00 (at + 42) (at + 46) _ (omega arith) e3 in (
+        two-stands tag f (at + 32) _ small e0,
+        simp (
+          four-stands 0 f (at + 34) _ (omega arith) e1,
+          four-stands 0x00800010 f (at + 38) _ (omega arith) e2,
+          four-stands 0x3800aa00 f (at + 42) _ (omega arith) e3,
+          two-stands 0x719b f (at + 46) _ (omega arith) e4,
+        ),
+      )
 
   pub tail-tag : {tag bits field : ℕ} {tail : List ℕ} (rest : List ℕ) → Tail tag bits field tail → tag < 2 ^ 16 → bits < 2 ^ 16 → twoAt f (at + 8) ≡ field → twoAt f (at + 22) ≡ bits
       → fourAt f (at + 4) ≡ 16 + length tail → drop (at + 24) f ≡ tail ++ rest → tagAt f at ≡ tag

@@ -6,3 +6,5 @@ pub mod Judgements
 pub mod Sources
 pub mod Bodies
 pub mod Answers
+pub mod Promised
+pub mod Examples

@@ -5,13 +5,15 @@ use mathlib.Core.List.{List, _++_}
 use mathlib.Core.Logic.{_⊎_}
 use Prim.Native.Nat.{ℕ, _+_, _-_, _*_, _^_, _≤_, _<_}
 use lib.ListN.{length, drop, getD}
+use lib.Dec.{T}
+use lib.Ieee.{Float, binary32, fits}
 use lib.Ieee.Exact.{HasValue}
 use Rattle.octets.specs.Octets.{Bytes}
 use Rattle.wave.specs.Files.{fileOf}
 use Rattle.wave.specs.Reader.{readOf}
 use Rattle.wave.specs.Reader.Reading.{is}
 use Rattle.wave.specs.Grammar.{IsWave}
-use Rattle.wave_forms.specs.Values.{negative, sizeOf, wholeOf, wordOf}
+use Rattle.wave_forms.specs.Values.{negative, sizeOf, wholeOf, narrowOf, wordOf}
 use Rattle.wave_forms.specs.Grammar.{IsForm, wordsOf}
 use Rattle.wave_forms.specs.Turns.{turnedOf, outputOf}
 
@@ -56,6 +58,8 @@ pub record Promised : Type 0 where
   -- 16 and 24 bits lose nothing: the value is exactly the number over 2 ^ (bits - 1)
   pub exact : (bits n : ℕ) → 1 ≤ bits → bits ≤ 24 → n < 2 ^ bits
       → HasValue (wholeOf bits n) (negative bits n) (sizeOf bits n) (2 ^ (bits - 1))
+  -- and a float of 64 bits that 32 hold is kept
+  pub kept : (x : Float) → T (fits binary32 x) → narrowOf x ≡ x
   -- a file of 10/12's form is of a known one, and its words are kept
   pub own-form : (f : List ℕ) (rate channels : ℕ) (words : List ℕ) → IsWave f rate channels words
       → 50 + 4 * length words < 2 ^ 32 → IsForm f rate channels 3 32 words × (wordsOf 3 32 words ≡ words)
