@@ -153,7 +153,7 @@ def made(rng):
     if wrong == 3:
         valid = bits + 1
     head = fmt(shape, tag, channels, rate, block % 65536, bits, valid, rng.getrandbits(32))
-    data = chunk(b"data", numbers(rng, *KINDS[KINDS.index((tag, bits))], channels * samples) if (tag, bits) in KINDS else os.urandom(0) + bytes(block * samples))
+    data = chunk(b"data", numbers(rng, tag, bits, channels * samples) if (tag, bits) in KINDS else bytes(block * samples))
     parts = [head, data]
     if rng.randrange(3) == 0:
         parts.insert(rng.randrange(3), chunk(b"fact", rng.choice([struct.pack("<I", samples), struct.pack("<I", channels * samples), b""])))
@@ -224,6 +224,12 @@ def edges():
     yield words(3, 64, [struct.unpack("<Q", struct.pack("<d", x))[0] for x in (1.0, 0.1, -0.0, 1e-40, 1 + 2**-24, 1 + 3 * 2**-24, 1e300, math.nan, -math.inf, 2**-149, 2**-150, 2**-150 * 1.5)])
 
 
+def decoded(path):
+    """The words that ffmpeg makes of a file."""
+    words = ["ffmpeg", "-v", "error", "-i", path, "-f", "f32le", "-c:a", "pcm_f32le", "-"]
+    return subprocess.run(words, stdout=subprocess.PIPE, check=True).stdout
+
+
 def tools(port):
     rng = random.Random(1)
     here = tempfile.mkdtemp()
@@ -233,29 +239,30 @@ def tools(port):
         w.writeframes(numbers(rng, 1, 32, 2 * 500))
     commands = []
     for bits, kind in ((16, "signed-integer"), (24, "signed-integer"), (32, "signed-integer"), (32, "floating-point"), (64, "floating-point")):
-        commands.append(("sox", ["sox", "-D", plain, "-b", str(bits), "-e", kind]))
-        commands.append(("sox", ["sox", "-D", plain, "-t", "wavpcm" if kind == "signed-integer" else "wav", "-b", str(bits), "-e", kind]))
+        commands.append(["sox", "-D", plain, "-b", str(bits), "-e", kind])
+        if kind == "signed-integer":
+            commands.append(["sox", "-D", plain, "-t", "wavpcm", "-b", str(bits), "-e", kind])
     for codec in ("pcm_s16le", "pcm_s24le", "pcm_s32le", "pcm_f32le", "pcm_f64le"):
-        commands.append(("ffmpeg", ["ffmpeg", "-v", "error", "-y", "-i", plain, "-c:a", codec]))
-    for name in ("pcm16", "pcm24", "pcm32", "float32", "double64"):
-        commands.append(("sndfile-convert", ["sndfile-convert", "-" + name, plain]))
+        commands.append(["ffmpeg", "-v", "error", "-y", "-i", plain, "-c:a", codec])
+    for name in ("pcm16", "pcm24", "pcm32", "float32"):
+        commands.append(["sndfile-convert", "-" + name, plain])
     done, left = 0, set()
-    for i, (tool, words) in enumerate(commands):
-        if not shutil.which(tool):
-            left.add(tool)
+    for i, words in enumerate(commands):
+        if not shutil.which(words[0]):
+            left.add(words[0])
             continue
         to = os.path.join(here, f"{i}.wav")
-        if subprocess.run(words + [to], stdout=subprocess.DEVNULL, stderr=subprocess.DEVNULL).returncode:
-            print(f"forms: {' '.join(words)}: not done")
-            continue
+        subprocess.run(words + [to], stdout=subprocess.DEVNULL, stderr=subprocess.DEVNULL, check=True)
         f = open(to, "rb").read()
-        number = ask(port, [(f, 65536)])[0][0]
         compare(port, [(f, 65536)])
-        size = struct.unpack("<I", f[16:20])[0]
-        print(f"forms: {' '.join(words[:1] + words[-3:])}: fmt of {size} bytes, answered {number}")
+        number, length, out = ask(port, [(f, 65536)])[0]
+        if number != 0:
+            sys.exit(f"forms: {' '.join(words)}: answered {number}")
+        if shutil.which("ffmpeg") and out[58:length] != decoded(to):
+            sys.exit(f"forms: {' '.join(words)}: ffmpeg reads other words")
         done += 1
     shutil.rmtree(here)
-    print(f"forms: {done} files of tools" + (f"; not installed: {', '.join(sorted(left))}" if left else ""))
+    print(f"forms: {done} files of tools turned" + (f"; not installed: {', '.join(sorted(left))}" if left else ""))
 
 
 def main():
