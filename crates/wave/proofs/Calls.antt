@@ -1,15 +1,19 @@
 -- What `write` and `load` answer and leave, case by case. Assumes nothing.
 use mathlib.Core.Path.{_≡_, refl, _∙_}
-use mathlib.Core.Bool.{true, false}
+use mathlib.Core.Bool.{true, false, _&&_}
 use mathlib.Core.List.{List, _++_}
-use Prim.Native.Nat.{ℕ, _+_, _*_, _≤_}
+use Prim.Native.Nat.{ℕ, _+_, _*_, _^_, _≤_, _<_}
 use native.Mathlib.Nat.{zero-add}
 use native.Mathlib.Omega.{arith}
+use lib.Dec.{ltb, leb}
 use lib.ListN.{length, drop, length-append}
 use lib.Seq.{sets}
+use borrow.Author.Tests.{ltb-true, leb-true, lt-ltb, le-leb, lt-leb}
+use Rattle.walks.proofs.Lists.Every.{both as and-both}
 use Rattle.walks.proofs.Lists.Runs.{run-front}
+use Rattle.octets.specs.Octets.{littleBytes}
 use Rattle.wave.specs.Fields.{wordBytes}
-use Rattle.wave.specs.Files.{headerOf, fileOf}
+use Rattle.wave.specs.Files.{headerOf, fileOf, headFits, headPut, wordPut}
 use Rattle.wave.specs.Reader.{wordsIn, judgedOf}
 use Rattle.wave.specs.Memory.{fitsMemory, framesOf, storedOf, bytesOf, fitsFile, writes, writtenOf, outputOf, layoutOf, loads, loadedIn, loadedOf}
 use Rattle.wave.specs.declared.Starts.{Starts}
@@ -55,6 +59,53 @@ module _ (rate : ℕ) (l : Layout) (m out : List ℕ) where
       let long = length-frames l m in
       let room = file-true l (length out) g .room-fits in
       (rw (e, g), rw (e, g, ← long) (file-put rate (l .channels) (l .samples) (framesOf l m) out (omega arith) h k))
+
+-- ---- a file's parts, stored where they have room
+module _ (out : List ℕ) (rate channels samples : ℕ) where
+  pub head-done : headFits channels samples (length out) ≡ true → sets out 0 (headerOf rate channels samples) ≡ headPut out rate channels samples
+  unfolding headPut
+  head-done e = rw e
+
+  pub head-left : headFits channels samples (length out) ≡ false → out ≡ headPut out rate channels samples
+  unfolding headPut
+  head-left e = rw e
+
+pub record HeadFits (channels samples room : ℕ) : Type 0 where
+  pub block-fits : 4 * channels < 2 ^ 16
+  pub size-fits : 50 + 4 * (channels * samples) < 2 ^ 32
+  pub room-fits : 58 ≤ room
+
+module _ (channels samples room : ℕ) where
+  pub head-true : headFits channels samples room ≡ true → HeadFits channels samples room
+  unfolding headFits
+  head-true e =
+      let a = and-both (leb channels 0x3fff) _ e in
+      let b = and-both (ltb (50 + 4 * (channels * samples)) (2 ^ 32)) _ (a .1) in
+      let few : channels ≤ 0x3fff = leb-true _ _ (a .0) in
+      record { block-fits = omega arith; size-fits = ltb-true _ _ (b .0); room-fits = leb-true _ _ (b .1) }
+
+  pub head-made : HeadFits channels samples room → headFits channels samples room ≡ true
+  unfolding headFits
+  head-made h =
+      let few : channels ≤ 0x3fff = omega (arith, h .block-fits) in
+      simp (le-leb _ _ few, lt-ltb _ _ (h .size-fits), le-leb _ _ (h .room-fits))
+
+  pub head-many : 0x3fff < channels → false ≡ headFits channels samples room
+  unfolding headFits
+  head-many h = simp (lt-leb _ _ h)
+
+  pub head-few : channels ≤ 0x3fff → (ltb (50 + 4 * (channels * samples)) (2 ^ 32) && leb 58 room) ≡ headFits channels samples room
+  unfolding headFits
+  head-few h = simp (le-leb _ _ h)
+
+module _ (out : List ℕ) (at word : ℕ) where
+  pub word-done : at + 4 ≤ length out → sets out at (littleBytes 4 word) ≡ wordPut out at word
+  unfolding wordPut
+  word-done h = rw (le-leb _ _ h)
+
+  pub word-left : leb (at + 4) (length out) ≡ false → out ≡ wordPut out at word
+  unfolding wordPut
+  word-left e = rw e
 
 -- ---- reading
 module _ (f : List ℕ) (starts : Starts) (m : List ℕ) where
