@@ -8,7 +8,9 @@ use lib.ListN.{length}
 use lib.Seq.{sets, length-sets}
 use Rattle.octets.specs.Octets.{byteAt, bytesAt, littleOf, littleBytes}
 use Rattle.wave.specs.Fields.{wordBytes, listed}
+use Rattle.wave.specs.Files.{wordPut}
 use Rattle.wave.proofs.Copies.{words-next}
+use Rattle.wave.proofs.Calls.{word-done}
 use Rattle.wave_forms.specs.Reader.{numberAt}
 
 -- ---- from the last byte to the first: n is what those from the place i on make
@@ -64,10 +66,11 @@ pub written-none : (out : List ℕ) (g : ℕ → ℕ) → out ≡ written out g 
 unfolding wordBytes listed
 written-none out g = refl
 
-pub written-next : (out now : List ℕ) (g : ℕ → ℕ) (k word : ℕ) → now ≡ written out g k → word ≡ g k → sets now (58 + 4 * k) (littleBytes 4 word) ≡ written out g (k + 1)
+pub written-next : (out now : List ℕ) (g : ℕ → ℕ) (k word : ℕ) → now ≡ written out g k → word ≡ g k → 58 + 4 * k + 4 ≤ length now
+    → wordPut now (58 + 4 * k) word ≡ written out g (k + 1)
 unfolding wordBytes listed
-written-next out now g k word e h =
-    ap (sets now (58 + 4 * k)) (ap (littleBytes 4) h ∙ sym (append-nil (littleBytes 4 (g k)))) ∙ words-next out now g k 1 e
+written-next out now g k word e h room =
+    sym (word-done now (58 + 4 * k) word room) ∙ ap (sets now (58 + 4 * k)) (ap (littleBytes 4) h ∙ sym (append-nil (littleBytes 4 (g k)))) ∙ words-next out now g k 1 e
 
 pub length-written : (out now : List ℕ) (g : ℕ → ℕ) (k : ℕ) → now ≡ written out g k → length now ≡ length out
 length-written out now g k e = ap length e ∙ length-sets out 58 (wordBytes (listed g 0 k))

@@ -3,7 +3,7 @@ use mathlib.Core.Path.{_≡_, refl, sym, ap, _∙_, subst}
 use mathlib.Core.Bool.{Bool, true, false, not, true≢false}
 use mathlib.Core.Logic.{inl, inr}
 use Prim.Native.Nat.{ℕ, _+_, _-_, _*_, _/_, _%_, _^_, _≤_, _<_, compare}
-use native.Mathlib.Nat.{le-trans, le-of-eq, le-refl, lt-of-lt-of-le, lt-of-le-of-lt, lt-of-not-le, not-le-of-lt, eq-or-lt-of-le, le-antisymm, mul-assoc, mul-comm, mul-pos, mul-le-mul-right, le-div-iff-mul-le, div-lt-iff-lt-mul, div-eq-of-lt, mod-eq-of-lt}
+use native.Mathlib.Nat.{le-trans, le-of-eq, le-refl, lt-of-lt-of-le, lt-of-le-of-lt, lt-of-not-le, not-le-of-lt, eq-or-lt-of-le, le-antisymm, mul-assoc, mul-comm, mul-pos, mul-le-mul-right, le-div-iff-mul-le, div-lt-iff-lt-mul, mod-eq-of-lt}
 use native.Mathlib.Omega.{arith}
 use lib.Dec.{T, ltb}
 use lib.Arith.{le→nltb}
@@ -16,27 +16,19 @@ use lib.Ieee.Fits.{round-is}
 use lib.Ieee.Exact.{units-val}
 use lib.Ieee.Nearest.{closest, closest-same, nearest-ge}
 use Rattle.binary32.specs.Leaves.{signOf}
-use Rattle.binary32.proofs.Tops.{closest-below, top-le, below-top, from-top, zeros-few}
+use Rattle.binary32.proofs.Tops.{top-le, below-top, from-top, zeros-few}
 use Rattle.binary32.proofs.Rounding.{round-sign, round-not-nan, round-neg, round-zero}
 use Rattle.binary32.proofs.Patterns.{units-bits}
 
--- ---- what is kept of a number below 2 ^ 63 with more than 63 digits dropped
-pub none-kept : (n d : ℕ) → n < 2 ^ 63 → 64 ≤ d → 0 ≡ closest n (2 ^ d)
-none-kept n d h k =
-    let far : 2 ^ 64 ≤ 2 ^ d = pow-mono k in
-    let few : n < 2 ^ d = lt-of-lt-of-le h (le-trans (omega arith) far) in
-    let rest : n % 2 ^ d ≡ n = mod-eq-of-lt few in
-    sym (div-eq-of-lt few) ∙ closest-below n (2 ^ d) (omega (arith, rest, far))
-
--- ---- moved up by all the zeros above its top digit but one, a number has 63 digits
-moved-up : (m z : ℕ) → 0 < z → z < 64 → m < 2 ^ (64 - z) → m * 2 ^ (z - 1) < 2 ^ 63
-moved-up m z above below hi =
-    let same : 64 - z + (z - 1) ≡ 63 = omega arith in
-    lt-of-lt-of-le (shl-lt (64 - z) (z - 1) hi) (le-of-eq (ap (λ (y : ℕ). 2 ^ y) same))
+-- ---- moved up by the zeros above its top digit, a number has 64 digits
+moved-up : (m z : ℕ) → z < 64 → m < 2 ^ (64 - z) → m * 2 ^ z < 2 ^ 64
+moved-up m z below hi =
+    let same : 64 - z + z ≡ 64 = omega arith in
+    lt-of-lt-of-le (shl-lt (64 - z) z hi) (le-of-eq (ap (λ (y : ℕ). 2 ^ y) same))
 
 -- ---- the digits of a number with its top one at 63 - z, times 2 ^ x, over 2 ^ 1074
-module _ (m x z d k : ℕ) (above : 0 < z) (below : z < 64) (lo : 2 ^ (63 - z) ≤ m) (hi : m < 2 ^ (64 - z))
-    (K : k ≡ x + 64 - z - 949) (D : d + (x + 64 - z) ≡ 988 + k) where
+module _ (m x z d k : ℕ) (below : z < 64) (lo : 2 ^ (63 - z) ≤ m) (hi : m < 2 ^ (64 - z))
+    (K : k ≡ x + 64 - z - 949) (D : d + (x + 64 - z) ≡ 989 + k) where
   abbrev whole : ℕ
   whole = m * 2 ^ x * 2 ^ 149 / 2 ^ 1074
 
@@ -66,14 +58,14 @@ module _ (m x z d k : ℕ) (above : 0 < z) (below : z < 64) (lo : 2 ^ (63 - z) �
   dropped = omega (arith, most, least)
 
   abbrev pub keeps : ℕ
-  keeps = closest (m * 2 ^ (z - 1)) (2 ^ d)
+  keeps = closest (m * 2 ^ z) (2 ^ d)
 
   kept-same : closest (m * 2 ^ x * 2 ^ 149) (2 ^ 1074 * 2 ^ k) ≡ keeps
   kept-same =
-      let same : x + 149 + d ≡ z - 1 + (1074 + k) = omega arith in
-      closest-same (m * 2 ^ x * 2 ^ 149) (2 ^ 1074 * 2 ^ k) (m * 2 ^ (z - 1)) (2 ^ d) (mul-pos (pow-pos 1074) (pow-pos k)) (pow-pos d)
+      let same : x + 149 + d ≡ z + (1074 + k) = omega arith in
+      closest-same (m * 2 ^ x * 2 ^ 149) (2 ^ 1074 * 2 ^ k) (m * 2 ^ z) (2 ^ d) (mul-pos (pow-pos 1074) (pow-pos k)) (pow-pos d)
       (ap (λ (y : ℕ). y * 2 ^ d) scaled ∙ mul-assoc m (2 ^ (x + 149)) (2 ^ d) ∙ ap (λ (y : ℕ). m * y) (sym (pow-add 2 (x + 149) d) ∙ ap (λ (y : ℕ). 2 ^ y) same
-      ∙ pow-add 2 (z - 1) (1074 + k) ∙ ap (λ (y : ℕ). 2 ^ (z - 1) * y) (pow-add 2 1074 k)) ∙ sym (mul-assoc m (2 ^ (z - 1)) (2 ^ 1074 * 2 ^ k)))
+      ∙ pow-add 2 z (1074 + k) ∙ ap (λ (y : ℕ). 2 ^ z * y) (pow-add 2 1074 k)) ∙ sym (mul-assoc m (2 ^ z) (2 ^ 1074 * 2 ^ k)))
 
   rounds : round binary32 false (m * 2 ^ x) (2 ^ 1074) ≡ units binary32 false keeps k
   rounds =
@@ -83,14 +75,14 @@ module _ (m x z d k : ℕ) (above : 0 < z) (below : z < 64) (lo : 2 ^ (63 - z) �
 
   pub few : keeps ≤ 2 ^ 24
   few =
-      let far : 63 ≤ 24 + d = omega arith in
-      top-le 24 (m * 2 ^ (z - 1)) d (lt-of-lt-of-le (moved-up m z above below hi) (pow-mono far))
+      let far : 64 ≤ 24 + d = omega arith in
+      top-le 24 (m * 2 ^ z) d (lt-of-lt-of-le (moved-up m z below hi) (pow-mono far))
 
   full : 0 < k → 2 ^ 23 ≤ keeps
   full h =
-      let same : 23 + d ≡ 63 - z + (z - 1) = omega arith in
-      le-trans (le-div-iff-mul-le (pow-pos d) .1 (le-trans (le-of-eq (sym (pow-add 2 23 d) ∙ ap (λ (y : ℕ). 2 ^ y) same ∙ pow-add 2 (63 - z) (z - 1)))
-      (mul-le-mul-right (2 ^ (z - 1)) lo))) (nearest-ge (m * 2 ^ (z - 1) / 2 ^ d) (compare (m * 2 ^ (z - 1) % 2 ^ d * 2) (2 ^ d)))
+      let same : 23 + d ≡ 63 - z + z = omega arith in
+      le-trans (le-div-iff-mul-le (pow-pos d) .1 (le-trans (le-of-eq (sym (pow-add 2 23 d) ∙ ap (λ (y : ℕ). 2 ^ y) same ∙ pow-add 2 (63 - z) z))
+      (mul-le-mul-right (2 ^ z) lo))) (nearest-ge (m * 2 ^ z / 2 ^ d) (compare (m * 2 ^ z % 2 ^ d * 2) (2 ^ d)))
 
   -- the pattern, where it is a float's, and where it is too large for any
   pub pattern-below : k * 0x80_0000 + keeps < 0x7f80_0000 → k * 0x80_0000 + keeps ≡ toBits binary32 (round binary32 false (m * 2 ^ x) (2 ^ 1074))
@@ -133,48 +125,36 @@ signed-bits a c = ap (toBits binary32) (round-neg binary32 false a c) ∙ neg-bi
 
 -- ---- by the zeros above a number's top digit, as the machine counts them
 pub record Zeros (m : ℕ) : Type 0 where
-  pub above : 0 < leadingZeros 64 m
   pub below : leadingZeros 64 m < 64
   pub lo : 2 ^ (63 - leadingZeros 64 m) ≤ m
   pub hi : m < 2 ^ (64 - leadingZeros 64 m)
 
-pub zeros-of : (m : ℕ) → 0 < m → m < 2 ^ 63 → Zeros m
+pub zeros-of : (m : ℕ) → 0 < m → m < 2 ^ 64 → Zeros m
 zeros-of m some fit =
-    let fit64 : m < 2 ^ 64 = omega arith in
-    let below : leadingZeros 64 m + 0 < 64 = zeros-few 64 m some fit64 0 some in
+    let below : leadingZeros 64 m + 0 < 64 = zeros-few 64 m some fit 0 some in
     record {
-      above = lt-of-not-le (λ (g : leadingZeros 64 m ≤ 0). not-le-of-lt fit (from-top 64 m some fit64 63 (omega arith)));
       below = omega arith;
-      lo = from-top 64 m some fit64 (63 - leadingZeros 64 m) (omega arith);
-      hi = below-top 64 m some fit64 (64 - leadingZeros 64 m) (omega arith);
+      lo = from-top 64 m some fit (63 - leadingZeros 64 m) (omega arith);
+      hi = below-top 64 m some fit (64 - leadingZeros 64 m) (omega arith);
     }
 
-moved : (m : ℕ) → 0 < m → m < 2 ^ 63 → m * 2 ^ (leadingZeros 64 m - 1) < 2 ^ 63
-moved m some fit = let z = zeros-of m some fit in moved-up m (leadingZeros 64 m) (z .above) (z .below) (z .hi)
-
-moved-exact : (m : ℕ) → 0 < m → m < 2 ^ 63 → m * 2 ^ (leadingZeros 64 m - 1) % 2 ^ 64 ≡ m * 2 ^ (leadingZeros 64 m - 1)
-moved-exact m some fit = let few = moved m some fit in mod-eq-of-lt (omega arith)
-
-pub moved-below : (m : ℕ) → 0 < m → m < 2 ^ 63 → m * 2 ^ (leadingZeros 64 m - 1) % 2 ^ 64 < 2 ^ 63
-moved-below m some fit = lt-of-le-of-lt (le-of-eq (moved-exact m some fit)) (moved m some fit)
-
 -- what the code works with: k and `digits` are what it is answered
-module _ (m x k digits : ℕ) (some : m ≡ 0 → ⊥) (fit : m < 2 ^ 63) (K : k ≡ x + 64 - leadingZeros 64 m - 949)
-    (is : digits ≡ closest (m * 2 ^ (leadingZeros 64 m - 1) % 2 ^ 64) (2 ^ (988 + k - (x + 64 - leadingZeros 64 m)))) where
+module _ (m x k digits : ℕ) (some : m ≡ 0 → ⊥) (fit : m < 2 ^ 64) (K : k ≡ x + 64 - leadingZeros 64 m - 949)
+    (is : digits ≡ closest (m * 2 ^ leadingZeros 64 m % 2 ^ 64) (2 ^ (989 + k - (x + 64 - leadingZeros 64 m)))) where
   z : Zeros m
   z = zeros-of m (omega arith) fit
 
-  ends : 988 + k - (x + 64 - leadingZeros 64 m) + (x + 64 - leadingZeros 64 m) ≡ 988 + k
+  ends : 989 + k - (x + 64 - leadingZeros 64 m) + (x + 64 - leadingZeros 64 m) ≡ 989 + k
   ends = omega arith
 
-  are : digits ≡ closest (m * 2 ^ (leadingZeros 64 m - 1)) (2 ^ (988 + k - (x + 64 - leadingZeros 64 m)))
-  are = is ∙ ap (λ (n : ℕ). closest n (2 ^ (988 + k - (x + 64 - leadingZeros 64 m)))) (moved-exact m (omega arith) fit)
+  are : digits ≡ closest (m * 2 ^ leadingZeros 64 m) (2 ^ (989 + k - (x + 64 - leadingZeros 64 m)))
+  are = is ∙ ap (λ (n : ℕ). closest n (2 ^ (989 + k - (x + 64 - leadingZeros 64 m)))) (mod-eq-of-lt (moved-up m (leadingZeros 64 m) (z .below) (z .hi)))
 
   pub digits-few : digits ≤ 2 ^ 24
-  digits-few = le-trans (le-of-eq are) (few m x _ _ k (z .above) (z .below) (z .lo) (z .hi) K ends)
+  digits-few = le-trans (le-of-eq are) (few m x _ _ k (z .below) (z .lo) (z .hi) K ends)
 
   pub narrowed-below : k * 0x80_0000 + digits < 0x7f80_0000 → k * 0x80_0000 + digits ≡ toBits binary32 (round binary32 false (m * 2 ^ x) (2 ^ 1074))
-  narrowed-below h = ap (λ (n : ℕ). k * 0x80_0000 + n) are ∙ pattern-below m x _ _ k (z .above) (z .below) (z .lo) (z .hi) K ends (omega (arith, are))
+  narrowed-below h = ap (λ (n : ℕ). k * 0x80_0000 + n) are ∙ pattern-below m x _ _ k (z .below) (z .lo) (z .hi) K ends (omega (arith, are))
 
   pub narrowed-over : 0x7f80_0000 ≤ k * 0x80_0000 + digits → 0x7f80_0000 ≡ toBits binary32 (round binary32 false (m * 2 ^ x) (2 ^ 1074))
-  narrowed-over h = pattern-over m x _ _ k (z .above) (z .below) (z .lo) (z .hi) K ends (omega (arith, are))
+  narrowed-over h = pattern-over m x _ _ k (z .below) (z .lo) (z .hi) K ends (omega (arith, are))

@@ -11,14 +11,14 @@ use lib.ListN.{length}
 use lib.Seq.{sets}
 use borrow.Author.Tests.{eqb-true, eqb-false, ltb-true, lt-ltb, le-ltb}
 use Rattle.wave.specs.Fields.{fourAt, wordBytes}
-use Rattle.wave.specs.Files.{headerOf}
+use Rattle.wave.specs.Files.{headFits, headPut}
 use Rattle.wave.specs.Reader.{missing, walkOf, goodRiff}
 use Rattle.wave.specs.declared.chunks.Places.{Places}
 use Rattle.wave.specs.declared.chunks.Met.{Met}
 use Rattle.wave.specs.declared.chunks.Met.the-variants as met
 use Rattle.wave.proofs.Judgements.{both, places-below}
 use Rattle.wave.proofs.Standing.{length-listed}
-use Rattle.wave.proofs.Calls.{file-put}
+use Rattle.wave.proofs.Calls.{file-put, head-made, head-done}
 use Rattle.wave_forms.specs.Reader.{formAt, goodForm, countedOf, judgedAt, judgedIn, judgedOf, wordsIn}
 use Rattle.wave_forms.specs.Turns.{bytesOf, turnedOf, outputOf}
 use Rattle.wave_forms.specs.declared.formats.Form.{Form}
@@ -120,9 +120,13 @@ module _ (f out : List ℕ) where
     unfolding turnedOf outputOf
     turn-short h = (rw (e, lt-ltb _ _ h), rw (e, lt-ltb _ _ h))
 
-    pub turn-done : bytesOf s ≤ length out → {x y : List ℕ} → x ≡ sets out 0 (headerOf (s .form .rate) (s .form .channels) (s .samples))
+    pub turn-done : bytesOf s ≤ length out → {x y : List ℕ} → x ≡ headPut out (s .form .rate) (s .form .channels) (s .samples)
         → y ≡ sets x 58 (wordBytes (wordsIn f s)) → (record { length = bytesOf s; number = 0 } ≡ turnedOf f (length out)) × (y ≡ outputOf f out)
     unfolding turnedOf outputOf
     turn-done h p q =
         let long : length (wordsIn f s) ≡ s .count = length-listed _ 0 (s .count) in
-        (rw (e, le-ltb _ _ h), rw (e, le-ltb _ _ h) (rw long at (file-put (s .form .rate) (s .form .channels) (s .samples) (wordsIn f s) out (rw long h) p q)))
+        let i = sourced f s e in
+        let fits : headFits (s .form .channels) (s .samples) (length out) ≡ true =
+        head-made _ _ _ (record { block-fits = omega (arith, i .form .few); size-fits = omega (arith, i .count, i .room); room-fits = omega arith }) in
+        let head = p ∙ sym (head-done out (s .form .rate) (s .form .channels) (s .samples) fits) in
+        (rw (e, le-ltb _ _ h), rw (e, le-ltb _ _ h) (rw long at (file-put (s .form .rate) (s .form .channels) (s .samples) (wordsIn f s) out (rw long h) head q)))

@@ -17,7 +17,6 @@ use numbers::put_words;
 use wave::chunks::Met;
 use wave::chunks::Places;
 use wave::fields::four_at;
-use wave::headers::put_header;
 
 // A file of a known form: `count` numbers, `samples` for each channel, frame by frame, stand from `first` on.
 pub struct Source {
@@ -103,7 +102,7 @@ pub fn turn(file: &[u8], out: &mut [u8]) -> Turned
                 return Turned { length, number: 8 };
             }
             let o = s.form;
-            put_header(out, o.rate, o.channels, s.samples);
+            wave::put_head(out, o.rate, o.channels, s.samples);
             put_words(file, s, out);
             Turned { length, number: 0 }
         }

@@ -9,7 +9,6 @@ ghost use Rattle.wave_forms.specs.Reader.{numberAt, known, wordsIn};
 use crate::Source;
 use crate::values::word_of;
 use octets::byte_at;
-use wave::fields::put_four;
 
 // The number of so many bytes at a place, the least significant first.
 fn number_at(file: &[u8], at: usize, bytes: usize) -> u64
@@ -37,7 +36,7 @@ pub fn put_words(file: &[u8], s: Source, out: &mut [u8])
     let mut k: usize = 0;
     while k < s.count {
         let n = number_at(file, s.first + bytes * k, bytes);
-        put_four(out, 58 + 4 * k, word_of(o.tag, o.bits, n));
+        wave::put_word(out, 58 + 4 * k, word_of(o.tag, o.bits, n));
         k += 1;
     }
 }

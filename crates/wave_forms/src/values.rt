@@ -3,7 +3,6 @@ ghost use mathlib.Core.Path.{_≡_};
 ghost use mathlib.Core.Bool.{true, false};
 ghost use Prim.Native.Nat.{_-_, _*_, _/_, _^_, _≤_, _<_};
 ghost use lib.Ieee.{binary32, binary64, round, ofBits, toBits, ofFields};
-ghost use lib.Ieee.Nearest.{closest};
 ghost use Rattle.wave_forms.specs.Values.{wholeOf, narrowOf, wordOf};
 ghost use Rattle.wave_forms.specs.Reader.{known};
 
@@ -14,23 +13,11 @@ fn less(a: u32, b: u32) -> u32
     if a < b { 0 } else { a - b }
 }
 
-// n / 2^drop as the nearest whole number, a tie to the even one.
-fn kept(n: u64, drop: u32) -> u64
-    requires { ⌜ (n < 2 ^ 63) × (0 < drop) ⌝ }
-    ensures { λ r. ⌜ r ≡ closest n (2 ^ drop) ⌝ }
-{
-    if drop < 64 {
-        binary32::nearest(n, 1 << drop)
-    } else {
-        0
-    }
-}
-
 // The pattern of m * 2^x / 2^1074. In the smallest floats of 32 bits, 2^-149 each, m has its top digit at `end` - 925:
-// what is above 24 digits is dropped. m is moved up until it has 63 digits, so that what is kept of it is a division.
+// what is above 24 digits is dropped. m is moved up until it has 64 digits, so that what is kept of it is a shift.
 // A carry goes into the exponent, and what is too large for any float is an infinity.
 fn narrowed(m: u64, x: u32) -> u32
-    requires { ⌜ (m < 2 ^ 63) × (x < 2 ^ 11) ⌝ }
+    requires { ⌜ x < 2 ^ 11 ⌝ }
     ensures { λ r. ⌜ r ≡ toBits binary32 (round binary32 false (m * 2 ^ x) (2 ^ 1074)) ⌝ }
     ensures { λ r. ⌜ r < 2 ^ 31 ⌝ }
 {
@@ -40,7 +27,7 @@ fn narrowed(m: u64, x: u32) -> u32
     let zeros = u64::leading_zeros(m);
     let end = x + 64 - zeros;
     let exponent = less(end, 949);
-    let digits = kept(m << (zeros - 1), 988 + exponent - end);
+    let digits = binary32::shifted(m << zeros, 989 + exponent - end);
     let pattern = exponent as u64 * 0x80_0000 + digits;
     if pattern < 0x7f80_0000 {
         pattern as u32

@@ -26,11 +26,11 @@ add-length c = let s = sourced _ _ (sym (c .before .before .before .before .judg
 returns : tie.Need-returns
 returns c = turn-short _ _ _ (sym (c .before .before .before .before .before .judge .ensures) ∙ c .before .before .before .s .given .1) (c .if1 .taken)
 
-put-header-requires : tie.Need-put-header-requires
-put-header-requires c κs = let s = sourced _ _ (sym (c .before .before .before .before .before .before .before .judge .ensures) ∙ c .before .before .before .before .before .s .given .1) in (omega (arith, s .form .few), omega (arith, s .count, s .room), omega arith)
+put-head-requires : tie.Need-put-head-requires
+put-head-requires c κs = tt
 
 put-words-requires : tie.Need-put-words-requires
-put-words-requires c κs = let s = sourced _ _ (sym (c .before .before .before .before .before .before .before .before .before .before .before .judge .ensures) ∙ c .before .before .before .before .before .before .before .before .before .s .given .1) in (known-is (s .form .kind), (first-below _ _ (2 ^ 63) (sym (c .before .before .before .before .before .before .before .before .before .before .before .judge .ensures) ∙ c .before .before .before .before .before .before .before .before .before .s .given .1) (omega arith), omega arith, omega (arith, c .before .before .before .put-header .kept .0)))
+put-words-requires c κs = let s = sourced _ _ (sym (c .before .before .before .before .before .before .before .before .before .before .before .judge .ensures) ∙ c .before .before .before .before .before .before .before .before .before .s .given .1) in (known-is (s .form .kind), (first-below _ _ (2 ^ 63) (sym (c .before .before .before .before .before .before .before .before .before .before .before .judge .ensures) ∙ c .before .before .before .before .before .before .before .before .before .s .given .1) (omega arith), omega arith, omega (arith, c .before .before .before .put-head .kept .0)))
 
 returns-2 : tie.Need-returns-2
 returns-2 c = turn-refused _ _ (sym (c .before .before .judge .ensures) ∙ c .enum-told .given .1)
@@ -39,7 +39,7 @@ same-length : tie.Need-same-length
 same-length c = search needs
 
 returns-3 : tie.Need-returns-3
-returns-3 c = turn-done _ _ _ (sym (c .before .before .before .before .before .before .before .before .before .before .before .before .before .before .judge .ensures) ∙ c .before .before .before .before .before .before .before .before .before .before .before .before .s .given .1) (omega arith) (c .before .before .before .before .before .before .put-header .ensures) (c .before .before .put-words .ensures)
+returns-3 c = turn-done _ _ _ (sym (c .before .before .before .before .before .before .before .before .before .before .before .before .before .before .judge .ensures) ∙ c .before .before .before .before .before .before .before .before .before .before .before .before .s .given .1) (omega arith) (c .before .before .before .before .before .before .put-head .ensures) (c .before .before .put-words .ensures)
 
 pub turn-spec : {M : Type 1} → statement M
 turn-spec =
@@ -51,7 +51,7 @@ turn-spec =
     mul-length
     add-length
     returns
-    put-header-requires
+    put-head-requires
     put-words-requires
     returns-2
     same-length

@@ -49,17 +49,17 @@ number-at-requires c κs =
     let place = place-fits (b .args .s .form .bits / 8) (c .before .before .before .loop .k) (few .1) (omega arith) in
     (omega arith, few .1)
 
-mul-put-four : tie.Need-mul-put-four Inv-loop μ-loop
-mul-put-four c = omega arith
+mul-put-word : tie.Need-mul-put-word Inv-loop μ-loop
+mul-put-word c = omega arith
 
-add-put-four : tie.Need-add-put-four Inv-loop μ-loop
-add-put-four c = omega arith
+add-put-word : tie.Need-add-put-word Inv-loop μ-loop
+add-put-word c = omega arith
 
 word-of-requires : tie.Need-word-of-requires Inv-loop μ-loop
 word-of-requires c κs = (c .before .before .before .before .before .before .before .before .before .before .pre .0, c .before .number-at .ensures .1)
 
-put-four-requires : tie.Need-put-four-requires Inv-loop μ-loop
-put-four-requires c κs = let kept = length-written _ _ _ _ (c .before .before .before .before .before .before .loop .inv .1) in omega arith
+put-word-requires : tie.Need-put-word-requires Inv-loop μ-loop
+put-word-requires c κs = tt
 
 add-k : tie.Need-add-k Inv-loop μ-loop
 add-k c = omega arith
@@ -70,7 +70,9 @@ loop-less c = omega arith
 loop-again : tie.Need-loop-again Inv-loop μ-loop
 loop-again c =
     let word = c .before .before .before .word-of .ensures ∙ ap (wordOf _ _) (c .before .before .before .before .before .number-at .ensures .0) in
-    (omega arith, c .before .before .put-four .ensures ∙ written-next _ _ _ _ _ (c .before .before .before .before .before .before .before .before .before .loop .inv .1) word)
+    let now = c .before .before .before .before .before .before .before .before .before .loop .inv .1 in
+    let kept = length-written _ _ _ _ now in
+    (omega arith, c .before .before .put-word .ensures ∙ written-next _ _ _ _ _ now word (omega arith))
 
 same-length : tie.Need-same-length Inv-loop μ-loop
 same-length c = length-written _ _ _ _ (c .before .before .loop .inv .1)
@@ -92,10 +94,10 @@ put-words-spec =
     mul-number-at
     add-number-at
     number-at-requires
-    mul-put-four
-    add-put-four
+    mul-put-word
+    add-put-word
     word-of-requires
-    put-four-requires
+    put-word-requires
     add-k
     loop-less
     loop-again

@@ -1,12 +1,11 @@
 -- `values::narrowed` meets its contract: `Narrowing`, of the numbers that the code works with. Assumes nothing.
 use mathlib.Core.Path.{_≡_, sym, ap, _∙_}
 use mathlib.Core.Bool.{false}
-use Prim.Native.Nat.{ℕ, _*_, _^_, _<_}
-use native.Mathlib.Nat.{mod-eq-of-lt, le-of-eq, lt-of-le-of-lt}
+use Prim.Native.Nat.{ℕ, _*_, _^_}
 use native.Mathlib.Omega.{arith}
 use lib.Ieee.{binary32, round, toBits}
+use Rattle.wave_forms.proofs.Narrowing.{zero-bits, zeros-of, digits-few, narrowed-below, narrowed-over}
 use borrow.Author.Needs.{needs}
-use Rattle.wave_forms.proofs.Narrowing.{zero-bits, zeros-of, moved-below, digits-few, narrowed-below, narrowed-over}
 use Rattle.wave_forms.proofs.values.narrowed.Statement.{statement}
 use Rattle.wave_forms.proofs.values.narrowed.Tie as tie
 
@@ -20,28 +19,25 @@ add-end : tie.Need-add-end
 add-end c = search needs
 
 sub-end : tie.Need-sub-end
-sub-end c = let z = zeros-of (c .before .args .m) (omega arith) (c .before .pre .0) in omega arith
+sub-end c = let z = zeros-of (c .before .args .m) (omega arith) (search needs) in omega arith
 
 less-requires : tie.Need-less-requires
 less-requires c κs = search needs
 
-sub-kept : tie.Need-sub-kept
-sub-kept c = zeros-of (c .before .before .args .m) (omega arith) (c .before .before .pre .0) .above
+cast-shifted : tie.Need-cast-shifted
+cast-shifted c = let z = zeros-of (c .before .before .args .m) (omega arith) (search needs) in omega arith
 
-cast-kept : tie.Need-cast-kept
-cast-kept c = let z = zeros-of (c .before .before .args .m) (omega arith) (c .before .before .pre .0) in omega arith
+shl-shifted : tie.Need-shl-shifted
+shl-shifted c = let z = zeros-of (c .before .before .args .m) (omega arith) (search needs) in omega arith
 
-shl-kept : tie.Need-shl-kept
-shl-kept c = let z = zeros-of (c .before .before .args .m) (omega arith) (c .before .before .pre .0) in omega arith
+add-shifted : tie.Need-add-shifted
+add-shifted c = search needs
 
-add-kept : tie.Need-add-kept
-add-kept c = search needs
+sub-shifted : tie.Need-sub-shifted
+sub-shifted c = search needs
 
-sub-kept-2 : tie.Need-sub-kept-2
-sub-kept-2 c = search needs
-
-kept-requires : tie.Need-kept-requires
-kept-requires c κs = (moved-below (c .before .before .args .m) (omega arith) (c .before .before .pre .0), omega arith)
+shifted-requires : tie.Need-shifted-requires
+shifted-requires c κs = search needs
 
 cast-pattern : tie.Need-cast-pattern
 cast-pattern c = search needs
@@ -50,16 +46,16 @@ mul-pattern : tie.Need-mul-pattern
 mul-pattern c = search needs
 
 add-pattern : tie.Need-add-pattern
-add-pattern c = let few = digits-few _ _ _ _ (c .before .before .if1 .left) (c .before .before .before .pre .0) (c .before .less .ensures) (c .kept .ensures) in omega arith
+add-pattern c = let few = digits-few (c .before .before .before .args .m) (c .before .before .before .args .x) _ _ (c .before .before .if1 .left) (search needs) (c .before .less .ensures) (c .shifted .ensures) in omega arith
 
 cast-result : tie.Need-cast-result
 cast-result c = search needs
 
 returns-2 : tie.Need-returns-2
-returns-2 c = (narrowed-below _ _ _ _ (c .before .before .before .if1 .left) (c .before .before .before .before .pre .0) (c .before .before .less .ensures) (c .before .kept .ensures) (c .if2 .taken), omega arith)
+returns-2 c = (narrowed-below (c .before .before .before .before .args .m) (c .before .before .before .before .args .x) _ _ (c .before .before .before .if1 .left) (search needs) (c .before .before .less .ensures) (c .before .shifted .ensures) (c .if2 .taken), omega arith)
 
 returns-3 : tie.Need-returns-3
-returns-3 c = (narrowed-over _ _ _ _ (c .before .before .before .if1 .left) (c .before .before .before .before .pre .0) (c .before .before .less .ensures) (c .before .kept .ensures) (c .if2 .left), omega arith)
+returns-3 c = (narrowed-over (c .before .before .before .before .args .m) (c .before .before .before .before .args .x) _ _ (c .before .before .before .if1 .left) (search needs) (c .before .before .less .ensures) (c .before .shifted .ensures) (c .if2 .left), omega arith)
 
 pub narrowed-spec : {M : Type 1} → statement M
 narrowed-spec =
@@ -69,12 +65,11 @@ narrowed-spec =
     add-end
     sub-end
     less-requires
-    sub-kept
-    cast-kept
-    shl-kept
-    add-kept
-    sub-kept-2
-    kept-requires
+    cast-shifted
+    shl-shifted
+    add-shifted
+    sub-shifted
+    shifted-requires
     cast-pattern
     mul-pattern
     add-pattern

@@ -33,7 +33,7 @@ sub-narrowed : tie.Need-sub-narrowed
 sub-narrowed c = search needs
 
 narrowed-requires : tie.Need-narrowed-requires
-narrowed-requires c κs = let h = halved (c .before .args .bits) (c .before .pre .0) (c .before .pre .1) in (omega arith, omega arith)
+narrowed-requires c κs = omega arith
 
 mul-narrowed : tie.Need-mul-narrowed
 mul-narrowed c = let h = halved (c .before .args .bits) (c .before .pre .0) (c .before .pre .1) in omega arith
@@ -45,7 +45,7 @@ sub-narrowed-3 : tie.Need-sub-narrowed-3
 sub-narrowed-3 c = search needs
 
 narrowed-requires-2 : tie.Need-narrowed-requires-2
-narrowed-requires-2 c κs = let h = halved (c .before .args .bits) (c .before .pre .0) (c .before .pre .1) in (omega arith, omega arith)
+narrowed-requires-2 c κs = omega arith
 
 add-result : tie.Need-add-result
 add-result c = search needs
