@@ -139,9 +139,8 @@ def made(rng):
     rate = rng.choice([44100, 48000, 0, 2**32 - 1])
     block = channels * bits // 8
     valid = rng.choice([bits, bits, bits - 4, 0])
-    many = rng.randrange(60)
-    if many == 0:
-        channels, samples = rng.choice([16383, 16384]), 0
+    if rng.randrange(20) == 0:
+        channels, samples = rng.choice([8192, 16383, 16384]), 0
         block = channels * bits // 8 % 65536
     wrong = rng.randrange(12)
     if wrong == 0:
@@ -152,9 +151,14 @@ def made(rng):
         block += rng.choice([1, -1, block])
     if wrong == 3:
         valid = bits + 1
-    head = fmt(shape, tag, channels, rate, block % 65536, bits, valid, rng.getrandbits(32))
-    data = chunk(b"data", numbers(rng, tag, bits, channels * samples) if (tag, bits) in KINDS else bytes(block * samples))
-    parts = [head, data]
+    head = bytearray(fmt(shape, tag, channels, rate, block % 65536, bits, valid, rng.getrandbits(32)))
+    if wrong == 9:
+        head[-1 - rng.randrange(18 if shape == 40 else 2)] ^= 1 << rng.randrange(8)
+    body = numbers(rng, tag, bits, channels * samples) if (tag, bits) in KINDS else bytes(block * samples)
+    if wrong == 10:
+        body += bytes(rng.randrange(1, max(block, 2)))
+    data = chunk(b"data", body)
+    parts = [bytes(head), data]
     if rng.randrange(3) == 0:
         parts.insert(rng.randrange(3), chunk(b"fact", rng.choice([struct.pack("<I", samples), struct.pack("<I", channels * samples), b""])))
     if rng.randrange(3) == 0:

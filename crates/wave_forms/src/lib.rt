@@ -19,14 +19,14 @@ use wave::chunks::Places;
 use wave::fields::four_at;
 
 // A file of a known form: `count` numbers, `samples` for each channel, frame by frame, stand from `first` on.
-pub struct Source {
+struct Source {
     pub form: Form,
     pub samples: u32,
     pub count: usize,
     pub first: usize,
 }
 
-pub enum Judged {
+enum Judged {
     Is(Source),
     Refused,
 }
