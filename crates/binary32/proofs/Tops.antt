@@ -2,12 +2,12 @@
 -- Stated over any format, any number and any width. Assumes nothing.
 use mathlib.Core.Path.{_≡_, refl, sym, ap, _∙_}
 use Prim.Native.Nat.{ℕ, suc, _+_, _-_, _*_, _/_, _%_, _^_, _≤_, _<_, compare, Ordering, Ordering·lt, Ordering·eq, Ordering·gt}
-use native.Mathlib.Nat.{le-trans, le-of-eq, le-of-lt, lt-of-lt-of-le, lt-of-not-le, not-le-of-lt, zero-lt-suc, add-assoc, mul-one, mul-comm, mul-assoc, mul-le-mul-right}
+use native.Mathlib.Nat.{le-trans, le-of-eq, le-of-lt, lt-of-lt-of-le, lt-of-not-le, not-le-of-lt, zero-lt-suc, add-assoc, one-mul, mul-one, mul-comm, mul-assoc, mul-le-mul-right}
 use native.Mathlib.Omega.{arith}
 use mathlib.Core.Bool.{true, false, true≢false}
 use borrow.Author.Tests.{le-leb, lt-leb, eq-eqb, ne-eqb}
-use lib.Dec.{isLe, isEq}
-use lib.Pow.{pow-add, pow-pos, pow-mono, shl-lt, shr-lt}
+use lib.Dec.{isLe, isEq, lit<}
+use lib.Pow.{pow-add, pow-pos, pow-lt, pow-mono, shl-lt, shl-exact, shr-lt}
 use lib.Count.{leadingZeros, leading-top}
 use lib.IntN.{pos}
 use lib.Ieee.{Format, prec, low, nearest, round, ofInt}
@@ -57,6 +57,19 @@ module _ (n u : ℕ) where
 
   pub closest-above : u < n % u * 2 → suc (n / u) ≡ closest n u
   closest-above h = by Ordering·gt (compare-gt (n % u * 2) u h)
+
+-- ---- a unit 2 ^ d as the machine has it: a shifted 1
+pub unit-shifted : (d : ℕ) → d < 64 → 1 * 2 ^ d % 2 ^ 64 ≡ 2 ^ d
+unit-shifted d h = shl-exact 1 d 64 (lit< tt) (omega arith) ∙ one-mul (2 ^ d)
+
+pub unit : (d : ℕ) → 0 < d → d < 64 → (1 < 1 * 2 ^ d % 2 ^ 64) × (1 * 2 ^ d % 2 ^ 64 ≤ 2 ^ 63)
+unit d D h =
+    let e : 1 * 2 ^ d % 2 ^ 64 ≡ 2 ^ d = unit-shifted d h in
+    let k : d ≤ 63 = omega arith in
+    (lt-of-lt-of-le (pow-lt D) (le-of-eq (sym e)), le-trans (le-of-eq e) (pow-mono k))
+
+pub unit-closest : (n d r : ℕ) → d < 64 → r ≡ closest n (1 * 2 ^ d % 2 ^ 64) → r ≡ closest n (2 ^ d)
+unit-closest n d r h e = e ∙ ap (closest n) (unit-shifted d h)
 
 -- ---- what is kept of a number of p + d digits has p digits, or is the power of two to which a carry leads
 pub top-le : (p n d : ℕ) → n < 2 ^ (p + d) → closest n (2 ^ d) ≤ 2 ^ p

@@ -8,6 +8,7 @@ use mathlib.Core.Bool.{Bool, true, false, not, _||_, Bool·beq, cond}
 use lib.IntN.{pos}
 use lib.Dec.{T, leb}
 use lib.Ieee.{Float, nan, inf, fin, binary32, up, down, size, round, lt, le, eq, isNan, ofInt, toUnsigned, ofBits, toBits}
+use lib.Ieee.Nearest.{closest}
 
 abbrev pub zero32 : Float
 zero32 = fin false 0 (pos 0)
@@ -19,6 +20,11 @@ one32 = fin false 1 (pos 0)
 -- convertFromInt; reference, int-to-float).
 abbrev pub asFloat : ℕ → Float
 asFloat n = ofInt binary32 (pos n)
+
+-- A whole number over 2 ^ drop as the nearest whole number, at a tie the even one: what `round` does to the digits that
+-- it drops.
+abbrev pub shiftedOf : ℕ → ℕ → ℕ
+shiftedOf n drop = closest n (2 ^ drop)
 
 -- A float `as` an unsigned type of w bits: the fraction dropped, the nearest end of the range beyond it, and 0 for NaN
 -- (reference, float-to-int).

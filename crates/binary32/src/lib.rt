@@ -1,4 +1,4 @@
-// What the engine needs of binary32 beyond the language's own operators: conversions, floor, minimum, maximum, size,
+// What the engine needs of binary32 beyond the language's own operators: conversions, rounded shifts, floor, minimum, maximum, size,
 // the crossing test, bit patterns, the square root and a quick remainder. Each public function takes every value of its
 // arguments, and equals a definition in specs/Leaves.antt; the remainder may be left undone.
 ghost use mathlib.Core.Path.{_≡_};
@@ -9,6 +9,7 @@ ghost use lib.Ieee.{nan, binary32, rem, lt, le, ofBits, round};
 ghost use lib.Ieee.Nearest.{closest};
 ghost use Rattle.binary32.specs.Leaves.{
   asFloat,
+  shiftedOf,
   asWhole,
   floorOf,
   minOf,
@@ -68,6 +69,22 @@ fn nearest(n: u64, unit: u64) -> u64
     } else {
         top + 1
     }
+}
+
+// n / 2^drop as the nearest whole number, a tie to the even one.
+pub fn shifted(n: u64, drop: u32) -> u64
+    ensures { λ r. ⌜ r ≡ shiftedOf n drop ⌝ }
+{
+    if drop == 0 {
+        return n;
+    }
+    if drop < 64 {
+        return nearest(n, 1 << drop);
+    }
+    if (drop == 64) & (0x8000_0000_0000_0000 < n) {
+        return 1;
+    }
+    0
 }
 
 // `x as usize`.

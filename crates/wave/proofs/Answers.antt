@@ -18,17 +18,18 @@ use Rattle.wave.specs.Fields.{twoAt, fourAt, riffId, waveId, factId, wor
 use Rattle.wave.specs.Files.{formatOf}
 use Rattle.wave.specs.Reader.{missing, nowhere, walkOf, goodRiff, channelsAt, goodFormat, goodFact, countedOf, judgedAt, judgedIn, judgedOf, wordsIn, readIn, readOf}
 use Rattle.wave.specs.Reader.Reading.{is}
-use Rattle.wave.specs.Grammar.{Chunk, Chunks, IsWave}
+use Rattle.wave.specs.Grammar.{Chunk, Framed, IsWave}
 use Rattle.wave.specs.declared.chunks.Places.{Places}
 use Rattle.wave.specs.declared.chunks.Met.{Met}
 use Rattle.wave.specs.declared.chunks.Met.the-variants as met
 use Rattle.wave.specs.declared.Wave.{Wave}
 use Rattle.wave.specs.declared.Judged.{Judged}
 use Rattle.wave.specs.declared.Judged.the-variants.{Is, Refused}
-use Rattle.wave.proofs.Judgements.{both, RiffIs, riff-true, FormatIs, format-true, counted-is, judged-is, judged-riff, places-within}
-use Rattle.wave.proofs.Standing.{two-stands, four-stands, behind-two, behind-four, two-splits, four-splits, two-below, four-below, length-words, length-listed, words-stand, words-split, words-fit}
-use Rattle.wave.proofs.Tiles.{Stands, stands-size, stands-body, stands-long}
-use Rattle.wave.proofs.Held.{At, Mains, Facts, Held, walk-tiled, Reached, tiles-reached}
+use Rattle.wave.proofs.Judgements.{both, FormatIs, format-true, counted-is, judged-is, judged-riff, places-within}
+use Rattle.wave.proofs.Standing.{two-stands, four-stands, two-below, four-below, length-words, length-listed, words-stand, words-split, words-fit}
+use Rattle.wave.proofs.Tiles.{stands-size, stands-body, stands-long}
+use Rattle.wave.proofs.Held.{At, Facts, Held}
+use Rattle.wave.proofs.Frames.{two-to, four-to, two-from, four-from, body-is, Found, found, walked}
 
 -- ---- what an answer rests on
 pub record Rests (f : List ℕ) (w : Wave) : Type 0 where
@@ -94,10 +95,7 @@ judged-inside f w e =
     (⊎-elim (λ z. absurd (r .some z)) (λ ends. omega arith) (places-within f p (r .met) .1))
 
 -- ---- fields one behind the other
-three : (a b c rest : List ℕ) {x y z : List ℕ} → x ≡ a ++ y → y ≡ b ++ z → z ≡ c ++ rest → x ≡ a ++ b ++ c ++ rest
-three a b c rest p q r = simp append-assoc (cc)
-
-seven : (a b c d e g h rest : List ℕ) {x y z u v w t : List ℕ} → x ≡ a ++ y → y ≡ b ++ z → z ≡ c ++ u → u ≡ d ++ v → v ≡ e ++ w → w ≡ g ++ t → t ≡ h ++ rest
+pub seven : (a b c d e g h rest : List ℕ) {x y z u v w t : List ℕ} → x ≡ a ++ y → y ≡ b ++ z → z ≡ c ++ u → u ≡ d ++ v → v ≡ e ++ w → w ≡ g ++ t → t ≡ h ++ rest
     → x ≡ a ++ b ++ c ++ d ++ e ++ g ++ h ++ rest
 seven a b c d e g h rest p q r s t u v = simp append-assoc (cc)
 
@@ -107,40 +105,19 @@ length-format channels rate byteRate = refl
 
 -- ---- an answer's file is a good one
 module _ (f : List ℕ) (bytes : Bytes f) where
-  two-to : (at next : ℕ) → at + 2 ≡ next → next ≤ length f → drop at f ≡ littleBytes 2 (twoAt f at) ++ drop next f
-  two-to at next e h = rw (← e) (two-splits f at bytes (omega arith))
-
-  four-to : (at next : ℕ) → at + 4 ≡ next → next ≤ length f → drop at f ≡ littleBytes 4 (fourAt f at) ++ drop next f
-  four-to at next e h = rw (← e) (four-splits f at bytes (omega arith))
-
-  riff-splits : RiffIs f → f ≡ littleBytes 4 riffId ++ littleBytes 4 (4 + length (drop 12 f)) ++ littleBytes 4 waveId ++ drop 12 f
-  riff-splits r =
-      let size : fourAt f 4 ≡ 4 + length (drop 12 f) = omega (arith, length-drop 12 f, r .size, r .long) in
-      let long = r .long in
-      three (littleBytes 4 riffId) (littleBytes 4 (4 + length (drop 12 f))) (littleBytes 4 waveId) (drop 12 f)
-      (rw (r .riff) at (four-to 0 4 refl (omega arith)))
-      (rw size at (four-to 4 8 refl (omega arith)))
-      (rw (r .wave) at (four-to 8 12 refl (omega arith)))
-
   format-splits : (a : ℕ) → a + 26 ≤ length f → FormatIs f a
       → drop (a + 8) f ≡ formatOf (channelsAt f a) (fourAt f (a + 12)) (fourAt f (a + 16)) ++ drop (a + 26) f
   unfolding formatOf
   format-splits a h r =
       seven (littleBytes 2 3) (littleBytes 2 (channelsAt f a)) (littleBytes 4 (fourAt f (a + 12))) (littleBytes 4 (fourAt f (a + 16)))
       (littleBytes 2 (4 * channelsAt f a)) (littleBytes 2 32) (littleBytes 2 0) (drop (a + 26) f)
-      (rw (r .tag) at (two-to (a + 8) (a + 10) (omega arith) (omega arith)))
-      (two-to (a + 10) (a + 12) (omega arith) (omega arith))
-      (four-to (a + 12) (a + 16) (omega arith) (omega arith))
-      (four-to (a + 16) (a + 20) (omega arith) (omega arith))
-      (rw (r .block) at (two-to (a + 20) (a + 22) (omega arith) (omega arith)))
-      (rw (r .bits) at (two-to (a + 22) (a + 24) (omega arith) (omega arith)))
-      (rw (r .extra) at (two-to (a + 24) (a + 26) (omega arith) (omega arith)))
-
-  -- the body of a chunk is the bytes behind its size
-  body-is : (a n : ℕ) (c : Chunk) (bs rest : List ℕ) → Stands f a c → fourAt f (a + 4) ≡ n → length bs ≡ n → drop (a + 8) f ≡ bs ++ rest → c .body ≡ bs
-  body-is a n c bs rest s e h k =
-      let long : length (c .body) ≡ n = sym (stands-size f a c s) ∙ e in
-      sym (take-at (c .body) _ n long) ∙ ap (take n) (sym (stands-body f a c s) ∙ k) ∙ take-at bs rest n h
+      (rw (r .tag) at (two-to f bytes (a + 8) (a + 10) (omega arith) (omega arith)))
+      (two-to f bytes (a + 10) (a + 12) (omega arith) (omega arith))
+      (four-to f bytes (a + 12) (a + 16) (omega arith) (omega arith))
+      (four-to f bytes (a + 16) (a + 20) (omega arith) (omega arith))
+      (rw (r .block) at (two-to f bytes (a + 20) (a + 22) (omega arith) (omega arith)))
+      (rw (r .bits) at (two-to f bytes (a + 22) (a + 24) (omega arith) (omega arith)))
+      (rw (r .extra) at (two-to f bytes (a + 24) (a + 26) (omega arith) (omega arith)))
 
   -- `fact`, where there is one
   fact-body-is : (a samples : ℕ) (c : Chunk) → At f a factId c → goodFact f a samples ≡ true → c .body ≡ littleBytes 4 samples
@@ -151,13 +128,12 @@ module _ (f : List ℕ) (bytes : Bytes f) where
       let parts = and-both (eqb (fourAt f (a + 4)) 4) _ (subst (λ (b : Bool). (b || (eqb (fourAt f (a + 4)) 4 && eqb (fourAt f (a + 8)) samples)) ≡ true) (ne-eqb a 0 some) e) in
       let size : fourAt f (a + 4) ≡ 4 = eqb-true _ _ (parts .0) in
       let body : fourAt f (a + 8) ≡ samples = eqb-true _ _ (parts .1) in
-      body-is a 4 c (littleBytes 4 samples) (drop (a + 12) f) s size (length-little 4 samples) (rw body at (four-to (a + 8) (a + 12) (omega arith) (omega (arith, size, stands-long f a c s))))
+      body-is f a 4 c (littleBytes 4 samples) (drop (a + 12) f) s size (length-little 4 samples) (rw body at (four-to f bytes (a + 8) (a + 12) (omega arith) (omega (arith, size, stands-long f a c s))))
 
-  facts-bodies : (a samples : ℕ) (cs : List Chunk) → Facts f a cs → goodFact f a samples ≡ true
-      → (length cs ≤ 1) × Each (λ (c : Chunk). c .body ≡ littleBytes 4 samples) cs
+  facts-bodies : (a samples : ℕ) (cs : List Chunk) → Facts f a cs → goodFact f a samples ≡ true → Each (λ (c : Chunk). c .body ≡ littleBytes 4 samples) cs
   unfolding Each
-  facts-bodies a samples [] k e = (omega arith, tt)
-  facts-bodies a samples (c ∷ []) k e = (omega arith, (fact-body-is a samples c k e, tt))
+  facts-bodies a samples [] k e = tt
+  facts-bodies a samples (c ∷ []) k e = (fact-body-is a samples c k e, tt)
   facts-bodies a samples (c ∷ d ∷ cs) k e = absurd k
 
   module _ (w : Wave) (r : Rests f w) where
@@ -182,56 +158,44 @@ module _ (f : List ℕ) (bytes : Bytes f) where
     size-is : 4 * (channels * samples) ≡ size
     size-is = let whole = div-add-mod' size (4 * channels) in let even = r .even in sym (four-times channels samples) ∙ omega arith
 
-    good : (mains facts : List Chunk) → Chunks (drop 12 f) mains facts → Mains f format sound mains → Facts f (r .places .fact) facts
-        → IsWave f (fourAt f (format + 12)) channels words
-    good [] facts t m k = absurd (r .some (m .1))
-    good (c ∷ []) facts t m k = absurd (r .some (m .1))
-    good (c ∷ d ∷ []) facts t m k =
-        let riff = riff-true f (r .riff) in
+    good : Found f (r .places) → IsWave f (fourAt f (format + 12)) channels words
+    good c =
         let is = format-true f format (r .format) in
-        let long-format = stands-long f format c (m .0 .stands) in
-        let long-sound = stands-long f sound d (m .1 .stands) in
-        let bodies = facts-bodies (r .places .fact) samples facts k (r .fact) in
+        let long-format = stands-long f format (c .format) (c .format-at .stands) in
+        let long-sound = stands-long f sound (c .sound) (c .sound-at .stands) in
+        let g = c .framed in
         record {
-          chunks = drop 12 f;
-          riff = riff-splits riff;
-          riff-size = omega (arith, length-drop 12 f, riff .size, riff .long, four-below f 4 bytes);
-          format = c;
-          sound = d;
-          facts = facts;
-          tiled = t;
-          format-first = m .0 .named;
-          sound-second = m .1 .named;
-          one-fact = bodies .0;
+          chunks = g .chunks;
+          riff = g .riff;
+          riff-size = g .riff-size;
+          format = c .format;
+          sound = c .sound;
+          facts = c .facts;
+          tiled = g .tiled;
+          format-first = g .format-first;
+          sound-second = g .sound-second;
+          one-fact = g .one-fact;
           byteRate = fourAt f (format + 16);
-          format-body = body-is format 18 c _ _ (m .0 .stands) (is .size) (length-format _ _ _) (format-splits format (omega (arith, is .size)) is);
+          format-body = body-is f format 18 (c .format) _ _ (c .format-at .stands) (is .size) (length-format _ _ _) (format-splits format (omega (arith, is .size)) is);
           byte-rate-fits = four-below f (format + 16) bytes;
           rate-fits = four-below f (format + 12) bytes;
           some-channel = is .some;
           block-fits = omega (arith, is .block, two-below f (format + 20) bytes);
           samples = samples;
           whole-frames = length-listed _ 0 (channels * samples);
-          sound-body = body-is sound size d (wordBytes words) _ (m .1 .stands) refl
+          sound-body = body-is f sound size (c .sound) (wordBytes words) _ (c .sound-at .stands) refl
               (length-words words ∙ ap (λ (n : ℕ). 4 * n) (length-listed _ 0 (channels * samples)) ∙ size-is)
               (words-split f bytes (sound + 8) (channels * samples) 0 (sound + 8) (omega arith) (omega (arith, size-is)));
           words-fit = words-fit f bytes (sound + 8) (channels * samples) 0;
-          fact-body = bodies .1;
+          fact-body = facts-bodies (r .places .fact) samples (c .facts) (c .facts-at) (r .fact);
         }
-    good (c ∷ d ∷ e ∷ mains) facts t m k = absurd m
 
   pub answer-good : (w : Wave) → judgedOf f ≡ Is w → IsWave f (w .rate) (w .channels) (wordsIn f w)
-  unfolding walkOf
   answer-good w e =
       let r = judged-rests f w e in
-      let t = walk-tiled (length f) f 12 nowhere (r .places) [] [] bytes (omega arith) (omega arith) (record { mains-held = (refl, refl); facts-held = refl }) (r .met) in
-      subst (λ (v : Wave). IsWave f (v .rate) (v .channels) (wordsIn f v)) (sym (r .answer))
-      (good w r (t .more-mains) (t .more-facts) (t .tiles) (t .held .mains-held) (t .held .facts-held))
+      subst (λ (v : Wave). IsWave f (v .rate) (v .channels) (wordsIn f v)) (sym (r .answer)) (good w r (found f bytes (r .places) (r .riff) (r .some) (r .met)))
 
 -- ---- a good file is answered
-riff-good : (f : List ℕ) → RiffIs f → goodRiff f ≡ true
-unfolding goodRiff
-riff-good f r = simp (le-leb _ _ (r .long), eq-eqb _ _ (r .riff), eq-eqb _ _ (r .size), eq-eqb _ _ (r .wave))
-
 format-good : (f : List ℕ) (at : ℕ) → FormatIs f at → goodFormat f at ≡ true
 unfolding goodFormat
 format-good f at r = simp (eq-eqb _ _ (r .size), eq-eqb _ _ (r .tag), le-leb _ _ (r .some), eq-eqb _ _ (r .block), eq-eqb _ _ (r .bits), eq-eqb _ _ (r .extra))
@@ -244,25 +208,18 @@ fact-good : (f : List ℕ) (at samples : ℕ) → (at ≡ 0 → ⊥) → fourAt 
 unfolding goodFact
 fact-good f at samples some size count = simp (ne-eqb _ _ some, eq-eqb _ _ size, eq-eqb _ _ count)
 
--- what stands behind fields, each at its place
 module _ (f : List ℕ) where
-  two-from : (x at next : ℕ) (rest : List ℕ) → at + 2 ≡ next → drop at f ≡ littleBytes 2 x ++ rest → drop next f ≡ rest
-  two-from x at next rest e h = rw (← e) (behind-two x f at rest h)
-
-  four-from : (x at next : ℕ) (rest : List ℕ) → at + 4 ≡ next → drop at f ≡ littleBytes 4 x ++ rest → drop next f ≡ rest
-  four-from x at next rest e h = rw (← e) (behind-four x f at rest h)
-
   format-fields : (a channels rate byteRate : ℕ) (rest : List ℕ) → rate < 2 ^ 32 → 1 ≤ channels → 4 * channels < 2 ^ 16 → fourAt f (a + 4) ≡ 18
       → drop (a + 8) f ≡ formatOf channels rate byteRate ++ rest → FormatIs f a × (channelsAt f a ≡ channels) × (fourAt f (a + 12) ≡ rate)
   unfolding formatOf
   format-fields a channels rate byteRate rest hr hc hb size h =
       let e0 = simp append-assoc at h in
-      let e1 = two-from 3 (a + 8) (a + 10) _ (omega arith) e0 in
-      let e2 = two-from channels (a + 10) (a + 12) _ (omega arith) e1 in
-      let e3 = four-from rate (a + 12) (a + 16) _ (omega arith) e2 in
-      let e4 = four-from byteRate (a + 16) (a + 20) _ (omega arith) e3 in
-      let e5 = two-from (4 * channels) (a + 20) (a + 22) _ (omega arith) e4 in
-      let e6 = two-from 32 (a + 22) (a + 24) _ (omega arith) e5 in
+      let e1 = two-from f 3 (a + 8) (a + 10) _ (omega arith) e0 in
+      let e2 = two-from f channels (a + 10) (a + 12) _ (omega arith) e1 in
+      let e3 = four-from f rate (a + 12) (a + 16) _ (omega arith) e2 in
+      let e4 = four-from f byteRate (a + 16) (a + 20) _ (omega arith) e3 in
+      let e5 = two-from f (4 * channels) (a + 20) (a + 22) _ (omega arith) e4 in
+      let e6 = two-from f 32 (a + 22) (a + 24) _ (omega arith) e5 in
       let is : channelsAt f a ≡ channels = two-stands channels f (a + 10) _ (omega arith) e1 in (
         record {
           size = size;
@@ -303,29 +260,21 @@ judged-by f p rate channels samples some format more c r size fact =
     judged-is f p some (format-good f (p .format) format) ∙ rw (c, size) (counted ∙ rw (c, r, count))
 
 module _ (f : List ℕ) (rate channels : ℕ) (words : List ℕ) (g : IsWave f rate channels words) where
-  riff-fields : RiffIs f × (drop 12 f ≡ g .chunks)
-  riff-fields =
-      let e0 : drop 0 f ≡ littleBytes 4 riffId ++ (littleBytes 4 (4 + length (g .chunks)) ++ (littleBytes 4 waveId ++ g .chunks)) = simp append-assoc at (g .riff) in
-      let e1 = four-from f riffId 0 4 _ refl e0 in
-      let e2 = four-from f (4 + length (g .chunks)) 4 8 _ refl e1 in
-      let all : length f ≡ 12 + length (g .chunks) = ap length (g .riff) ∙ simp (length-append, length-little) in (
-        record {
-          long = omega arith;
-          riff = four-stands riffId f 0 _ (omega arith) e0;
-          size = omega (arith, four-stands (4 + length (g .chunks)) f 4 _ (g .riff-size) e1);
-          wave = four-stands waveId f 8 _ (omega arith) e2;
-        },
-        four-from f waveId 8 12 _ refl e2,
-      )
+  abbrev pub framed : Framed f (g .format) (g .sound) (g .facts)
+  framed = record {
+    chunks = g .chunks;
+    riff = g .riff;
+    riff-size = g .riff-size;
+    tiled = g .tiled;
+    format-first = g .format-first;
+    sound-second = g .sound-second;
+    one-fact = g .one-fact;
+  }
 
-  good-reached : Reached (length f) f 12 nowhere (g .format ∷ g .sound ∷ []) (g .facts)
-  good-reached = tiles-reached f (g .tiled) (length f) 12 nowhere [] [] (riff-fields .1) (omega arith) (omega arith)
-      (record { mains-held = (refl, refl); facts-held = refl }) (g .format-first, g .sound-second) (g .one-fact)
-
-  good-judged : (p : Places) → walkOf f ≡ met.Is p → Held f p (g .format ∷ g .sound ∷ []) (g .facts)
+  good-judged : (p : Places) → goodRiff f ≡ true → walkOf f ≡ met.Is p → Held f p (g .format ∷ g .sound ∷ []) (g .facts)
       → judgedOf f ≡ Is (record { rate = rate; channels = channels; samples = g .samples; first = p .words + 8 })
       × (listed (λ (k : ℕ). fourAt f (p .words + 8 + 4 * k)) 0 (channels * g .samples) ≡ words)
-  good-judged p e held =
+  good-judged p riff e held =
       let F = held .mains-held .0 .stands in
       let D = held .mains-held .1 .stands in
       let size18 : fourAt f (p .format + 4) ≡ 18 = stands-size f (p .format) (g .format) F ∙ ap length (g .format-body) ∙ length-format channels rate (g .byteRate) in
@@ -336,8 +285,7 @@ module _ (f : List ℕ) (rate channels : ℕ) (words : List ℕ) (g : IsWave f r
       rw (mul-comm channels (g .samples)) (le-mul-of-pos-right (g .samples) (g .some-channel)) in
       let fact : goodFact f (p .fact) (g .samples) ≡ true =
       facts-good f (p .fact) (g .samples) (g .facts) (omega (arith, D .whole .sized)) (held .facts-held) (g .fact-body) in
-      let some : (p .words ≡ 0 → ⊥) = λ z. let more = held .mains-held .1 .some in omega arith in
-      let riff = riff-good f (riff-fields .0) in (
+      let some : (p .words ≡ 0 → ⊥) = λ z. let more = held .mains-held .1 .some in omega arith in (
         judged-riff f (met.Is p) riff e ∙ judged-by f p rate channels (g .samples) some (is .0) (g .some-channel) (is .1) (is .2) size fact,
         rw (← (g .whole-frames)) (words-stand words f (p .words + 8) 0 (p .words + 8) _ (omega arith) (g .words-fit) (rw (g .sound-body) at (stands-body f (p .words) (g .sound) D))),
       )
@@ -351,17 +299,16 @@ module _ (f : List ℕ) (rate channels : ℕ) (words : List ℕ) (g : IsWave f r
     pub same-words : wordsIn f wave ≡ words
 
   pub good-known : Known
-  unfolding walkOf
   good-known =
-      let r = good-reached in
-      let answer = good-judged (r .end) (r .walks) (r .held) in
+      let r = walked f (g .format) (g .sound) (g .facts) framed in
+      let answer = good-judged (r .places) (r .riff) (r .met) (r .held) in
       record { wave = _; judged = answer .0; same-rate = refl; same-channels = refl; same-samples = refl; same-words = answer .1 }
 
   pub good-answer : readOf f ≡ is rate channels words
-  unfolding readOf walkOf
+  unfolding readOf
   good-answer =
-      let r = good-reached in
-      let answer = good-judged (r .end) (r .walks) (r .held) in
+      let r = walked f (g .format) (g .sound) (g .facts) framed in
+      let answer = good-judged (r .places) (r .riff) (r .met) (r .held) in
       ap (readIn f) (answer .0) ∙ ap (is rate channels) (answer .1)
 
 -- ---- both directions

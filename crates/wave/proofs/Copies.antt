@@ -43,6 +43,16 @@ unfolding wordBytes
 words-append [] ys = refl
 words-append (x ∷ xs) ys = rw (words-append xs ys) (sym (append-assoc (littleBytes 4 x) (wordBytes xs) (wordBytes ys)))
 
+-- words behind a header, and more behind those
+pub words-next : (out now : List ℕ) (g : ℕ → ℕ) (n more : ℕ) → now ≡ sets out 58 (wordBytes (listed g 0 n))
+    → sets now (58 + 4 * n) (wordBytes (listed g n more)) ≡ sets out 58 (wordBytes (listed g 0 (n + more)))
+words-next out now g n more e =
+    let before = listed g 0 n in
+    let at : 58 + length (wordBytes before) ≡ 58 + 4 * n = omega (arith, length-words before, length-listed g 0 n) in
+    let all : wordBytes before ++ wordBytes (listed g n more) ≡ wordBytes (listed g 0 (n + more)) =
+    sym (words-append before (listed g n more)) ∙ ap wordBytes (sym (listed-append g 0 n more ∙ rw (zero-add n))) in
+    rw (e, ← at) (run-append out (wordBytes before) (wordBytes (listed g n more)) 58 ∙ ap (sets out 58) all)
+
 -- ---- from a memory to a file, frame by frame
 module _ (l : Layout) (m : List ℕ) where
   -- sample i of channel j
@@ -88,14 +98,8 @@ module _ (l : Layout) (m : List ℕ) where
     pub written-next : (now : List ℕ) (i : ℕ) → now ≡ writtenTo i → sets now (58 + 4 * (i * l .channels)) (frameBytes i) ≡ writtenTo (i + 1)
     unfolding writtenTo
     written-next now i e =
-        let n = i * l .channels in
-        let before = listed (wordOf l m) 0 n in
-        let at : 58 + length (wordBytes before) ≡ 58 + 4 * n = omega (arith, length-words before, length-listed (wordOf l m) 0 n) in
-        let more : (i + 1) * l .channels ≡ n + l .channels = omega (arith, add-mul i 1 (l .channels)) in
-        let all : wordBytes before ++ frameBytes i ≡ wordBytes (listed (wordOf l m) 0 ((i + 1) * l .channels)) =
-        sym (words-append before (listed (wordOf l m) n (l .channels)))
-        ∙ ap wordBytes (sym (ap (listed (wordOf l m) 0) more ∙ listed-append (wordOf l m) 0 n (l .channels) ∙ rw (zero-add n))) in
-        rw (e, ← at) (run-append out (wordBytes before) (frameBytes i) 58 ∙ ap (sets out 58) all)
+        let more : (i + 1) * l .channels ≡ i * l .channels + l .channels = omega (arith, add-mul i 1 (l .channels)) in
+        words-next out now (wordOf l m) (i * l .channels) (l .channels) e ∙ ap (λ (n : ℕ). sets out 58 (wordBytes (listed (wordOf l m) 0 n))) (sym more)
 
     pub written-all : (i : ℕ) → i ≡ l .samples → writtenTo i ≡ sets out 58 (wordBytes (framesOf l m))
     unfolding writtenTo framesOf

@@ -4,6 +4,7 @@ pub mod Judgements
 pub mod Standing
 pub mod Tiles
 pub mod Held
+pub mod Frames
 pub mod Answers
 pub mod Layouts
 pub mod Copies

@@ -2,7 +2,7 @@
 use mathlib.Core.Path.{_≡_, refl, sym, ap, _∙_}
 use mathlib.Core.List.{List, [], _∷_, _++_, append-assoc}
 use Prim.Native.Nat.{ℕ, zero, suc, _+_, _-_, _*_, _^_, _≤_, _<_}
-use native.Mathlib.Nat.{add-zero}
+use native.Mathlib.Nat.{add-zero, mul-zero, mul-one, mul-suc, mul-add}
 use native.Mathlib.Omega.{arith}
 use lib.ListN.{length, take, drop, getD, length-append, length-drop, take-append-drop}
 use lib.Seq.{drop-drop, drop-at, getD-drop, length-take-le}
@@ -10,7 +10,7 @@ use Rattle.walks.specs.Each.{Each}
 use Rattle.walks.proofs.Lists.Each.{each-front}
 use Rattle.octets.specs.Octets.{byteAt, bytesAt, Byte, Bytes, littleOf, littleBytes}
 use Rattle.octets.proofs.Orders.{length-little, number-back, bytes-back, bytes-within, number-below}
-use Rattle.wave.specs.Fields.{twoAt, fourAt, wordBytes, listed}
+use Rattle.wave.specs.Fields.{twoAt, fourAt, numberBytes, wordBytes, listed}
 
 -- ---- what is known to stand at a place is read there
 
@@ -79,45 +79,77 @@ module _ (f : List ℕ) (at : ℕ) (bytes : Bytes f) where
   unfolding fourAt
   four-below = number-below 4 f at bytes
 
--- ---- words
-
-abbrev pub Word : ℕ → Type 0
-Word w = w < 2 ^ 32
-
-pub length-words : (ws : List ℕ) → length (wordBytes ws) ≡ 4 * length ws
-unfolding wordBytes
-length-words [] = refl
-length-words (w ∷ ws) = simp (length-append, length-little) (omega (arith, length-words ws))
+-- ---- numbers of k bytes, one behind the other
+pub length-numbers : (k : ℕ) (ns : List ℕ) → length (numberBytes k ns) ≡ k * length ns
+unfolding numberBytes
+length-numbers k [] = sym (mul-zero k)
+length-numbers k (n ∷ ns) = simp (length-append, length-little) (omega (arith, length-numbers k ns, mul-suc k (length ns)))
 
 pub length-listed : (g : ℕ → ℕ) (k n : ℕ) → length (listed g k n) ≡ n
 unfolding listed
 length-listed g k zero = refl
 length-listed g k (suc n) = ap suc (length-listed g (k + 1) n)
 
--- words that stand in a file are read one by one
+module _ (k : ℕ) (f : List ℕ) (first : ℕ) where
+  abbrev pub numberOn : ℕ → ℕ
+  numberOn i = littleOf (bytesAt k f (first + k * i))
+
+  on : (at i : ℕ) → at ≡ first + k * i → at + k ≡ first + k * (i + 1)
+  on at i e = omega (arith, mul-add k i 1, mul-one k)
+
+  -- those that stand in a file are read one by one
+  pub numbers-stand : (ns : List ℕ) (i at : ℕ) (rest : List ℕ) → at ≡ first + k * i → Each (λ (n : ℕ). n < 256 ^ k) ns
+      → drop at f ≡ numberBytes k ns ++ rest → listed numberOn i (length ns) ≡ ns
+  unfolding listed numberBytes Each
+  numbers-stand [] i at rest e h s = refl
+  numbers-stand (n ∷ ns) i at rest e h s =
+      let here : drop at f ≡ littleBytes k n ++ (numberBytes k ns ++ rest) = s ∙ append-assoc (littleBytes k n) (numberBytes k ns) rest in
+      let read : numberOn i ≡ n = ap (λ (x : ℕ). littleOf (bytesAt k f x)) (sym e) ∙ number-stands k n f at _ (h .0) here in
+      rw (read, numbers-stand ns (i + 1) (at + k) rest (on at i e) (h .1) (stands-next (littleBytes k n) f at k _ (length-little k n) here))
+
+  -- and those that are read one by one stand in the file
+  pub numbers-split : Bytes f → (n i at : ℕ) → at ≡ first + k * i → at + k * n ≤ length f
+      → drop at f ≡ numberBytes k (listed numberOn i n) ++ drop (at + k * n) f
+  unfolding listed numberBytes
+  numbers-split bytes zero i at e h = ap (λ (x : ℕ). drop x f) (sym (ap (λ (x : ℕ). at + x) (mul-zero k) ∙ add-zero at))
+  numbers-split bytes (suc n) i at e h =
+      let more = numberBytes k (listed numberOn (i + 1) n) in
+      let times = mul-suc k n in
+      let same : at + k + k * n ≡ at + k * suc n = omega arith in
+      let next : drop (at + k) f ≡ more ++ drop (at + k * suc n) f =
+      numbers-split bytes n (i + 1) (at + k) (on at i e) (omega arith) ∙ ap (λ (x : ℕ). more ++ drop x f) same in
+      rw (← e) (number-splits k f at bytes (omega arith) ∙ ap (λ (l : List ℕ). littleBytes k (littleOf (bytesAt k f at)) ++ l) next
+      ∙ sym (append-assoc (littleBytes k (littleOf (bytesAt k f at))) more _))
+
+  pub numbers-fit : Bytes f → (n i : ℕ) → Each (λ (x : ℕ). x < 256 ^ k) (listed numberOn i n)
+  unfolding listed Each
+  numbers-fit bytes zero i = tt
+  numbers-fit bytes (suc n) i = (number-below k f (first + k * i) bytes, numbers-fit bytes n (i + 1))
+
+-- ---- words, which are numbers of four bytes
+abbrev pub Word : ℕ → Type 0
+Word w = w < 2 ^ 32
+
+pub words-are : (ws : List ℕ) → wordBytes ws ≡ numberBytes 4 ws
+unfolding wordBytes numberBytes
+words-are [] = refl
+words-are (w ∷ ws) = ap (λ (l : List ℕ). littleBytes 4 w ++ l) (words-are ws)
+
+pub length-words : (ws : List ℕ) → length (wordBytes ws) ≡ 4 * length ws
+length-words ws = ap length (words-are ws) ∙ length-numbers 4 ws
+
 pub words-stand : (ws : List ℕ) (f : List ℕ) (first k at : ℕ) (rest : List ℕ) → at ≡ first + 4 * k → Each Word ws → drop at f ≡ wordBytes ws ++ rest
     → listed (λ (i : ℕ). fourAt f (first + 4 * i)) k (length ws) ≡ ws
-unfolding listed wordBytes Each
-words-stand [] f first k at rest e h s = refl
-words-stand (w ∷ ws) f first k at rest e h s =
-    let here : drop at f ≡ littleBytes 4 w ++ (wordBytes ws ++ rest) = s ∙ append-assoc (littleBytes 4 w) (wordBytes ws) rest in
-    let read : fourAt f (first + 4 * k) ≡ w = ap (fourAt f) (sym e) ∙ four-stands w f at _ (h .0) here in
-    rw (read, words-stand ws f first (k + 1) (at + 4) rest (omega arith) (h .1) (behind-four w f at _ here))
+unfolding fourAt
+words-stand ws f first k at rest e h s = numbers-stand 4 f first ws k at rest e h (s ∙ ap (λ (l : List ℕ). l ++ rest) (words-are ws))
 
--- words that are read one by one stand in the file
 module _ (f : List ℕ) (bytes : Bytes f) (first : ℕ) where
   pub words-split : (n k at : ℕ) → at ≡ first + 4 * k → at + 4 * n ≤ length f
       → drop at f ≡ wordBytes (listed (λ (i : ℕ). fourAt f (first + 4 * i)) k n) ++ drop (at + 4 * n) f
-  unfolding listed wordBytes
-  words-split zero k at e h = ap (λ (i : ℕ). drop i f) (sym (add-zero at))
-  words-split (suc n) k at e h =
-      let more = wordBytes (listed (λ (i : ℕ). fourAt f (first + 4 * i)) (k + 1) n) in
-      let same : at + 4 + 4 * n ≡ at + 4 * suc n = omega arith in
-      let next : drop (at + 4) f ≡ more ++ drop (at + 4 * suc n) f =
-      words-split n (k + 1) (at + 4) (omega arith) (omega arith) ∙ ap (λ (i : ℕ). more ++ drop i f) same in
-      rw (← e) (four-splits f at bytes (omega arith) ∙ ap (λ (l : List ℕ). littleBytes 4 (fourAt f at) ++ l) next ∙ sym (append-assoc (littleBytes 4 (fourAt f at)) more _))
+  unfolding fourAt
+  words-split n k at e h =
+      numbers-split 4 f first bytes n k at e h ∙ ap (λ (l : List ℕ). l ++ drop (at + 4 * n) f) (sym (words-are (listed (numberOn 4 f first) k n)))
 
   pub words-fit : (n k : ℕ) → Each Word (listed (λ (i : ℕ). fourAt f (first + 4 * i)) k n)
-  unfolding listed Each
-  words-fit zero k = tt
-  words-fit (suc n) k = (four-below f (first + 4 * k) bytes, words-fit n (k + 1))
+  unfolding fourAt
+  words-fit n k = numbers-fit 4 f first bytes n k

@@ -25,6 +25,11 @@ factId = 0x74636166
 abbrev pub dataId : ℕ
 dataId = 0x61746164
 
+-- numbers, k bytes each
+unfoldable pub numberBytes : ℕ → List ℕ → List ℕ
+numberBytes k [] = []
+numberBytes k (n ∷ ns) = littleBytes k n ++ numberBytes k ns
+
 -- words, four bytes each
 unfoldable pub wordBytes : List ℕ → List ℕ
 wordBytes [] = []

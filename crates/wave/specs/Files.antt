@@ -1,7 +1,11 @@
 -- What the writer writes: "a RIFF WAVE file with 32-bit float samples: `RIFF`, `WAVE`, `fmt ` of 18 bytes with tag 3,
 -- `fact`, `data`, 58 bytes before the first sample" (request 10/12). Definitions only.
+use mathlib.Core.Bool.{Bool, cond, _&&_}
 use mathlib.Core.List.{List, _++_}
 use Prim.Native.Nat.{ℕ, _+_, _*_, _%_, _^_}
+use lib.Dec.{ltb, leb}
+use lib.ListN.{length}
+use lib.Seq.{sets}
 use Rattle.octets.specs.Octets.{littleBytes}
 use Rattle.wave.specs.Fields.{riffId, waveId, formatId, factId, dataId, wordBytes}
 
@@ -36,3 +40,16 @@ headerOf rate channels samples =
 -- the words of all channels, frame by frame, are those behind it
 abbrev pub fileOf : ℕ → ℕ → ℕ → List ℕ → List ℕ
 fileOf rate channels samples words = headerOf rate channels samples ++ wordBytes words
+
+-- ---- its parts, stored where they have room
+
+unfoldable pub headFits : ℕ → ℕ → ℕ → Bool
+headFits channels samples room =
+    leb channels 0x3fff && (ltb (50 + 4 * (channels * samples)) (2 ^ 32) && leb 58 room)
+
+unfoldable pub headPut : List ℕ → ℕ → ℕ → ℕ → List ℕ
+headPut out rate channels samples =
+    cond (headFits channels samples (length out)) (sets out 0 (headerOf rate channels samples)) out
+
+unfoldable pub wordPut : List ℕ → ℕ → ℕ → List ℕ
+wordPut out at word = cond (leb (at + 4) (length out)) (sets out at (littleBytes 4 word)) out

@@ -36,6 +36,16 @@ pub data Chunks : List ℕ → List Chunk → List Chunk → Type 0 where
       → (c .id ≡ formatId → ⊥) → (c .id ≡ dataId → ⊥) → (c .id ≡ factId → ⊥)
       → Chunks f mains facts → Chunks (chunkBytes c ++ f) mains facts
 
+-- ---- what a file of any form has in common: its chunks, with one `fmt `, one `data` behind it, and at most one `fact`
+pub record Framed (f : List ℕ) (format sound : Chunk) (facts : List Chunk) : Type 0 where
+  pub chunks : List ℕ
+  pub riff : f ≡ littleBytes 4 riffId ++ littleBytes 4 (4 + length chunks) ++ littleBytes 4 waveId ++ chunks
+  pub riff-size : 4 + length chunks < 2 ^ 32
+  pub tiled : Chunks chunks (format ∷ sound ∷ []) facts
+  pub format-first : format .id ≡ formatId
+  pub sound-second : sound .id ≡ dataId
+  pub one-fact : length facts ≤ 1
+
 -- ---- the file: a rate, a number of channels, and the words of all channels, frame by frame
 pub record IsWave (f : List ℕ) (rate channels : ℕ) (words : List ℕ) : Type 0 where
   -- "length = 8 + RIFF size, `RIFF`, `WAVE`"

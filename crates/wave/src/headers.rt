@@ -4,14 +4,14 @@ ghost use mathlib.Core.List.{_++_};
 ghost use Prim.Native.Nat.{_+_, _*_, _%_, _^_, _≤_, _<_};
 ghost use lib.ListN.{length};
 ghost use lib.Seq.{sets};
-ghost use Rattle.wave.specs.Files.{riffRow, formatRow, factRow, dataRow, headerOf};
-use crate::fields::put_four;
-use crate::fields::put_two;
+ghost use Rattle.wave.specs.Files.{riffRow, formatRow, factRow, dataRow, headerOf, headFits};
 use crate::ids::DATA;
 use crate::ids::FACT;
 use crate::ids::FORMAT;
 use crate::ids::RIFF;
 use crate::ids::WAVE;
+use crate::stores::put_four;
+use crate::stores::put_two;
 
 fn put_riff(out: &mut [u8], bytes: u32)
     requires { ⌜ (50 + bytes < 2 ^ 32) × (58 ≤ length (now out)) ⌝ }
@@ -64,4 +64,14 @@ pub fn put_header(out: &mut [u8], rate: u32, channels: u32, samples: u32)
     put_riff(out, bytes);
     put_format(out, rate, channels);
     put_sizes(out, samples, bytes);
+}
+
+// Whether each size has room in its field, and the header in so many bytes.
+pub fn head_fits(channels: u32, samples: u32, room: usize) -> bool
+    ensures { λ r. ⌜ r ≡ headFits channels samples room ⌝ }
+{
+    if 0x3fff < channels {
+        return false;
+    }
+    (50 + 4 * (channels as u64 * samples as u64) < 0x1_0000_0000) & (58 <= room)
 }

@@ -1,24 +1,29 @@
 // Recordings as RIFF WAVE files of 32-bit floats, on bytes alone: a file is judged, its words are copied to a memory,
 // and a memory's are written to a file. It takes every list of bytes, and each public function equals a definition in
 // specs/, for every value of its arguments.
-mod chunks;
-mod fields;
+pub mod chunks;
+pub mod fields;
 mod headers;
 mod ids;
+mod stores;
 mod words;
 
 ghost use mathlib.Core.Path.{_≡_};
 ghost use Prim.Native.Nat.{_^_, _≤_, _<_};
 ghost use lib.ListN.{length};
+ghost use Rattle.wave.specs.Files.{headPut, wordPut};
 ghost use Rattle.wave.specs.Reader.{goodRiff, goodFormat, goodFact, countedOf, judgedAt, judgedOf, numberOf};
 ghost use Rattle.wave.specs.Memory.{fitsFile, writtenOf, outputOf, loads, loadedOf};
 use chunks::Met;
 use chunks::Places;
 use fields::four_at;
 use fields::two_at;
+use headers::head_fits;
 use headers::put_header;
 use ids::RIFF;
 use ids::WAVE;
+use stores::put_four;
+use words::ends_by;
 use words::fits_memory;
 use words::put_words;
 use words::take_words;
@@ -61,7 +66,7 @@ impl Judged {
     }
 }
 
-fn good_riff(file: &[u8]) -> bool
+pub fn good_riff(file: &[u8]) -> bool
     ensures { λ r. ⌜ r ≡ goodRiff (now (file .entry)) ⌝ }
 {
     let all = file.len();
@@ -216,5 +221,24 @@ pub fn load(file: &[u8], starts: Starts, memory: &mut [u32]) -> bool
                 false
             }
         }
+    }
+}
+
+// For whoever has words of another memory. The 58 bytes before the first of them, where all sizes have room; else nothing
+// is written.
+pub fn put_head(out: &mut [u8], rate: u32, channels: u32, samples: u32)
+    ensures { λ _. ⌜ now (out .exit) ≡ headPut (now (out .entry)) rate channels samples ⌝ }
+{
+    if head_fits(channels, samples, out.len()) {
+        put_header(out, rate, channels, samples);
+    }
+}
+
+// And a word from a place on, where there is room for it.
+pub fn put_word(out: &mut [u8], at: usize, word: u32)
+    ensures { λ _. ⌜ now (out .exit) ≡ wordPut (now (out .entry)) at word ⌝ }
+{
+    if ends_by(at, 4, out.len()) {
+        put_four(out, at, word);
     }
 }

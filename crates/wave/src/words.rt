@@ -12,11 +12,11 @@ ghost use Rattle.wave.specs.Memory.{fitsMemory, wordOf, framesOf, channe
 use crate::Layout;
 use crate::Starts;
 use crate::Wave;
-use crate::fields::put_four;
+use crate::stores::put_four;
 use octets::little_four;
 
-// Whether so many words from a place on end at a limit, or before it.
-fn ends_by(start: usize, words: usize, limit: usize) -> bool
+// Whether so many words, or bytes, from a place on end at a limit, or before it.
+pub fn ends_by(start: usize, words: usize, limit: usize) -> bool
     ensures { λ r. ⌜ r ≡ leb (start + words) limit ⌝ }
 {
     if limit < start {

@@ -1,39 +1,24 @@
 -- `binary32::rounded` meets its contract: what `nearest` answers is at most 2 ^ 24, and the law `ofInt-scaled` does the rest. Assumes nothing.
-use mathlib.Core.Path.{_≡_, sym, ap, ap₂, _∙_}
+use mathlib.Core.Path.{_≡_, ap, ap₂, _∙_}
 use mathlib.Core.Bool.{false}
-use Prim.Native.Nat.{ℕ, _+_, _*_, _%_, _^_, _≤_, _<_}
-use native.Mathlib.Nat.{le-trans, le-of-eq, lt-of-lt-of-le, one-mul, mod-eq-of-lt}
+use Prim.Native.Nat.{ℕ, _+_, _*_, _%_, _^_, _<_}
+use native.Mathlib.Nat.{le-trans, le-of-eq, mod-eq-of-lt}
 use native.Mathlib.Omega.{arith}
 use lib.IntN.{pos}
-use lib.Dec.{lit<}
-use lib.Pow.{pow-lt, pow-mono, shl-exact}
 use lib.Ieee.{Float, fin, binary32, isNan, mul, ofInt, ofBits}
 use lib.Ieee.Bits.{nanBits-is}
 use lib.Ieee.Nearest.{closest}
 use borrow.Author.Needs.{needs}
 use Rattle.binary32.proofs.Truth.{no}
 use Rattle.binary32.proofs.Halves.{castable, ofInt-scaled}
-use Rattle.binary32.proofs.Tops.{top-le}
+use Rattle.binary32.proofs.Tops.{unit, unit-closest, top-le}
 use Rattle.binary32.proofs.Patterns.{power-bits}
 use Rattle.binary32.proofs.rounded.Statement.{statement}
 use Rattle.binary32.proofs.rounded.Tie as tie
 
--- ---- 2 ^ d as the machine has it: a shifted 1, and a pattern
-shifted : (d : ℕ) → d < 64 → 1 * 2 ^ d % 2 ^ 64 ≡ 2 ^ d
-shifted d h = shl-exact 1 d 64 (lit< tt) (omega arith) ∙ one-mul (2 ^ d)
-
+-- 2 ^ d as a pattern
 pattern : (d : ℕ) → d < 64 → ofBits binary32 ((d + 127) * 2 ^ 23 % 2 ^ 32) ≡ fin false 1 (pos d)
 pattern d h = ap (ofBits binary32) (mod-eq-of-lt (omega arith)) ∙ power-bits binary32 d (omega arith)
-
--- ---- what `nearest` is asked, and what it answers
-unit : (d : ℕ) → 0 < d → d < 64 → (1 < 1 * 2 ^ d % 2 ^ 64) × (1 * 2 ^ d % 2 ^ 64 ≤ 2 ^ 63)
-unit d D h =
-    let e : 1 * 2 ^ d % 2 ^ 64 ≡ 2 ^ d = shifted d h in
-    let k : d ≤ 63 = omega arith in
-    (lt-of-lt-of-le (pow-lt D) (le-of-eq (sym e)), le-trans (le-of-eq e) (pow-mono k))
-
-answered : (n d r : ℕ) → d < 64 → r ≡ closest n (1 * 2 ^ d % 2 ^ 64) → r ≡ closest n (2 ^ d)
-answered n d r h e = e ∙ ap (closest n) (shifted d h)
 
 shl-nearest : tie.Need-shl-nearest
 shl-nearest c = search needs
@@ -46,7 +31,7 @@ int-to-float-result c =
     let n = c .before .before .args .n in
     let d = c .before .before .args .drop in
     let p = c .before .before .pre in
-    castable binary32 _ (le-trans (le-of-eq (answered n d _ (p .1) (c .before .nearest .ensures))) (top-le 24 n d (p .2)))
+    castable binary32 _ (le-trans (le-of-eq (unit-closest n d _ (p .1) (c .before .nearest .ensures))) (top-le 24 n d (p .2)))
 
 add-result : tie.Need-add-result
 add-result c = search needs
@@ -60,7 +45,7 @@ returns c =
     let n = c .before .before .args .n in
     let d = c .before .before .args .drop in
     let p = c .before .before .pre in
-    ap₂ (λ (q : ℕ) (x : Float). mul binary32 (ofInt binary32 (pos q)) x) (answered n d _ (p .1) (c .before .nearest .ensures)) (pattern d (p .1))
+    ap₂ (λ (q : ℕ) (x : Float). mul binary32 (ofInt binary32 (pos q)) x) (unit-closest n d _ (p .1) (c .before .nearest .ensures)) (pattern d (p .1))
     ∙ ofInt-scaled binary32 (closest n (2 ^ d)) d (top-le 24 n d (p .2))
 
 pub rounded-spec : {M : Type 1} → statement M

@@ -1,0 +1,12 @@
+-- `formats::known` meets its contract. Assumes nothing.
+use mathlib.Core.Path.{refl}
+use Rattle.wave_forms.specs.Reader.{known}
+use Rattle.wave_forms.proofs.formats.known.Statement.{statement}
+use Rattle.wave_forms.proofs.formats.known.Tie as tie
+
+returns : tie.Need-returns
+unfolding known
+returns c = refl
+
+pub known-spec : {M : Type 1} → statement M
+known-spec = tie.close (tie.spec returns)

@@ -1,0 +1,5 @@
+pub mod Values
+pub mod Reader
+pub mod Grammar
+pub mod Turns
+pub mod Promised
