@@ -1,0 +1,97 @@
+// The header of a song of format 1, and whether a track chunk is a whole track.
+use smf::chunks::HEADER_TYPE;
+use smf::events::Step;
+use smf::events::step_at;
+use smf::faults::Fault;
+use smf::faults::Reason;
+use smf::fields::four_at;
+use smf::fields::two_at;
+
+// Ticks a quarter note, how many tracks, and the place behind the header.
+pub enum Opening {
+    Is {
+        division: u32,
+        count: u32,
+        next: usize,
+    },
+    Broken(Fault),
+}
+
+fn broken(reason: Reason, at: usize) -> Opening {
+    Opening::Broken(Fault { reason, at })
+}
+
+// The header from its format on.
+fn fields(file: &[u8], size: usize) -> Opening {
+    let all = file.len();
+    if all < 10 {
+        return broken(Reason::Missing, all);
+    }
+    if two_at(file, 8) != 1 {
+        return broken(Reason::OtherFormat, 9);
+    }
+    if all < 12 {
+        return broken(Reason::Missing, all);
+    }
+    let count = two_at(file, 10);
+    if count == 0 {
+        return broken(Reason::OtherTrackCount, 11);
+    }
+    if all < 14 {
+        return broken(Reason::Missing, all);
+    }
+    let division = two_at(file, 12);
+    if 0x8000 <= division {
+        return broken(Reason::SmpteDivision, 13);
+    }
+    if division == 0 {
+        return broken(Reason::NoDivision, 13);
+    }
+    if all < 8 + size {
+        return broken(Reason::Missing, all);
+    }
+    Opening::Is {
+        division,
+        count,
+        next: 8 + size,
+    }
+}
+
+pub fn opening(file: &[u8]) -> Opening {
+    let all = file.len();
+    if all < 4 {
+        return broken(Reason::Missing, all);
+    }
+    if four_at(file, 0) != HEADER_TYPE {
+        return broken(Reason::NoHeader, 3);
+    }
+    if all < 8 {
+        return broken(Reason::Missing, all);
+    }
+    let size = four_at(file, 4) as usize;
+    if size < 6 {
+        return broken(Reason::ShortHeader, 7);
+    }
+    fields(file, size)
+}
+
+// Whether a track stands from a place to another.
+pub fn whole(file: &[u8], at: usize, end: usize) -> bool {
+    let mut place = at;
+    let mut running: u8 = 0;
+    loop {
+        match step_at(file, end, running, place) {
+            Step::Broken(_) => return false,
+            Step::End(next) => return next == end,
+            Step::Is {
+                delta: _,
+                event: _,
+                status,
+                next,
+            } => {
+                running = status;
+                place = next;
+            }
+        }
+    }
+}
