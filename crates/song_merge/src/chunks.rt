@@ -8,7 +8,7 @@ use smf::fields::four_at;
 use smf::fields::two_at;
 
 // Ticks a quarter note, how many tracks, and the place behind the header.
-pub enum Opening {
+pub enum Opened {
     Is {
         division: u32,
         count: u32,
@@ -17,12 +17,12 @@ pub enum Opening {
     Broken(Fault),
 }
 
-fn broken(reason: Reason, at: usize) -> Opening {
-    Opening::Broken(Fault { reason, at })
+fn broken(reason: Reason, at: usize) -> Opened {
+    Opened::Broken(Fault { reason, at })
 }
 
 // The header from its format on.
-fn fields(file: &[u8], size: usize) -> Opening {
+fn fields(file: &[u8], size: usize) -> Opened {
     let all = file.len();
     if all < 10 {
         return broken(Reason::Missing, all);
@@ -50,14 +50,14 @@ fn fields(file: &[u8], size: usize) -> Opening {
     if all < 8 + size {
         return broken(Reason::Missing, all);
     }
-    Opening::Is {
+    Opened::Is {
         division,
         count,
         next: 8 + size,
     }
 }
 
-pub fn opening(file: &[u8]) -> Opening {
+pub fn opening(file: &[u8]) -> Opened {
     let all = file.len();
     if all < 4 {
         return broken(Reason::Missing, all);

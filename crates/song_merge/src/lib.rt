@@ -6,7 +6,7 @@ mod cursors;
 mod merging;
 mod writing;
 
-use chunks::Opening;
+use chunks::Opened;
 use chunks::opening;
 use merging::Gathered;
 use merging::gather;
@@ -26,11 +26,11 @@ fn refused(number: u8) -> Merged {
 // Both lists are overwritten. What they hold is promised with 0 only, of the first `length` bytes of `out`.
 pub fn merge(file: &[u8], spare: &mut [u8], out: &mut [u8]) -> Merged {
     match opening(file) {
-        Opening::Broken(fault) => {
+        Opened::Broken(fault) => {
             let reason = fault.reason;
             refused(refusal(reason))
         }
-        Opening::Is {
+        Opened::Is {
             division,
             count,
             next,

@@ -47,7 +47,14 @@ pub fn join(a: &[u8], a_end: usize, file: &[u8], at: usize, end: usize, out: &mu
 
 // The track that stands in `out` from 22 to `end` and one of the file, in one that stands there: the place behind it,
 // or 0 where it has no room.
-fn with_track(file: &[u8], at: usize, full: usize, spare: &mut [u8], out: &mut [u8], end: usize) -> usize {
+fn with_track(
+    file: &[u8],
+    at: usize,
+    full: usize,
+    spare: &mut [u8],
+    out: &mut [u8],
+    end: usize,
+) -> usize {
     if end == 0 {
         return 0;
     }

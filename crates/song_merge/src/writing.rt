@@ -1,13 +1,19 @@
 // Bytes of a song of format 0.
+ghost use mathlib.Core.Path.{_≡_};
+ghost use Prim.Native.Nat.{_+_, _-_, _^_, _≤_, _<_};
+ghost use lib.ListN.{length};
+ghost use lib.Seq.{sets};
+ghost use Rattle.octets.specs.Octets.{bytesAt};
+ghost use Rattle.song_merge.specs.Written.{deltaBytes, eventBytes, endBytes, headingBytes};
 use crate::cursors::Cursor;
 use octets::byte_at;
 
-const HEADER_TYPE: u32 = 0x4d54_6864;
-
-const TRACK_TYPE: u32 = 0x4d54_726b;
-
 // A delta-time in as few bytes as it has room in.
-pub fn put_delta(out: &mut [u8], at: usize, n: u32) -> usize {
+pub fn put_delta(out: &mut [u8], at: usize, n: u32) -> usize
+    requires { ⌜ (n < 2 ^ 28) × (at + 4 ≤ length (now out)) ⌝ }
+    ensures { λ r. ⌜ r ≡ at + length (deltaBytes n) ⌝ }
+    ensures { λ r. ⌜ now (out .exit) ≡ sets (now (out .entry)) at (deltaBytes n) ⌝ }
+{
     if n < 128 {
         out[at] = n as u8;
         return at + 1;
@@ -18,19 +24,22 @@ pub fn put_delta(out: &mut [u8], at: usize, n: u32) -> usize {
         return at + 2;
     }
     if n < 2097152 {
-        out[at] = (128 + n / 16384) as u8;
+        out[at] = (128 + n / 128 / 128) as u8;
         out[at + 1] = (128 + n / 128 % 128) as u8;
         out[at + 2] = (n % 128) as u8;
         return at + 3;
     }
-    out[at] = (128 + n / 2097152) as u8;
-    out[at + 1] = (128 + n / 16384 % 128) as u8;
+    out[at] = (128 + n / 128 / 128 / 128) as u8;
+    out[at + 1] = (128 + n / 128 / 128 % 128) as u8;
     out[at + 2] = (128 + n / 128 % 128) as u8;
     out[at + 3] = (n % 128) as u8;
     at + 4
 }
 
-pub fn copy(list: &[u8], from: usize, size: usize, out: &mut [u8], at: usize) {
+pub fn copy(list: &[u8], from: usize, size: usize, out: &mut [u8], at: usize)
+    requires { ⌜ (from + size < 2 ^ 64) × (at + size ≤ length (now out)) ⌝ }
+    ensures { λ _. ⌜ now (out .exit) ≡ sets (now (out .entry)) at (bytesAt size (now (list .entry)) from) ⌝ }
+{
     let mut i: usize = 0;
     while i < size {
         out[at + i] = byte_at(list, from + i);
@@ -39,7 +48,11 @@ pub fn copy(list: &[u8], from: usize, size: usize, out: &mut [u8], at: usize) {
 }
 
 // The event before which a cursor stands, with its status byte.
-pub fn put_event(list: &[u8], c: Cursor, out: &mut [u8], at: usize) -> usize {
+pub fn put_event(list: &[u8], c: Cursor, out: &mut [u8], at: usize) -> usize
+    requires { ⌜ (c .wait < 2 ^ 28) × (c .from ≤ c .next) × (at + 5 + (c .next - c .from) ≤ length (now out)) ⌝ }
+    ensures { λ r. ⌜ r ≡ at + length (eventBytes (now (list .entry)) c) ⌝ }
+    ensures { λ r. ⌜ now (out .exit) ≡ sets (now (out .entry)) at (eventBytes (now (list .entry)) c) ⌝ }
+{
     let from = c.from;
     let size = c.next - c.from;
     let mut place = put_delta(out, at, c.wait);
@@ -52,7 +65,11 @@ pub fn put_event(list: &[u8], c: Cursor, out: &mut [u8], at: usize) -> usize {
 }
 
 // End of Track.
-pub fn put_end(out: &mut [u8], at: usize, wait: u32) -> usize {
+pub fn put_end(out: &mut [u8], at: usize, wait: u32) -> usize
+    requires { ⌜ (wait < 2 ^ 28) × (at + 7 ≤ length (now out)) ⌝ }
+    ensures { λ r. ⌜ r ≡ at + length (endBytes wait) ⌝ }
+    ensures { λ r. ⌜ now (out .exit) ≡ sets (now (out .entry)) at (endBytes wait) ⌝ }
+{
     let place = put_delta(out, at, wait);
     out[place] = 0xff;
     out[place + 1] = 0x2f;
@@ -60,20 +77,35 @@ pub fn put_end(out: &mut [u8], at: usize, wait: u32) -> usize {
     place + 3
 }
 
-fn put_four(out: &mut [u8], at: usize, n: u32) {
-    out[at] = (n / 16777216) as u8;
-    out[at + 1] = (n / 65536 % 256) as u8;
-    out[at + 2] = (n / 256 % 256) as u8;
-    out[at + 3] = (n % 256) as u8;
-}
-
-// All that stands before the events of a track of so many bytes.
-pub fn put_heading(out: &mut [u8], division: u32, size: u32) {
-    put_four(out, 0, HEADER_TYPE);
-    put_four(out, 4, 6);
-    put_four(out, 8, 1);
-    out[12] = (division / 256) as u8;
-    out[13] = (division % 256) as u8;
-    put_four(out, 14, TRACK_TYPE);
-    put_four(out, 18, size);
+// All that stands before the events of a track of so many bytes: `MThd`, six bytes, format 0 with one track, the
+// division, `MTrk` and the size.
+pub fn put_heading(out: &mut [u8], division: u32, size: u32)
+    requires { ⌜ (division < 2 ^ 16) × (22 ≤ length (now out)) ⌝ }
+    ensures { λ _. ⌜ now (out .exit) ≡ sets (now (out .entry)) 0 (headingBytes division size) ⌝ }
+{
+    let heading = [
+        0x4d,
+        0x54,
+        0x68,
+        0x64,
+        0,
+        0,
+        0,
+        6,
+        0,
+        0,
+        0,
+        1,
+        (division / 256) as u8,
+        (division % 256) as u8,
+        0x4d,
+        0x54,
+        0x72,
+        0x6b,
+        (size / 16777216) as u8,
+        (size / 65536 % 256) as u8,
+        (size / 256 % 256) as u8,
+        (size % 256) as u8,
+    ];
+    copy(&heading, 0, 22, out, 0);
 }

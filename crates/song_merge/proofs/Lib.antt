@@ -1,0 +1,4 @@
+pub mod Bytes
+pub mod Deltas
+pub mod Merges
+pub mod Looks

@@ -1,0 +1,20 @@
+use borrow.Author.Needs.{needs}
+use Rattle.song_merge.proofs.cursors.waited.Statement.{statement}
+use Rattle.song_merge.proofs.cursors.waited.Tie as tie
+use Rattle.song_merge.proofs.cursors.waited.Reads as reads
+use Rattle.song_merge.proofs.cursors.waited.Lts as lts
+
+-- src/cursors.rt:86:35
+sub-t8 : tie.Need-sub-t8
+sub-t8 c = search needs
+
+-- src/cursors.rt:74:1
+returns : tie.Need-returns
+returns c = search needs
+
+-- src/cursors.rt:74:1
+returns-2 : tie.Need-returns-2
+returns-2 c = ?
+
+pub waited-spec : {M : Type 1} → statement M
+waited-spec = tie.close (tie.spec sub-t8 returns returns-2)

@@ -1,0 +1,4 @@
+pub mod Songs
+pub mod Merges
+pub mod Written
+pub mod Standing
