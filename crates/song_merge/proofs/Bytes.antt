@@ -81,3 +81,17 @@ copy-more f l at from i =
     ap (λ (n : ℕ). set (sets l at (bytesAt i f from)) (at + n) (byteAt f (from + i))) (sym long)
     ∙ run-append l (bytesAt i f from) (byteAt f (from + i) ∷ []) at
     ∙ ap (sets l at) (sym (bytes-more f i from) ∙ ap (λ (n : ℕ). bytesAt n f from) (sym (add-one i)))
+
+-- one run of stores behind another
+pub behind : (l xs ys : List ℕ) (at r : ℕ) {x y : List ℕ} → r ≡ at + length xs → x ≡ sets l at xs → y ≡ sets x r ys → y ≡ sets l at (xs ++ ys)
+behind l xs ys at r e f g = g ∙ rw (f, e) (run-append l xs ys at)
+
+pub sets-long : {x : List ℕ} (l vs : List ℕ) (i : ℕ) → x ≡ sets l i vs → length x ≡ length l
+sets-long l vs i e = ap length e ∙ length-sets l i vs
+
+-- three stores
+pub three : (l : List ℕ) (r a b d : ℕ) → set (set (set l r a) (r + 1) b) (r + 2) d ≡ sets l r (a ∷ b ∷ d ∷ [])
+three l r a b d =
+    let one-more : r + 1 ≡ suc r = omega arith in
+    let two-more : r + 2 ≡ suc (suc r) = omega arith in
+    rw (one-more, two-more)

@@ -98,6 +98,12 @@ module _ (n : ℕ) where
         let k : 16384 ≤ n = omega arith in
         (simp (le-ltb _ _ g, le-ltb _ _ k, le-ltb _ _ h), simp (le-ltb _ _ g, le-ltb _ _ k, le-ltb _ _ h, one-more, two-more, three-more))
 
+-- a shorter wait takes no more bytes
+pub shrinks : (m n : ℕ) → m ≤ n → length (deltaBytes m) ≤ length (deltaBytes n)
+shrinks m n h =
+    by-size n (λ (l : List ℕ). length (deltaBytes m) ≤ length l)
+    (λ k. long-1 m (omega arith)) (λ _ k. long-2 m (omega arith)) (λ _ k. long-3 m (omega arith)) (λ k. long-4 m)
+
 -- ---- one that stands in a list of bytes
 module _ (f : List ℕ) (octets : Octets f) where
   pub digits-small : {bytes : List ℕ} {n : ℕ} → Quantity bytes n → (at mid : ℕ) → From f at bytes mid → n < 2 ^ 28

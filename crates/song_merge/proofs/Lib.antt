@@ -2,3 +2,5 @@ pub mod Bytes
 pub mod Deltas
 pub mod Merges
 pub mod Looks
+pub mod Events
+pub mod Joins

@@ -1,4 +1,11 @@
 // The header of a song of format 1, and whether a track chunk is a whole track.
+ghost use mathlib.Core.Path.{_≡_};
+ghost use Prim.Native.Nat.{_^_, _≤_, _<_};
+ghost use lib.ListN.{length};
+ghost use Rattle.smf.specs.Faults.{faultAt};
+ghost use Rattle.song_merge.specs.declared.chunks.Opened.the-variants.{Broken};
+ghost use Rattle.song_merge.specs.Headings.{fieldsOf, openingOf};
+ghost use Rattle.song_merge.specs.Standing.{Whole};
 use smf::chunks::HEADER_TYPE;
 use smf::events::Step;
 use smf::events::step_at;
@@ -17,12 +24,17 @@ pub enum Opened {
     Broken(Fault),
 }
 
-fn broken(reason: Reason, at: usize) -> Opened {
+fn broken(reason: Reason, at: usize) -> Opened
+    ensures { λ r. ⌜ r ≡ Broken (faultAt reason at) ⌝ }
+{
     Opened::Broken(Fault { reason, at })
 }
 
 // The header from its format on.
-fn fields(file: &[u8], size: usize) -> Opened {
+fn fields(file: &[u8], size: usize) -> Opened
+    requires { ⌜ size < 2 ^ 32 ⌝ }
+    ensures { λ r. ⌜ r ≡ fieldsOf (now (file .entry)) size ⌝ }
+{
     let all = file.len();
     if all < 10 {
         return broken(Reason::Missing, all);
@@ -57,7 +69,9 @@ fn fields(file: &[u8], size: usize) -> Opened {
     }
 }
 
-pub fn opening(file: &[u8]) -> Opened {
+pub fn opening(file: &[u8]) -> Opened
+    ensures { λ r. ⌜ r ≡ openingOf (now (file .entry)) ⌝ }
+{
     let all = file.len();
     if all < 4 {
         return broken(Reason::Missing, all);
@@ -76,7 +90,10 @@ pub fn opening(file: &[u8]) -> Opened {
 }
 
 // Whether a track stands from a place to another.
-pub fn whole(file: &[u8], at: usize, end: usize) -> bool {
+pub fn whole(file: &[u8], at: usize, end: usize) -> bool
+    requires { ⌜ (at ≤ end) × (end ≤ length (now file)) ⌝ }
+    ensures { λ r. ⌜ Whole (now (file .entry)) at end r ⌝ }
+{
     let mut place = at;
     let mut running: u8 = 0;
     loop {

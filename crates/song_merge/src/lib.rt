@@ -6,6 +6,9 @@ mod cursors;
 mod merging;
 mod writing;
 
+ghost use mathlib.Core.Path.{_≡_};
+ghost use lib.ListN.{length};
+ghost use Rattle.song_merge.specs.Answers.{Answers};
 use chunks::Opened;
 use chunks::opening;
 use merging::Gathered;
@@ -19,12 +22,16 @@ pub struct Merged {
     pub number: u8,
 }
 
-fn refused(number: u8) -> Merged {
+fn refused(number: u8) -> Merged
+    ensures { λ r. ⌜ r ≡ record { length = 0; number = number } ⌝ }
+{
     Merged { length: 0, number }
 }
 
 // Both lists are overwritten. What they hold is promised with 0 only, of the first `length` bytes of `out`.
-pub fn merge(file: &[u8], spare: &mut [u8], out: &mut [u8]) -> Merged {
+pub fn merge(file: &[u8], spare: &mut [u8], out: &mut [u8]) -> Merged
+    ensures { λ r. ⌜ Answers (now (file .entry)) (length (now (spare .entry))) (now (out .exit)) r ⌝ }
+{
     match opening(file) {
         Opened::Broken(fault) => {
             let reason = fault.reason;

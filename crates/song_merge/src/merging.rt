@@ -1,4 +1,8 @@
 // Two tracks in one, and so all tracks of a song.
+ghost use mathlib.Core.Path.{_≡_};
+ghost use Prim.Native.Nat.{_≤_, _<_, max};
+ghost use lib.ListN.{length};
+ghost use Rattle.song_merge.specs.Gathers.{Joined, Grown, Started, closedOf, Gathers};
 use crate::chunks::whole;
 use crate::cursors::goes_first;
 use crate::cursors::look;
@@ -10,13 +14,18 @@ use smf::chunks::Found;
 use smf::chunks::track_at;
 use smf::fields::four_at;
 
-fn larger(a: u32, b: u32) -> u32 {
+fn larger(a: u32, b: u32) -> u32
+    ensures { λ r. ⌜ r ≡ max a b ⌝ }
+{
     if a < b { b } else { a }
 }
 
 // A track of `a` from 22 to `a_end`, and one of the file from a place to another, in one that stands at the front of
 // `out`: the place behind it, or 0 where it has no room. An event takes five bytes more than it has at most.
-pub fn join(a: &[u8], a_end: usize, file: &[u8], at: usize, end: usize, out: &mut [u8]) -> usize {
+pub fn join(a: &[u8], a_end: usize, file: &[u8], at: usize, end: usize, out: &mut [u8]) -> usize
+    requires { ⌜ («a_end» ≤ length (now a)) × (end ≤ length (now file)) ⌝ }
+    ensures { λ r. ⌜ Joined (now (a .entry)) «a_end» (now (file .entry)) at end (now (out .exit)) r ⌝ }
+{
     let room = out.len();
     let mut x = look(a, a_end, 0, 22);
     let mut y = look(file, end, 0, at);
@@ -76,7 +85,9 @@ pub enum Gathered {
     Broken,
 }
 
-fn start(out: &mut [u8]) -> usize {
+fn start(out: &mut [u8]) -> usize
+    ensures { λ r. ⌜ Started (now (out .exit)) r ⌝ }
+{
     if out.len() < 29 {
         return 0;
     }
@@ -84,7 +95,9 @@ fn start(out: &mut [u8]) -> usize {
 }
 
 // Behind the last track no other stands, and the merged one is short enough for a chunk.
-fn closed(found: Found, end: usize) -> Gathered {
+fn closed(found: Found, end: usize) -> Gathered
+    ensures { λ r. ⌜ r ≡ closedOf found end ⌝ }
+{
     match found {
         Found::Nothing => {
             if end == 0 {
@@ -101,7 +114,10 @@ fn closed(found: Found, end: usize) -> Gathered {
 }
 
 // So many tracks of the file from a place on.
-pub fn gather(file: &[u8], count: u32, at: usize, spare: &mut [u8], out: &mut [u8]) -> Gathered {
+pub fn gather(file: &[u8], count: u32, at: usize, spare: &mut [u8], out: &mut [u8]) -> Gathered
+    requires { ⌜ at ≤ length (now file) ⌝ }
+    ensures { λ r. ⌜ Gathers (now (file .entry)) count at (length (now (spare .entry))) (now (out .exit)) r ⌝ }
+{
     let all = file.len();
     let mut place = at;
     let mut end = start(out);

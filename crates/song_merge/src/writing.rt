@@ -4,7 +4,7 @@ ghost use Prim.Native.Nat.{_+_, _-_, _^_, _≤_, _<_};
 ghost use lib.ListN.{length};
 ghost use lib.Seq.{sets};
 ghost use Rattle.octets.specs.Octets.{bytesAt};
-ghost use Rattle.song_merge.specs.Written.{deltaBytes, eventBytes, endBytes, headingBytes};
+ghost use Rattle.song_merge.specs.Written.{deltaBytes, toldOf, eventBytes, endBytes, headingBytes};
 use crate::cursors::Cursor;
 use octets::byte_at;
 
@@ -48,20 +48,29 @@ pub fn copy(list: &[u8], from: usize, size: usize, out: &mut [u8], at: usize)
 }
 
 // The event before which a cursor stands, with its status byte.
+fn put_told(list: &[u8], c: Cursor, out: &mut [u8], at: usize) -> usize
+    requires { ⌜ (c .from ≤ c .next) × (at + 1 + (c .next - c .from) ≤ length (now out)) ⌝ }
+    ensures { λ r. ⌜ r ≡ at + length (toldOf (now (list .entry)) c) ⌝ }
+    ensures { λ r. ⌜ now (out .exit) ≡ sets (now (out .entry)) at (toldOf (now (list .entry)) c) ⌝ }
+{
+    let from = c.from;
+    let size = c.next - c.from;
+    if byte_at(list, from) < 128 {
+        out[at] = c.before;
+        copy(list, from, size, out, at + 1);
+        return at + 1 + size;
+    }
+    copy(list, from, size, out, at);
+    at + size
+}
+
 pub fn put_event(list: &[u8], c: Cursor, out: &mut [u8], at: usize) -> usize
     requires { ⌜ (c .wait < 2 ^ 28) × (c .from ≤ c .next) × (at + 5 + (c .next - c .from) ≤ length (now out)) ⌝ }
     ensures { λ r. ⌜ r ≡ at + length (eventBytes (now (list .entry)) c) ⌝ }
     ensures { λ r. ⌜ now (out .exit) ≡ sets (now (out .entry)) at (eventBytes (now (list .entry)) c) ⌝ }
 {
-    let from = c.from;
-    let size = c.next - c.from;
-    let mut place = put_delta(out, at, c.wait);
-    if byte_at(list, from) < 128 {
-        out[place] = c.before;
-        place += 1;
-    }
-    copy(list, from, size, out, place);
-    place + size
+    let place = put_delta(out, at, c.wait);
+    put_told(list, c, out, place)
 }
 
 // End of Track.

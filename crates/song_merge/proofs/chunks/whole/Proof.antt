@@ -10,39 +10,39 @@ Inv-loop file at end place₀ running₀ place running = ?
 abbrev μ-loop : tie.MeasureT-loop
 μ-loop file at end place₀ running₀ place running = ?
 
--- src/chunks.rt:82:5
+-- src/chunks.rt:99:5
 loop-holds : tie.Need-loop-holds Inv-loop μ-loop
 loop-holds c = ?
 
--- src/chunks.rt:83:15
+-- src/chunks.rt:100:15
 step-at-requires : tie.Need-step-at-requires Inv-loop μ-loop
 step-at-requires c κs = ?
 
--- src/chunks.rt:84:32
+-- src/chunks.rt:101:32
 enum-told : tie.Need-enum-told Inv-loop μ-loop
 enum-told c = ?
 
--- src/chunks.rt:84:32
+-- src/chunks.rt:101:32
 returns : tie.Need-returns Inv-loop μ-loop
 returns c = ?
 
--- src/chunks.rt:85:23
+-- src/chunks.rt:102:23
 enum-known-next : tie.Need-enum-known-next Inv-loop μ-loop
 enum-known-next c = ?
 
--- src/chunks.rt:85:32
+-- src/chunks.rt:102:32
 returns-2 : tie.Need-returns-2 Inv-loop μ-loop
 returns-2 c = ?
 
--- src/chunks.rt:89:17
+-- src/chunks.rt:106:17
 enum-known-status : tie.Need-enum-known-status Inv-loop μ-loop
 enum-known-status c = ?
 
--- src/chunks.rt:82:5
+-- src/chunks.rt:99:5
 loop-less : tie.Need-loop-less Inv-loop μ-loop
 loop-less c = ?
 
--- src/chunks.rt:82:5
+-- src/chunks.rt:99:5
 loop-again : tie.Need-loop-again Inv-loop μ-loop
 loop-again c = ?
 

@@ -1,3 +1,7 @@
+use mathlib.Core.Path.{_≡_, sym, ap, _∙_}
+use native.Mathlib.Omega.{arith}
+use Rattle.smf.specs.Events.{eventAt}
+use Rattle.song_merge.proofs.Looks.{lookRead, lookQuantity, shown}
 use borrow.Author.Needs.{needs}
 use Rattle.song_merge.proofs.cursors.look.Statement.{statement}
 use Rattle.song_merge.proofs.cursors.look.Tie as tie
@@ -49,19 +53,30 @@ enum-known-status c = search needs
 
 -- src/cursors.rt:46:1
 returns : tie.Need-returns
-returns c = ?
+returns c = let a = c .before .before .before .before .before .args in
+    shown (a .list .now) (λ i. omega (arith, c .before .before .before .before .shared-slice-known .given i)) (a .end) (a .running) (a .at) _
+    (ap (lookQuantity (a .list .now) (a .end) (a .running) (a .at)) (sym (c .before .before .before .quantity-at .ensures) ∙ c .before .enum-told .given .1) ∙ sym (c .over .ensures))
 
 -- src/cursors.rt:46:1
 returns-2 : tie.Need-returns-2
-returns-2 c = ?
+returns-2 c = let a = c .before .before .before .before .before .before .before .before .before .args in
+    shown (a .list .now) (λ i. omega (arith, c .before .before .before .before .before .before .before .before .shared-slice-known .given i)) (a .end) (a .running) (a .at) _
+    (ap (lookQuantity (a .list .now) (a .end) (a .running) (a .at)) (sym (c .before .before .before .before .before .before .before .quantity-at .ensures) ∙ c .before .before .before .before .before .value .given .1)
+    ∙ ap (lookRead (a .running) (a .at) _ _) (sym (c .before .before .before .event-at .ensures) ∙ c .before .enum-told2 .given .1) ∙ sym (c .over2 .ensures))
 
 -- src/cursors.rt:46:1
 returns-3 : tie.Need-returns-3
-returns-3 c = ?
+returns-3 c = let a = c .before .before .before .before .before .before .before .before .before .args in
+    shown (a .list .now) (λ i. omega (arith, c .before .before .before .before .before .before .before .before .shared-slice-known .given i)) (a .end) (a .running) (a .at) _
+    (ap (lookQuantity (a .list .now) (a .end) (a .running) (a .at)) (sym (c .before .before .before .before .before .before .before .quantity-at .ensures) ∙ c .before .before .before .before .before .value .given .1)
+    ∙ ap (lookRead (a .running) (a .at) _ _) (sym (c .before .before .before .event-at .ensures) ∙ c .before .enum-told3 .given .1) ∙ sym (c .over3 .ensures))
 
 -- src/cursors.rt:46:1
 returns-4 : tie.Need-returns-4
-returns-4 c = ?
+returns-4 c = let a = c .before .before .before .before .before .before .before .before .before .args in
+    shown (a .list .now) (λ i. omega (arith, c .before .before .before .before .before .before .before .before .shared-slice-known .given i)) (a .end) (a .running) (a .at) _
+    (ap (lookQuantity (a .list .now) (a .end) (a .running) (a .at)) (sym (c .before .before .before .before .before .before .before .quantity-at .ensures) ∙ c .before .before .before .before .before .value .given .1)
+    ∙ ap (lookRead (a .running) (a .at) _ _) (sym (c .before .before .before .event-at .ensures) ∙ c .before .status .given .1))
 
 pub look-spec : {M : Type 1} → statement M
 look-spec =

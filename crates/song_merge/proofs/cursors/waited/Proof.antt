@@ -1,3 +1,6 @@
+use mathlib.Core.Path.{_≡_}
+use Prim.Native.Nat.{_-_}
+use native.Mathlib.Omega.{arith}
 use borrow.Author.Needs.{needs}
 use Rattle.song_merge.proofs.cursors.waited.Statement.{statement}
 use Rattle.song_merge.proofs.cursors.waited.Tie as tie
@@ -14,7 +17,7 @@ returns c = search needs
 
 -- src/cursors.rt:74:1
 returns-2 : tie.Need-returns-2
-returns-2 c = ?
+returns-2 c = let e : c .before .args .c .wait - c .before .args .ticks ≡ 0 = omega arith in rw e
 
 pub waited-spec : {M : Type 1} → statement M
 waited-spec = tie.close (tie.spec sub-t8 returns returns-2)

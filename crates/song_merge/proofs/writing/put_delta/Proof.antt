@@ -1,3 +1,6 @@
+use native.Mathlib.Omega.{arith}
+use lib.ListN.{length-set}
+use Rattle.song_merge.proofs.Deltas.{stored-1, stored-2, stored-3, stored-4}
 use borrow.Author.Needs.{needs}
 use Rattle.song_merge.proofs.writing.put_delta.Statement.{statement}
 use Rattle.song_merge.proofs.writing.put_delta.Tie as tie
@@ -22,7 +25,7 @@ same-length c = search needs
 
 -- src/writing.rt:19:9
 returns : tie.Need-returns
-returns c = ?
+returns c = stored-1 (c .before .args .n) (c .before .args .out .now) (c .before .args .at) (omega arith)
 
 -- src/writing.rt:22:20
 add-out : tie.Need-add-out
@@ -46,7 +49,7 @@ add-out-2 c = search needs
 
 -- src/writing.rt:23:9
 slice-write-out-3 : tie.Need-slice-write-out-3
-slice-write-out-3 c = ?
+slice-write-out-3 c = simp length-set (omega arith)
 
 -- src/writing.rt:24:16
 add-result-2 : tie.Need-add-result-2
@@ -58,7 +61,7 @@ same-length-2 c = search needs
 
 -- src/writing.rt:24:9
 returns-2 : tie.Need-returns-2
-returns-2 c = ?
+returns-2 c = stored-2 (c .before .before .args .n) (c .before .before .args .out .now) (c .before .before .args .at) (omega arith) (omega arith)
 
 -- src/writing.rt:27:20
 add-out-3 : tie.Need-add-out-3
@@ -86,7 +89,7 @@ add-out-5 c = search needs
 
 -- src/writing.rt:28:9
 slice-write-out-5 : tie.Need-slice-write-out-5
-slice-write-out-5 c = ?
+slice-write-out-5 c = simp length-set (omega arith)
 
 -- src/writing.rt:29:23
 cast-out-6 : tie.Need-cast-out-6
@@ -98,7 +101,7 @@ add-out-6 c = search needs
 
 -- src/writing.rt:29:9
 slice-write-out-6 : tie.Need-slice-write-out-6
-slice-write-out-6 c = ?
+slice-write-out-6 c = simp length-set (omega arith)
 
 -- src/writing.rt:30:16
 add-result-3 : tie.Need-add-result-3
@@ -110,7 +113,7 @@ same-length-3 c = search needs
 
 -- src/writing.rt:30:9
 returns-3 : tie.Need-returns-3
-returns-3 c = ?
+returns-3 c = stored-3 (c .before .before .before .args .n) (c .before .before .before .args .out .now) (c .before .before .before .args .at) (omega arith) (omega arith)
 
 -- src/writing.rt:32:16
 add-out-7 : tie.Need-add-out-7
@@ -138,7 +141,7 @@ add-out-9 c = search needs
 
 -- src/writing.rt:33:5
 slice-write-out-8 : tie.Need-slice-write-out-8
-slice-write-out-8 c = ?
+slice-write-out-8 c = simp length-set (omega arith)
 
 -- src/writing.rt:34:20
 add-out-10 : tie.Need-add-out-10
@@ -154,7 +157,7 @@ add-out-11 c = search needs
 
 -- src/writing.rt:34:5
 slice-write-out-9 : tie.Need-slice-write-out-9
-slice-write-out-9 c = ?
+slice-write-out-9 c = simp length-set (omega arith)
 
 -- src/writing.rt:35:19
 cast-out-10 : tie.Need-cast-out-10
@@ -166,7 +169,7 @@ add-out-12 c = search needs
 
 -- src/writing.rt:35:5
 slice-write-out-10 : tie.Need-slice-write-out-10
-slice-write-out-10 c = ?
+slice-write-out-10 c = simp length-set (omega arith)
 
 -- src/writing.rt:36:5
 add-result-4 : tie.Need-add-result-4
@@ -178,7 +181,7 @@ same-length-4 c = search needs
 
 -- src/writing.rt:12:1
 returns-4 : tie.Need-returns-4
-returns-4 c = ?
+returns-4 c = stored-4 (c .before .before .before .args .n) (c .before .before .before .args .out .now) (c .before .before .before .args .at) (omega arith)
 
 pub put-delta-spec : {M : Type 1} → statement M
 put-delta-spec =

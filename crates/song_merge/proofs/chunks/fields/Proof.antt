@@ -1,0 +1,122 @@
+use borrow.Author.Needs.{needs}
+use Rattle.song_merge.proofs.chunks.fields.Statement.{statement}
+use Rattle.song_merge.proofs.chunks.fields.Tie as tie
+use Rattle.song_merge.proofs.chunks.fields.Reads as reads
+use Rattle.song_merge.proofs.chunks.fields.Lts as lts
+use Rattle.smf.proofs.fields.two_at.Reads as two-at-reads
+use Rattle.song_merge.proofs.chunks.broken.Reads as broken-reads
+
+-- src/chunks.rt:40:9
+broken-requires : tie.Need-broken-requires
+broken-requires c κs = search needs
+
+-- src/chunks.rt:40:9
+returns : tie.Need-returns
+returns c = ?
+
+-- src/chunks.rt:42:8
+two-at-requires : tie.Need-two-at-requires
+two-at-requires c κs = search needs
+
+-- src/chunks.rt:43:9
+broken-requires-2 : tie.Need-broken-requires-2
+broken-requires-2 c κs = search needs
+
+-- src/chunks.rt:43:9
+returns-2 : tie.Need-returns-2
+returns-2 c = ?
+
+-- src/chunks.rt:46:9
+broken-requires-3 : tie.Need-broken-requires-3
+broken-requires-3 c κs = search needs
+
+-- src/chunks.rt:46:9
+returns-3 : tie.Need-returns-3
+returns-3 c = ?
+
+-- src/chunks.rt:48:9
+two-at-requires-2 : tie.Need-two-at-requires-2
+two-at-requires-2 c κs = search needs
+
+-- src/chunks.rt:50:9
+broken-requires-4 : tie.Need-broken-requires-4
+broken-requires-4 c κs = search needs
+
+-- src/chunks.rt:50:9
+returns-4 : tie.Need-returns-4
+returns-4 c = ?
+
+-- src/chunks.rt:53:9
+broken-requires-5 : tie.Need-broken-requires-5
+broken-requires-5 c κs = search needs
+
+-- src/chunks.rt:53:9
+returns-5 : tie.Need-returns-5
+returns-5 c = ?
+
+-- src/chunks.rt:55:9
+two-at-requires-3 : tie.Need-two-at-requires-3
+two-at-requires-3 c κs = search needs
+
+-- src/chunks.rt:57:9
+broken-requires-6 : tie.Need-broken-requires-6
+broken-requires-6 c κs = search needs
+
+-- src/chunks.rt:57:9
+returns-6 : tie.Need-returns-6
+returns-6 c = ?
+
+-- src/chunks.rt:60:9
+broken-requires-7 : tie.Need-broken-requires-7
+broken-requires-7 c κs = search needs
+
+-- src/chunks.rt:60:9
+returns-7 : tie.Need-returns-7
+returns-7 c = ?
+
+-- src/chunks.rt:62:14
+add-if8 : tie.Need-add-if8
+add-if8 c = search needs
+
+-- src/chunks.rt:63:9
+broken-requires-8 : tie.Need-broken-requires-8
+broken-requires-8 c κs = search needs
+
+-- src/chunks.rt:63:9
+returns-8 : tie.Need-returns-8
+returns-8 c = ?
+
+-- src/chunks.rt:68:15
+add-t15 : tie.Need-add-t15
+add-t15 c = search needs
+
+-- src/chunks.rt:34:1
+returns-9 : tie.Need-returns-9
+returns-9 c = ?
+
+pub fields-spec : {M : Type 1} → statement M
+fields-spec =
+    tie.close
+    (tie.spec
+    broken-requires
+    returns
+    two-at-requires
+    broken-requires-2
+    returns-2
+    broken-requires-3
+    returns-3
+    two-at-requires-2
+    broken-requires-4
+    returns-4
+    broken-requires-5
+    returns-5
+    two-at-requires-3
+    broken-requires-6
+    returns-6
+    broken-requires-7
+    returns-7
+    add-if8
+    broken-requires-8
+    returns-8
+    add-t15
+    returns-9)

@@ -1,0 +1,178 @@
+use Rattle.song_merge.proofs.merging.join.Statement.{statement}
+use Rattle.song_merge.proofs.merging.join.Tie as tie
+use Rattle.song_merge.proofs.merging.join.Reads as reads
+use Rattle.song_merge.proofs.merging.join.Lts as lts
+use Rattle.song_merge.proofs.cursors.goes_first.Reads as goes-first-reads
+use Rattle.song_merge.proofs.cursors.look.Reads as look-reads
+use Rattle.song_merge.proofs.cursors.waited.Reads as waited-reads
+use Rattle.song_merge.proofs.merging.larger.Reads as larger-reads
+use Rattle.song_merge.proofs.writing.put_end.Reads as put-end-reads
+use Rattle.song_merge.proofs.writing.put_event.Reads as put-event-reads
+
+abbrev Inv-loop : tie.InvT-loop
+Inv-loop a a-end file at end out₀ room x₀ y₀ w₀ out x y w = ?
+
+abbrev μ-loop : tie.MeasureT-loop
+μ-loop a a-end file at end out₀ room x₀ y₀ w₀ out x y w = ?
+
+-- src/merging.rt:30:9
+look-requires : tie.Need-look-requires Inv-loop μ-loop
+look-requires c κs = ?
+
+-- src/merging.rt:31:9
+look-requires-2 : tie.Need-look-requires-2 Inv-loop μ-loop
+look-requires-2 c κs = ?
+
+-- src/merging.rt:33:5
+loop-holds : tie.Need-loop-holds Inv-loop μ-loop
+loop-holds c = ?
+
+-- src/merging.rt:34:12
+goes-first-requires : tie.Need-goes-first-requires Inv-loop μ-loop
+goes-first-requires c κs = ?
+
+-- src/merging.rt:35:16
+sub-if2 : tie.Need-sub-if2 Inv-loop μ-loop
+sub-if2 c = ?
+
+-- src/merging.rt:35:32
+sub-if2-2 : tie.Need-sub-if2-2 Inv-loop μ-loop
+sub-if2-2 c = ?
+
+-- src/merging.rt:35:27
+add-if2 : tie.Need-add-if2 Inv-loop μ-loop
+add-if2 c = ?
+
+-- src/merging.rt:36:17
+same-length : tie.Need-same-length Inv-loop μ-loop
+same-length c = ?
+
+-- src/merging.rt:36:17
+returns : tie.Need-returns Inv-loop μ-loop
+returns c = ?
+
+-- src/merging.rt:38:13
+put-event-requires : tie.Need-put-event-requires Inv-loop μ-loop
+put-event-requires c κs = ?
+
+-- src/merging.rt:39:13
+waited-requires : tie.Need-waited-requires Inv-loop μ-loop
+waited-requires c κs = ?
+
+-- src/merging.rt:40:13
+look-requires-3 : tie.Need-look-requires-3 Inv-loop μ-loop
+look-requires-3 c κs = ?
+
+-- src/merging.rt:33:5
+loop-less : tie.Need-loop-less Inv-loop μ-loop
+loop-less c = ?
+
+-- src/merging.rt:33:5
+loop-again : tie.Need-loop-again Inv-loop μ-loop
+loop-again c = ?
+
+-- src/merging.rt:42:16
+sub-if4 : tie.Need-sub-if4 Inv-loop μ-loop
+sub-if4 c = ?
+
+-- src/merging.rt:43:17
+same-length-2 : tie.Need-same-length-2 Inv-loop μ-loop
+same-length-2 c = ?
+
+-- src/merging.rt:43:17
+returns-2 : tie.Need-returns-2 Inv-loop μ-loop
+returns-2 c = ?
+
+-- src/merging.rt:45:36
+larger-requires : tie.Need-larger-requires Inv-loop μ-loop
+larger-requires c κs = ?
+
+-- src/merging.rt:45:13
+put-end-requires : tie.Need-put-end-requires Inv-loop μ-loop
+put-end-requires c κs = ?
+
+-- src/merging.rt:45:13
+same-length-3 : tie.Need-same-length-3 Inv-loop μ-loop
+same-length-3 c = ?
+
+-- src/merging.rt:45:13
+returns-3 : tie.Need-returns-3 Inv-loop μ-loop
+returns-3 c = ?
+
+-- src/merging.rt:47:16
+sub-if5 : tie.Need-sub-if5 Inv-loop μ-loop
+sub-if5 c = ?
+
+-- src/merging.rt:47:32
+sub-if5-2 : tie.Need-sub-if5-2 Inv-loop μ-loop
+sub-if5-2 c = ?
+
+-- src/merging.rt:47:27
+add-if5 : tie.Need-add-if5 Inv-loop μ-loop
+add-if5 c = ?
+
+-- src/merging.rt:48:17
+same-length-4 : tie.Need-same-length-4 Inv-loop μ-loop
+same-length-4 c = ?
+
+-- src/merging.rt:48:17
+returns-4 : tie.Need-returns-4 Inv-loop μ-loop
+returns-4 c = ?
+
+-- src/merging.rt:50:13
+put-event-requires-2 : tie.Need-put-event-requires-2 Inv-loop μ-loop
+put-event-requires-2 c κs = ?
+
+-- src/merging.rt:51:13
+waited-requires-2 : tie.Need-waited-requires-2 Inv-loop μ-loop
+waited-requires-2 c κs = ?
+
+-- src/merging.rt:52:13
+look-requires-4 : tie.Need-look-requires-4 Inv-loop μ-loop
+look-requires-4 c κs = ?
+
+-- src/merging.rt:33:5
+loop-less-2 : tie.Need-loop-less-2 Inv-loop μ-loop
+loop-less-2 c = ?
+
+-- src/merging.rt:33:5
+loop-again-2 : tie.Need-loop-again-2 Inv-loop μ-loop
+loop-again-2 c = ?
+
+pub join-spec : {M : Type 1} → statement M
+join-spec =
+    tie.close
+    (tie.spec
+    Inv-loop
+    μ-loop
+    look-requires
+    look-requires-2
+    loop-holds
+    goes-first-requires
+    sub-if2
+    sub-if2-2
+    add-if2
+    same-length
+    returns
+    put-event-requires
+    waited-requires
+    look-requires-3
+    loop-less
+    loop-again
+    sub-if4
+    same-length-2
+    returns-2
+    larger-requires
+    put-end-requires
+    same-length-3
+    returns-3
+    sub-if5
+    sub-if5-2
+    add-if5
+    same-length-4
+    returns-4
+    put-event-requires-2
+    waited-requires-2
+    look-requires-4
+    loop-less-2
+    loop-again-2)

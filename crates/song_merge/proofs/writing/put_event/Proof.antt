@@ -1,0 +1,41 @@
+use mathlib.Core.Path.{_≡_, _∙_}
+use native.Mathlib.Omega.{arith}
+use lib.ListN.{length-append}
+use Rattle.song_merge.specs.Written.{deltaBytes, toldOf}
+use Rattle.song_merge.proofs.Bytes.{behind}
+use Rattle.song_merge.proofs.Deltas.{long-4}
+use borrow.Author.Needs.{needs}
+use Rattle.song_merge.proofs.writing.put_event.Statement.{statement}
+use Rattle.song_merge.proofs.writing.put_event.Tie as tie
+use Rattle.song_merge.proofs.writing.put_event.Reads as reads
+use Rattle.song_merge.proofs.writing.put_event.Lts as lts
+use Rattle.song_merge.proofs.writing.put_delta.Reads as put-delta-reads
+use Rattle.song_merge.proofs.writing.put_told.Reads as put-told-reads
+
+-- src/writing.rt:72:9
+put-delta-requires : tie.Need-put-delta-requires
+put-delta-requires c κs = search needs
+
+-- src/writing.rt:73:5
+put-told-requires : tie.Need-put-told-requires
+put-told-requires c κs = let kept = c .before .before .before .put-delta .kept .0 in
+    let short = long-4 (c .before .before .before .before .before .before .before .args .c .wait) in
+    (omega arith, omega arith)
+
+-- src/writing.rt:67:1
+same-length : tie.Need-same-length
+same-length c = search needs
+
+-- src/writing.rt:67:1
+returns : tie.Need-returns
+returns c = let a = c .before .before .before .before .before .before .before .before .before .before .args in
+    let d = deltaBytes (a .c .wait) in
+    let t = toldOf (a .list .now) (a .c) in
+    let first = c .before .before .before .before .before .before .put-delta .ensures in
+    (
+      omega (arith, c .before .before .put-told .ensures .0, first .0, length-append d t),
+      behind (a .out .now) d t (a .at) _ (first .0) (first .1) (c .before .before .put-told .ensures .1),
+    )
+
+pub put-event-spec : {M : Type 1} → statement M
+put-event-spec = tie.close (tie.spec put-delta-requires put-told-requires same-length returns)
