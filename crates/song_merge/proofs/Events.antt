@@ -5,7 +5,7 @@ use mathlib.Core.List.{List, [], _∷_, _++_}
 use Prim.Native.Nat.{ℕ, zero, suc, _+_, _-_, _≤_, _<_}
 use native.Mathlib.Omega.{arith}
 use native.Mathlib.Numerals.{add-one}
-use lib.ListN.{length, set}
+use lib.ListN.{length, set, length-append}
 use lib.Seq.{sets}
 use lib.Dec.{ltb}
 use borrow.Author.Tests.{ltb-true, ltb-false, lt-ltb, le-ltb}
@@ -16,8 +16,9 @@ use Rattle.song_grammar.specs.Grammar.{Message, OneEvent}
 use Rattle.song_grammar.specs.Grammar.Message.{noteOff, noteOn, keyPressure, control, program, pressure, pitchWheel}
 use Rattle.song_grammar.specs.Grammar.OneEvent.{told, again, sysex, escape, tempo, meta}
 use Rattle.song_merge.specs.declared.cursors.Cursor.{Cursor}
-use Rattle.song_merge.specs.Written.{eventOf, toldOf}
+use Rattle.song_merge.specs.Written.{deltaBytes, eventOf, toldOf, eventBytes}
 use Rattle.song_merge.proofs.Bytes.{bytes-long}
+use Rattle.song_merge.proofs.Deltas.{long-4}
 
 module _ (f : List ℕ) (c : Cursor) where
   -- ---- its bytes
@@ -48,6 +49,15 @@ module _ (f : List ℕ) (c : Cursor) where
   pub told-long : c .next - c .from ≤ length (toldOf f c)
   unfolding toldOf
   told-long = both (λ (l : List ℕ). c .next - c .from ≤ length l) (ltb (byteAt f (c .from)) 128) _ _ (λ _. omega (arith, long)) (λ _. omega (arith, long))
+
+  pub event-short : length (eventBytes f c) ≤ 5 + (c .next - c .from)
+  unfolding toldOf
+  event-short =
+      let d = deltaBytes (c .wait) in
+      let short = long-4 (c .wait) in
+      both (λ (l : List ℕ). length (d ++ l) ≤ 5 + (c .next - c .from)) (ltb (byteAt f (c .from)) 128) _ _
+      (λ _. omega (arith, long, length-append d (c .before ∷ eventOf f c)))
+      (λ _. omega (arith, long, length-append d (eventOf f c)))
 
 -- ---- what it is, behind any running status
 message-high : {status : ℕ} {bytes : List ℕ} {e : Event} → Message status bytes e → (128 ≤ status) × (byteAt bytes 0 < 128) × (0 < length bytes)

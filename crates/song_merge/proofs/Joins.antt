@@ -14,15 +14,16 @@ use Rattle.smf.specs.Promised.{Timed}
 use Rattle.smf.specs.declared.events.Event.{Event}
 use Rattle.song_grammar.specs.Grammar.{Quantity, OneEvent}
 use Rattle.song_grammar.specs.Grammar.Digits.{last}
-use Rattle.song_grammar.proofs.Segments.{From}
+use Rattle.song_grammar.proofs.Segments.{From, from-length}
 use Rattle.song_merge.specs.declared.cursors.Cursor.{Cursor}
 use Rattle.song_merge.specs.Merges.{sooner, among, mergedOf}
 use Rattle.song_merge.specs.Written.{deltaBytes, eventOf, toldOf, eventBytes, endBytes}
-use Rattle.song_merge.specs.Standing.{Sized, Held, Before, Views}
+use Rattle.song_merge.specs.Gathers.{Joined}
+use Rattle.song_merge.specs.Standing.{Sized, Held, Before, Views, Placed}
 use Rattle.song_merge.specs.Standing.Sized.{ended, then}
-use Rattle.song_merge.proofs.Bytes.{from-more, bytes-are}
-use Rattle.song_merge.proofs.Deltas.{quantity-of, shrinks, some-delta}
-use Rattle.song_merge.proofs.Events.{told-is, told-long}
+use Rattle.song_merge.proofs.Bytes.{from-more, bytes-are, sets-long}
+use Rattle.song_merge.proofs.Deltas.{quantity-of, shrinks, some-delta, long-4}
+use Rattle.song_merge.proofs.Events.{told-is, told-long, event-short}
 use Rattle.song_merge.proofs.Merges.{later, NoEarlier, left-goes, Later, right-goes}
 
 -- ---- a track that has begun: with the rest of one it is one
@@ -32,18 +33,21 @@ Begun pre done = (rest : List ℕ) (ts : List Timed) (k : ℕ) → ((r : ℕ) �
 resized : {running : ℕ} {bytes : List ℕ} {ts : List Timed} {k : ℕ} (m : ℕ) → k ≡ m → Sized running bytes ts k → Sized running bytes ts m
 resized {running} {bytes} {ts} m e s = subst (Sized running bytes ts) e s
 
+pub at-most : {running : ℕ} {bytes : List ℕ} {ts : List Timed} {k : ℕ} (m : ℕ) → k ≤ m → Sized running bytes ts k → Sized running bytes ts m
+at-most m h (ended body q r fits) = ended {k = m} body q r (omega arith)
+at-most m h (then {k = k} {j = j} q o told fits more) =
+    let same : m - j + j ≡ m = omega arith in
+    resized m same (then {k = m - j} q o (λ small. omega (arith, told small)) (omega arith) more)
+
 pub not-begun : Begun [] []
-not-begun rest ts k t r = resized k' (omega arith) (t r)
-  where
-    abbrev k' : ℕ
-    k' = 0 + k
+not-begun rest ts k t r = resized (0 + k) (omega arith) (t r)
 
 pub one-more : (pre : List ℕ) (done : List Timed) → Begun pre done → {d event : List ℕ} {ticks status : ℕ} {e : Event}
     → Quantity d ticks → 128 ≤ byteAt event 0 → ((r : ℕ) → OneEvent r event e status)
     → Begun (pre ++ (d ++ event)) (done ++ (record { delta = ticks; event = e } ∷ []))
 one-more pre done b {d} {event} {ticks} {status} {e} q high o rest ts k t r =
     let new : Timed = record { delta = ticks; event = e } in
-    let one : (r : ℕ) → Sized r (d ++ (event ++ rest)) (new ∷ ts) (length d + length event + k) = (λ r. then q (o r) (λ small. absurd (omega arith)) (omega arith) (t status)) in
+    let one : (r : ℕ) → Sized r (d ++ (event ++ rest)) (new ∷ ts) (length d + length event + k) = (λ r. then {k = length d + length event} q (o r) (λ small. absurd (omega arith)) (omega arith) (t status)) in
     let all = b (d ++ (event ++ rest)) (new ∷ ts) (length d + length event + k) one r in
     let bytes : pre ++ (d ++ (event ++ rest)) ≡ (pre ++ (d ++ event)) ++ rest = simp append-assoc in
     let events : done ++ (new ∷ ts) ≡ (done ++ (new ∷ [])) ++ ts = simp append-assoc in
@@ -203,7 +207,35 @@ module _ (a : List ℕ) (a-end : ℕ) (f : List ℕ) (end : ℕ) where
       → (w' : ℕ) (out' : List ℕ) → w + length (endBytes m) ≤ length out → w' ≡ w + length (endBytes m) → out' ≡ sets out w (endBytes m)
       → Held out' 0 0 w' whole total
   unfolding mergedOf
-  over x y w out whole total s x-over y-over m is small w' out' room e stored = ?
+  over x y w out whole total s x-over y-over m is small w' out' room e stored =
+      let nl = none-left a a-end x (s .left) (s .j) (s .sees-left) x-over in
+      let nr = none-left f end y (s .right) (s .k) (s .sees-right) y-over in
+      let p = s .put in
+      let none : mergedOf (s .left) (s .right) ≡ [] = ap (λ (l : List Timed). mergedOf l (s .right)) (nl .0) ∙ nr .0 in
+      let events : s .done ++ [] ≡ whole = ap (λ (l : List Timed). s .done ++ l) (sym none) ∙ s .same in
+      let all = p .begun (endBytes m) [] (length (deltaBytes m) + 3) (λ r. ended {k = length (deltaBytes m) + 3} {size = 0 ∷ []} [] (quantity-of m small) (last {b = 0} (omega arith)) (omega arith)) 0 in
+      let bytes = bytes-are out' (p .pre ++ endBytes m) 0 w' (there p) in
+      at-most total (fits nl nr (from-length out 0 (p .pre) w (p .there)))
+      (subst (λ (l : List ℕ). Sized 0 l whole (length (p .pre) + (length (deltaBytes m) + 3))) (sym bytes)
+      (subst (λ (ts : List Timed). Sized 0 (p .pre ++ endBytes m) ts (length (p .pre) + (length (deltaBytes m) + 3))) events all))
+    where
+      there : (p : Put out w (s .done)) → From out' 0 (p .pre ++ endBytes m) w'
+      there p =
+          subst (λ (l : List ℕ). From l 0 (p .pre ++ endBytes m) w') (sym stored)
+          (subst (From (sets out w (endBytes m)) 0 (p .pre ++ endBytes m)) (sym e) (from-more (endBytes m) out (p .pre) 0 w (p .there) room))
+
+      within : length (deltaBytes m) ≤ length (deltaBytes (x .wait)) + length (deltaBytes (y .wait))
+      within = go (leb (x .wait) (y .wait)) refl
+        where
+          go : (b : Bool) → leb (x .wait) (y .wait) ≡ b → length (deltaBytes m) ≤ length (deltaBytes (x .wait)) + length (deltaBytes (y .wait))
+          go true h = let k = leb-true (x .wait) (y .wait) h in omega (arith, shrinks m (y .wait) (omega arith))
+          go false h = let k = leb-false (x .wait) (y .wait) h in omega (arith, shrinks m (x .wait) (omega arith))
+
+      fits : (s .left ≡ []) × (length (endBytes (x .wait)) ≤ s .j) → (s .right ≡ []) × (length (endBytes (y .wait)) ≤ s .k) → 0 + length (s .put .pre) ≡ w
+          → length (s .put .pre) + (length (deltaBytes m) + 3) ≤ total
+      fits nl nr long =
+          let all = s .size in
+          omega (arith, within, length-append (deltaBytes (x .wait)) (0xFF ∷ 0x2F ∷ 0 ∷ []), length-append (deltaBytes (y .wait)) (0xFF ∷ 0x2F ∷ 0 ∷ []))
 
   -- too little room
   pub short-left : (x y : Cursor) (w : ℕ) (out : List ℕ) (whole : List Timed) (total : ℕ) → So x y w out whole total → x .ended ≡ false → w + 1 + (x .next - x .from) ≤ total
@@ -223,3 +255,157 @@ module _ (a : List ℕ) (a-end : ℕ) (f : List ℕ) (end : ℕ) where
       let all = s .size in
       omega (arith, none-left a a-end x (s .left) (s .j) (s .sees-left) x-over .1, none-left f end y (s .right) (s .k) (s .sees-right) y-over .1,
       some-delta (x .wait), some-delta (y .wait), length-append (deltaBytes (x .wait)) (0xFF ∷ 0x2F ∷ 0 ∷ []), length-append (deltaBytes (y .wait)) (0xFF ∷ 0x2F ∷ 0 ∷ []))
+
+-- ---- the loop
+pub record Fits (end : ℕ) (c : Cursor) : Type 0 where
+  pub small : c .wait < 2 ^ 28
+  pub up : c .from ≤ c .next
+  pub going : c .ended ≡ false → c .next ≤ end
+
+pub fits : (end at : ℕ) (c : Cursor) → Placed end at c → Fits end c
+fits end at c p = record { small = p .small; up = p .up; going = λ e. p .going e .1 }
+
+pub fits-later : (end ticks : ℕ) (c c' : Cursor) → Fits end c → c' ≡ waitedOf c ticks → Fits end c'
+fits-later end ticks c c' p e = subst (Fits end) (sym e) (record { small = (let s = p .small in omega arith); up = p .up; going = p .going })
+
+-- what is left of a track: a step for each of its bytes, and one for its end
+abbrev pub leftOf : ℕ → Cursor → ℕ
+leftOf end c = end - c .next + cond (c .ended) 0 1
+
+pub less : (end : ℕ) (c c' : Cursor) → Fits end c → c .ended ≡ false → Placed end (c .next) c' → leftOf end c' < leftOf end c
+less end c c' p e q = rw e (go (c' .ended) refl)
+  where
+    go : (b : Bool) → c' .ended ≡ b → end - c' .next + cond (c' .ended) 0 1 < end - c .next + 1
+    go true k = let low = q .low in rw k (omega arith)
+    go false k = let up = q .going k in let room = p .going e in rw k (omega arith)
+
+pub first-true : (p q : Bool) (m n : ℕ) → not p && (q || leb m n) ≡ true → (p ≡ false) × ((q ≡ true) ⊎ (m ≤ n))
+first-true true q m n e = absurd (let z : _≡_ {A = ℕ} 0 1 = cc in omega arith)
+first-true false true m n e = (refl, inl refl)
+first-true false false m n e = (refl, inr (leb-true m n e))
+
+pub first-false : (p q : Bool) (m n : ℕ) → not p && (q || leb m n) ≡ false → ((q ≡ true → p ≡ true) × (q ≡ false → (p ≡ true) ⊎ (n < m)))
+first-false true q m n e = (λ _. refl, λ _. inl refl)
+first-false false true m n e = absurd (let z : _≡_ {A = ℕ} 0 1 = cc in omega arith)
+first-false false false m n e = (λ k. k, λ _. inr (leb-false m n e))
+
+pub record Going (a : List ℕ) (a-end : ℕ) (f : List ℕ) (at end : ℕ) (before out : List ℕ) (x y : Cursor) (w : ℕ) : Type 0 where
+  pub within : w ≤ length out
+  pub kept : length out ≡ length before
+  pub left : Fits a-end x
+  pub right : Fits end y
+  pub so : (ts us : List Timed) (j k : ℕ) → Held a 0 22 a-end ts j → Held f 0 at end us k → So a a-end f end x y w out (mergedOf ts us) (j + k)
+
+pub begins : (a : List ℕ) (a-end : ℕ) (f : List ℕ) (at end : ℕ) (out : List ℕ) (x y : Cursor)
+    → Placed a-end 22 x × ((ts : List Timed) (k : ℕ) → Held a 0 22 a-end ts k → Views a a-end x ts k)
+    → Placed end at y × ((ts : List Timed) (k : ℕ) → Held f 0 at end ts k → Views f end y ts k)
+    → Going a a-end f at end out out x y 0
+begins a a-end f at end out x y (px, vx) (py, vy) = record {
+  within = omega arith;
+  kept = refl;
+  left = fits a-end 22 x px;
+  right = fits end at y py;
+  so = λ ts us j k hx hy. record {
+    done = [];
+    put = record { pre = []; begun = not-begun; there = refl };
+    left = ts;
+    right = us;
+    j = j;
+    k = k;
+    sees-left = vx ts j hx;
+    sees-right = vy us k hy;
+    same = refl;
+    size = omega arith;
+  };
+}
+
+module _ (a : List ℕ) (a-end : ℕ) (f : List ℕ) (at end : ℕ) (before out : List ℕ) (x y : Cursor) (w : ℕ) (g : Going a a-end f at end before out x y w) where
+  abbrev goes : Bool
+  goes = not (x .ended) && (y .ended || leb (x .wait) (y .wait))
+
+  abbrev pub Ends : ℕ → List ℕ → Type 0
+  Ends r out = Joined a a-end f at end out r
+
+  -- no room
+  stops : ((ts us : List Timed) (j k : ℕ) → Held a 0 22 a-end ts j → Held f 0 at end us k → length out < j + k + 5) → Ends 0 out
+  stops h = record {
+    within = omega arith;
+    merged = λ ts us j k hx hy z. absurd (omega arith);
+    room = λ ts us j k hx hy r. absurd (omega (arith, h ts us j k hx hy));
+  }
+
+  pub left-stops : goes ≡ true → length before - w < 5 + (x .next - x .from) → Ends 0 out
+  left-stops e h =
+      let kept = g .kept in
+      stops (λ ts us j k hx hy. omega (arith, short-left a a-end f end x y w out (mergedOf ts us) (j + k) (g .so ts us j k hx hy) (first-true (x .ended) (y .ended) (x .wait) (y .wait) e .0)))
+
+  pub right-stops : y .ended ≡ false → length before - w < 5 + (y .next - y .from) → Ends 0 out
+  right-stops e h =
+      let kept = g .kept in
+      stops (λ ts us j k hx hy. omega (arith, short-right a a-end f end x y w out (mergedOf ts us) (j + k) (g .so ts us j k hx hy) e))
+
+  pub over-stops : goes ≡ false → y .ended ≡ true → length before - w < 7 → Ends 0 out
+  over-stops e y-over h =
+      let kept = g .kept in
+      stops (λ ts us j k hx hy. omega (arith, short-over a a-end f end x y w out (mergedOf ts us) (j + k) (g .so ts us j k hx hy) (first-false (x .ended) (y .ended) (x .wait) (y .wait) e .0 y-over) y-over))
+
+  -- the end
+  pub over-ends : goes ≡ false → y .ended ≡ true → w + 7 ≤ length out → (m : ℕ) → m ≡ max (x .wait) (y .wait) → (r : ℕ) (out' : List ℕ) → r ≡ w + length (endBytes m) → out' ≡ sets out w (endBytes m) → Ends r out'
+  over-ends e y-over room m is r out' er eo =
+      let x-over = first-false (x .ended) (y .ended) (x .wait) (y .wait) e .0 y-over in
+      let x-small = g .left .small in
+      let y-small = g .right .small in
+      let long = length-append (deltaBytes m) (0xFF ∷ 0x2F ∷ 0 ∷ []) in
+      let short = long-4 m in
+      let kept = sets-long out (endBytes m) w eo in
+      record {
+        within = omega arith;
+        merged = λ ts us j k hx hy z. over a a-end f end x y w out (mergedOf ts us) (j + k) (g .so ts us j k hx hy) x-over y-over m is (omega arith) r out' (omega arith) er eo;
+        room = λ ts us j k hx hy z. omega arith;
+      }
+
+  -- the next turn
+  module _ (x' y' : Cursor) (w' : ℕ) (out' : List ℕ) where
+    pub left-again : goes ≡ true → w + 5 + (x .next - x .from) ≤ length out → w' ≡ w + length (eventBytes a x) → out' ≡ sets out w (eventBytes a x) → y' ≡ waitedOf y (x .wait)
+        → Placed a-end (x .next) x' × ((ts : List Timed) (k : ℕ) → Held a (x .after) (x .next) a-end ts k → Views a a-end x' ts k) → Going a a-end f at end before out' x' y' w'
+    left-again e room ew eo ey (px, vx) =
+        let first = first-true (x .ended) (y .ended) (x .wait) (y .wait) e in
+        let short = event-short a x in
+        let kept = sets-long out (eventBytes a x) w eo in
+        record {
+          within = omega arith;
+          kept = kept ∙ g .kept;
+          left = fits a-end (x .next) x' px;
+          right = fits-later end (x .wait) y y' (g .right) ey;
+          so = λ ts us j k hx hy.
+              subst (λ (c : Cursor). So a a-end f end x' c w' out' (mergedOf ts us) (j + k)) (sym ey)
+              (left-on a a-end f end x y w out (mergedOf ts us) (j + k) (g .so ts us j k hx hy) (g .left .small) (first .0) (first .1) x' vx w' out' (omega arith) ew eo);
+        }
+
+    pub right-again : goes ≡ false → y .ended ≡ false → w + 5 + (y .next - y .from) ≤ length out → w' ≡ w + length (eventBytes f y) → out' ≡ sets out w (eventBytes f y) → x' ≡ waitedOf x (y .wait)
+        → Placed end (y .next) y' × ((ts : List Timed) (k : ℕ) → Held f (y .after) (y .next) end ts k → Views f end y' ts k) → Going a a-end f at end before out' x' y' w'
+    right-again e going room ew eo ex (py, vy) =
+        let first = first-false (x .ended) (y .ended) (x .wait) (y .wait) e .1 going in
+        let short = event-short f y in
+        let kept = sets-long out (eventBytes f y) w eo in
+        record {
+          within = omega arith;
+          kept = kept ∙ g .kept;
+          left = fits-later a-end (y .wait) x x' (g .left) ex;
+          right = fits end (y .next) y' py;
+          so = λ ts us j k hx hy.
+              subst (λ (c : Cursor). So a a-end f end c y' w' out' (mergedOf ts us) (j + k)) (sym ex)
+              (right-on a a-end f end x y w out (mergedOf ts us) (j + k) (g .so ts us j k hx hy) (g .right .small) going first y' vy w' out' (omega arith) ew eo);
+        }
+
+    pub left-less : goes ≡ true → y' ≡ waitedOf y (x .wait) → Placed a-end (x .next) x' → leftOf a-end x' + leftOf end y' < leftOf a-end x + leftOf end y
+    left-less e ey px =
+        let fewer = less a-end x x' (g .left) (first-true (x .ended) (y .ended) (x .wait) (y .wait) e .0) px in
+        let same : leftOf end y' ≡ leftOf end y = ap (leftOf end) ey in
+        omega arith
+
+    pub right-less : y .ended ≡ false → x' ≡ waitedOf x (y .wait) → Placed end (y .next) y' → leftOf a-end x' + leftOf end y' < leftOf a-end x + leftOf end y
+    right-less e ex py =
+        let fewer = less end y y' (g .right) e py in
+        let same : leftOf a-end x' ≡ leftOf a-end x = ap (leftOf a-end) ex in
+        omega arith

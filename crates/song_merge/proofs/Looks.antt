@@ -98,9 +98,9 @@ module _ (f : List ℕ) (octets : Octets f) (end running at : ℕ) where
 
   -- ---- and lies where it should
   read-placed : (wait from : ℕ) → at < from → wait < 2 ^ 28 → (r : Read) → Inside end from r → Placed end at (lookRead running at wait from r)
-  read-placed wait from h small (Is event status behind) k = record { small = small; up = omega arith; going = λ _. (omega arith, k .1) }
-  read-placed wait from h small (End behind) k = record { small = small; up = omega arith; going = λ e. let z : _≡_ {A = ℕ} 0 1 = cc in absurd (omega arith) }
-  read-placed wait from h small (Broken why) k = record { small = omega arith; up = omega arith; going = λ e. let z : _≡_ {A = ℕ} 0 1 = cc in absurd (omega arith) }
+  read-placed wait from h small (Is event status behind) k = record { small = small; up = omega arith; low = omega arith; going = λ _. (omega arith, k .1) }
+  read-placed wait from h small (End behind) k = record { small = small; up = omega arith; low = omega arith; going = λ e. let z : _≡_ {A = ℕ} 0 1 = cc in absurd (omega arith) }
+  read-placed wait from h small (Broken why) k = record { small = omega arith; up = omega arith; low = omega arith; going = λ e. let z : _≡_ {A = ℕ} 0 1 = cc in absurd (omega arith) }
 
   placed : Placed end at (lookOf f end running at)
   placed = go (quantityAt f end at) refl
@@ -110,7 +110,7 @@ module _ (f : List ℕ) (octets : Octets f) (end running at : ℕ) where
           let ends = quantity-ends f end at wait from is in
           let c = subst (Counts f end 3 0 at) is (counts f end 3 0 at (omega arith)) in
           read-placed wait from (ends .0) (digits-small f octets (c .is) at from (c .there)) (eventAt f end running from) (event-inside f end running from)
-      go (quantity.Broken why) is = record { small = omega arith; up = omega arith; going = λ e. let z : _≡_ {A = ℕ} 0 1 = cc in absurd (omega arith) }
+      go (quantity.Broken why) is = record { small = omega arith; up = omega arith; low = omega arith; going = λ e. let z : _≡_ {A = ℕ} 0 1 = cc in absurd (omega arith) }
 
   some : {bytes : List ℕ} {ts : List Timed} {k : ℕ} → Sized running bytes ts k → 0 < length bytes
   some (ended {delta = delta} {size = size} body q r fits) = omega (arith, some-bytes f end q, length-append delta (0xFF ∷ 0x2F ∷ (size ++ body)))

@@ -42,10 +42,11 @@ abbrev pub Views : List ℕ → ℕ → Cursor → List Timed → ℕ → Type 0
 Views f end c [] k = (c .ended ≡ true) × (length (endBytes (c .wait)) ≤ k)
 Views f end c (t ∷ ts) k = Before f end c t ts k
 
--- a cursor that was made at a place lies behind it and before the end
+-- a cursor that was made at a place lies behind it and before the end, or at it where the track is over
 pub record Placed (end at : ℕ) (c : Cursor) : Type 0 where
   pub small : c .wait < 2 ^ 28
   pub up : c .from ≤ c .next
+  pub low : at ≤ c .next
   pub going : c .ended ≡ false → (at < c .next) × (c .next ≤ end)
 
 -- whether a track stands from a place to another

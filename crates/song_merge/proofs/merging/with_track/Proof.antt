@@ -1,0 +1,82 @@
+use borrow.Author.Needs.{needs}
+use Rattle.song_merge.proofs.merging.with_track.Statement.{statement}
+use Rattle.song_merge.proofs.merging.with_track.Tie as tie
+use Rattle.song_merge.proofs.merging.with_track.Reads as reads
+use Rattle.song_merge.proofs.merging.with_track.Lts as lts
+use Rattle.song_merge.proofs.merging.join.Reads as join-reads
+use Rattle.song_merge.proofs.writing.copy.Reads as copy-reads
+
+-- src/merging.rt:68:9
+returns : tie.Need-returns
+returns c = search needs
+
+-- src/merging.rt:70:9
+join-requires : tie.Need-join-requires
+join-requires c κs = ?
+
+-- src/merging.rt:72:9
+same-length : tie.Need-same-length
+same-length c = search needs
+
+-- src/merging.rt:72:9
+same-length-2 : tie.Need-same-length-2
+same-length-2 c = search needs
+
+-- src/merging.rt:72:9
+returns-2 : tie.Need-returns-2
+returns-2 c = search needs
+
+-- src/merging.rt:74:8
+sub-if3 : tie.Need-sub-if3
+sub-if3 c = ?
+
+-- src/merging.rt:75:9
+same-length-3 : tie.Need-same-length-3
+same-length-3 c = search needs
+
+-- src/merging.rt:75:9
+same-length-4 : tie.Need-same-length-4
+same-length-4 c = search needs
+
+-- src/merging.rt:75:9
+returns-3 : tie.Need-returns-3
+returns-3 c = search needs
+
+-- src/merging.rt:77:5
+copy-requires : tie.Need-copy-requires
+copy-requires c κs = search needs
+
+-- src/merging.rt:78:5
+add-result : tie.Need-add-result
+add-result c = search needs
+
+-- src/merging.rt:59:1
+same-length-5 : tie.Need-same-length-5
+same-length-5 c = search needs
+
+-- src/merging.rt:59:1
+same-length-6 : tie.Need-same-length-6
+same-length-6 c = search needs
+
+-- src/merging.rt:59:1
+returns-4 : tie.Need-returns-4
+returns-4 c = search needs
+
+pub with-track-spec : {M : Type 1} → statement M
+with-track-spec =
+    tie.close
+    (tie.spec
+    returns
+    join-requires
+    same-length
+    same-length-2
+    returns-2
+    sub-if3
+    same-length-3
+    same-length-4
+    returns-3
+    copy-requires
+    add-result
+    same-length-5
+    same-length-6
+    returns-4)
