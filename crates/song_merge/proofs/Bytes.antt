@@ -62,11 +62,10 @@ from-sets [] l i h = sym (add-zero i)
 from-sets (v ∷ vs) l i h =
     let more : suc i + length vs ≤ length (set l i v) = rw (length-set l i v) (omega arith) in
     let rest = from-sets vs (set l i v) (suc i) more in
-    let next : suc i + length vs ≡ i + length (v ∷ vs) = omega arith in
-    (
+    let next : suc i + length vs ≡ i + length (v ∷ vs) = omega arith in (
       byte-before vs (set l i v) (suc i) i (omega arith) ∙ getD-set-same l i v 0 (omega arith),
       subst (λ (k : ℕ). From (sets (set l i v) (suc i) vs) k vs (i + length (v ∷ vs))) (sym (add-one i))
-      (subst (From (sets (set l i v) (suc i) vs) (suc i) vs) next rest),
+          (subst (From (sets (set l i v) (suc i) vs) (suc i) vs) next rest),
     )
 
 -- behind those from the front on

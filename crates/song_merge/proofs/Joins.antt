@@ -253,8 +253,15 @@ module _ (a : List ℕ) (a-end : ℕ) (f : List ℕ) (end : ℕ) where
   pub short-over : (x y : Cursor) (w : ℕ) (out : List ℕ) (whole : List Timed) (total : ℕ) → So x y w out whole total → x .ended ≡ true → y .ended ≡ true → w + 8 ≤ total
   short-over x y w out whole total s x-over y-over =
       let all = s .size in
-      omega (arith, none-left a a-end x (s .left) (s .j) (s .sees-left) x-over .1, none-left f end y (s .right) (s .k) (s .sees-right) y-over .1,
-      some-delta (x .wait), some-delta (y .wait), length-append (deltaBytes (x .wait)) (0xFF ∷ 0x2F ∷ 0 ∷ []), length-append (deltaBytes (y .wait)) (0xFF ∷ 0x2F ∷ 0 ∷ []))
+      omega (
+        arith,
+        none-left a a-end x (s .left) (s .j) (s .sees-left) x-over .1,
+        none-left f end y (s .right) (s .k) (s .sees-right) y-over .1,
+        some-delta (x .wait),
+        some-delta (y .wait),
+        length-append (deltaBytes (x .wait)) (0xFF ∷ 0x2F ∷ 0 ∷ []),
+        length-append (deltaBytes (y .wait)) (0xFF ∷ 0x2F ∷ 0 ∷ []),
+      )
 
 -- ---- the loop
 pub record Fits (end : ℕ) (c : Cursor) : Type 0 where

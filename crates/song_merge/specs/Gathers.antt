@@ -27,7 +27,7 @@ pub record Joined (a : List ℕ) (a-end : ℕ) (f : List ℕ) (at end : ℕ) (ou
 -- the same where the merged track takes the place of the first
 pub record Grown (before : List ℕ) (a-end : ℕ) (f : List ℕ) (at end spare : ℕ) (out : List ℕ) (r : ℕ) : Type 0 where
   pub within : r ≤ length out
-  pub some : 0 < r → 0 < a-end
+  pub some : 0 < r → (22 ≤ r) × (0 < a-end)
   pub merged : (ts us : List Timed) (j k : ℕ) → Held before 0 22 a-end ts j → Held f 0 at end us k → 0 < r
       → Held out 0 22 r (mergedOf ts us) (j + k)
   pub room : (ts us : List Timed) (j k : ℕ) → Held before 0 22 a-end ts j → Held f 0 at end us k
@@ -36,6 +36,7 @@ pub record Grown (before : List ℕ) (a-end : ℕ) (f : List ℕ) (at end spare 
 -- a track without events
 pub record Started (out : List ℕ) (r : ℕ) : Type 0 where
   pub within : r ≤ length out
+  pub some : 0 < r → 22 ≤ r
   pub empty : 0 < r → Held out 0 22 r [] 4
   pub room : 29 ≤ length out → 0 < r
 

@@ -6,6 +6,7 @@ use mathlib.Core.List.{List, [], _∷_, _++_}
 use Prim.Native.Nat.{ℕ, _+_, _-_, _^_, _≤_, _<_}
 use lib.ListN.{length}
 use Rattle.octets.specs.Octets.{byteAt, bytesAt}
+use Rattle.smf.specs.Fields.{fourAt}
 use Rattle.smf.specs.Promised.{Timed}
 use Rattle.smf.specs.declared.events.Event.{Event}
 use Rattle.song_grammar.specs.Grammar.{Quantity, OneEvent, Track}
@@ -53,3 +54,9 @@ pub record Placed (end at : ℕ) (c : Cursor) : Type 0 where
 pub record Whole (f : List ℕ) (at end : ℕ) (r : Bool) : Type 0 where
   pub told : r ≡ true → (ts : List Timed) × Stands f at end ts
   pub taken : (ts : List Timed) → Stands f at end ts → r ≡ true
+
+-- the end of the track chunk at a place, or 0
+pub record ChunkEnd (f : List ℕ) (at r : ℕ) : Type 0 where
+  pub told : 0 < r → (r ≡ at + 8 + fourAt f (at + 4)) × (r ≤ length f) × (ts : List Timed) × Stands f (at + 8) r ts
+  pub taken : (ts : List Timed) (end : ℕ) → end ≡ at + 8 + fourAt f (at + 4) → end ≤ length f
+      → Stands f (at + 8) end ts → r ≡ end

@@ -5,7 +5,7 @@ ghost use lib.ListN.{length};
 ghost use Rattle.smf.specs.Faults.{faultAt};
 ghost use Rattle.song_merge.specs.declared.chunks.Opened.the-variants.{Broken};
 ghost use Rattle.song_merge.specs.Headings.{fieldsOf, openingOf};
-ghost use Rattle.song_merge.specs.Standing.{Whole};
+ghost use Rattle.song_merge.specs.Standing.{Whole, ChunkEnd};
 use smf::chunks::HEADER_TYPE;
 use smf::events::Step;
 use smf::events::step_at;
@@ -90,7 +90,7 @@ pub fn opening(file: &[u8]) -> Opened
 }
 
 // Whether a track stands from a place to another.
-pub fn whole(file: &[u8], at: usize, end: usize) -> bool
+fn whole(file: &[u8], at: usize, end: usize) -> bool
     requires { ⌜ (at ≤ end) × (end ≤ length (now file)) ⌝ }
     ensures { λ r. ⌜ Whole (now (file .entry)) at end r ⌝ }
 {
@@ -111,4 +111,20 @@ pub fn whole(file: &[u8], at: usize, end: usize) -> bool
             }
         }
     }
+}
+
+// The end of the track chunk at a place, or 0 where it is not a whole track.
+pub fn chunk_end(file: &[u8], at: usize) -> usize
+    requires { ⌜ at ≤ length (now file) ⌝ }
+    ensures { λ r. ⌜ ChunkEnd (now (file .entry)) at r ⌝ }
+{
+    let all = file.len();
+    if all - at < 8 {
+        return 0;
+    }
+    let full = at + 8 + four_at(file, at + 4) as usize;
+    if all < full {
+        return 0;
+    }
+    if whole(file, at + 8, full) { full } else { 0 }
 }

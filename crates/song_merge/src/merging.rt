@@ -3,7 +3,7 @@ ghost use mathlib.Core.Path.{_≡_};
 ghost use Prim.Native.Nat.{_≤_, _<_, max};
 ghost use lib.ListN.{length};
 ghost use Rattle.song_merge.specs.Gathers.{Joined, Grown, Started, closedOf, Gathers};
-use crate::chunks::whole;
+use crate::chunks::chunk_end;
 use crate::cursors::goes_first;
 use crate::cursors::look;
 use crate::cursors::waited;
@@ -12,7 +12,6 @@ use crate::writing::put_end;
 use crate::writing::put_event;
 use smf::chunks::Found;
 use smf::chunks::track_at;
-use smf::fields::four_at;
 
 fn larger(a: u32, b: u32) -> u32
     ensures { λ r. ⌜ r ≡ max a b ⌝ }
@@ -63,7 +62,11 @@ fn with_track(
     spare: &mut [u8],
     out: &mut [u8],
     end: usize,
-) -> usize {
+) -> usize
+    requires { ⌜ (full ≤ length (now file)) × (end ≤ length (now out)) × (0 < end → 22 ≤ end) ⌝ }
+    ensures { λ r. ⌜ Grown (now (out .entry)) end (now (file .entry)) at full (length (now (spare .entry)))
+        (now (out .exit)) r ⌝ }
+{
     if end == 0 {
         return 0;
     }
@@ -118,7 +121,6 @@ pub fn gather(file: &[u8], count: u32, at: usize, spare: &mut [u8], out: &mut [u
     requires { ⌜ at ≤ length (now file) ⌝ }
     ensures { λ r. ⌜ Gathers (now (file .entry)) count at (length (now (spare .entry))) (now (out .exit)) r ⌝ }
 {
-    let all = file.len();
     let mut place = at;
     let mut end = start(out);
     let mut i: u32 = 0;
@@ -126,18 +128,12 @@ pub fn gather(file: &[u8], count: u32, at: usize, spare: &mut [u8], out: &mut [u
         match track_at(file, place) {
             Found::Nothing => return Gathered::Broken,
             Found::Broken(_) => return Gathered::Broken,
-            Found::Track(p) => {
-                if all - p < 8 {
+            Found::Track(chunk) => {
+                let full = chunk_end(file, chunk);
+                if full == 0 {
                     return Gathered::Broken;
                 }
-                let full = p + 8 + four_at(file, p + 4) as usize;
-                if all < full {
-                    return Gathered::Broken;
-                }
-                if !whole(file, p + 8, full) {
-                    return Gathered::Broken;
-                }
-                end = with_track(file, p + 8, full, spare, out, end);
+                end = with_track(file, chunk + 8, full, spare, out, end);
                 place = full;
                 i += 1;
             }

@@ -6,61 +6,61 @@ use Rattle.song_merge.proofs.merging.with_track.Lts as lts
 use Rattle.song_merge.proofs.merging.join.Reads as join-reads
 use Rattle.song_merge.proofs.writing.copy.Reads as copy-reads
 
--- src/merging.rt:68:9
+-- src/merging.rt:71:9
 returns : tie.Need-returns
-returns c = search needs
+returns c = ?
 
--- src/merging.rt:70:9
+-- src/merging.rt:73:9
 join-requires : tie.Need-join-requires
-join-requires c κs = ?
+join-requires c κs = search needs
 
--- src/merging.rt:72:9
+-- src/merging.rt:75:9
 same-length : tie.Need-same-length
 same-length c = search needs
 
--- src/merging.rt:72:9
+-- src/merging.rt:75:9
 same-length-2 : tie.Need-same-length-2
 same-length-2 c = search needs
 
--- src/merging.rt:72:9
+-- src/merging.rt:75:9
 returns-2 : tie.Need-returns-2
-returns-2 c = search needs
+returns-2 c = ?
 
--- src/merging.rt:74:8
+-- src/merging.rt:77:8
 sub-if3 : tie.Need-sub-if3
 sub-if3 c = ?
 
--- src/merging.rt:75:9
+-- src/merging.rt:78:9
 same-length-3 : tie.Need-same-length-3
 same-length-3 c = search needs
 
--- src/merging.rt:75:9
+-- src/merging.rt:78:9
 same-length-4 : tie.Need-same-length-4
 same-length-4 c = search needs
 
--- src/merging.rt:75:9
+-- src/merging.rt:78:9
 returns-3 : tie.Need-returns-3
-returns-3 c = search needs
+returns-3 c = ?
 
--- src/merging.rt:77:5
+-- src/merging.rt:80:5
 copy-requires : tie.Need-copy-requires
 copy-requires c κs = search needs
 
--- src/merging.rt:78:5
+-- src/merging.rt:81:5
 add-result : tie.Need-add-result
 add-result c = search needs
 
--- src/merging.rt:59:1
+-- src/merging.rt:58:1
 same-length-5 : tie.Need-same-length-5
 same-length-5 c = search needs
 
--- src/merging.rt:59:1
+-- src/merging.rt:58:1
 same-length-6 : tie.Need-same-length-6
 same-length-6 c = search needs
 
--- src/merging.rt:59:1
+-- src/merging.rt:58:1
 returns-4 : tie.Need-returns-4
-returns-4 c = search needs
+returns-4 c = ?
 
 pub with-track-spec : {M : Type 1} → statement M
 with-track-spec =

@@ -53,10 +53,12 @@ loop-less c = search needs
 -- src/writing.rt:44:5
 loop-again : tie.Need-loop-again Inv-loop μ-loop
 loop-again c = let a = c .before .before .before .before .before .args in
-    let i = c .before .before .loop .i in
-    (omega arith, ap (λ (b : ℕ). set (c .before .before .loop .out) (a .at + i) b) (c .byte-at .ensures)
-    ∙ ap (λ (l : List ℕ). set l (a .at + i) (byteAt (a .list .now) (a .from + i))) (c .before .before .loop .inv .1)
-    ∙ copy-more (a .list .now) (a .out .now) (a .at) (a .from) i)
+    let i = c .before .before .loop .i in (
+      omega arith,
+      ap (λ (b : ℕ). set (c .before .before .loop .out) (a .at + i) b) (c .byte-at .ensures)
+          ∙ ap (λ (l : List ℕ). set l (a .at + i) (byteAt (a .list .now) (a .from + i))) (c .before .before .loop .inv .1)
+          ∙ copy-more (a .list .now) (a .out .now) (a .at) (a .from) i,
+    )
 
 -- src/writing.rt:39:1
 same-length : tie.Need-same-length Inv-loop μ-loop

@@ -68,8 +68,7 @@ returns : tie.Need-returns
 returns c = let a = c .before .before .before .before .before .args in
     let d = deltaBytes (a .wait) in
     let end : List ℕ = 0xFF ∷ 0x2F ∷ 0 ∷ [] in
-    let first = c .before .before .put-delta in
-    (
+    let first = c .before .before .put-delta in (
       omega (arith, first .ensures .0, length-append d end),
       behind (a .out .now) d end (a .at) _ (first .ensures .0) (first .ensures .1) (three (first .last .0) (first .result) 0xFF 0x2F 0),
     )

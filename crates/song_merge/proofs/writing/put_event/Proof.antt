@@ -31,8 +31,7 @@ returns : tie.Need-returns
 returns c = let a = c .before .before .before .before .before .before .before .before .before .before .args in
     let d = deltaBytes (a .c .wait) in
     let t = toldOf (a .list .now) (a .c) in
-    let first = c .before .before .before .before .before .before .put-delta .ensures in
-    (
+    let first = c .before .before .before .before .before .before .put-delta .ensures in (
       omega (arith, c .before .before .put-told .ensures .0, first .0, length-append d t),
       behind (a .out .now) d t (a .at) _ (first .0) (first .1) (c .before .before .put-told .ensures .1),
     )

@@ -1,0 +1,72 @@
+use borrow.Author.Needs.{needs}
+use Rattle.song_merge.proofs.chunks.chunk_end.Statement.{statement}
+use Rattle.song_merge.proofs.chunks.chunk_end.Tie as tie
+use Rattle.song_merge.proofs.chunks.chunk_end.Reads as reads
+use Rattle.song_merge.proofs.chunks.chunk_end.Lts as lts
+use Rattle.smf.proofs.fields.four_at.Reads as four-at-reads
+use Rattle.song_merge.proofs.chunks.whole.Reads as whole-reads
+
+-- src/chunks.rt:122:8
+sub-if1 : tie.Need-sub-if1
+sub-if1 c = search needs
+
+-- src/chunks.rt:123:9
+returns : tie.Need-returns
+returns c = ?
+
+-- src/chunks.rt:125:16
+add-full : tie.Need-add-full
+add-full c = search needs
+
+-- src/chunks.rt:125:39
+add-four-at : tie.Need-add-four-at
+add-four-at c = search needs
+
+-- src/chunks.rt:125:25
+four-at-requires : tie.Need-four-at-requires
+four-at-requires c κs = search needs
+
+-- src/chunks.rt:125:25
+cast-full : tie.Need-cast-full
+cast-full c = search needs
+
+-- src/chunks.rt:125:16
+add-full-2 : tie.Need-add-full-2
+add-full-2 c = search needs
+
+-- src/chunks.rt:127:9
+returns-2 : tie.Need-returns-2
+returns-2 c = ?
+
+-- src/chunks.rt:129:20
+add-whole : tie.Need-add-whole
+add-whole c = search needs
+
+-- src/chunks.rt:129:8
+whole-requires : tie.Need-whole-requires
+whole-requires c κs = search needs
+
+-- src/chunks.rt:117:1
+returns-3 : tie.Need-returns-3
+returns-3 c = ?
+
+-- src/chunks.rt:117:1
+returns-4 : tie.Need-returns-4
+returns-4 c = ?
+
+pub chunk-end-spec : {M : Type 1} → statement M
+chunk-end-spec =
+    tie.close
+    (tie.spec
+    sub-if1
+    returns
+    add-full
+    add-four-at
+    four-at-requires
+    cast-full
+    add-full-2
+    returns-2
+    add-whole
+    whole-requires
+    returns-3
+    returns-4)
