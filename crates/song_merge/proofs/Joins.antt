@@ -202,6 +202,20 @@ module _ (a : List ℕ) (a-end : ℕ) (f : List ℕ) (end : ℕ) where
       }
 
   -- both are over
+  pub over-size : (x y : Cursor) (w : ℕ) (out : List ℕ) (whole : List Timed) (total : ℕ) → So x y w out whole total → x .ended ≡ true → y .ended ≡ true
+      → (m : ℕ) → m ≡ max (x .wait) (y .wait) → w + length (endBytes m) ≤ total
+  over-size x y w out whole total s x-over y-over m is =
+      let all = s .size in
+      omega (arith, within, none-left a a-end x (s .left) (s .j) (s .sees-left) x-over .1, none-left f end y (s .right) (s .k) (s .sees-right) y-over .1,
+      length-append (deltaBytes m) (0xFF ∷ 0x2F ∷ 0 ∷ []), length-append (deltaBytes (x .wait)) (0xFF ∷ 0x2F ∷ 0 ∷ []), length-append (deltaBytes (y .wait)) (0xFF ∷ 0x2F ∷ 0 ∷ []))
+    where
+      go : (b : Bool) → leb (x .wait) (y .wait) ≡ b → length (deltaBytes m) ≤ length (deltaBytes (x .wait)) + length (deltaBytes (y .wait))
+      go true h = let k = leb-true (x .wait) (y .wait) h in omega (arith, shrinks m (y .wait) (omega arith))
+      go false h = let k = leb-false (x .wait) (y .wait) h in omega (arith, shrinks m (x .wait) (omega arith))
+
+      within : length (deltaBytes m) ≤ length (deltaBytes (x .wait)) + length (deltaBytes (y .wait))
+      within = go (leb (x .wait) (y .wait)) refl
+
   pub over : (x y : Cursor) (w : ℕ) (out : List ℕ) (whole : List Timed) (total : ℕ) → So x y w out whole total
       → x .ended ≡ true → y .ended ≡ true → (m : ℕ) → m ≡ max (x .wait) (y .wait) → m < 2 ^ 28
       → (w' : ℕ) (out' : List ℕ) → w + length (endBytes m) ≤ length out → w' ≡ w + length (endBytes m) → out' ≡ sets out w (endBytes m)
@@ -215,7 +229,7 @@ module _ (a : List ℕ) (a-end : ℕ) (f : List ℕ) (end : ℕ) where
       let events : s .done ++ [] ≡ whole = ap (λ (l : List Timed). s .done ++ l) (sym none) ∙ s .same in
       let all = p .begun (endBytes m) [] (length (deltaBytes m) + 3) (λ r. ended {k = length (deltaBytes m) + 3} {size = 0 ∷ []} [] (quantity-of m small) (last {b = 0} (omega arith)) (omega arith)) 0 in
       let bytes = bytes-are out' (p .pre ++ endBytes m) 0 w' (there p) in
-      at-most total (fits nl nr (from-length out 0 (p .pre) w (p .there)))
+      at-most total (omega (arith, over-size x y w out whole total s x-over y-over m is, from-length out 0 (p .pre) w (p .there), length-append (deltaBytes m) (0xFF ∷ 0x2F ∷ 0 ∷ [])))
       (subst (λ (l : List ℕ). Sized 0 l whole (length (p .pre) + (length (deltaBytes m) + 3))) (sym bytes)
       (subst (λ (ts : List Timed). Sized 0 (p .pre ++ endBytes m) ts (length (p .pre) + (length (deltaBytes m) + 3))) events all))
     where
@@ -223,19 +237,6 @@ module _ (a : List ℕ) (a-end : ℕ) (f : List ℕ) (end : ℕ) where
       there p =
           subst (λ (l : List ℕ). From l 0 (p .pre ++ endBytes m) w') (sym stored)
           (subst (From (sets out w (endBytes m)) 0 (p .pre ++ endBytes m)) (sym e) (from-more (endBytes m) out (p .pre) 0 w (p .there) room))
-
-      within : length (deltaBytes m) ≤ length (deltaBytes (x .wait)) + length (deltaBytes (y .wait))
-      within = go (leb (x .wait) (y .wait)) refl
-        where
-          go : (b : Bool) → leb (x .wait) (y .wait) ≡ b → length (deltaBytes m) ≤ length (deltaBytes (x .wait)) + length (deltaBytes (y .wait))
-          go true h = let k = leb-true (x .wait) (y .wait) h in omega (arith, shrinks m (y .wait) (omega arith))
-          go false h = let k = leb-false (x .wait) (y .wait) h in omega (arith, shrinks m (x .wait) (omega arith))
-
-      fits : (s .left ≡ []) × (length (endBytes (x .wait)) ≤ s .j) → (s .right ≡ []) × (length (endBytes (y .wait)) ≤ s .k) → 0 + length (s .put .pre) ≡ w
-          → length (s .put .pre) + (length (deltaBytes m) + 3) ≤ total
-      fits nl nr long =
-          let all = s .size in
-          omega (arith, within, length-append (deltaBytes (x .wait)) (0xFF ∷ 0x2F ∷ 0 ∷ []), length-append (deltaBytes (y .wait)) (0xFF ∷ 0x2F ∷ 0 ∷ []))
 
   -- too little room
   pub short-left : (x y : Cursor) (w : ℕ) (out : List ℕ) (whole : List Timed) (total : ℕ) → So x y w out whole total → x .ended ≡ false → w + 1 + (x .next - x .from) ≤ total
@@ -338,6 +339,7 @@ module _ (a : List ℕ) (a-end : ℕ) (f : List ℕ) (at end : ℕ) (before out 
   stops h = record {
     within = omega arith;
     merged = λ ts us j k hx hy z. absurd (omega arith);
+    long = λ ts us j k hx hy. omega arith;
     room = λ ts us j k hx hy r. absurd (omega (arith, h ts us j k hx hy));
   }
 
@@ -368,6 +370,7 @@ module _ (a : List ℕ) (a-end : ℕ) (f : List ℕ) (at end : ℕ) (before out 
       record {
         within = omega arith;
         merged = λ ts us j k hx hy z. over a a-end f end x y w out (mergedOf ts us) (j + k) (g .so ts us j k hx hy) x-over y-over m is (omega arith) r out' (omega arith) er eo;
+        long = λ ts us j k hx hy. omega (arith, over-size a a-end f end x y w out (mergedOf ts us) (j + k) (g .so ts us j k hx hy) x-over y-over m is);
         room = λ ts us j k hx hy z. omega arith;
       }
 

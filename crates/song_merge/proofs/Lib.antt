@@ -4,3 +4,4 @@ pub mod Merges
 pub mod Looks
 pub mod Events
 pub mod Joins
+pub mod Tracks

@@ -21,6 +21,7 @@ pub record Joined (a : List ℕ) (a-end : ℕ) (f : List ℕ) (at end : ℕ) (ou
   pub within : r ≤ length out
   pub merged : (ts us : List Timed) (j k : ℕ) → Held a 0 22 a-end ts j → Held f 0 at end us k → 0 < r
       → Held out 0 0 r (mergedOf ts us) (j + k)
+  pub long : (ts us : List Timed) (j k : ℕ) → Held a 0 22 a-end ts j → Held f 0 at end us k → r ≤ j + k
   pub room : (ts us : List Timed) (j k : ℕ) → Held a 0 22 a-end ts j → Held f 0 at end us k → j + k + 5 ≤ length out
       → 0 < r
 
@@ -30,6 +31,7 @@ pub record Grown (before : List ℕ) (a-end : ℕ) (f : List ℕ) (at end spare 
   pub some : 0 < r → (22 ≤ r) × (0 < a-end)
   pub merged : (ts us : List Timed) (j k : ℕ) → Held before 0 22 a-end ts j → Held f 0 at end us k → 0 < r
       → Held out 0 22 r (mergedOf ts us) (j + k)
+  pub long : (ts us : List Timed) (j k : ℕ) → Held before 0 22 a-end ts j → Held f 0 at end us k → r ≤ 22 + j + k
   pub room : (ts us : List Timed) (j k : ℕ) → Held before 0 22 a-end ts j → Held f 0 at end us k
       → j + k + 5 ≤ spare → 22 + j + k ≤ length out → 0 < r
 
@@ -38,6 +40,7 @@ pub record Started (out : List ℕ) (r : ℕ) : Type 0 where
   pub within : r ≤ length out
   pub some : 0 < r → 22 ≤ r
   pub empty : 0 < r → Held out 0 22 r [] 4
+  pub long : r ≤ 26
   pub room : 29 ≤ length out → 0 < r
 
 -- what is found behind the last track, where the merged one ends at a place; a chunk has less than 2 ^ 32 bytes

@@ -1,3 +1,7 @@
+-- `chunk_end` meets its contract. Assumes nothing.
+use mathlib.Core.Path.{_≡_, refl, sym, ap, _∙_, subst}
+use native.Mathlib.Omega.{arith}
+use Rattle.song_merge.proofs.Tracks.{no-chunk, a-chunk, a-broken}
 use borrow.Author.Needs.{needs}
 use Rattle.song_merge.proofs.chunks.chunk_end.Statement.{statement}
 use Rattle.song_merge.proofs.chunks.chunk_end.Tie as tie

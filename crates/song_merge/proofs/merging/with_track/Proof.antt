@@ -1,3 +1,6 @@
+-- `with_track` meets its contract. Assumes nothing.
+use native.Mathlib.Omega.{arith}
+use Rattle.song_merge.proofs.Tracks.{none-before, no-join, no-place, grows}
 use borrow.Author.Needs.{needs}
 use Rattle.song_merge.proofs.merging.with_track.Statement.{statement}
 use Rattle.song_merge.proofs.merging.with_track.Tie as tie
