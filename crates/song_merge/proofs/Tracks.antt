@@ -141,19 +141,20 @@ module _ (f : List ℕ) (at : ℕ) where
   pub no-chunk : length f < full → ChunkEnd f at 0
   no-chunk h = record { told = λ z. absurd (omega arith); taken = λ ts end e room t. absurd (omega arith) }
 
-  pub a-chunk : (b : Bool) → full ≤ length f → Whole f (at + 8) full b → b ≡ true → ChunkEnd f at full
-  a-chunk b room w e = record {
-    told = λ z. let t = w .told e in (refl, room, t .0, t .1);
-    taken = λ ts end is r t. sym is;
-  }
+  module _ (end : ℕ) (is : end ≡ full) (b : Bool) (w : Whole f (at + 8) end b) where
+    pub a-chunk : end ≤ length f → b ≡ true → ChunkEnd f at end
+    a-chunk room e = record {
+      told = λ z. let t = w .told e in (is, room, t .0, t .1);
+      taken = λ ts n e' r t. is ∙ sym e';
+    }
 
-  pub a-broken : (b : Bool) → Whole f (at + 8) full b → b ≡ false → ChunkEnd f at 0
-  a-broken b w e = record {
-    told = λ z. absurd (omega arith);
-    taken = λ ts end is r t.
-        let k = w .taken ts (subst (λ (n : ℕ). Stands f (at + 8) n ts) is t) in
-        absurd (let z : _≡_ {A = ℕ} 0 1 = cc in omega arith);
-  }
+    pub a-broken : b ≡ false → ChunkEnd f at 0
+    a-broken e = record {
+      told = λ z. absurd (omega arith);
+      taken = λ ts n e' r t.
+          let k = w .taken ts (subst (λ (m : ℕ). Stands f (at + 8) m ts) (e' ∙ sym is) t) in
+          absurd (let z : _≡_ {A = ℕ} 0 1 = cc in omega arith);
+    }
 
 -- ---- written out it has no more than twice its bytes
 module _ (f : List ℕ) where

@@ -16,7 +16,7 @@ sub-if1 c = search needs
 
 -- src/chunks.rt:123:9
 returns : tie.Need-returns
-returns c = ?
+returns c = no-chunk _ _ (omega arith)
 
 -- src/chunks.rt:125:16
 add-full : tie.Need-add-full
@@ -40,7 +40,7 @@ add-full-2 c = search needs
 
 -- src/chunks.rt:127:9
 returns-2 : tie.Need-returns-2
-returns-2 c = ?
+returns-2 c = no-chunk _ _ (let is = c .before .four-at .ensures in omega arith)
 
 -- src/chunks.rt:129:20
 add-whole : tie.Need-add-whole
@@ -52,11 +52,15 @@ whole-requires c κs = search needs
 
 -- src/chunks.rt:117:1
 returns-3 : tie.Need-returns-3
-returns-3 c = ?
+returns-3 c = let a = c .before .before .before .before .before .before .args in
+    let is = c .before .before .before .four-at .ensures in
+    a-chunk (a .file .now) (a .at) _ (omega arith) _ (c .before .whole .ensures) (omega arith) (c .if3 .taken)
 
 -- src/chunks.rt:117:1
 returns-4 : tie.Need-returns-4
-returns-4 c = ?
+returns-4 c = let a = c .before .before .before .before .before .before .args in
+    let is = c .before .before .before .four-at .ensures in
+    a-broken (a .file .now) (a .at) _ (omega arith) _ (c .before .whole .ensures) (c .if3 .left)
 
 pub chunk-end-spec : {M : Type 1} → statement M
 chunk-end-spec =
