@@ -5,3 +5,4 @@ pub mod Looks
 pub mod Events
 pub mod Joins
 pub mod Tracks
+pub mod Gathering

@@ -58,5 +58,5 @@ pub record Gathers (f : List ℕ) (count at spare : ℕ) (out : List ℕ) (r : G
   pub taken : (tss : List (List Timed)) → Counted f at count tss → r ≡ Broken → ⊥
   pub merged : (tss : List (List Timed)) → Counted f at count tss → (end : ℕ) → r ≡ To end
       → (22 ≤ end) × (end ≤ length out) × (end < 2 ^ 32) × Stands out 22 end (allOf tss)
-  pub room : (tss : List (List Timed)) → Counted f at count tss → 14 ≤ at → 2 * length f ≤ spare
+  pub room : (tss : List (List Timed)) → Counted f at count tss → 14 ≤ at → at < length f → 2 * length f ≤ spare
       → 2 * length f ≤ length out → length f < 2 ^ 31 → r ≡ Short → ⊥
