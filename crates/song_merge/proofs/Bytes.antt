@@ -49,7 +49,17 @@ pub byte-before : (vs l : List ℕ) (i j : ℕ) → j < i → byteAt (sets l i v
 byte-before [] l i j h = refl
 byte-before (v ∷ vs) l i j h = byte-before vs (set l i v) (suc i) j (omega arith) ∙ getD-set-other l i j v 0 (λ e. omega arith)
 
+byte-after : (vs l : List ℕ) (i j : ℕ) → i + length vs ≤ j → byteAt (sets l i vs) j ≡ byteAt l j
+byte-after [] l i j h = refl
+byte-after (v ∷ vs) l i j h = byte-after vs (set l i v) (suc i) j (omega arith) ∙ getD-set-other l i j v 0 (λ e. omega arith)
+
 module _ (vs l : List ℕ) (i : ℕ) where
+  -- what stands behind them
+  pub bytes-after : (k at : ℕ) → i + length vs ≤ at → bytesAt k (sets l i vs) at ≡ bytesAt k l at
+  unfolding bytesAt
+  bytes-after zero at h = refl
+  bytes-after (suc k) at h = rw (byte-after vs l i at h, bytes-after k (at + 1) (omega arith))
+
   -- what stands before them
   pub from-kept : (bytes : List ℕ) (at next : ℕ) → From l at bytes next → next ≤ i → From (sets l i vs) at bytes next
   from-kept [] at next h k = h

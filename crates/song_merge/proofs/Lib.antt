@@ -6,3 +6,5 @@ pub mod Events
 pub mod Joins
 pub mod Tracks
 pub mod Gathering
+pub mod Headings
+pub mod Answered

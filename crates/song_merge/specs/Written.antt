@@ -32,4 +32,5 @@ endBytes wait = deltaBytes wait ++ (0xFF ∷ 0x2F ∷ 0 ∷ [])
 abbrev pub headingBytes : ℕ → ℕ → List ℕ
 headingBytes division size =
     0x4D ∷ 0x54 ∷ 0x68 ∷ 0x64 ∷ 0 ∷ 0 ∷ 0 ∷ 6 ∷ 0 ∷ 0 ∷ 0 ∷ 1 ∷ (division / 256) ∷ (division % 256)
-    ∷ 0x4D ∷ 0x54 ∷ 0x72 ∷ 0x6B ∷ (size / 16777216) ∷ (size / 65536 % 256) ∷ (size / 256 % 256) ∷ (size % 256) ∷ []
+    ∷ 0x4D ∷ 0x54 ∷ 0x72 ∷ 0x6B ∷ (size / 256 / 256 / 256) ∷ (size / 256 / 256 % 256) ∷ (size / 256 % 256)
+    ∷ (size % 256) ∷ []

@@ -111,8 +111,8 @@ pub fn put_heading(out: &mut [u8], division: u32, size: u32)
         0x54,
         0x72,
         0x6b,
-        (size / 16777216) as u8,
-        (size / 65536 % 256) as u8,
+        (size / 256 / 256 / 256) as u8,
+        (size / 256 / 256 % 256) as u8,
         (size / 256 % 256) as u8,
         (size % 256) as u8,
     ];

@@ -1,3 +1,4 @@
+-- `put_heading` meets its contract. Assumes nothing.
 use Rattle.octets.specs.Octets.{bytesAt}
 use borrow.Author.Needs.{needs}
 use Rattle.song_merge.proofs.writing.put_heading.Statement.{statement}
@@ -15,20 +16,20 @@ cast-t8 : tie.Need-cast-t8
 cast-t8 c = search needs
 
 -- src/writing.rt:114:9
-cast-t10 : tie.Need-cast-t10
-cast-t10 c = search needs
+cast-t12 : tie.Need-cast-t12
+cast-t12 c = search needs
 
 -- src/writing.rt:115:9
-cast-t13 : tie.Need-cast-t13
-cast-t13 c = search needs
-
--- src/writing.rt:116:9
 cast-t16 : tie.Need-cast-t16
 cast-t16 c = search needs
 
+-- src/writing.rt:116:9
+cast-t19 : tie.Need-cast-t19
+cast-t19 c = search needs
+
 -- src/writing.rt:117:9
-cast-t18 : tie.Need-cast-t18
-cast-t18 c = search needs
+cast-t21 : tie.Need-cast-t21
+cast-t21 c = search needs
 
 -- src/writing.rt:119:10
 slice-aggregate-copy : tie.Need-slice-aggregate-copy
@@ -53,10 +54,10 @@ put-heading-spec =
     (tie.spec
     cast-t6
     cast-t8
-    cast-t10
-    cast-t13
+    cast-t12
     cast-t16
-    cast-t18
+    cast-t19
+    cast-t21
     slice-aggregate-copy
     copy-requires
     same-length
