@@ -100,16 +100,21 @@ module _ (f : List ℕ) (octets : Octets f) where
       let there = chunk-stands f k (s₂ .mid) (s₃ .mid) (s₃ .left) in
       let ends = there .ends in
       let size = there .size in
-      inr (ts, tss, refl, record {
-        chunk = s₂ .mid;
-        end = s₃ .mid;
-        is-found = p .same ∙ track-there f octets (p .left) (s₂ .mid) (s₃ .mid) there up₃ (p .enough);
-        low = omega arith;
-        is = omega arith;
-        room = up₃;
-        stands = subst (λ (l : List ℕ). Track 0 l ts) (sym (bytes-are f body (s₂ .mid + 8) (s₃ .mid) (there .inside))) t;
-        rest = subst (λ (l : List ℕ). Tracks l tss) (sym (bytes-are f rest (s₃ .mid) (length f) (s₃ .right))) more;
-      })
+      inr (
+        ts,
+        tss,
+        refl,
+        record {
+          chunk = s₂ .mid;
+          end = s₃ .mid;
+          is-found = p .same ∙ track-there f octets (p .left) (s₂ .mid) (s₃ .mid) there up₃ (p .enough);
+          low = omega arith;
+          is = omega arith;
+          room = up₃;
+          stands = subst (λ (l : List ℕ). Track 0 l ts) (sym (bytes-are f body (s₂ .mid + 8) (s₃ .mid) (there .inside))) t;
+          rest = subst (λ (l : List ℕ). Tracks l tss) (sym (bytes-are f rest (s₃ .mid) (length f) (s₃ .right))) more;
+        },
+      )
 
   pub firsts : (place : ℕ) (tss : List (List Timed)) → place ≤ length f → Behind f place tss → Firsts f place tss
   firsts place tss room t = first-of t place room (bytes-from f place (length f) room)

@@ -206,8 +206,15 @@ module _ (a : List ℕ) (a-end : ℕ) (f : List ℕ) (end : ℕ) where
       → (m : ℕ) → m ≡ max (x .wait) (y .wait) → w + length (endBytes m) ≤ total
   over-size x y w out whole total s x-over y-over m is =
       let all = s .size in
-      omega (arith, within, none-left a a-end x (s .left) (s .j) (s .sees-left) x-over .1, none-left f end y (s .right) (s .k) (s .sees-right) y-over .1,
-      length-append (deltaBytes m) (0xFF ∷ 0x2F ∷ 0 ∷ []), length-append (deltaBytes (x .wait)) (0xFF ∷ 0x2F ∷ 0 ∷ []), length-append (deltaBytes (y .wait)) (0xFF ∷ 0x2F ∷ 0 ∷ []))
+      omega (
+        arith,
+        within,
+        none-left a a-end x (s .left) (s .j) (s .sees-left) x-over .1,
+        none-left f end y (s .right) (s .k) (s .sees-right) y-over .1,
+        length-append (deltaBytes m) (0xFF ∷ 0x2F ∷ 0 ∷ []),
+        length-append (deltaBytes (x .wait)) (0xFF ∷ 0x2F ∷ 0 ∷ []),
+        length-append (deltaBytes (y .wait)) (0xFF ∷ 0x2F ∷ 0 ∷ []),
+      )
     where
       go : (b : Bool) → leb (x .wait) (y .wait) ≡ b → length (deltaBytes m) ≤ length (deltaBytes (x .wait)) + length (deltaBytes (y .wait))
       go true h = let k = leb-true (x .wait) (y .wait) h in omega (arith, shrinks m (y .wait) (omega arith))

@@ -54,11 +54,17 @@ module _ (f : List ℕ) (end : ℕ) where
       let second = split f (apart .mid) event rest end (apart .right) in
       let up = second .up in
       let first = join f place delta (apart .mid) event (second .mid) (apart .left) (second .left) in
-      inr (ticks, e, status, second .mid, record {
-        others = ts;
-        is = step-taken f end running place (second .mid) delta event q first up o;
-        rest = subst (λ (l : List ℕ). Track status l ts) (sym (bytes-are f rest (second .mid) end (second .right))) more;
-      })
+      inr (
+        ticks,
+        e,
+        status,
+        second .mid,
+        record {
+          others = ts;
+          is = step-taken f end running place (second .mid) delta event q first up o;
+          rest = subst (λ (l : List ℕ). Track status l ts) (sym (bytes-are f rest (second .mid) end (second .right))) more;
+        },
+      )
 
   pub some-track : {running : ℕ} {bytes : List ℕ} {ts : List Timed} → Track running bytes ts → 0 < length bytes
   some-track (ended {delta = delta} {size = size} body q r) = omega (arith, some-bytes f end q, length-append delta (0xFF ∷ 0x2F ∷ (size ++ body)))

@@ -1,3 +1,14 @@
+-- `merge` meets its contract. Assumes nothing.
+use mathlib.Core.Path.{_≡_, sym, ap, _∙_, subst}
+use mathlib.Core.List.{[]}
+use Prim.Native.Nat.{ℕ}
+use native.Mathlib.Omega.{arith}
+use lib.ListN.{length}
+use Rattle.song_grammar.proofs.Wholes.{Octets}
+use Rattle.song_merge.specs.declared.Merged.{Merged}
+use Rattle.song_merge.specs.Gathers.{Gathers}
+use Rattle.song_merge.specs.Answers.{Answers}
+use Rattle.song_merge.proofs.Answered.{refused-heading, in-file, small, refused-tracks, no-room, fits, done}
 use borrow.Author.Needs.{needs}
 use Rattle.song_merge.proofs.merge.Statement.{statement}
 use Rattle.song_merge.proofs.merge.Tie as tie
@@ -31,7 +42,9 @@ enum-known-division c = search needs
 
 -- src/lib.rt:44:20
 gather-requires : tie.Need-gather-requires
-gather-requires c κs = ?
+gather-requires c κs = let a = c .before .before .before .before .before .before .before .before .before .args in
+    let octets : Octets (a .file .now) = (λ i. omega (arith, c .before .before .before .before .before .before .before .before .shared-slice-known .given i)) in
+    in-file (a .file .now) octets 0 [] _ _ _ (sym (c .before .before .before .before .before .opening .ensures) ∙ c .before .before .before .division .given .1)
 
 -- src/lib.rt:45:33
 enum-told : tie.Need-enum-told
@@ -55,19 +68,32 @@ enum-known-end c = search needs
 
 -- src/lib.rt:51:45
 sub-put-heading : tie.Need-sub-put-heading
-sub-put-heading c = ?
+sub-put-heading c = let a = c .before .before .before .before .before .before .before .before .before .before .before .before .before .before .before .before .before .before .args in
+    let octets : Octets (a .file .now) = (λ i. omega (arith, c .before .before .before .before .before .before .before .before .before .before .before .before .before .before .before .before .before .shared-slice-known .given i)) in
+    let fit = fits (a .file .now) octets (length (a .spare .now)) (c .before .before .before .before .before .before .before .before .gather .last .1 .1 .1 .1 .0) _ _ _ (sym (c .before .before .before .before .before .before .before .before .before .before .before .before .before .before .opening .ensures) ∙ c .before .before .before .before .before .before .before .before .before .before .before .before .division .given .1) _ (subst (Gathers (a .file .now) _ _ (length (a .spare .now)) (c .before .before .before .before .before .before .before .before .gather .last .1 .1 .1 .1 .0)) (c .before .before .end .given .1) (c .before .before .before .before .before .before .before .before .gather .ensures)) in
+    omega arith
 
 -- src/lib.rt:51:44
 cast-put-heading : tie.Need-cast-put-heading
-cast-put-heading c = ?
+cast-put-heading c = let a = c .before .before .before .before .before .before .before .before .before .before .before .before .before .before .before .before .before .before .args in
+    let octets : Octets (a .file .now) = (λ i. omega (arith, c .before .before .before .before .before .before .before .before .before .before .before .before .before .before .before .before .before .shared-slice-known .given i)) in
+    let fit = fits (a .file .now) octets (length (a .spare .now)) (c .before .before .before .before .before .before .before .before .gather .last .1 .1 .1 .1 .0) _ _ _ (sym (c .before .before .before .before .before .before .before .before .before .before .before .before .before .before .opening .ensures) ∙ c .before .before .before .before .before .before .before .before .before .before .before .before .division .given .1) _ (subst (Gathers (a .file .now) _ _ (length (a .spare .now)) (c .before .before .before .before .before .before .before .before .gather .last .1 .1 .1 .1 .0)) (c .before .before .end .given .1) (c .before .before .before .before .before .before .before .before .gather .ensures)) in
+    omega arith
 
 -- src/lib.rt:51:17
 put-heading-requires : tie.Need-put-heading-requires
-put-heading-requires c κs = ?
+put-heading-requires c κs = let a = c .before .before .before .before .before .before .before .before .before .before .before .before .before .before .before .before .before .before .args in
+    let octets : Octets (a .file .now) = (λ i. omega (arith, c .before .before .before .before .before .before .before .before .before .before .before .before .before .before .before .before .before .shared-slice-known .given i)) in
+    let fit = fits (a .file .now) octets (length (a .spare .now)) (c .before .before .before .before .before .before .before .before .gather .last .1 .1 .1 .1 .0) _ _ _ (sym (c .before .before .before .before .before .before .before .before .before .before .before .before .before .before .opening .ensures) ∙ c .before .before .before .before .before .before .before .before .before .before .before .before .division .given .1) _ (subst (Gathers (a .file .now) _ _ (length (a .spare .now)) (c .before .before .before .before .before .before .before .before .gather .last .1 .1 .1 .1 .0)) (c .before .before .end .given .1) (c .before .before .before .before .before .before .before .before .gather .ensures)) in
+    let few = small (a .file .now) octets (length (a .spare .now)) (c .before .before .before .before .before .before .before .before .gather .last .1 .1 .1 .1 .0) _ _ _ (sym (c .before .before .before .before .before .before .before .before .before .before .before .before .before .before .opening .ensures) ∙ c .before .before .before .before .before .before .before .before .before .before .before .before .division .given .1) in
+    (omega arith, omega arith)
 
 -- src/lib.rt:32:1
 returns : tie.Need-returns
-returns c = ?
+returns c = let a = c .before .before .before .before .before .before .before .before .before .args in
+    let octets : Octets (a .file .now) = (λ i. omega (arith, c .before .before .before .before .before .before .before .before .shared-slice-known .given i)) in
+    subst (Answers (a .file .now) (length (a .spare .now)) (a .out .now)) (sym (c .refused .ensures ∙ ap (λ (n : ℕ). record { length = 0; number = n }) (c .before .refusal .ensures)))
+    (refused-heading (a .file .now) octets (length (a .spare .now)) (a .out .now) _ (sym (c .before .before .before .before .before .opening .ensures) ∙ c .before .before .before .fault .given .1))
 
 -- src/lib.rt:32:1
 same-length : tie.Need-same-length
@@ -79,7 +105,10 @@ same-length-2 c = search needs
 
 -- src/lib.rt:32:1
 returns-2 : tie.Need-returns-2
-returns-2 c = ?
+returns-2 c = let a = c .before .before .before .before .before .before .before .before .before .before .before .before .before .before .before .before .before .args in
+    let octets : Octets (a .file .now) = (λ i. omega (arith, c .before .before .before .before .before .before .before .before .before .before .before .before .before .before .before .before .shared-slice-known .given i)) in
+    subst (Answers (a .file .now) (length (a .spare .now)) _) (sym (c .refused2 .ensures))
+    (refused-tracks (a .file .now) octets (length (a .spare .now)) (c .before .before .before .before .before .before .before .gather .last .1 .1 .1 .1 .0) _ _ _ (sym (c .before .before .before .before .before .before .before .before .before .before .before .before .before .opening .ensures) ∙ c .before .before .before .before .before .before .before .before .before .before .before .division .given .1) (subst (Gathers (a .file .now) _ _ (length (a .spare .now)) (c .before .before .before .before .before .before .before .gather .last .1 .1 .1 .1 .0)) (c .before .enum-told .given .1) (c .before .before .before .before .before .before .before .gather .ensures)))
 
 -- src/lib.rt:32:1
 same-length-3 : tie.Need-same-length-3
@@ -91,7 +120,9 @@ same-length-4 c = search needs
 
 -- src/lib.rt:32:1
 returns-3 : tie.Need-returns-3
-returns-3 c = ?
+returns-3 c = let a = c .before .before .before .before .before .before .before .before .before .before .before .before .before .before .before .before .args in
+    let octets : Octets (a .file .now) = (λ i. omega (arith, c .before .before .before .before .before .before .before .before .before .before .before .before .before .before .before .shared-slice-known .given i)) in
+    no-room (a .file .now) octets (length (a .spare .now)) (c .before .before .before .before .before .before .gather .last .1 .1 .1 .1 .0) _ _ _ (sym (c .before .before .before .before .before .before .before .before .before .before .before .before .opening .ensures) ∙ c .before .before .before .before .before .before .before .before .before .before .division .given .1) (subst (Gathers (a .file .now) _ _ (length (a .spare .now)) (c .before .before .before .before .before .before .gather .last .1 .1 .1 .1 .0)) (c .enum-told2 .given .1) (c .before .before .before .before .before .before .gather .ensures))
 
 -- src/lib.rt:32:1
 same-length-5 : tie.Need-same-length-5
@@ -103,7 +134,9 @@ same-length-6 c = search needs
 
 -- src/lib.rt:32:1
 returns-4 : tie.Need-returns-4
-returns-4 c = ?
+returns-4 c = let a = c .before .before .before .before .before .before .before .before .before .before .before .before .before .before .before .before .before .before .before .before .before .args in
+    let octets : Octets (a .file .now) = (λ i. omega (arith, c .before .before .before .before .before .before .before .before .before .before .before .before .before .before .before .before .before .before .before .before .shared-slice-known .given i)) in
+    done (a .file .now) octets (length (a .spare .now)) (c .before .before .before .before .before .before .before .before .before .before .before .gather .last .1 .1 .1 .1 .0) _ _ _ (sym (c .before .before .before .before .before .before .before .before .before .before .before .before .before .before .before .before .before .opening .ensures) ∙ c .before .before .before .before .before .before .before .before .before .before .before .before .before .before .before .division .given .1) _ (subst (Gathers (a .file .now) _ _ (length (a .spare .now)) (c .before .before .before .before .before .before .before .before .before .before .before .gather .last .1 .1 .1 .1 .0)) (c .before .before .before .before .before .end .given .1) (c .before .before .before .before .before .before .before .before .before .before .before .gather .ensures)) _ (c .before .before .put-heading .ensures)
 
 pub merge-spec : {M : Type 1} → statement M
 merge-spec =

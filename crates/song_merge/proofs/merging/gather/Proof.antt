@@ -149,8 +149,7 @@ loop-again c = let s = c .before .before .before .before .before .before .before
     let w = c .before .before .before .before .with-track in
     let chunk = c .before .before .before .before .before .before .before .before .before .before .chunk .given .0 .0 in
     let full = c .before .before .before .before .before .before .before .before .chunk-end .result in
-    let grown = subst (λ (n : ℕ). Grown (l .out) (l .end) (a .file .now) (chunk + 8) full n (w .last .1 .1 .1 .1 .0) (w .result)) (l .inv .1) (w .ensures) in
-    (
+    let grown = subst (λ (n : ℕ). Grown (l .out) (l .end) (a .file .now) (chunk + 8) full n (w .last .1 .1 .1 .1 .0) (w .result)) (l .inv .1) (w .ensures) in (
       again (a .file .now) octets (a .count) (a .at) (length (a .spare .now)) _ _ (l .place) (l .end) (l .i) (l .inv .0) chunk full (sym (c .before .before .before .before .before .before .before .before .before .before .before .before .track-at .ensures) ∙ c .before .before .before .before .before .before .before .before .before .before .chunk .given .1) (c .before .before .before .before .before .before .before .before .chunk-end .ensures) (let u = c .before .before .before .before .before .before .before in omega arith) _ _ grown (w .kept .1 .1 .1 .1 .0) (omega arith),
       w .kept .1 .1 .1 .0 ∙ l .inv .1,
     )
