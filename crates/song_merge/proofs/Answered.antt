@@ -2,7 +2,7 @@
 use mathlib.Core.Path.{_≡_, refl, sym, ap, _∙_, subst}
 use mathlib.Core.List.{List, [], _∷_, _++_, append-nil}
 use mathlib.Core.Logic.{_⊎_, inl, inr}
-use Prim.Native.Nat.{ℕ, zero, suc, _+_, _-_, _*_, _/_, _%_, _^_, _≤_, _<_}
+use Prim.Native.Nat.{ℕ, _+_, _-_, _*_, _/_, _%_, _^_, _≤_, _<_}
 use native.Mathlib.Omega.{arith}
 use lib.ListN.{length, take}
 use lib.Seq.{sets}
@@ -12,19 +12,16 @@ use Rattle.smf.specs.Promised.{Timed}
 use Rattle.smf.specs.declared.faults.Reason.{Reason}
 use Rattle.smf.specs.declared.faults.Reason.the-variants as reason
 use Rattle.smf.specs.declared.faults.Fault.{Fault}
-use Rattle.smf.proofs.Inside.{both}
-use Rattle.song_grammar.specs.Grammar.{Track, Chunk, MThd, MTrk, Header, Aliens, File}
+use Rattle.song_grammar.specs.Grammar.{Track, Chunk, MTrk, Header, File}
 use Rattle.song_grammar.specs.Grammar.Chunk.{chunk}
 use Rattle.song_grammar.specs.Grammar.Header.{header}
 use Rattle.song_grammar.specs.Grammar.Aliens.{none}
 use Rattle.song_grammar.specs.Grammar.File.{file}
-use Rattle.song_grammar.proofs.Segments.{From, from-length, join, split, whole-from, whole-is, before-is}
+use Rattle.song_grammar.proofs.Segments.{From, join, split, whole-from, whole-is, before-is}
 use Rattle.song_grammar.proofs.Wholes.{Octets}
-use Rattle.song_merge.specs.declared.chunks.Opened.{Opened}
 use Rattle.song_merge.specs.declared.chunks.Opened.the-variants as opened
 use Rattle.song_merge.specs.declared.merging.Gathered.{Gathered}
 use Rattle.song_merge.specs.declared.merging.Gathered.the-variants as gathered
-use Rattle.song_merge.specs.declared.Merged.{Merged}
 use Rattle.song_merge.specs.Songs.{Heading, Tracks, Songs}
 use Rattle.song_merge.specs.Songs.Songs.{songs}
 use Rattle.song_merge.specs.Merges.{allOf}
@@ -34,7 +31,7 @@ use Rattle.song_merge.specs.Headings.{openingOf}
 use Rattle.song_merge.specs.Gathers.{Counted, Gathers}
 use Rattle.song_merge.specs.Answers.{Answers}
 use Rattle.song_merge.proofs.Bytes.{bytes-from, bytes-are, bytes-long, bytes-after, from-sets, sets-long}
-use Rattle.song_merge.proofs.Headings.{heading-taken, Opens, opens}
+use Rattle.song_merge.proofs.Headings.{heading-taken, opens}
 use Rattle.song_merge.proofs.Gathering.{Firsts, firsts}
 
 -- ---- a refusal is 12 or more

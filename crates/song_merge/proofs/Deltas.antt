@@ -1,15 +1,14 @@
 -- A delta-time that is written is the quantity of its number, and no longer than any that spells as much. Assumes nothing.
-use mathlib.Core.Path.{_≡_, refl, sym, ap, _∙_, subst}
-use mathlib.Core.Bool.{Bool, true, false}
+use mathlib.Core.Path.{_≡_, subst}
 use mathlib.Core.List.{List, [], _∷_}
-use Prim.Native.Nat.{ℕ, suc, _+_, _-_, _*_, _/_, _%_, _^_, _≤_, _<_}
+use Prim.Native.Nat.{ℕ, suc, _+_, _-_, _/_, _%_, _^_, _≤_, _<_}
 use native.Mathlib.Omega.{arith}
 use lib.Dec.{ltb}
 use lib.ListN.{length, set}
 use lib.Seq.{sets}
 use borrow.Author.Tests.{ltb-true, ltb-false, lt-ltb, le-ltb}
 use Rattle.smf.proofs.Inside.{both}
-use Rattle.song_grammar.specs.Grammar.{Digits, Quantity}
+use Rattle.song_grammar.specs.Grammar.{Quantity}
 use Rattle.song_grammar.specs.Grammar.Digits.{last, next}
 use Rattle.song_grammar.proofs.Segments.{From}
 use Rattle.song_grammar.proofs.Taken.{some-bytes}

@@ -1,6 +1,5 @@
 -- The tracks of a file, one after another. Assumes nothing.
 use mathlib.Core.Path.{_≡_, refl, sym, ap, _∙_, subst}
-use mathlib.Core.Bool.{Bool, true, false, cond}
 use mathlib.Core.List.{List, [], _∷_, _++_}
 use mathlib.Core.Logic.{_⊎_, inl, inr}
 use Prim.Native.Nat.{ℕ, zero, suc, _+_, _-_, _*_, _^_, _≤_, _<_}
@@ -8,26 +7,23 @@ use native.Mathlib.Omega.{arith}
 use lib.Dec.{ltb, eqb}
 use lib.ListN.{length}
 use borrow.Author.Tests.{ltb-true, ltb-false, eqb-true, eqb-false}
-use Rattle.octets.specs.Octets.{byteAt, bytesAt}
+use Rattle.octets.specs.Octets.{bytesAt}
 use Rattle.smf.specs.Fields.{fourAt}
-use Rattle.smf.specs.Files.{trackFrom, trackAt}
+use Rattle.smf.specs.Files.{trackAt}
 use Rattle.smf.specs.Promised.{Timed}
-use Rattle.smf.specs.declared.faults.Fault.{Fault}
 use Rattle.smf.specs.declared.chunks.Found.{Found}
 use Rattle.smf.specs.declared.chunks.Found.the-variants as found
 use Rattle.smf.proofs.Inside.{both}
 use Rattle.smf.proofs.Searches.{track-over}
-use Rattle.song_grammar.specs.Grammar.{Track, Chunk, MTrk, Aliens}
+use Rattle.song_grammar.specs.Grammar.{Track, MTrk, Aliens}
 use Rattle.song_grammar.proofs.Segments.{From, from-length, join, split}
-use Rattle.song_grammar.proofs.Shown.{Spelt}
 use Rattle.song_grammar.proofs.Chunks.{Chunked, chunked, chunk-there, Searched, search}
 use Rattle.song_grammar.proofs.Wholes.{Octets, chunk-stands, aliens-passed, track-there}
-use Rattle.song_merge.specs.declared.merging.Gathered.{Gathered}
 use Rattle.song_merge.specs.declared.merging.Gathered.the-variants.{To, Short, Broken}
 use Rattle.song_merge.specs.Songs.{Tracks}
 use Rattle.song_merge.specs.Songs.Tracks.{none, track}
 use Rattle.song_merge.specs.Merges.{mergedOf, mergedWith, allOf}
-use Rattle.song_merge.specs.Standing.{Stands, Sized, Held, ChunkEnd}
+use Rattle.song_merge.specs.Standing.{Stands, Held, ChunkEnd}
 use Rattle.song_merge.specs.Gathers.{Grown, Started, closedOf, Counted, Gathers}
 use Rattle.song_merge.proofs.Bytes.{bytes-from, bytes-are, bytes-long}
 use Rattle.song_merge.proofs.Tracks.{sized-of, track-of}

@@ -1,17 +1,17 @@
 -- The header of a song of format 1: what is taken the grammar spells, and the other way. Assumes nothing.
 use mathlib.Core.Path.{_≡_, refl, sym, ap, _∙_, subst}
-use mathlib.Core.Bool.{Bool, true, false, cond, not}
-use mathlib.Core.List.{List, [], _∷_, _++_}
-use Prim.Native.Nat.{ℕ, zero, suc, _+_, _-_, _*_, _≤_, _<_}
+use mathlib.Core.Bool.{Bool, true, false, not}
+use mathlib.Core.List.{List, [], _∷_}
+use Prim.Native.Nat.{ℕ, zero, suc, _+_, _-_, _≤_, _<_}
 use native.Mathlib.Omega.{arith}
 use lib.Dec.{ltb, leb, eqb}
 use lib.ListN.{length}
-use borrow.Author.Tests.{ltb-true, ltb-false, leb-true, leb-false, eqb-true, eqb-false, lt-ltb, le-ltb, le-leb, lt-leb, ne-eqb}
+use borrow.Author.Tests.{ltb-false, leb-false, eqb-true, eqb-false, le-ltb, lt-leb, ne-eqb}
 use Rattle.octets.specs.Octets.{byteAt, bytesAt, numberAfter, numberOf}
 use Rattle.smf.specs.Fields.{twoAt, fourAt}
 use Rattle.smf.specs.Files.{headerType}
 use Rattle.smf.proofs.Inside.{both}
-use Rattle.song_grammar.specs.Grammar.{Chunk, MThd}
+use Rattle.song_grammar.specs.Grammar.{MThd}
 use Rattle.song_grammar.proofs.Segments.{From, two-is}
 use Rattle.song_grammar.proofs.Shown.{Spelt}
 use Rattle.song_grammar.proofs.Chunks.{Four, four-there, Chunked, chunked, chunk-there, named, two-number}

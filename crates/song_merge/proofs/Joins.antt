@@ -1,23 +1,23 @@
 -- Two tracks in one, event by event. Assumes nothing.
 use mathlib.Core.Path.{_≡_, refl, sym, ap, _∙_, subst}
 use mathlib.Core.Bool.{Bool, true, false, cond, not, _&&_, _||_}
-use mathlib.Core.List.{List, [], _∷_, _++_, append-assoc, append-nil}
+use mathlib.Core.List.{List, [], _∷_, _++_, append-assoc}
 use mathlib.Core.Logic.{_⊎_, inl, inr}
-use Prim.Native.Nat.{ℕ, zero, suc, _+_, _-_, _^_, _≤_, _<_, max}
+use Prim.Native.Nat.{ℕ, _+_, _-_, _^_, _≤_, _<_, max}
 use native.Mathlib.Omega.{arith}
 use lib.Dec.{leb}
 use lib.ListN.{length, length-append}
 use lib.Seq.{sets}
 use borrow.Author.Tests.{leb-true, leb-false}
-use Rattle.octets.specs.Octets.{byteAt, bytesAt}
+use Rattle.octets.specs.Octets.{byteAt}
 use Rattle.smf.specs.Promised.{Timed}
 use Rattle.smf.specs.declared.events.Event.{Event}
 use Rattle.song_grammar.specs.Grammar.{Quantity, OneEvent}
 use Rattle.song_grammar.specs.Grammar.Digits.{last}
 use Rattle.song_grammar.proofs.Segments.{From, from-length}
 use Rattle.song_merge.specs.declared.cursors.Cursor.{Cursor}
-use Rattle.song_merge.specs.Merges.{sooner, among, mergedOf}
-use Rattle.song_merge.specs.Written.{deltaBytes, eventOf, toldOf, eventBytes, endBytes}
+use Rattle.song_merge.specs.Merges.{mergedOf}
+use Rattle.song_merge.specs.Written.{deltaBytes, toldOf, eventBytes, endBytes}
 use Rattle.song_merge.specs.Gathers.{Joined}
 use Rattle.song_merge.specs.Standing.{Sized, Held, Before, Views, Placed}
 use Rattle.song_merge.specs.Standing.Sized.{ended, then}

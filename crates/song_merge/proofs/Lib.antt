@@ -8,3 +8,4 @@ pub mod Tracks
 pub mod Gathering
 pub mod Headings
 pub mod Answered
+pub mod Heard

@@ -1,8 +1,8 @@
 -- What a cursor sees. Assumes nothing.
 use mathlib.Core.Path.{_≡_, refl, sym, ap, _∙_, subst}
-use mathlib.Core.Bool.{Bool, true, false, cond}
+use mathlib.Core.Bool.{true, false}
 use mathlib.Core.List.{List, [], _∷_, _++_}
-use Prim.Native.Nat.{ℕ, zero, suc, _+_, _-_, _^_, _≤_, _<_}
+use Prim.Native.Nat.{ℕ, _+_, _-_, _^_, _≤_, _<_}
 use native.Mathlib.Omega.{arith}
 use lib.Dec.{ltb}
 use lib.ListN.{length, length-append}
@@ -17,12 +17,12 @@ use Rattle.smf.specs.declared.events.Read.{Read}
 use Rattle.smf.specs.declared.events.Read.the-variants.{Is, End, Broken}
 use Rattle.smf.proofs.Inside.{both, Inside, event-inside, quantity-ends}
 use Rattle.song_grammar.specs.Grammar.{Quantity, OneEvent}
-use Rattle.song_grammar.proofs.Segments.{From, from-length, Split, split}
+use Rattle.song_grammar.proofs.Segments.{From, from-length, split}
 use Rattle.song_grammar.proofs.Shown.{Counts, counts}
 use Rattle.song_grammar.proofs.Taken.{some-bytes, digits-taken, event-taken, end-event}
 use Rattle.song_grammar.proofs.Wholes.{Octets}
 use Rattle.song_merge.specs.declared.cursors.Cursor.{Cursor}
-use Rattle.song_merge.specs.Written.{deltaBytes, toldOf, eventOf, eventBytes, endBytes}
+use Rattle.song_merge.specs.Written.{deltaBytes, toldOf, eventBytes}
 use Rattle.song_merge.specs.Standing.{Sized, Held, Before, Views, Placed}
 use Rattle.song_merge.specs.Standing.Sized.{ended, then}
 use Rattle.song_merge.proofs.Bytes.{bytes-from, bytes-are, bytes-long}

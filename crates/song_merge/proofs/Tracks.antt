@@ -3,13 +3,13 @@ use mathlib.Core.Path.{_≡_, refl, sym, ap, _∙_, subst}
 use mathlib.Core.Bool.{Bool, true, false}
 use mathlib.Core.List.{List, [], _∷_, _++_}
 use mathlib.Core.Logic.{_⊎_, inl, inr}
-use Prim.Native.Nat.{ℕ, zero, suc, _+_, _-_, _*_, _≤_, _<_}
+use Prim.Native.Nat.{ℕ, _+_, _-_, _*_, _≤_, _<_}
 use native.Mathlib.Omega.{arith}
 use lib.Dec.{eqb}
 use lib.ListN.{length, length-append}
 use lib.Seq.{sets}
 use borrow.Author.Tests.{eqb-true, eq-eqb}
-use Rattle.octets.specs.Octets.{byteAt, bytesAt}
+use Rattle.octets.specs.Octets.{bytesAt}
 use Rattle.smf.specs.Fields.{fourAt}
 use Rattle.smf.specs.Events.{stepAt}
 use Rattle.smf.specs.Promised.{Timed}
@@ -18,21 +18,20 @@ use Rattle.smf.specs.declared.events.Event.{Event}
 use Rattle.smf.specs.declared.events.Step.{Step}
 use Rattle.smf.specs.declared.events.Step.the-variants as step
 use Rattle.smf.proofs.Inside.{step-ends}
-use Rattle.song_grammar.specs.Grammar.{Quantity, OneEvent, Track}
+use Rattle.song_grammar.specs.Grammar.{Track}
 use Rattle.song_grammar.specs.Grammar.Digits.{last}
 use Rattle.song_grammar.specs.Grammar.Track.{ended, then}
-use Rattle.song_grammar.proofs.Segments.{From, from-length, join, split}
+use Rattle.song_grammar.proofs.Segments.{From, join, split}
 use Rattle.song_grammar.proofs.Shown.{Running}
 use Rattle.song_grammar.proofs.Taken.{some-bytes, step-taken, end-step}
-use Rattle.song_grammar.proofs.Tracks.{TimedBytes, event-before, Steps, steps}
+use Rattle.song_grammar.proofs.Tracks.{event-before, Steps, steps}
 use Rattle.song_merge.specs.Written.{deltaBytes, endBytes}
 use Rattle.song_merge.specs.Merges.{mergedOf}
 use Rattle.song_merge.specs.Standing.{Stands, Sized, Held, Whole, ChunkEnd}
 use Rattle.song_merge.specs.Standing.Sized.{ended as sized-ended, then as sized-then}
 use Rattle.song_merge.specs.Gathers.{Joined, Grown, Started}
 use Rattle.song_merge.proofs.Bytes.{bytes-from, bytes-are, bytes-long, from-sets, sets-long}
-use Rattle.song_merge.proofs.Deltas.{quantity-of}
-use Rattle.song_merge.proofs.Events.{Told, told-of}
+use Rattle.song_merge.proofs.Events.{told-of}
 
 -- ---- read step by step
 module _ (f : List ℕ) (end : ℕ) where

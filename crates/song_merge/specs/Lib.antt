@@ -5,3 +5,4 @@ pub mod Standing
 pub mod Headings
 pub mod Gathers
 pub mod Answers
+pub mod Heard

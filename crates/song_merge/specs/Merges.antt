@@ -2,9 +2,10 @@
 -- what is taken first shortens the wait of the other track's next. Definitions only.
 use mathlib.Core.Bool.{cond}
 use mathlib.Core.List.{List, [], _∷_}
-use Prim.Native.Nat.{ℕ, _-_}
+use Prim.Native.Nat.{ℕ, _+_, _-_}
 use lib.Dec.{leb}
 use Rattle.smf.specs.Promised.{Timed}
+use Rattle.smf.specs.declared.events.Event.{Event}
 
 -- so many ticks later
 abbrev pub sooner : ℕ → Timed → Timed
@@ -27,3 +28,27 @@ mergedWith ts (us ∷ tss) = mergedWith (mergedOf ts us) tss
 
 abbrev pub allOf : List (List Timed) → List Timed
 allOf tss = mergedWith [] tss
+
+-- ---- the same with the ticks since the start: of two lists in the order of their ticks one in that order, in which of
+-- two events at one tick the first list's is the first
+
+pub record Ticked : Type 0 where
+  pub tick : ℕ
+  pub event : Event
+
+-- behind so many ticks
+unfoldable pub ticksOf : ℕ → List Timed → List Ticked
+ticksOf before [] = []
+ticksOf before (t ∷ ts) = record { tick = before + t .delta; event = t .event } ∷ ticksOf (before + t .delta) ts
+
+unfoldable pub placed : Ticked → (List Ticked → List Ticked) → List Ticked → List Ticked
+placed t rest [] = t ∷ rest []
+placed t rest (u ∷ us) = cond (leb (t .tick) (u .tick)) (t ∷ rest (u ∷ us)) (u ∷ placed t rest us)
+
+unfoldable pub byTick : List Ticked → List Ticked → List Ticked
+byTick [] us = us
+byTick (t ∷ ts) us = placed t (byTick ts) us
+
+unfoldable pub byTrack : List Ticked → List (List Timed) → List Ticked
+byTrack ts [] = ts
+byTrack ts (us ∷ tss) = byTrack (byTick ts (ticksOf 0 us)) tss

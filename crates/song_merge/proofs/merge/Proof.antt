@@ -1,86 +1,64 @@
 -- `merge` meets its contract. Assumes nothing.
-use mathlib.Core.Path.{_≡_, sym, ap, _∙_, subst}
+use mathlib.Core.Path.{sym, ap, _∙_, subst}
 use mathlib.Core.List.{[]}
 use Prim.Native.Nat.{ℕ}
 use native.Mathlib.Omega.{arith}
 use lib.ListN.{length}
 use Rattle.song_grammar.proofs.Wholes.{Octets}
-use Rattle.song_merge.specs.declared.Merged.{Merged}
 use Rattle.song_merge.specs.Gathers.{Gathers}
 use Rattle.song_merge.specs.Answers.{Answers}
 use Rattle.song_merge.proofs.Answered.{refused-heading, in-file, small, refused-tracks, no-room, fits, done}
 use borrow.Author.Needs.{needs}
 use Rattle.song_merge.proofs.merge.Statement.{statement}
 use Rattle.song_merge.proofs.merge.Tie as tie
-use Rattle.song_merge.proofs.merge.Reads as reads
-use Rattle.song_merge.proofs.merge.Lts as lts
-use Rattle.smf.proofs.faults.refusal.Reads as refusal-reads
-use Rattle.song_merge.proofs.chunks.opening.Reads as opening-reads
-use Rattle.song_merge.proofs.merging.gather.Reads as gather-reads
-use Rattle.song_merge.proofs.refused.Reads as refused-reads
-use Rattle.song_merge.proofs.writing.put_heading.Reads as put-heading-reads
 
--- src/lib.rt:35:11
 opening-requires : tie.Need-opening-requires
 opening-requires c κs = search needs
 
--- src/lib.rt:36:24
 enum-known-fault : tie.Need-enum-known-fault
 enum-known-fault c = search needs
 
--- src/lib.rt:38:21
 refusal-requires : tie.Need-refusal-requires
 refusal-requires c κs = search needs
 
--- src/lib.rt:38:13
 refused-requires : tie.Need-refused-requires
 refused-requires c κs = search needs
 
--- src/lib.rt:41:13
 enum-known-division : tie.Need-enum-known-division
 enum-known-division c = search needs
 
--- src/lib.rt:44:20
 gather-requires : tie.Need-gather-requires
 gather-requires c κs = let a = c .before .before .before .before .before .before .before .before .before .args in
     let octets : Octets (a .file .now) = (λ i. omega (arith, c .before .before .before .before .before .before .before .before .shared-slice-known .given i)) in
     in-file (a .file .now) octets 0 [] _ _ _ (sym (c .before .before .before .before .before .opening .ensures) ∙ c .before .before .before .division .given .1)
 
--- src/lib.rt:45:33
 enum-told : tie.Need-enum-told
 enum-told c = search needs
 
--- src/lib.rt:45:33
 refused-requires-2 : tie.Need-refused-requires-2
 refused-requires-2 c κs = search needs
 
--- src/lib.rt:47:29
 enum-told-2 : tie.Need-enum-told-2
 enum-told-2 c = search needs
 
--- src/lib.rt:47:25
 mul-t20 : tie.Need-mul-t20
 mul-t20 c = search needs
 
--- src/lib.rt:50:26
 enum-known-end : tie.Need-enum-known-end
 enum-known-end c = search needs
 
--- src/lib.rt:51:45
 sub-put-heading : tie.Need-sub-put-heading
 sub-put-heading c = let a = c .before .before .before .before .before .before .before .before .before .before .before .before .before .before .before .before .before .before .args in
     let octets : Octets (a .file .now) = (λ i. omega (arith, c .before .before .before .before .before .before .before .before .before .before .before .before .before .before .before .before .before .shared-slice-known .given i)) in
     let fit = fits (a .file .now) octets (length (a .spare .now)) (c .before .before .before .before .before .before .before .before .gather .last .1 .1 .1 .1 .0) _ _ _ (sym (c .before .before .before .before .before .before .before .before .before .before .before .before .before .before .opening .ensures) ∙ c .before .before .before .before .before .before .before .before .before .before .before .before .division .given .1) _ (subst (Gathers (a .file .now) _ _ (length (a .spare .now)) (c .before .before .before .before .before .before .before .before .gather .last .1 .1 .1 .1 .0)) (c .before .before .end .given .1) (c .before .before .before .before .before .before .before .before .gather .ensures)) in
     omega arith
 
--- src/lib.rt:51:44
 cast-put-heading : tie.Need-cast-put-heading
 cast-put-heading c = let a = c .before .before .before .before .before .before .before .before .before .before .before .before .before .before .before .before .before .before .args in
     let octets : Octets (a .file .now) = (λ i. omega (arith, c .before .before .before .before .before .before .before .before .before .before .before .before .before .before .before .before .before .shared-slice-known .given i)) in
     let fit = fits (a .file .now) octets (length (a .spare .now)) (c .before .before .before .before .before .before .before .before .gather .last .1 .1 .1 .1 .0) _ _ _ (sym (c .before .before .before .before .before .before .before .before .before .before .before .before .before .before .opening .ensures) ∙ c .before .before .before .before .before .before .before .before .before .before .before .before .division .given .1) _ (subst (Gathers (a .file .now) _ _ (length (a .spare .now)) (c .before .before .before .before .before .before .before .before .gather .last .1 .1 .1 .1 .0)) (c .before .before .end .given .1) (c .before .before .before .before .before .before .before .before .gather .ensures)) in
     omega arith
 
--- src/lib.rt:51:17
 put-heading-requires : tie.Need-put-heading-requires
 put-heading-requires c κs = let a = c .before .before .before .before .before .before .before .before .before .before .before .before .before .before .before .before .before .before .args in
     let octets : Octets (a .file .now) = (λ i. omega (arith, c .before .before .before .before .before .before .before .before .before .before .before .before .before .before .before .before .before .shared-slice-known .given i)) in
@@ -88,51 +66,41 @@ put-heading-requires c κs = let a = c .before .before .before .before .before .
     let few = small (a .file .now) octets (length (a .spare .now)) (c .before .before .before .before .before .before .before .before .gather .last .1 .1 .1 .1 .0) _ _ _ (sym (c .before .before .before .before .before .before .before .before .before .before .before .before .before .before .opening .ensures) ∙ c .before .before .before .before .before .before .before .before .before .before .before .before .division .given .1) in
     (omega arith, omega arith)
 
--- src/lib.rt:32:1
 returns : tie.Need-returns
 returns c = let a = c .before .before .before .before .before .before .before .before .before .args in
     let octets : Octets (a .file .now) = (λ i. omega (arith, c .before .before .before .before .before .before .before .before .shared-slice-known .given i)) in
     subst (Answers (a .file .now) (length (a .spare .now)) (a .out .now)) (sym (c .refused .ensures ∙ ap (λ (n : ℕ). record { length = 0; number = n }) (c .before .refusal .ensures)))
     (refused-heading (a .file .now) octets (length (a .spare .now)) (a .out .now) _ (sym (c .before .before .before .before .before .opening .ensures) ∙ c .before .before .before .fault .given .1))
 
--- src/lib.rt:32:1
 same-length : tie.Need-same-length
 same-length c = search needs
 
--- src/lib.rt:32:1
 same-length-2 : tie.Need-same-length-2
 same-length-2 c = search needs
 
--- src/lib.rt:32:1
 returns-2 : tie.Need-returns-2
 returns-2 c = let a = c .before .before .before .before .before .before .before .before .before .before .before .before .before .before .before .before .before .args in
     let octets : Octets (a .file .now) = (λ i. omega (arith, c .before .before .before .before .before .before .before .before .before .before .before .before .before .before .before .before .shared-slice-known .given i)) in
     subst (Answers (a .file .now) (length (a .spare .now)) _) (sym (c .refused2 .ensures))
     (refused-tracks (a .file .now) octets (length (a .spare .now)) (c .before .before .before .before .before .before .before .gather .last .1 .1 .1 .1 .0) _ _ _ (sym (c .before .before .before .before .before .before .before .before .before .before .before .before .before .opening .ensures) ∙ c .before .before .before .before .before .before .before .before .before .before .before .division .given .1) (subst (Gathers (a .file .now) _ _ (length (a .spare .now)) (c .before .before .before .before .before .before .before .gather .last .1 .1 .1 .1 .0)) (c .before .enum-told .given .1) (c .before .before .before .before .before .before .before .gather .ensures)))
 
--- src/lib.rt:32:1
 same-length-3 : tie.Need-same-length-3
 same-length-3 c = search needs
 
--- src/lib.rt:32:1
 same-length-4 : tie.Need-same-length-4
 same-length-4 c = search needs
 
--- src/lib.rt:32:1
 returns-3 : tie.Need-returns-3
 returns-3 c = let a = c .before .before .before .before .before .before .before .before .before .before .before .before .before .before .before .before .args in
     let octets : Octets (a .file .now) = (λ i. omega (arith, c .before .before .before .before .before .before .before .before .before .before .before .before .before .before .before .shared-slice-known .given i)) in
     no-room (a .file .now) octets (length (a .spare .now)) (c .before .before .before .before .before .before .gather .last .1 .1 .1 .1 .0) _ _ _ (sym (c .before .before .before .before .before .before .before .before .before .before .before .before .opening .ensures) ∙ c .before .before .before .before .before .before .before .before .before .before .division .given .1) (subst (Gathers (a .file .now) _ _ (length (a .spare .now)) (c .before .before .before .before .before .before .gather .last .1 .1 .1 .1 .0)) (c .enum-told2 .given .1) (c .before .before .before .before .before .before .gather .ensures))
 
--- src/lib.rt:32:1
 same-length-5 : tie.Need-same-length-5
 same-length-5 c = search needs
 
--- src/lib.rt:32:1
 same-length-6 : tie.Need-same-length-6
 same-length-6 c = search needs
 
--- src/lib.rt:32:1
 returns-4 : tie.Need-returns-4
 returns-4 c = let a = c .before .before .before .before .before .before .before .before .before .before .before .before .before .before .before .before .before .before .before .before .before .args in
     let octets : Octets (a .file .now) = (λ i. omega (arith, c .before .before .before .before .before .before .before .before .before .before .before .before .before .before .before .before .before .before .before .before .shared-slice-known .given i)) in

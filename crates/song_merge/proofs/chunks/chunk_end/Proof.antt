@@ -1,62 +1,45 @@
 -- `chunk_end` meets its contract. Assumes nothing.
-use mathlib.Core.Path.{_≡_, refl, sym, ap, _∙_, subst}
 use native.Mathlib.Omega.{arith}
 use Rattle.song_merge.proofs.Tracks.{no-chunk, a-chunk, a-broken}
 use borrow.Author.Needs.{needs}
 use Rattle.song_merge.proofs.chunks.chunk_end.Statement.{statement}
 use Rattle.song_merge.proofs.chunks.chunk_end.Tie as tie
-use Rattle.song_merge.proofs.chunks.chunk_end.Reads as reads
-use Rattle.song_merge.proofs.chunks.chunk_end.Lts as lts
-use Rattle.smf.proofs.fields.four_at.Reads as four-at-reads
-use Rattle.song_merge.proofs.chunks.whole.Reads as whole-reads
 
--- src/chunks.rt:122:8
 sub-if1 : tie.Need-sub-if1
 sub-if1 c = search needs
 
--- src/chunks.rt:123:9
 returns : tie.Need-returns
 returns c = no-chunk _ _ (omega arith)
 
--- src/chunks.rt:125:16
 add-full : tie.Need-add-full
 add-full c = search needs
 
--- src/chunks.rt:125:39
 add-four-at : tie.Need-add-four-at
 add-four-at c = search needs
 
--- src/chunks.rt:125:25
 four-at-requires : tie.Need-four-at-requires
 four-at-requires c κs = search needs
 
--- src/chunks.rt:125:25
 cast-full : tie.Need-cast-full
 cast-full c = search needs
 
--- src/chunks.rt:125:16
 add-full-2 : tie.Need-add-full-2
 add-full-2 c = search needs
 
--- src/chunks.rt:127:9
 returns-2 : tie.Need-returns-2
 returns-2 c = no-chunk _ _ (let is = c .before .four-at .ensures in omega arith)
 
--- src/chunks.rt:129:20
 add-whole : tie.Need-add-whole
 add-whole c = search needs
 
--- src/chunks.rt:129:8
 whole-requires : tie.Need-whole-requires
 whole-requires c κs = search needs
 
--- src/chunks.rt:117:1
 returns-3 : tie.Need-returns-3
 returns-3 c = let a = c .before .before .before .before .before .before .args in
     let is = c .before .before .before .four-at .ensures in
     a-chunk (a .file .now) (a .at) _ (omega arith) _ (c .before .whole .ensures) (omega arith) (c .if3 .taken)
 
--- src/chunks.rt:117:1
 returns-4 : tie.Need-returns-4
 returns-4 c = let a = c .before .before .before .before .before .before .args in
     let is = c .before .before .before .four-at .ensures in

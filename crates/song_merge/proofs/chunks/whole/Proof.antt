@@ -1,5 +1,5 @@
 -- `whole` meets its contract. The invariant: what is left makes a track of the whole, and the whole leaves a track (`Tracks: Walks`). Assumes nothing.
-use mathlib.Core.Path.{_≡_, sym, _∙_}
+use mathlib.Core.Path.{sym, _∙_}
 use Prim.Native.Nat.{_-_}
 use native.Mathlib.Omega.{arith}
 use borrow.Author.Needs.{needs}
@@ -7,9 +7,6 @@ use Rattle.smf.proofs.Inside.{step-ends}
 use Rattle.song_merge.proofs.Tracks.{Walks, walks, walks-on, walks-over, walks-broken}
 use Rattle.song_merge.proofs.chunks.whole.Statement.{statement}
 use Rattle.song_merge.proofs.chunks.whole.Tie as tie
-use Rattle.song_merge.proofs.chunks.whole.Reads as reads
-use Rattle.song_merge.proofs.chunks.whole.Lts as lts
-use Rattle.smf.proofs.events.step_at.Reads as step-at-reads
 
 abbrev Inv-loop : tie.InvT-loop
 Inv-loop file at end place₀ running₀ place running = Walks file end at running place
@@ -17,39 +14,30 @@ Inv-loop file at end place₀ running₀ place running = Walks file end at runni
 abbrev μ-loop : tie.MeasureT-loop
 μ-loop file at end place₀ running₀ place running = end - place
 
--- src/chunks.rt:99:5
 loop-holds : tie.Need-loop-holds Inv-loop μ-loop
 loop-holds c = walks (c .before .args .file .now) (c .before .args .end) (c .before .args .at) (omega arith)
 
--- src/chunks.rt:100:15
 step-at-requires : tie.Need-step-at-requires Inv-loop μ-loop
 step-at-requires c κs = omega arith
 
--- src/chunks.rt:101:32
 enum-told : tie.Need-enum-told Inv-loop μ-loop
 enum-told c = search needs
 
--- src/chunks.rt:101:32
 returns : tie.Need-returns Inv-loop μ-loop
 returns c = walks-broken _ _ _ _ _ (c .before .before .before .loop .inv) _ (sym (c .before .before .step-at .ensures) ∙ c .enum-told .given .1)
 
--- src/chunks.rt:102:23
 enum-known-next : tie.Need-enum-known-next Inv-loop μ-loop
 enum-known-next c = search needs
 
--- src/chunks.rt:102:32
 returns-2 : tie.Need-returns-2 Inv-loop μ-loop
 returns-2 c = walks-over _ _ _ _ _ (c .before .before .before .before .loop .inv) _ (sym (c .before .before .before .step-at .ensures) ∙ c .before .next .given .1)
 
--- src/chunks.rt:106:17
 enum-known-status : tie.Need-enum-known-status Inv-loop μ-loop
 enum-known-status c = search needs
 
--- src/chunks.rt:99:5
 loop-less : tie.Need-loop-less Inv-loop μ-loop
 loop-less c = let moves = step-ends _ _ _ _ _ (sym (c .before .before .before .step-at .ensures) ∙ c .before .status .given .1) in omega arith
 
--- src/chunks.rt:99:5
 loop-again : tie.Need-loop-again Inv-loop μ-loop
 loop-again c = walks-on _ _ _ _ _ (c .before .before .before .before .loop .inv) _ _ _ _ (sym (c .before .before .before .step-at .ensures) ∙ c .before .status .given .1)
 

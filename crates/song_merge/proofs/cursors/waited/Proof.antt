@@ -1,21 +1,17 @@
+-- `waited` meets its contract. Assumes nothing.
 use mathlib.Core.Path.{_≡_}
 use Prim.Native.Nat.{_-_}
 use native.Mathlib.Omega.{arith}
 use borrow.Author.Needs.{needs}
 use Rattle.song_merge.proofs.cursors.waited.Statement.{statement}
 use Rattle.song_merge.proofs.cursors.waited.Tie as tie
-use Rattle.song_merge.proofs.cursors.waited.Reads as reads
-use Rattle.song_merge.proofs.cursors.waited.Lts as lts
 
--- src/cursors.rt:86:35
 sub-t8 : tie.Need-sub-t8
 sub-t8 c = search needs
 
--- src/cursors.rt:74:1
 returns : tie.Need-returns
 returns c = search needs
 
--- src/cursors.rt:74:1
 returns-2 : tie.Need-returns-2
 returns-2 c = let e : c .before .args .c .wait - c .before .args .ticks ≡ 0 = omega arith in rw e
 

@@ -12,13 +12,6 @@ use Rattle.song_merge.specs.Gathers.{Grown, closedOf, Gathers}
 use Rattle.song_merge.proofs.Gathering.{Round, begins, no-track, no-chunk, found-inside, again, closes}
 use Rattle.song_merge.proofs.merging.gather.Statement.{statement}
 use Rattle.song_merge.proofs.merging.gather.Tie as tie
-use Rattle.song_merge.proofs.merging.gather.Reads as reads
-use Rattle.song_merge.proofs.merging.gather.Lts as lts
-use Rattle.smf.proofs.chunks.track_at.Reads as track-at-reads
-use Rattle.song_merge.proofs.chunks.chunk_end.Reads as chunk-end-reads
-use Rattle.song_merge.proofs.merging.closed.Reads as closed-reads
-use Rattle.song_merge.proofs.merging.start.Reads as start-reads
-use Rattle.song_merge.proofs.merging.with_track.Reads as with-track-reads
 
 abbrev Inv-loop : tie.InvT-loop
 Inv-loop file count at spare₀ out₀ place₀ end₀ i₀ spare out place end i =
@@ -27,32 +20,25 @@ Inv-loop file count at spare₀ out₀ place₀ end₀ i₀ spare out place end 
 abbrev μ-loop : tie.MeasureT-loop
 μ-loop file count at spare₀ out₀ place₀ end₀ i₀ spare out place end i = count - i
 
--- src/merging.rt:125:9
 start-requires : tie.Need-start-requires Inv-loop μ-loop
 start-requires c κs = search needs
 
--- src/merging.rt:127:5
 loop-holds : tie.Need-loop-holds Inv-loop μ-loop
 loop-holds c = let s = c .before .before .before .before .before .before .before in
     (begins (s .args .file .now) (λ i. omega (arith, c .before .before .before .before .before .before .shared-slice-known .given i)) (s .args .count) (s .args .at) (length (s .args .spare .now)) _ _ _ (omega arith) refl (c .before .before .start .ensures), refl)
 
--- src/merging.rt:128:15
 track-at-requires : tie.Need-track-at-requires Inv-loop μ-loop
 track-at-requires c κs = search needs
 
--- src/merging.rt:129:31
 enum-told : tie.Need-enum-told Inv-loop μ-loop
 enum-told c = search needs
 
--- src/merging.rt:129:31
 same-length : tie.Need-same-length Inv-loop μ-loop
 same-length c = c .before .before .before .before .loop .inv .1
 
--- src/merging.rt:129:31
 same-length-2 : tie.Need-same-length-2 Inv-loop μ-loop
 same-length-2 c = c .before .before .before .before .loop .inv .0 .kept ∙ c .before .before .before .before .before .before .before .start .kept .0
 
--- src/merging.rt:129:31
 returns : tie.Need-returns Inv-loop μ-loop
 returns c = let s = c .before .before .before .before .before .before .before .before .before .before .before .before in
     let a = s .args in
@@ -60,19 +46,15 @@ returns c = let s = c .before .before .before .before .before .before .before .b
     let octets : Octets (a .file .now) = (λ i. omega (arith, c .before .before .before .before .before .before .before .before .before .before .before .shared-slice-known .given i)) in
     no-track (a .file .now) octets (a .count) (a .at) (length (a .spare .now)) _ _ (l .place) (l .end) (l .i) (l .inv .0) (omega arith) found.Nothing (sym (c .before .before .track-at .ensures) ∙ c .enum-told .given .1) (λ chunk k. let z : _≡_ {A = ℕ} 0 1 = cc in omega arith)
 
--- src/merging.rt:130:33
 enum-told-2 : tie.Need-enum-told-2 Inv-loop μ-loop
 enum-told-2 c = search needs
 
--- src/merging.rt:130:33
 same-length-3 : tie.Need-same-length-3 Inv-loop μ-loop
 same-length-3 c = c .before .before .before .before .loop .inv .1
 
--- src/merging.rt:130:33
 same-length-4 : tie.Need-same-length-4 Inv-loop μ-loop
 same-length-4 c = c .before .before .before .before .loop .inv .0 .kept ∙ c .before .before .before .before .before .before .before .start .kept .0
 
--- src/merging.rt:130:33
 returns-2 : tie.Need-returns-2 Inv-loop μ-loop
 returns-2 c = let s = c .before .before .before .before .before .before .before .before .before .before .before .before in
     let a = s .args in
@@ -80,11 +62,9 @@ returns-2 c = let s = c .before .before .before .before .before .before .before 
     let octets : Octets (a .file .now) = (λ i. omega (arith, c .before .before .before .before .before .before .before .before .before .before .before .shared-slice-known .given i)) in
     no-track (a .file .now) octets (a .count) (a .at) (length (a .spare .now)) _ _ (l .place) (l .end) (l .i) (l .inv .0) (omega arith) (found.Broken _) (sym (c .before .before .track-at .ensures) ∙ c .enum-told2 .given .1) (λ chunk k. let z : _≡_ {A = ℕ} 0 1 = cc in omega arith)
 
--- src/merging.rt:131:26
 enum-known-chunk : tie.Need-enum-known-chunk Inv-loop μ-loop
 enum-known-chunk c = search needs
 
--- src/merging.rt:132:21
 chunk-end-requires : tie.Need-chunk-end-requires Inv-loop μ-loop
 chunk-end-requires c κs = let s = c .before .before .before .before .before .before .before .before .before .before .before .before .before in
     let a = s .args in
@@ -93,15 +73,12 @@ chunk-end-requires c κs = let s = c .before .before .before .before .before .be
     let inside = found-inside (a .file .now) octets (l .place) (c .before .chunk .given .0 .0) (l .inv .0 .room) (sym (c .before .before .before .track-at .ensures) ∙ c .before .chunk .given .1) in
     omega arith
 
--- src/merging.rt:134:21
 same-length-5 : tie.Need-same-length-5 Inv-loop μ-loop
 same-length-5 c = c .before .before .before .before .before .before .before .loop .inv .1
 
--- src/merging.rt:134:21
 same-length-6 : tie.Need-same-length-6 Inv-loop μ-loop
 same-length-6 c = c .before .before .before .before .before .before .before .loop .inv .0 .kept ∙ c .before .before .before .before .before .before .before .before .before .before .start .kept .0
 
--- src/merging.rt:134:21
 returns-3 : tie.Need-returns-3 Inv-loop μ-loop
 returns-3 c = let s = c .before .before .before .before .before .before .before .before .before .before .before .before .before .before .before in
     let a = s .args in
@@ -110,7 +87,6 @@ returns-3 c = let s = c .before .before .before .before .before .before .before 
     let none : c .before .chunk-end .result ≡ 0 = omega arith in
     no-chunk (a .file .now) octets (a .count) (a .at) (length (a .spare .now)) _ _ (l .place) (l .end) (l .i) (l .inv .0) (omega arith) _ (sym (c .before .before .before .before .before .track-at .ensures) ∙ c .before .before .before .chunk .given .1) (subst (ChunkEnd (a .file .now) _) none (c .before .chunk-end .ensures))
 
--- src/merging.rt:136:40
 add-with-track : tie.Need-add-with-track Inv-loop μ-loop
 add-with-track c = let s = c .before .before .before .before .before .before .before .before .before .before .before .before .before .before .before in
     let a = s .args in
@@ -119,7 +95,6 @@ add-with-track c = let s = c .before .before .before .before .before .before .be
     let inside = found-inside (a .file .now) octets (l .place) (c .before .before .before .chunk .given .0 .0) (l .inv .0 .room) (sym (c .before .before .before .before .before .track-at .ensures) ∙ c .before .before .before .chunk .given .1) in
     omega arith
 
--- src/merging.rt:136:17
 with-track-requires : tie.Need-with-track-requires Inv-loop μ-loop
 with-track-requires c κs = let s = c .before .before .before .before .before .before .before .before .before .before .before .before .before .before .before .before .before in
     let a = s .args in
@@ -128,18 +103,15 @@ with-track-requires c κs = let s = c .before .before .before .before .before .b
     let told = c .before .before .before .chunk-end .ensures .told (omega arith) in
     (told .1, l .inv .0 .within, l .inv .0 .some)
 
--- src/merging.rt:138:17
 add-i : tie.Need-add-i Inv-loop μ-loop
 add-i c = let s = c .before .before .before .before .before .before .before .before .before .before .before .before .before .before .before .before .before .before .before .before .before .before in
     let t = c .before .before .before .before .before .before .before .before .before .before .before .before .before in
     omega arith
 
--- src/merging.rt:127:5
 loop-less : tie.Need-loop-less Inv-loop μ-loop
 loop-less c = let t = c .before .before .before .before .before .before .before .before .before .before .before .before .before in
     omega arith
 
--- src/merging.rt:127:5
 loop-again : tie.Need-loop-again Inv-loop μ-loop
 loop-again c = let s = c .before .before .before .before .before .before .before .before .before .before .before .before .before .before .before .before .before .before .before .before .before .before in
     let a = s .args in
@@ -154,23 +126,18 @@ loop-again c = let s = c .before .before .before .before .before .before .before
       w .kept .1 .1 .1 .0 ∙ l .inv .1,
     )
 
--- src/merging.rt:142:12
 track-at-requires-2 : tie.Need-track-at-requires-2 Inv-loop μ-loop
 track-at-requires-2 c κs = search needs
 
--- src/merging.rt:142:5
 closed-requires : tie.Need-closed-requires Inv-loop μ-loop
 closed-requires c κs = search needs
 
--- src/merging.rt:120:1
 same-length-7 : tie.Need-same-length-7 Inv-loop μ-loop
 same-length-7 c = c .before .before .before .loop .inv .1
 
--- src/merging.rt:120:1
 same-length-8 : tie.Need-same-length-8 Inv-loop μ-loop
 same-length-8 c = c .before .before .before .loop .inv .0 .kept ∙ c .before .before .before .before .before .before .start .kept .0
 
--- src/merging.rt:120:1
 returns-4 : tie.Need-returns-4 Inv-loop μ-loop
 returns-4 c = let s = c .before .before .before .before .before .before .before .before .before .before .before in
     let a = s .args in

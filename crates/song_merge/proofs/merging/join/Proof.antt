@@ -1,19 +1,12 @@
+-- `join` meets its contract. Assumes nothing.
 use borrow.Author.Needs.{needs}
-use mathlib.Core.Path.{_≡_, refl, sym, ap, _∙_, subst}
+use mathlib.Core.Path.{sym, _∙_}
 use mathlib.Core.List.{[]}
-use Prim.Native.Nat.{ℕ, _+_, _-_, _≤_, _<_}
+use Prim.Native.Nat.{_+_, _-_}
 use native.Mathlib.Omega.{arith}
 use Rattle.song_merge.proofs.Joins.{Going, begins, leftOf, first-true, left-stops, right-stops, over-stops, over-ends, left-again, right-again, left-less, right-less}
 use Rattle.song_merge.proofs.merging.join.Statement.{statement}
 use Rattle.song_merge.proofs.merging.join.Tie as tie
-use Rattle.song_merge.proofs.merging.join.Reads as reads
-use Rattle.song_merge.proofs.merging.join.Lts as lts
-use Rattle.song_merge.proofs.cursors.goes_first.Reads as goes-first-reads
-use Rattle.song_merge.proofs.cursors.look.Reads as look-reads
-use Rattle.song_merge.proofs.cursors.waited.Reads as waited-reads
-use Rattle.song_merge.proofs.merging.larger.Reads as larger-reads
-use Rattle.song_merge.proofs.writing.put_end.Reads as put-end-reads
-use Rattle.song_merge.proofs.writing.put_event.Reads as put-event-reads
 
 abbrev Inv-loop : tie.InvT-loop
 Inv-loop a a-end file at end out₀ room x₀ y₀ w₀ out x y w = Going a a-end file at end out₀ out x y w
@@ -21,34 +14,27 @@ Inv-loop a a-end file at end out₀ room x₀ y₀ w₀ out x y w = Going a a-en
 abbrev μ-loop : tie.MeasureT-loop
 μ-loop a a-end file at end out₀ room x₀ y₀ w₀ out x y w = leftOf a-end x + leftOf end y
 
--- src/merging.rt:30:9
 look-requires : tie.Need-look-requires Inv-loop μ-loop
 look-requires c κs = omega arith
 
--- src/merging.rt:31:9
 look-requires-2 : tie.Need-look-requires-2 Inv-loop μ-loop
 look-requires-2 c κs = omega arith
 
--- src/merging.rt:33:5
 loop-holds : tie.Need-loop-holds Inv-loop μ-loop
 loop-holds c = begins _ _ _ _ _ _ _ _ (c .before .look .ensures) (c .look2 .ensures)
 
--- src/merging.rt:34:12
 goes-first-requires : tie.Need-goes-first-requires Inv-loop μ-loop
 goes-first-requires c κs = search needs
 
--- src/merging.rt:35:16
 sub-if2 : tie.Need-sub-if2 Inv-loop μ-loop
 sub-if2 c = let g = c .before .before .loop .inv in
     let within = g .within in
     let kept = g .kept in
     omega arith
 
--- src/merging.rt:35:32
 sub-if2-2 : tie.Need-sub-if2-2 Inv-loop μ-loop
 sub-if2-2 c = c .before .before .before .loop .inv .left .up
 
--- src/merging.rt:35:27
 add-if2 : tie.Need-add-if2 Inv-loop μ-loop
 add-if2 c = let a = c .before .before .before .before .before .before .before .before .before .args in
     let l = c .before .before .before .loop in
@@ -57,17 +43,14 @@ add-if2 c = let a = c .before .before .before .before .before .before .before .b
     let up = l .inv .left .going (first .0) in
     omega (arith, s .pre .0)
 
--- src/merging.rt:36:17
 same-length : tie.Need-same-length Inv-loop μ-loop
 same-length c = c .before .before .before .before .loop .inv .kept
 
--- src/merging.rt:36:17
 returns : tie.Need-returns Inv-loop μ-loop
 returns c = let a = c .before .before .before .before .before .before .before .before .before .before .args in
     let l = c .before .before .before .before .loop in
     left-stops (a .a .now) (a .a-end) (a .file .now) (a .at) (a .end) (a .out .now) (l .out) (l .x) (l .y) (l .w) (l .inv) (sym (c .before .before .before .goes-first .ensures) ∙ c .before .before .if1 .taken) (omega arith)
 
--- src/merging.rt:38:13
 put-event-requires : tie.Need-put-event-requires Inv-loop μ-loop
 put-event-requires c κs = let a = c .before .before .before .before .before .before .before .before .before .before .before .args in
     let l = c .before .before .before .before .before .loop in
@@ -75,22 +58,18 @@ put-event-requires c κs = let a = c .before .before .before .before .before .be
     let kept = l .inv .kept in
     (l .inv .left .small, l .inv .left .up, omega arith)
 
--- src/merging.rt:39:13
 waited-requires : tie.Need-waited-requires Inv-loop μ-loop
 waited-requires c κs = search needs
 
--- src/merging.rt:40:13
 look-requires-3 : tie.Need-look-requires-3 Inv-loop μ-loop
 look-requires-3 c κs = let s = c .before .before .before .before .before .before .before .before .before .before .before .before .before .before .before in
     omega (arith, s .pre .0)
 
--- src/merging.rt:33:5
 loop-less : tie.Need-loop-less Inv-loop μ-loop
 loop-less c = let a = c .before .before .before .before .before .before .before .before .before .before .before .before .before .before .before .before .args in
     let l = c .before .before .before .before .before .before .before .before .before .before .loop in
     left-less (a .a .now) (a .a-end) (a .file .now) (a .at) (a .end) (a .out .now) (l .out) (l .x) (l .y) (l .w) (l .inv) (c .look3 .result) (c .before .waited .result) 0 [] (sym (c .before .before .before .before .before .before .before .before .before .goes-first .ensures) ∙ c .before .before .before .before .before .before .before .before .if1 .taken) (c .before .waited .ensures) (c .look3 .ensures .0)
 
--- src/merging.rt:33:5
 loop-again : tie.Need-loop-again Inv-loop μ-loop
 loop-again c = let a = c .before .before .before .before .before .before .before .before .before .before .before .before .before .before .before .before .args in
     let l = c .before .before .before .before .before .before .before .before .before .before .loop in
@@ -98,28 +77,23 @@ loop-again c = let a = c .before .before .before .before .before .before .before
     let kept = l .inv .kept in
     left-again (a .a .now) (a .a-end) (a .file .now) (a .at) (a .end) (a .out .now) (l .out) (l .x) (l .y) (l .w) (l .inv) (c .look3 .result) (c .before .waited .result) _ _ (sym (c .before .before .before .before .before .before .before .before .before .goes-first .ensures) ∙ c .before .before .before .before .before .before .before .before .if1 .taken) (omega arith) (c .before .before .before .before .put-event .ensures .0) (c .before .before .before .before .put-event .ensures .1) (c .before .waited .ensures) (c .look3 .ensures)
 
--- src/merging.rt:42:16
 sub-if4 : tie.Need-sub-if4 Inv-loop μ-loop
 sub-if4 c = let g = c .before .before .before .loop .inv in
     let within = g .within in
     let kept = g .kept in
     omega arith
 
--- src/merging.rt:43:17
 same-length-2 : tie.Need-same-length-2 Inv-loop μ-loop
 same-length-2 c = c .before .before .before .before .loop .inv .kept
 
--- src/merging.rt:43:17
 returns-2 : tie.Need-returns-2 Inv-loop μ-loop
 returns-2 c = let a = c .before .before .before .before .before .before .before .before .before .before .args in
     let l = c .before .before .before .before .loop in
     over-stops (a .a .now) (a .a-end) (a .file .now) (a .at) (a .end) (a .out .now) (l .out) (l .x) (l .y) (l .w) (l .inv) (sym (c .before .before .before .goes-first .ensures) ∙ c .before .before .if1 .left) (c .before .if3 .taken) (omega arith)
 
--- src/merging.rt:45:36
 larger-requires : tie.Need-larger-requires Inv-loop μ-loop
 larger-requires c κs = search needs
 
--- src/merging.rt:45:13
 put-end-requires : tie.Need-put-end-requires Inv-loop μ-loop
 put-end-requires c κs = let a = c .before .before .before .before .before .before .before .before .before .before .before .before .args in
     let l = c .before .before .before .before .before .before .loop in
@@ -129,11 +103,9 @@ put-end-requires c κs = let a = c .before .before .before .before .before .befo
     let y-small = l .inv .right .small in
     (omega (arith, c .larger .ensures), omega arith)
 
--- src/merging.rt:45:13
 same-length-3 : tie.Need-same-length-3 Inv-loop μ-loop
 same-length-3 c = c .before .before .put-end .kept .0 ∙ c .before .before .before .before .before .before .before .before .before .loop .inv .kept
 
--- src/merging.rt:45:13
 returns-3 : tie.Need-returns-3 Inv-loop μ-loop
 returns-3 c = let a = c .before .before .before .before .before .before .before .before .before .before .before .before .before .before .before .args in
     let l = c .before .before .before .before .before .before .before .before .before .loop in
@@ -141,18 +113,15 @@ returns-3 c = let a = c .before .before .before .before .before .before .before 
     let kept = l .inv .kept in
     over-ends (a .a .now) (a .a-end) (a .file .now) (a .at) (a .end) (a .out .now) (l .out) (l .x) (l .y) (l .w) (l .inv) (sym (c .before .before .before .before .before .before .before .before .goes-first .ensures) ∙ c .before .before .before .before .before .before .before .if1 .left) (c .before .before .before .before .before .before .if3 .taken) (omega arith) _ (c .before .before .before .larger .ensures) _ _ (c .before .before .put-end .ensures .0) (c .before .before .put-end .ensures .1)
 
--- src/merging.rt:47:16
 sub-if5 : tie.Need-sub-if5 Inv-loop μ-loop
 sub-if5 c = let g = c .before .before .before .loop .inv in
     let within = g .within in
     let kept = g .kept in
     omega arith
 
--- src/merging.rt:47:32
 sub-if5-2 : tie.Need-sub-if5-2 Inv-loop μ-loop
 sub-if5-2 c = c .before .before .before .before .loop .inv .right .up
 
--- src/merging.rt:47:27
 add-if5 : tie.Need-add-if5 Inv-loop μ-loop
 add-if5 c = let a = c .before .before .before .before .before .before .before .before .before .before .args in
     let l = c .before .before .before .before .loop in
@@ -160,17 +129,14 @@ add-if5 c = let a = c .before .before .before .before .before .before .before .b
     let up = l .inv .right .going (c .before .if3 .left) in
     omega (arith, s .pre .1)
 
--- src/merging.rt:48:17
 same-length-4 : tie.Need-same-length-4 Inv-loop μ-loop
 same-length-4 c = c .before .before .before .before .before .loop .inv .kept
 
--- src/merging.rt:48:17
 returns-4 : tie.Need-returns-4 Inv-loop μ-loop
 returns-4 c = let a = c .before .before .before .before .before .before .before .before .before .before .before .args in
     let l = c .before .before .before .before .before .loop in
     right-stops (a .a .now) (a .a-end) (a .file .now) (a .at) (a .end) (a .out .now) (l .out) (l .x) (l .y) (l .w) (l .inv) (c .before .before .if3 .left) (omega arith)
 
--- src/merging.rt:50:13
 put-event-requires-2 : tie.Need-put-event-requires-2 Inv-loop μ-loop
 put-event-requires-2 c κs = let a = c .before .before .before .before .before .before .before .before .before .before .before .before .args in
     let l = c .before .before .before .before .before .before .loop in
@@ -178,22 +144,18 @@ put-event-requires-2 c κs = let a = c .before .before .before .before .before .
     let kept = l .inv .kept in
     (l .inv .right .small, l .inv .right .up, omega arith)
 
--- src/merging.rt:51:13
 waited-requires-2 : tie.Need-waited-requires-2 Inv-loop μ-loop
 waited-requires-2 c κs = search needs
 
--- src/merging.rt:52:13
 look-requires-4 : tie.Need-look-requires-4 Inv-loop μ-loop
 look-requires-4 c κs = let s = c .before .before .before .before .before .before .before .before .before .before .before .before .before .before .before .before in
     omega (arith, s .pre .1)
 
--- src/merging.rt:33:5
 loop-less-2 : tie.Need-loop-less-2 Inv-loop μ-loop
 loop-less-2 c = let a = c .before .before .before .before .before .before .before .before .before .before .before .before .before .before .before .before .before .args in
     let l = c .before .before .before .before .before .before .before .before .before .before .before .loop in
     right-less (a .a .now) (a .a-end) (a .file .now) (a .at) (a .end) (a .out .now) (l .out) (l .x) (l .y) (l .w) (l .inv) (c .before .waited2 .result) (c .look4 .result) 0 [] (c .before .before .before .before .before .before .before .before .if3 .left) (c .before .waited2 .ensures) (c .look4 .ensures .0)
 
--- src/merging.rt:33:5
 loop-again-2 : tie.Need-loop-again-2 Inv-loop μ-loop
 loop-again-2 c = let a = c .before .before .before .before .before .before .before .before .before .before .before .before .before .before .before .before .before .args in
     let l = c .before .before .before .before .before .before .before .before .before .before .before .loop in

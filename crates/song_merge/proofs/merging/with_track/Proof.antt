@@ -4,69 +4,51 @@ use Rattle.song_merge.proofs.Tracks.{none-before, no-join, no-place, gr
 use borrow.Author.Needs.{needs}
 use Rattle.song_merge.proofs.merging.with_track.Statement.{statement}
 use Rattle.song_merge.proofs.merging.with_track.Tie as tie
-use Rattle.song_merge.proofs.merging.with_track.Reads as reads
-use Rattle.song_merge.proofs.merging.with_track.Lts as lts
-use Rattle.song_merge.proofs.merging.join.Reads as join-reads
-use Rattle.song_merge.proofs.writing.copy.Reads as copy-reads
 
--- src/merging.rt:71:9
 returns : tie.Need-returns
 returns c = let a = c .before .before .before .before .args in
     none-before (a .out .now) (a .end) (a .file .now) (a .at) (a .full) _ (a .out .now) (omega arith)
 
--- src/merging.rt:73:9
 join-requires : tie.Need-join-requires
 join-requires c κs = search needs
 
--- src/merging.rt:75:9
 same-length : tie.Need-same-length
 same-length c = search needs
 
--- src/merging.rt:75:9
 same-length-2 : tie.Need-same-length-2
 same-length-2 c = search needs
 
--- src/merging.rt:75:9
 returns-2 : tie.Need-returns-2
 returns-2 c = let a = c .before .before .before .before .before .before .before .before .before .before .args in
     no-join (a .out .now) (a .end) (a .file .now) (a .at) (a .full) _ (c .before .before .before .join .last .1 .1 .1 .1 .1 .0) (c .before .before .before .join .result) (c .before .before .before .join .ensures) (c .before .before .before .join .kept .1 .1 .1 .1 .1 .0) (a .out .now) (omega arith)
 
--- src/merging.rt:77:8
 sub-if3 : tie.Need-sub-if3
 sub-if3 c = let s = c .before .before .before .before .before .before .before .before .before .before in
     let low = s .pre .2 (omega arith) in
     omega arith
 
--- src/merging.rt:78:9
 same-length-3 : tie.Need-same-length-3
 same-length-3 c = search needs
 
--- src/merging.rt:78:9
 same-length-4 : tie.Need-same-length-4
 same-length-4 c = search needs
 
--- src/merging.rt:78:9
 returns-3 : tie.Need-returns-3
 returns-3 c = let a = c .before .before .before .before .before .before .before .before .before .before .before .args in
     no-place (a .out .now) (a .end) (a .file .now) (a .at) (a .full) _ (c .before .before .before .before .join .last .1 .1 .1 .1 .1 .0) (c .before .before .before .before .join .result) (c .before .before .before .before .join .ensures) (c .before .before .before .before .join .kept .1 .1 .1 .1 .1 .0) (a .out .now) (omega arith)
 
--- src/merging.rt:80:5
 copy-requires : tie.Need-copy-requires
 copy-requires c κs = search needs
 
--- src/merging.rt:81:5
 add-result : tie.Need-add-result
 add-result c = search needs
 
--- src/merging.rt:58:1
 same-length-5 : tie.Need-same-length-5
 same-length-5 c = search needs
 
--- src/merging.rt:58:1
 same-length-6 : tie.Need-same-length-6
 same-length-6 c = search needs
 
--- src/merging.rt:58:1
 returns-4 : tie.Need-returns-4
 returns-4 c = let a = c .before .before .before .before .before .before .before .before .before .before .before .before .before .before .before .before .args in
     grows (a .out .now) (a .end) (a .file .now) (a .at) (a .full) _ (c .before .before .before .before .before .before .before .before .before .join .last .1 .1 .1 .1 .1 .0) (c .before .before .before .before .before .before .before .before .before .join .result) (c .before .before .before .before .before .before .before .before .before .join .ensures) (c .before .before .before .before .before .before .before .before .before .join .kept .1 .1 .1 .1 .1 .0) _ (omega arith) (omega arith) (omega arith) (c .before .before .copy .ensures)

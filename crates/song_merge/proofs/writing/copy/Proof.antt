@@ -1,3 +1,4 @@
+-- `copy` meets its contract. Assumes nothing.
 use mathlib.Core.Path.{_≡_, refl, ap, _∙_}
 use Prim.Native.Nat.{ℕ, _+_, _-_, _≤_}
 use native.Mathlib.Omega.{arith}
@@ -9,9 +10,6 @@ use Rattle.octets.specs.Octets.{byteAt, bytesAt}
 use Rattle.song_merge.proofs.Bytes.{copy-more, sets-long}
 use Rattle.song_merge.proofs.writing.copy.Statement.{statement}
 use Rattle.song_merge.proofs.writing.copy.Tie as tie
-use Rattle.song_merge.proofs.writing.copy.Reads as reads
-use Rattle.song_merge.proofs.writing.copy.Lts as lts
-use Rattle.octets.proofs.byte_at.Reads as byte-at-reads
 
 abbrev Inv-loop : tie.InvT-loop
 Inv-loop list from size out₀ at i₀ out i = (i ≤ size) × (out ≡ sets out₀ at (bytesAt i list from))
@@ -19,38 +17,30 @@ Inv-loop list from size out₀ at i₀ out i = (i ≤ size) × (out ≡ sets out
 abbrev μ-loop : tie.MeasureT-loop
 μ-loop list from size out₀ at i₀ out i = size - i
 
--- src/writing.rt:44:5
 loop-holds : tie.Need-loop-holds Inv-loop μ-loop
 unfolding bytesAt
 loop-holds c = (omega arith, refl)
 
--- src/writing.rt:45:37
 add-byte-at : tie.Need-add-byte-at Inv-loop μ-loop
 add-byte-at c = search needs
 
--- src/writing.rt:45:23
 byte-at-requires : tie.Need-byte-at-requires Inv-loop μ-loop
 byte-at-requires c κs = search needs
 
--- src/writing.rt:45:13
 add-out : tie.Need-add-out Inv-loop μ-loop
 add-out c = search needs
 
--- src/writing.rt:45:9
 slice-write-out : tie.Need-slice-write-out Inv-loop μ-loop
 slice-write-out c = let a = c .before .before .before .before .before .args in
     let kept = sets-long (a .out .now) (bytesAt (c .before .before .loop .i) (a .list .now) (a .from)) (a .at) (c .before .before .loop .inv .1) in
     omega arith
 
--- src/writing.rt:46:9
 add-i : tie.Need-add-i Inv-loop μ-loop
 add-i c = search needs
 
--- src/writing.rt:44:5
 loop-less : tie.Need-loop-less Inv-loop μ-loop
 loop-less c = search needs
 
--- src/writing.rt:44:5
 loop-again : tie.Need-loop-again Inv-loop μ-loop
 loop-again c = let a = c .before .before .before .before .before .args in
     let i = c .before .before .loop .i in (
@@ -60,12 +50,10 @@ loop-again c = let a = c .before .before .before .before .before .args in
           ∙ copy-more (a .list .now) (a .out .now) (a .at) (a .from) i,
     )
 
--- src/writing.rt:39:1
 same-length : tie.Need-same-length Inv-loop μ-loop
 same-length c = let a = c .before .before .before .before .args in
     sets-long (a .out .now) (bytesAt (c .before .loop .i) (a .list .now) (a .from)) (a .at) (c .before .loop .inv .1)
 
--- src/writing.rt:39:1
 returns : tie.Need-returns Inv-loop μ-loop
 returns c = let a = c .before .before .before .before .args in
     let over : c .before .loop .i ≡ a .size = omega arith in

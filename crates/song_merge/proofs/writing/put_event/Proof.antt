@@ -1,4 +1,4 @@
-use mathlib.Core.Path.{_≡_, _∙_}
+-- `put_event` meets its contract. Assumes nothing.
 use native.Mathlib.Omega.{arith}
 use lib.ListN.{length-append}
 use Rattle.song_merge.specs.Written.{deltaBytes, toldOf}
@@ -7,26 +7,18 @@ use Rattle.song_merge.proofs.Deltas.{long-4}
 use borrow.Author.Needs.{needs}
 use Rattle.song_merge.proofs.writing.put_event.Statement.{statement}
 use Rattle.song_merge.proofs.writing.put_event.Tie as tie
-use Rattle.song_merge.proofs.writing.put_event.Reads as reads
-use Rattle.song_merge.proofs.writing.put_event.Lts as lts
-use Rattle.song_merge.proofs.writing.put_delta.Reads as put-delta-reads
-use Rattle.song_merge.proofs.writing.put_told.Reads as put-told-reads
 
--- src/writing.rt:72:9
 put-delta-requires : tie.Need-put-delta-requires
 put-delta-requires c κs = search needs
 
--- src/writing.rt:73:5
 put-told-requires : tie.Need-put-told-requires
 put-told-requires c κs = let kept = c .before .before .before .put-delta .kept .0 in
     let short = long-4 (c .before .before .before .before .before .before .before .args .c .wait) in
     (omega arith, omega arith)
 
--- src/writing.rt:67:1
 same-length : tie.Need-same-length
 same-length c = search needs
 
--- src/writing.rt:67:1
 returns : tie.Need-returns
 returns c = let a = c .before .before .before .before .before .before .before .before .before .before .args in
     let d = deltaBytes (a .c .wait) in

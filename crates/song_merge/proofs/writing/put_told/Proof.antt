@@ -1,65 +1,49 @@
-use mathlib.Core.Path.{_≡_, _∙_}
+-- `put_told` meets its contract. Assumes nothing.
+use mathlib.Core.Path.{_∙_}
 use native.Mathlib.Omega.{arith}
 use lib.ListN.{length-set}
 use Rattle.song_merge.proofs.Events.{stored-with, stored-as-is}
 use borrow.Author.Needs.{needs}
 use Rattle.song_merge.proofs.writing.put_told.Statement.{statement}
 use Rattle.song_merge.proofs.writing.put_told.Tie as tie
-use Rattle.song_merge.proofs.writing.put_told.Reads as reads
-use Rattle.song_merge.proofs.writing.put_told.Lts as lts
-use Rattle.octets.proofs.byte_at.Reads as byte-at-reads
-use Rattle.song_merge.proofs.writing.copy.Reads as copy-reads
 
--- src/writing.rt:57:16
 sub-size : tie.Need-sub-size
 sub-size c = search needs
 
--- src/writing.rt:58:8
 byte-at-requires : tie.Need-byte-at-requires
 byte-at-requires c κs = search needs
 
--- src/writing.rt:59:9
 slice-write-out : tie.Need-slice-write-out
 slice-write-out c = search needs
 
--- src/writing.rt:60:37
 add-copy : tie.Need-add-copy
 add-copy c = search needs
 
--- src/writing.rt:60:9
 copy-requires : tie.Need-copy-requires
 copy-requires c κs = search needs
 
--- src/writing.rt:61:16
 add-result : tie.Need-add-result
 add-result c = search needs
 
--- src/writing.rt:61:16
 add-result-2 : tie.Need-add-result-2
 add-result-2 c = search needs
 
--- src/writing.rt:61:9
 same-length : tie.Need-same-length
 same-length c = c .before .before .copy .kept .1 .1 .1 .0 ∙ simp length-set
 
--- src/writing.rt:61:9
 returns : tie.Need-returns
 returns c = let a = c .before .before .before .before .before .before .before .before .before .args in
     stored-with (a .list .now) (a .c) (a .out .now) (a .at) (omega arith) (c .before .before .copy .ensures)
 
--- src/writing.rt:63:5
 copy-requires-2 : tie.Need-copy-requires-2
 copy-requires-2 c κs = search needs
 
--- src/writing.rt:64:5
 add-result-3 : tie.Need-add-result-3
 add-result-3 c = search needs
 
--- src/writing.rt:51:1
 same-length-2 : tie.Need-same-length-2
 same-length-2 c = search needs
 
--- src/writing.rt:51:1
 returns-2 : tie.Need-returns-2
 returns-2 c = let a = c .before .before .before .before .before .before .before .before .before .args in
     stored-as-is (a .list .now) (a .c) (a .out .now) (a .at) (omega arith) (c .before .before .copy2 .ensures)
