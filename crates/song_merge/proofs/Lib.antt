@@ -9,3 +9,4 @@ pub mod Gathering
 pub mod Headings
 pub mod Answered
 pub mod Heard
+pub mod Examples
