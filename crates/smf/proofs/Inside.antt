@@ -103,7 +103,7 @@ status-inside f end status at =
     (λ _. both (Inside end at) (eqb status 255) _ _ (λ _. meta-inside f end at)
     (λ _. both (Inside end at) (eqb status 240 || eqb status 247) _ _ (λ _. sysex-inside f end at) (λ _. tt)))
 
-event-inside : (f : List ℕ) (end running at : ℕ) → Inside end at (eventAt f end running at)
+pub event-inside : (f : List ℕ) (end running at : ℕ) → Inside end at (eventAt f end running at)
 unfolding eventAt
 event-inside f end running at =
     both (Inside end at) (ltb at end) _ _

@@ -9,9 +9,9 @@ use crate::fields::four_at;
 use crate::fields::two_at;
 
 // `MThd` and `MTrk`.
-const HEADER_TYPE: u32 = 0x4d54_6864;
+pub const HEADER_TYPE: u32 = 0x4d54_6864;
 
-const TRACK_TYPE: u32 = 0x4d54_726b;
+pub const TRACK_TYPE: u32 = 0x4d54_726b;
 
 // Ticks a quarter note, and the place behind the header.
 pub enum Opening {

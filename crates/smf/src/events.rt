@@ -246,7 +246,7 @@ fn status_event(file: &[u8], end: usize, status: u8, at: usize) -> Read
     })
 }
 
-fn event_at(file: &[u8], end: usize, running: u8, at: usize) -> Read
+pub fn event_at(file: &[u8], end: usize, running: u8, at: usize) -> Read
     requires { ⌜ end < 2 ^ 63 ⌝ }
     ensures { λ r. ⌜ r ≡ eventAt (now (file .entry)) end running at ⌝ }
 {

@@ -1,10 +1,10 @@
 // Songs from Standard MIDI Files 1.0 of format 0: a list of starts and stops, each with its frame count. It takes every
 // list of bytes, and each public function equals a definition in specs/, for every value of its arguments.
-mod chunks;
+pub mod chunks;
 mod clock;
-mod events;
+pub mod events;
 pub mod faults;
-mod fields;
+pub mod fields;
 mod tracks;
 
 ghost use mathlib.Core.Path.{_≡_};

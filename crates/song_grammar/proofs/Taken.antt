@@ -265,6 +265,13 @@ module _ (f : List ℕ) (end : ℕ) where
       let k = from-length f (at + 1) (type ∷ (size ++ body)) behind (from .1) in
       other-taken running at _ (omega arith) (from .0) (meta-taken (at + 1) behind type (length body) size body q (from .1) room small refl no-tempo no-end)
 
+  pub end-event : (running at behind : ℕ) (size body : List ℕ) → Quantity size (length body) → From f at (0xFF ∷ 0x2F ∷ (size ++ body)) behind → behind ≤ end
+      → eventAt f end running at ≡ End behind
+  end-event running at behind size body r from room =
+      let k = from-length f (at + 1) (0x2F ∷ (size ++ body)) behind (from .1) in
+      other-taken running at (End behind) (omega arith) (from .0)
+      (end-taken (at + 1) behind 0x2F (length body) size body r (from .1) room (omega arith) refl refl)
+
   -- ---- with its delta-time
   step-on : (running at ticks mid : ℕ) → at < end → quantityAt f end at ≡ quantity.Is ticks mid → stepAt f end running at ≡ timed ticks (eventAt f end running mid)
   unfolding stepAt
@@ -287,8 +294,4 @@ module _ (f : List ℕ) (end : ℕ) where
     pub end-step : (size body : List ℕ) → Quantity size (length body) → event ≡ 0xFF ∷ 0x2F ∷ (size ++ body) → stepAt f end running at ≡ step.End behind
     end-step size body r is =
         let right : From f (apart .mid) (0xFF ∷ 0x2F ∷ (size ++ body)) behind = subst (λ (l : List ℕ). From f (apart .mid) l behind) is (apart .right) in
-        let k = from-length f (apart .mid + 1) (0x2F ∷ (size ++ body)) behind (right .1) in
-        on
-        ∙ ap (timed ticks)
-        (other-taken running (apart .mid) (End behind) (omega arith) (right .0)
-        (end-taken (apart .mid + 1) behind 0x2F (length body) size body r (right .1) room (omega arith) refl refl))
+        on ∙ ap (timed ticks) (end-event running (apart .mid) behind size body r right room)

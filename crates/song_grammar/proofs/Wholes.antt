@@ -162,7 +162,7 @@ module _ (f : List ℕ) where
         }
 
     -- the track behind them, and none behind that
-    track-there : (n at next : ℕ) {body : List ℕ} → Stands 0x4D 0x54 0x72 0x6B at body next → next ≤ length f → length f - at ≤ n → trackFrom n f at ≡ found.Track at
+    pub track-there : (n at next : ℕ) {body : List ℕ} → Stands 0x4D 0x54 0x72 0x6B at body next → next ≤ length f → length f - at ≤ n → trackFrom n f at ≡ found.Track at
     unfolding chunkAt numberOf numberAfter
     track-there n at next {body} s room fuel =
         let ends = s .ends in

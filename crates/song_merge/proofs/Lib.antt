@@ -1,0 +1,12 @@
+pub mod Bytes
+pub mod Deltas
+pub mod Merges
+pub mod Looks
+pub mod Events
+pub mod Joins
+pub mod Tracks
+pub mod Gathering
+pub mod Headings
+pub mod Answered
+pub mod Heard
+pub mod Examples

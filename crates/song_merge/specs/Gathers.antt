@@ -1,0 +1,62 @@
+-- What becomes of two tracks, and of all tracks of a file, in the two lists that are lent. Definitions only.
+use mathlib.Core.Path.{_≡_}
+use mathlib.Core.Bool.{cond}
+use mathlib.Core.List.{List, []}
+use Prim.Native.Nat.{ℕ, _+_, _-_, _*_, _^_, _≤_, _<_}
+use lib.Dec.{ltb, eqb}
+use lib.ListN.{length}
+use Rattle.octets.specs.Octets.{bytesAt}
+use Rattle.smf.specs.Promised.{Timed}
+use Rattle.smf.specs.declared.chunks.Found.{Found}
+use Rattle.smf.specs.declared.chunks.Found.the-variants as found
+use Rattle.song_merge.specs.declared.merging.Gathered.{Gathered}
+use Rattle.song_merge.specs.declared.merging.Gathered.the-variants.{To, Short, Broken}
+use Rattle.song_merge.specs.Songs.{Tracks}
+use Rattle.song_merge.specs.Merges.{mergedOf, allOf}
+use Rattle.song_merge.specs.Standing.{Stands, Held}
+
+-- a track of a list from 22 up to a place, and one of a file, in one at the front of a list, which ends at r; with r 0
+-- it has no room
+pub record Joined (a : List ℕ) (a-end : ℕ) (f : List ℕ) (at end : ℕ) (out : List ℕ) (r : ℕ) : Type 0 where
+  pub within : r ≤ length out
+  pub merged : (ts us : List Timed) (j k : ℕ) → Held a 0 22 a-end ts j → Held f 0 at end us k → 0 < r
+      → Held out 0 0 r (mergedOf ts us) (j + k)
+  pub long : (ts us : List Timed) (j k : ℕ) → Held a 0 22 a-end ts j → Held f 0 at end us k → r ≤ j + k
+  pub room : (ts us : List Timed) (j k : ℕ) → Held a 0 22 a-end ts j → Held f 0 at end us k → j + k + 5 ≤ length out
+      → 0 < r
+
+-- the same where the merged track takes the place of the first
+pub record Grown (before : List ℕ) (a-end : ℕ) (f : List ℕ) (at end spare : ℕ) (out : List ℕ) (r : ℕ) : Type 0 where
+  pub within : r ≤ length out
+  pub some : 0 < r → (22 ≤ r) × (0 < a-end)
+  pub merged : (ts us : List Timed) (j k : ℕ) → Held before 0 22 a-end ts j → Held f 0 at end us k → 0 < r
+      → Held out 0 22 r (mergedOf ts us) (j + k)
+  pub long : (ts us : List Timed) (j k : ℕ) → Held before 0 22 a-end ts j → Held f 0 at end us k → r ≤ 22 + j + k
+  pub room : (ts us : List Timed) (j k : ℕ) → Held before 0 22 a-end ts j → Held f 0 at end us k
+      → j + k + 5 ≤ spare → 22 + j + k ≤ length out → 0 < r
+
+-- a track without events
+pub record Started (out : List ℕ) (r : ℕ) : Type 0 where
+  pub within : r ≤ length out
+  pub some : 0 < r → 22 ≤ r
+  pub empty : 0 < r → Held out 0 22 r [] 4
+  pub long : r ≤ 26
+  pub room : 29 ≤ length out → 0 < r
+
+-- what is found behind the last track, where the merged one ends at a place; a chunk has less than 2 ^ 32 bytes
+unfoldable pub closedOf : Found → ℕ → Gathered
+closedOf found.Nothing end = cond (eqb end 0) Short (cond (ltb 0xFFFFFFFF end) Short (To end))
+closedOf (found.Track place) end = Broken
+closedOf (found.Broken why) end = Broken
+
+-- so many tracks stand in a file from a place on
+abbrev pub Counted : List ℕ → ℕ → ℕ → List (List Timed) → Type 0
+Counted f at count tss = Tracks (bytesAt (length f - at) f at) tss × (length tss ≡ count)
+
+pub record Gathers (f : List ℕ) (count at spare : ℕ) (out : List ℕ) (r : Gathered) : Type 0 where
+  pub told : (r ≡ Broken → ⊥) → (tss : List (List Timed)) × Counted f at count tss
+  pub taken : (tss : List (List Timed)) → Counted f at count tss → r ≡ Broken → ⊥
+  pub merged : (tss : List (List Timed)) → Counted f at count tss → (end : ℕ) → r ≡ To end
+      → (22 ≤ end) × (end ≤ length out) × (end < 2 ^ 32) × Stands out 22 end (allOf tss)
+  pub room : (tss : List (List Timed)) → Counted f at count tss → 14 ≤ at → at < length f → 2 * length f ≤ spare
+      → 2 * length f ≤ length out → length f < 2 ^ 31 → r ≡ Short → ⊥
