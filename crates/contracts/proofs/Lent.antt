@@ -25,6 +25,7 @@ use Rattle.lent_sampler.proofs.get_voice_info.Met as get-voice-info-thm
 use Rattle.lent_sampler.proofs.get_waveform_summary.Met as get-waveform-summary-thm
 use Rattle.lent_sampler.proofs.write_wave.Met as write-wave-thm
 use Rattle.lent_sampler.proofs.read_wave.Met as read-wave-thm
+use Rattle.lent_songs.proofs.play.Met as play-song-thm
 use Rattle.contracts.specs.Lent.{Lent}
 
 pub lent : (m : List ℕ) → Lent m
@@ -53,4 +54,5 @@ lent m = record {
   get-waveform-summary = λ M. get-waveform-summary-thm.met;
   write-wave = λ M. write-wave-thm.met;
   read-wave = λ M. read-wave-thm.met;
+  play-song = λ M. play-song-thm.met;
 }
