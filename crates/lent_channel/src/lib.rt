@@ -63,7 +63,7 @@ pub struct Heard {
 }
 
 // What is heard of a channel without voices.
-fn silence() -> Heard
+pub fn silence() -> Heard
     ensures { λ r. ⌜ r ≡ silent ⌝ }
 {
     Heard {
@@ -106,7 +106,7 @@ fn good_voices(c: &Channel) -> bool
 }
 
 // Whether a voice is unfinished: mostly the first is.
-fn any_unfinished(c: &Channel) -> bool
+pub fn any_unfinished(c: &Channel) -> bool
     ensures { λ r. ⌜ r ≡ anyUnfinishedOf (now (c .entry)) ⌝ }
 {
     let n = channel::places(c.count);
@@ -463,7 +463,7 @@ fn mixed(head: Head, input: f32, heard: Heard) -> Heard
 
 // The sample is recorded. While nothing is, neither the head nor the memory is stored, and else of the head what a
 // recording changes.
-fn record(c: &mut Channel, input: f32, data: &mut [u32])
+pub fn record(c: &mut Channel, input: f32, data: &mut [u32])
     ensures { λ r. ⌜ (now (c .exit) ≡ takenOf (now («data» .entry)) (now (c .entry)))
         × (now («data» .exit) ≡ memoryOf input (now (c .entry)) (now («data» .entry))) ⌝ }
 {
@@ -478,7 +478,7 @@ fn record(c: &mut Channel, input: f32, data: &mut [u32])
 }
 
 // The end of a sample. Where pass-through rests only the clock is new.
-fn close(c: &mut Channel, params: Params, unfinished: bool, input: f32, played: Heard) -> Heard
+pub fn close(c: &mut Channel, params: Params, unfinished: bool, input: f32, played: Heard) -> Heard
     ensures { λ r. ⌜ (r ≡ mixedWith (now (c .entry) .head) input played)
         × (now (c .exit) ≡ withHead (closedOf params unfinished (now (c .entry) .head)) (now (c .entry))) ⌝ }
 {
