@@ -317,7 +317,7 @@ fn quick_whole(s: f32, length: f32) -> usize
     }
 }
 
-fn same_mode(a: Mode, b: Mode) -> bool
+pub fn same_mode(a: Mode, b: Mode) -> bool
     ensures { λ r. ⌜ r ≡ sameMode a b ⌝ }
 {
     match a {
@@ -339,7 +339,7 @@ fn good_length(length: f32) -> bool
 }
 
 // Whether x is a whole number from low to top.
-fn whole_in(low: usize, top: usize, x: f32) -> bool
+pub fn whole_in(low: usize, top: usize, x: f32) -> bool
     ensures { λ r. ⌜ r ≡ wholeIn low top x ⌝ }
 {
     let n = binary32::f32_to_usize(x);
@@ -546,7 +546,7 @@ impl Clip {
     }
 
     // Whether each of the four parts of an update would be skipped.
-    fn same_all(self, length: f32, speed: f32, data_length: f32, mode: Mode) -> bool
+    pub fn same_all(self, length: f32, speed: f32, data_length: f32, mode: Mode) -> bool
         ensures { λ r. ⌜ r ≡ sameAll self length speed «data_length» mode ⌝ }
     {
         if self.same_values(length, speed, data_length) {

@@ -157,7 +157,7 @@ fn plays_once(mode: LoopMode) -> bool
 }
 
 // The value recorded at a place of the phrase.
-fn recorded(data: &[u32], index: usize) -> f32
+pub fn recorded(data: &[u32], index: usize) -> f32
     ensures { λ r. ⌜ r ≡ recordedValueOf (now («data» .entry)) index ⌝ }
 {
     if index < data.len() {
