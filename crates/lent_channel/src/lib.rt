@@ -290,7 +290,7 @@ fn beginning() -> Going
 }
 
 // Voices up to that place have glided: each stayed where it was.
-fn glided(upto: usize, output: f32) -> Going
+pub fn glided(upto: usize, output: f32) -> Going
     ensures { λ r. ⌜ r ≡ glidedTo upto output ⌝ }
 {
     Going {
@@ -304,7 +304,7 @@ fn glided(upto: usize, output: f32) -> Going
 
 // Voices of the tick's phrase take their turns in place, from the next on and before the n-th, up to the first that does
 // not glide.
-fn glide(c: &mut Channel, t: Tick, g: Going, n: usize, data: &[u32]) -> Going
+pub fn glide(c: &mut Channel, t: Tick, g: Going, n: usize, data: &[u32]) -> Going
     requires { ⌜ Stands n g × (g .kept ≡ g .place) ⌝ }
     ensures { λ r. ⌜ Glides t (now («data» .entry)) n (now (c .entry)) g (now (c .exit)) r ⌝ }
 {
@@ -359,7 +359,7 @@ fn turned(g: Going, v: Voice, t: Tick, data: &[u32]) -> Turn
 }
 
 // How many voices moved up: those that stayed behind the first that left.
-fn moved_of(g: Going) -> u8
+pub fn moved_of(g: Going) -> u8
     requires { ⌜ (g .kept ≤ 32) × (g .first ≤ g .kept) ⌝ }
     ensures { λ r. ⌜ r ≡ movedBy g ⌝ }
 {
@@ -371,7 +371,7 @@ fn moved_of(g: Going) -> u8
 }
 
 // The next voice takes its turn. One that stays moves up where one before it has left.
-fn turn_next(c: &mut Channel, t: Tick, g: Going, data: &[u32]) -> Going
+pub fn turn_next(c: &mut Channel, t: Tick, g: Going, data: &[u32]) -> Going
     requires { ⌜ (g .place < 32) × (g .kept ≤ g .place) ⌝ }
     ensures { λ r. ⌜ (r ≡ nextTurn t (now («data» .entry)) g (nextVoice g (now (c .entry))) .next)
         × (now (c .exit) ≡ turnedIn g (nextTurn t (now («data» .entry)) g (nextVoice g (now (c .entry)))) (now (c .entry))) ⌝ }
@@ -399,7 +399,7 @@ fn stretch(c: &mut Channel, t: Tick, g: Going, n: usize, data: &[u32]) -> Going
 }
 
 // The next voice takes no turn, and stays.
-fn rest_next(c: &mut Channel, g: Going) -> Going
+pub fn rest_next(c: &mut Channel, g: Going) -> Going
     requires { ⌜ (g .place < 32) × (g .kept ≤ g .place) ⌝ }
     ensures { λ r. ⌜ (r ≡ restedOf g) × (now (c .exit) ≡ restedIn g (now (c .entry))) ⌝ }
 {
