@@ -3,7 +3,7 @@
 --     sized                  the numbers of a clip of 8/12's profile are small
 --     agreed                 the tests of `agrees` are enough
 --     index-first, -next     the index by a position that agrees
---     stepped-on             the position moved by one is that of the voice after its turn
+--     stepped-to, -on        the position moved by one is that one sample on, and of the voice after its turn
 use mathlib.Core.Path.{_≡_, refl, sym, ap, ap₂, _∙_, subst}
 use Prim.Native.Nat.{ℕ, _+_, _*_, _-_, _/_, _%_, _^_, _≤_, _<_, zero-le}
 use native.Mathlib.Nat.{le-trans, add-zero, add-mul, one-mul, mul-le-mul-left, mod-eq-of-lt, mod-eq-sub-mod, div-eq-of-lt, mul-add-mod-self-right, mul-add-div-right}
@@ -180,6 +180,36 @@ module _ (h : Hot) (c : Clip) (t : Tick) (b : Beat) (speed : Float) (last : ℕ)
         stands = eqb→eq _ _ (and-l stands below h₆) ∙ now;
       }
 
+-- ---- the position moved by one is that of one sample on
+module _ (c : Clip) (h : Hot) (e length : ℕ) (length-is : asWhole 64 (c .length) ≡ length) (start-is : asWhole 64 (c .start) ≡ h .start) (stands : h .lap * length + h .place ≡ e) (inside : h .place < length) where
+  low : 1 ≤ length
+  low = omega (arith, inside)
+
+  -- a count of so many laps and a place
+  hot-of : (q r : ℕ) → e + 1 ≡ q * length + r → r < length → hotAfter c (e + 1) ≡ record { place = r; lap = q; start = h .start; plain = true }
+  unfolding hotAfter
+  hot-of q r is below =
+      ap₂ (λ (len s : ℕ). record { place = (e + 1) % len; lap = (e + 1) / len; start = s; plain = true }) length-is start-is
+      ∙ ap₂ (λ (p l : ℕ). record { place = p; lap = l; start = h .start; plain = true })
+      (ap (λ (n : ℕ). n % length) is ∙ mul-add-mod-self-right q length r ∙ mod-eq-of-lt below)
+      (ap (λ (n : ℕ). n / length) is ∙ mul-add-div-right low q r ∙ ap (λ (n : ℕ). q + n) (div-eq-of-lt below) ∙ add-zero q)
+
+  -- in this lap, or at the front of the next
+  next-hot : (on : Bool) → ltb (h .place + 1) length ≡ on
+      → cond on (record { place = h .place + 1; lap = h .lap; start = h .start; plain = true }) (record { place = 0; lap = h .lap + 1; start = h .start; plain = true }) ≡ hotAfter c (e + 1)
+  next-hot true is = sym (hot-of (h .lap) (h .place + 1) (omega (arith, stands)) (ltb-true _ _ is))
+  next-hot false is = sym (hot-of (h .lap + 1) 0 (omega (arith, stands, inside, ltb-false (h .place + 1) length is, add-mul (h .lap) 1 length, one-mul length)) low)
+
+  lap-few : h .lap ≤ e
+  lap-few = omega (arith, stands, mul-le-mul-left (h .lap) low)
+
+  pub stepped-to : length ≤ 2 ^ 22 → e < 2 ^ 24 → steppedOf h length ≡ hotAfter c (e + 1)
+  unfolding steppedOf
+  stepped-to short few =
+      ap₂ (λ (p l : ℕ). cond (ltb p length) (record { place = p; lap = h .lap; start = h .start; plain = true }) (record { place = 0; lap = l; start = h .start; plain = true }))
+      (mod-eq-of-lt (omega (arith, inside, short))) (mod-eq-of-lt (omega (arith, lap-few, few)))
+      ∙ next-hot (ltb (h .place + 1) length) refl
+
 -- ---- what a position says that agrees
 module _ {h : Hot} {c : Clip} {t : Tick} {b : Beat} {speed : Float} {last : ℕ} (agrees : Agrees h c t b speed last) (few : last < 2 ^ 24) where
   abbrev e : ℕ
@@ -206,30 +236,9 @@ module _ {h : Hot} {c : Clip} {t : Tick} {b : Beat} {speed : Float} {last : ℕ}
   pub plays-on : playsPlain (t .interpolates) c (t .now) ≡ true
   plays-on = so-plays (t .interpolates) c (t .now) (record { sharp = agrees .sharp; profile = passes c (h .start) length (b .total) (agrees .profile) (agrees .inside); early = early })
 
-  -- the position of a count that is so many laps and a place
-  hot-of : (q r : ℕ) → e + 1 ≡ q * length + r → r < length → hotAfter c (e + 1) ≡ record { place = r; lap = q; start = h .start; plain = true }
-  unfolding hotAfter
-  hot-of q r is below =
-      let at : (len s : ℕ) → Hot = λ len s. record { place = (e + 1) % len; lap = (e + 1) / len; start = s; plain = true } in
-      ap₂ at (cast-is length (le-trans (agrees .profile .length-top) (lit≤ tt)) (agrees .profile .length-is)) (cast-is (h .start) (le-trans (agrees .profile .start-top) (lit≤ tt)) (agrees .profile .start-is))
-      ∙ ap₂ (λ (p l : ℕ). record { place = p; lap = l; start = h .start; plain = true })
-      (ap (λ (n : ℕ). n % length) is ∙ mul-add-mod-self-right q length r ∙ mod-eq-of-lt below)
-      (ap (λ (n : ℕ). n / length) is ∙ mul-add-div-right (agrees .profile .length-low) q r ∙ ap (λ (n : ℕ). q + n) (div-eq-of-lt below) ∙ add-zero q)
-
-  -- in this lap, or at the front of the next
-  next-hot : (on : Bool) → ltb (h .place + 1) length ≡ on
-      → cond on (record { place = h .place + 1; lap = h .lap; start = h .start; plain = true }) (record { place = 0; lap = h .lap + 1; start = h .start; plain = true }) ≡ hotAfter c (e + 1)
-  next-hot true is = sym (hot-of (h .lap) (h .place + 1) (omega (arith, agrees .stands)) (ltb-true _ _ is))
-  next-hot false is =
-      sym (hot-of (h .lap + 1) 0 (omega (arith, agrees .stands, agrees .place, ltb-false (h .place + 1) length is, add-mul (h .lap) 1 length, one-mul length)) (agrees .profile .length-low))
-
-  lap-few : h .lap ≤ e
-  lap-few = omega (arith, agrees .stands, mul-le-mul-left (h .lap) (agrees .profile .length-low))
-
   pub stepped-on : h .plain ≡ true → steppedOf h length ≡ judgedOf h (t .interpolates) c (t .now)
-  unfolding steppedOf judgedOf
+  unfolding judgedOf
   stepped-on plain =
-      let to : (p l : ℕ) → Hot = λ p l. cond (ltb p length) (record { place = p; lap = h .lap; start = h .start; plain = true }) (record { place = 0; lap = l; start = h .start; plain = true }) in
-      ap₂ to (mod-eq-of-lt (omega (arith, agrees .place, agrees .profile .length-top))) (mod-eq-of-lt (omega (arith, lap-few, early)))
-      ∙ next-hot (ltb (h .place + 1) length) refl
+      stepped-to c h e length (cast-is length (le-trans (agrees .profile .length-top) (lit≤ tt)) (agrees .profile .length-is)) (cast-is (h .start) (le-trans (agrees .profile .start-top) (lit≤ tt)) (agrees .profile .start-is))
+      (agrees .stands) (agrees .place) (agrees .profile .length-top) early
       ∙ simp (plain, plays-on)

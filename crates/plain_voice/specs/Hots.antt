@@ -39,8 +39,8 @@ hotAfter c elapsed =
     record { place = elapsed % length; lap = elapsed / length; start = asWhole 64 (c .start); plain = true }
 
 -- a voice that starts at that time with that clip: it is taken, or not
-unfoldable pub takenOf : Bool → Clip → ℕ → Hot
-takenOf smooth c now = cond (playsPlain smooth c now) (hotAfter c (elapsedAt c now)) cold
+unfoldable pub hotAt : Bool → Clip → ℕ → Hot
+hotAt smooth c now = cond (playsPlain smooth c now) (hotAfter c (elapsedAt c now)) cold
 
 -- one whose clip is c after its turn at that time: it is kept and stands one sample on, or handed back
 unfoldable pub judgedOf : Hot → Bool → Clip → ℕ → Hot

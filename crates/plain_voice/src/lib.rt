@@ -8,7 +8,7 @@ ghost use Rattle.plain_voice.specs.Hots.{
   cold,
   playsPlain,
   hotAfter,
-  takenOf,
+  hotAt,
   judgedOf,
   steppedOf,
   canPlain,
@@ -80,8 +80,8 @@ fn hot_after(c: Clip, elapsed: usize) -> Hot
 }
 
 // A voice that starts at that time with that clip.
-pub fn taken(c: Clip, now: usize, smooth: bool) -> Hot
-    ensures { λ r. ⌜ r ≡ takenOf smooth c now ⌝ }
+pub fn hot_at(c: Clip, now: usize, smooth: bool) -> Hot
+    ensures { λ r. ⌜ r ≡ hotAt smooth c now ⌝ }
 {
     if plays(c, now, smooth) {
         hot_after(c, c.elapsed_at(now))

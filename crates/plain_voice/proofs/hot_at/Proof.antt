@@ -1,11 +1,11 @@
--- `taken` meets its contract. Assumes nothing.
+-- `hot_at` meets its contract. Assumes nothing.
 use mathlib.Core.Path.{sym, _∙_}
 use native.Mathlib.Omega.{arith}
-use Rattle.plain_voice.specs.Hots.{takenOf}
+use Rattle.plain_voice.specs.Hots.{hotAt}
 use Rattle.plain_voice.proofs.Hots.{plays-so}
 use borrow.Author.Needs.{needs}
-use Rattle.plain_voice.proofs.taken.Statement.{statement}
-use Rattle.plain_voice.proofs.taken.Tie as tie
+use Rattle.plain_voice.proofs.hot_at.Statement.{statement}
+use Rattle.plain_voice.proofs.hot_at.Tie as tie
 
 plays-requires : tie.Need-plays-requires
 plays-requires c κs = search needs
@@ -20,15 +20,15 @@ cold-requires : tie.Need-cold-requires
 cold-requires c κs = search needs
 
 returns : tie.Need-returns
-unfolding takenOf
+unfolding hotAt
 returns c = simp (c .hot-after .ensures, c .before .elapsed-at .ensures, sym (c .before .before .before .plays .ensures) ∙ c .before .before .if1 .taken)
 
 returns-2 : tie.Need-returns-2
-unfolding takenOf
+unfolding hotAt
 returns-2 c = simp (c .cold .ensures, sym (c .before .before .plays .ensures) ∙ c .before .if1 .left)
 
-pub taken-spec : {M : Type 1} → statement M
-taken-spec =
+pub hot-at-spec : {M : Type 1} → statement M
+hot-at-spec =
     tie.close
     (tie.spec
     plays-requires
