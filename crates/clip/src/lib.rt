@@ -1,9 +1,9 @@
 // A clip: which part of a recording a voice plays, and where it is at a time. Each function equals a definition in
-// specs/. `made`, `good`, the functions that end in `_at` and those that begin with `with_` take every clip and every
-// time: they are for clips that are known to be good. `sounding` is `with_all` and `offset_at` in one; of a clip that
-// `with_all` would not change `quick_index` is `index_at` or no index, and `quick_next` is `next_at` or no index. Those
-// under the Rust's names, and `update_all`, first refuse bad arguments (number 7 of document 01), and then answer the
-// same.
+// specs/. `made`, `good`, `is_plain`, the functions that end in `_at` and those that begin with `with_` take every clip
+// and every time: they are for clips that are known to be good. `sounding` is `with_all` and `offset_at` in one; of a
+// clip that `with_all` would not change `quick_index` is `index_at` or no index, and `quick_next` is `next_at` or no
+// index. Those under the Rust's names, and `update_all`, first refuse bad arguments (number 7 of document 01), and then
+// answer the same.
 ghost use mathlib.Core.Path.{_≡_};
 ghost use mathlib.Core.Bool.{not, cond};
 ghost use lib.Dec.{T};
@@ -51,6 +51,8 @@ ghost use Rattle.clip.specs.Updates.{
   sameValues,
   sameAll,
 };
+ghost use Rattle.binary32.specs.Wholes.{wholeIn};
+ghost use Rattle.clip.specs.Plain.{isPlain};
 ghost use Rattle.clip.specs.Quick.{QuickWrapped, QuickWhole, QuickIndex, QuickFraction, QuickNext};
 ghost use Rattle.clip.specs.Refusals.{
   goodLength,
@@ -315,7 +317,7 @@ fn quick_whole(s: f32, length: f32) -> usize
     }
 }
 
-fn same_mode(a: Mode, b: Mode) -> bool
+pub fn same_mode(a: Mode, b: Mode) -> bool
     ensures { λ r. ⌜ r ≡ sameMode a b ⌝ }
 {
     match a {
@@ -334,6 +336,14 @@ fn good_length(length: f32) -> bool
     ensures { λ r. ⌜ r ≡ goodLength length ⌝ }
 {
     (1.0 <= length) & (length <= 4194304.0)
+}
+
+// Whether x is a whole number from low to top.
+pub fn whole_in(low: usize, top: usize, x: f32) -> bool
+    ensures { λ r. ⌜ r ≡ wholeIn low top x ⌝ }
+{
+    let n = binary32::f32_to_usize(x);
+    (x == binary32::usize_to_f32(n)) & ((low <= n) & (n <= top))
 }
 
 impl Position {
@@ -373,6 +383,21 @@ impl Clip {
         good_length(self.length)
             & good_length(self.data_length)
             & ((0.0 <= self.start) & (self.start <= 4194304.0))
+    }
+
+    // Whether it is of request 8/12's profile: its positions are then whole numbers, up to an elapsed count of 2^24.
+    pub fn is_plain(self) -> bool
+        ensures { λ r. ⌜ r ≡ isPlain self ⌝ }
+    {
+        let mode = self.mode;
+        let start = binary32::f32_to_usize(self.start);
+        let inside = start <= binary32::f32_to_usize(self.data_length);
+        same_mode(mode, Mode::Loop)
+            & ((self.shift == 0.0)
+                & ((self.speed == 1.0)
+                    & (whole_in(0, 0x40_0000, self.start)
+                        & (whole_in(1, 0x40_0000, self.length)
+                            & (whole_in(1, 0x40_0000, self.data_length) & inside)))))
     }
 
     // Whether number 7 refuses this clip at this time.
@@ -521,7 +546,7 @@ impl Clip {
     }
 
     // Whether each of the four parts of an update would be skipped.
-    fn same_all(self, length: f32, speed: f32, data_length: f32, mode: Mode) -> bool
+    pub fn same_all(self, length: f32, speed: f32, data_length: f32, mode: Mode) -> bool
         ensures { λ r. ⌜ r ≡ sameAll self length speed «data_length» mode ⌝ }
     {
         if self.same_values(length, speed, data_length) {

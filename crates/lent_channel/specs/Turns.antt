@@ -12,6 +12,7 @@ use Rattle.walks.specs.Walks.{fold}
 use Rattle.voice.specs.declared.Voice.{Voice}
 use Rattle.voice.specs.declared.Tick.{Tick}
 use Rattle.voice.specs.Voices.{turnOf, shouldRemoveOf, blankVoice}
+use Rattle.voice.specs.Gliding.{glidesOf}
 use Rattle.channel.specs.declared.Head.{Head}
 use Rattle.channel.specs.declared.Channel.{Channel}
 use Rattle.channel.specs.declared.Played.{Played}
@@ -126,11 +127,15 @@ pub record Follows (s : Turning) (t : Tick) (m : List ℕ) : Type 0 where
 abbrev pub Goes : Tick → List ℕ → ℕ → Channel → Going → Channel → Going → Type 0
 Goes t m n c g d h = (s : Turning) → Follows s t m → Onward s n c g d h
 
--- gliding turns: how far they go is left open
+-- gliding turns: how far they go is left open; each voice before there glided, and the others are as they were
 pub record Glides (t : Tick) (m : List ℕ) (n : ℕ) (c : Channel) (g : Going) (d : Channel) (h : Going) : Type 0 where
   pub further : g .place ≤ h .place
   pub goes : Goes t m n c g d h
   pub none : h .place ≡ g .place → (d ≡ c)
+  pub level : h .kept ≡ h .place
+  pub glided : (i : ℕ) → g .place ≤ i → i < h .place
+      → (getD (c .voices) i blankVoice .phrase ≡ t .phrase) × (glidesOf t m (getD (c .voices) i blankVoice) ≡ true)
+  pub rest : (i : ℕ) → h .place ≤ i → getD (d .voices) i blankVoice ≡ getD (c .voices) i blankVoice
 
 -- what of a channel's sample goes up to the frame: all but the channel
 abbrev pub heardOf : Played → Heard

@@ -63,7 +63,7 @@ pub struct Heard {
 }
 
 // What is heard of a channel without voices.
-fn silence() -> Heard
+pub fn silence() -> Heard
     ensures { λ r. ⌜ r ≡ silent ⌝ }
 {
     Heard {
@@ -106,7 +106,7 @@ fn good_voices(c: &Channel) -> bool
 }
 
 // Whether a voice is unfinished: mostly the first is.
-fn any_unfinished(c: &Channel) -> bool
+pub fn any_unfinished(c: &Channel) -> bool
     ensures { λ r. ⌜ r ≡ anyUnfinishedOf (now (c .entry)) ⌝ }
 {
     let n = channel::places(c.count);
@@ -290,7 +290,7 @@ fn beginning() -> Going
 }
 
 // Voices up to that place have glided: each stayed where it was.
-fn glided(upto: usize, output: f32) -> Going
+pub fn glided(upto: usize, output: f32) -> Going
     ensures { λ r. ⌜ r ≡ glidedTo upto output ⌝ }
 {
     Going {
@@ -304,7 +304,7 @@ fn glided(upto: usize, output: f32) -> Going
 
 // Voices of the tick's phrase take their turns in place, from the next on and before the n-th, up to the first that does
 // not glide.
-fn glide(c: &mut Channel, t: Tick, g: Going, n: usize, data: &[u32]) -> Going
+pub fn glide(c: &mut Channel, t: Tick, g: Going, n: usize, data: &[u32]) -> Going
     requires { ⌜ Stands n g × (g .kept ≡ g .place) ⌝ }
     ensures { λ r. ⌜ Glides t (now («data» .entry)) n (now (c .entry)) g (now (c .exit)) r ⌝ }
 {
@@ -359,7 +359,7 @@ fn turned(g: Going, v: Voice, t: Tick, data: &[u32]) -> Turn
 }
 
 // How many voices moved up: those that stayed behind the first that left.
-fn moved_of(g: Going) -> u8
+pub fn moved_of(g: Going) -> u8
     requires { ⌜ (g .kept ≤ 32) × (g .first ≤ g .kept) ⌝ }
     ensures { λ r. ⌜ r ≡ movedBy g ⌝ }
 {
@@ -371,7 +371,7 @@ fn moved_of(g: Going) -> u8
 }
 
 // The next voice takes its turn. One that stays moves up where one before it has left.
-fn turn_next(c: &mut Channel, t: Tick, g: Going, data: &[u32]) -> Going
+pub fn turn_next(c: &mut Channel, t: Tick, g: Going, data: &[u32]) -> Going
     requires { ⌜ (g .place < 32) × (g .kept ≤ g .place) ⌝ }
     ensures { λ r. ⌜ (r ≡ nextTurn t (now («data» .entry)) g (nextVoice g (now (c .entry))) .next)
         × (now (c .exit) ≡ turnedIn g (nextTurn t (now («data» .entry)) g (nextVoice g (now (c .entry)))) (now (c .entry))) ⌝ }
@@ -399,7 +399,7 @@ fn stretch(c: &mut Channel, t: Tick, g: Going, n: usize, data: &[u32]) -> Going
 }
 
 // The next voice takes no turn, and stays.
-fn rest_next(c: &mut Channel, g: Going) -> Going
+pub fn rest_next(c: &mut Channel, g: Going) -> Going
     requires { ⌜ (g .place < 32) × (g .kept ≤ g .place) ⌝ }
     ensures { λ r. ⌜ (r ≡ restedOf g) × (now (c .exit) ≡ restedIn g (now (c .entry))) ⌝ }
 {
@@ -463,7 +463,7 @@ fn mixed(head: Head, input: f32, heard: Heard) -> Heard
 
 // The sample is recorded. While nothing is, neither the head nor the memory is stored, and else of the head what a
 // recording changes.
-fn record(c: &mut Channel, input: f32, data: &mut [u32])
+pub fn record(c: &mut Channel, input: f32, data: &mut [u32])
     ensures { λ r. ⌜ (now (c .exit) ≡ takenOf (now («data» .entry)) (now (c .entry)))
         × (now («data» .exit) ≡ memoryOf input (now (c .entry)) (now («data» .entry))) ⌝ }
 {
@@ -478,7 +478,7 @@ fn record(c: &mut Channel, input: f32, data: &mut [u32])
 }
 
 // The end of a sample. Where pass-through rests only the clock is new.
-fn close(c: &mut Channel, params: Params, unfinished: bool, input: f32, played: Heard) -> Heard
+pub fn close(c: &mut Channel, params: Params, unfinished: bool, input: f32, played: Heard) -> Heard
     ensures { λ r. ⌜ (r ≡ mixedWith (now (c .entry) .head) input played)
         × (now (c .exit) ≡ withHead (closedOf params unfinished (now (c .entry) .head)) (now (c .entry))) ⌝ }
 {

@@ -12,13 +12,15 @@ use Rattle.volume.specs.Levels.{keepsOf}
 use Rattle.volume.proofs.Ends.{stepped-keeps}
 use Rattle.clip.specs.declared.Position.{Position}
 use Rattle.clip.specs.Positions.{indexOf, positionOf, positionAt, indexAt, nextAt}
+use Rattle.clip.specs.Updates.{sameAll}
 use Rattle.clip.specs.Quick.{noIndex, QuickIndex}
 use Rattle.clip.specs.declared.Near.{Near}
-use Rattle.voice.specs.Voices.{recordedValueOf, betweenOf, valueAt, valueOf, productOf, soundedOf, playedOutOf, endedOf, shouldRemoveOf, volumeStepped, turnOf}
+use Rattle.voice.specs.Voices.{recordedValueOf, betweenOf, valueAt, valueOf, productOf, atLevelOf, soundedOf, playedOutOf, endedOf, shouldRemoveOf, volumeStepped, turnOf}
 use Rattle.voice.specs.Agreeing.{agreesOf}
-use Rattle.voice.specs.Gliding.{glidesOf, glidedAt, glidedOf, goesOnOf, QuickBeside, QuickValue, Quickly}
+use Rattle.voice.specs.Gliding.{glidesOf, glidedAt, glidedOf, goesOnOf, QuickBeside, QuickValue, quickAt, Quickly}
 use Rattle.voice.specs.declared.Voice.{Voice}
 use Rattle.voice.specs.declared.Tick.{Tick}
+use Rattle.voice.specs.declared.Quick.{Quick}
 use Rattle.voice.proofs.Unmoved.{unmoved, agrees}
 
 module _ (t : Tick) (m : List ℕ) (v : Voice) where
@@ -116,6 +118,16 @@ module _ (t : Tick) (m : List ℕ) (v : Voice) where
       let turned : turnOf t m v ≡ w = turn-glides a k out stays ∙ sym e in
       (simp (a, k, out, stays, turned, stays-after), sym turned)
 
+  -- whatever way the index was found
+  pub quickly-at : (index : ℕ) (sample : Float) → sameAll (v .clip2) (t .span .length) (mul binary32 (v .speed) (t .speed)) (t .span .«data_length») (t .mode) ≡ true → index ≡ indexAt (v .clip2) (t .now) → sample ≡ valueOf t m (v .clip2)
+      → (r : Quick) (keeps : Bool) → r ≡ quickAt t v index (atLevelOf t v sample) → keeps ≡ keepsOf (v .volume) (t .now) → v .phrase ≡ t .phrase → keeps ≡ true → Quickly t m v r
+  unfolding quickAt glidedAt
+  quickly-at index sample unchanged at valued r keeps is k phrase kept so =
+      let w : Voice = glidedAt t v index sample in
+      let same : w ≡ glidedOf t m v = ap (λ (i : ℕ). glidedAt t v i sample) at ∙ ap (glidedAt t v (indexAt (v .clip2) (t .now))) valued in
+      let goes-on = going w (agrees t v unchanged) same (sym k ∙ kept) (sym (ap (λ (q : Quick). q .glides) is) ∙ so) in
+      (phrase, goes-on .0, ap (λ (q : Quick). q .voice) is ∙ goes-on .1)
+
   -- ---- each as a call answers it
   module _ (near : Near) (next : ℕ) (sample : Float) (found : QuickIndex (v .clip2) (t .now) (t .span .length) (mul binary32 (v .speed) (t .speed)) (t .span .«data_length») (t .mode) near)
       (beside : QuickBeside (v .clip2) (near .index) t next) (value : QuickValue t m near next sample) (some : near .index < noIndex) (more : next < noIndex) where
@@ -137,9 +149,7 @@ module _ (t : Tick) (m : List ℕ) (v : Voice) where
         go true e = ap (λ (i : ℕ). betweenOf (recordedValueOf m (p .index)) (recordedValueOf m i) (p .fraction)) e
         go false e = refl
 
-    pub answered : (w : Voice) (keeps goes : Bool) → w ≡ glidedAt t v (near .index) sample → keeps ≡ keepsOf (v .volume) (t .now) → goes ≡ goesOnOf t v w → v .phrase ≡ t .phrase → keeps ≡ true → Quickly t m v (record { voice = w; glides = goes })
-    answered w keeps goes is k g phrase kept so =
+    pub answered : (r : Quick) (keeps : Bool) → r ≡ quickAt t v (near .index) (atLevelOf t v sample) → keeps ≡ keepsOf (v .volume) (t .now) → v .phrase ≡ t .phrase → keeps ≡ true → Quickly t m v r
+    answered r keeps =
         let at = found some in
-        let same : w ≡ glidedOf t m v = is ∙ ap (λ (i : ℕ). glidedAt t v i sample) (at .1) ∙ ap (glidedAt t v (indexAt (v .clip2) (t .now))) valued in
-        let goes-on = going w (agrees t v (at .0)) same (sym k ∙ kept) (sym g ∙ so) in
-        (phrase, goes-on .0, goes-on .1)
+        quickly-at (near .index) sample (at .0) (at .1) valued r keeps

@@ -40,6 +40,12 @@ glidedOf t m v = glidedAt t v (indexAt (v .clip2) (t .now)) (valueOf t m (v .cli
 unfoldable pub goesOnOf : Tick → Voice → Voice → Bool
 goesOnOf t v w = not (playedOutOf t w) && (not (shouldRemoveOf t v) && not (shouldRemoveOf t w))
 
+-- what a quick turn answers from its index and the value heard there on
+unfoldable pub quickAt : Tick → Voice → ℕ → Float → Quick
+quickAt t v index value =
+    let w = soundedAt t v (v .clip2) index value in
+    record { voice = w; glides = goesOnOf t v w }
+
 -- r is no index; or, if each of the four parts of the clip's update would be skipped, r is the next index where voices
 -- interpolate, and else the index given
 abbrev pub QuickBeside : Clip → ℕ → Tick → ℕ → Type 0

@@ -28,7 +28,7 @@ ghost use Rattle.voice.specs.Voices.{
   atSpeedOf,
   goodVoice,
 };
-ghost use Rattle.voice.specs.Gliding.{goesOnOf, QuickBeside, QuickValue, Quickly};
+ghost use Rattle.voice.specs.Gliding.{goesOnOf, QuickBeside, QuickValue, quickAt, Quickly};
 use clip::Clip;
 use clip::Mode;
 use clip::Near;
@@ -157,7 +157,7 @@ fn plays_once(mode: LoopMode) -> bool
 }
 
 // The value recorded at a place of the phrase.
-fn recorded(data: &[u32], index: usize) -> f32
+pub fn recorded(data: &[u32], index: usize) -> f32
     ensures { λ r. ⌜ r ≡ recordedValueOf (now («data» .entry)) index ⌝ }
 {
     if index < data.len() {
@@ -449,8 +449,7 @@ impl Voice {
         !next.should_remove(t)
     }
 
-    // Its whole sample, where it glides: `turn`, quickly. The voice is made here and not by a call, which would copy
-    // all of it.
+    // Its whole sample, where it glides: `turn`, quickly.
     pub fn quick(self, t: Tick, data: &[u32]) -> Quick
         ensures { λ r. ⌜ Quickly t (now («data» .entry)) self r ⌝ }
     {
@@ -479,8 +478,18 @@ impl Voice {
         if clip::NONE <= next {
             return otherwise;
         }
+        self.quick_at(t, index, near_valued(near, next, t, data) * level)
+    }
+
+    // A quick turn from its index and what is heard there on. The voice is made here and not by a call, which would copy
+    // all of it.
+    pub fn quick_at(self, t: Tick, index: usize, value: f32) -> Quick
+        ensures { λ r. ⌜ r ≡ quickAt t self index value ⌝ }
+    {
+        let clip2 = self.clip2;
+        let volume = self.volume;
         let note = self.note;
-        let value = near_valued(near, next, t, data) * level;
+        let speed = self.speed * t.speed;
         let sounded = Self {
             finished_at: self.finished_at,
             last_sample_index: index,

@@ -1,9 +1,10 @@
 -- `Voice::quick` meets its contract: its tests are those that a voice that glides is known by, and where one fails it doesn't answer. Assumes nothing.
-use mathlib.Core.Path.{sym}
+use mathlib.Core.Path.{sym, ap, _∙_}
 use mathlib.Core.Bool.{true≢false}
+use lib.Ieee.{Float, binary32, mul}
 use borrow.Author.Needs.{needs}
 use borrow.Author.Tests.{not-false}
-use Rattle.voice.specs.Gliding.{glidedAt}
+use Rattle.voice.specs.Gliding.{quickAt}
 use Rattle.voice.proofs.Gliding.{answered}
 use Rattle.voice.proofs.Voice.quick.Statement.{statement}
 use Rattle.voice.proofs.Voice.quick.Tie as tie
@@ -35,22 +36,19 @@ returns-4 c glides = absurd (true≢false (sym glides))
 near-valued-requires : tie.Need-near-valued-requires
 near-valued-requires c κs = search needs
 
-crossing-requires : tie.Need-crossing-requires
-crossing-requires c κs = search needs
-
-goes-on-requires : tie.Need-goes-on-requires
-goes-on-requires c κs = search needs
+quick-at-requires : tie.Need-quick-at-requires
+quick-at-requires c κs = search needs
 
 returns-5 : tie.Need-returns-5
-unfolding glidedAt
 returns-5 c =
-    let a = c .before .before .before .before .before .before .before .before .before .before .before .before .before .before .before .before .before .before .before .before .args in
-    let found = c .before .before .before .before .before .before .before .before .before .quick-index in
-    let keeps = c .before .before .before .before .before .before .before .before .before .before .before .before .before .before .before .keeps in
-    let valued = c .before .before .before .near-valued in
-    answered (a .t) (a .«data» .now) (a .self) (found .result) (c .before .before .before .before .before .before .quick-beside .result) (valued .result) (found .ensures) (c .before .before .before .before .before .before .quick-beside .ensures) (valued .ensures)
-    (c .before .before .before .before .before .before .before .before .if3 .left) (c .before .before .before .before .before .if4 .left) _ (keeps .result) (c .goes-on .result) (simp (c .before .crossing .ensures, c .before .before .before .before .before .before .before .level .ensures)) (keeps .ensures) (c .goes-on .ensures)
-    (c .before .before .before .before .before .before .before .before .before .before .before .before .before .before .before .before .if1 .left) (not-false (keeps .result) (c .before .before .before .before .before .before .before .before .before .before .before .before .before .before .if2 .left))
+    let a = c .before .before .before .before .before .before .before .before .before .before .before .before .before .before .before .before .before .args in
+    let found = c .before .before .before .before .before .before .quick-index in
+    let keeps = c .before .before .before .before .before .before .before .before .before .before .before .before .keeps in
+    let beside = c .before .before .before .quick-beside in
+    let valued = c .before .near-valued in
+    answered (a .t) (a .«data» .now) (a .self) (found .result) (beside .result) (valued .result) (found .ensures) (beside .ensures) (valued .ensures) (c .before .before .before .before .before .if3 .left) (c .before .before .if4 .left)
+    (c .quick-at .result) (keeps .result) (c .quick-at .ensures ∙ ap (λ (level : Float). quickAt (a .t) (a .self) (found .result .index) (mul binary32 (valued .result) level)) (c .before .before .before .before .level .ensures)) (keeps .ensures) (c .before .before .before .before .before .before .before .before .before .before .before .before .before .if1 .left)
+    (not-false (keeps .result) (c .before .before .before .before .before .before .before .before .before .before .before .if2 .left))
 
 pub quick-spec : {M : Type 1} → statement M
 quick-spec =
@@ -65,6 +63,5 @@ quick-spec =
     quick-beside-requires
     returns-4
     near-valued-requires
-    crossing-requires
-    goes-on-requires
+    quick-at-requires
     returns-5)
