@@ -65,6 +65,7 @@ ghost use Rattle.lent_sampler.specs.Hearing.{atVolume};
 use channel::Against;
 use channel::Change;
 use channel::Channel;
+use channel::Head;
 use channel::HeadChange;
 use common_types::Note;
 use common_types::Params;
@@ -72,6 +73,7 @@ use lent_channel::Asking;
 use lent_channel::Heard;
 use questions::Counted;
 use questions::OffsetAnswer;
+use questions::Seen;
 use questions::Told;
 use questions::VoiceInfo;
 use questions::VoiceInfos;
@@ -108,42 +110,42 @@ fn any_of(n: usize, first: bool, second: bool) -> bool
     first | second
 }
 
-// What is read of a record before a call: what it says of itself, whether each of its two channels is good, and their
-// clocks.
-struct Readings {
-    count: usize,
-    capacity: usize,
-    first: bool,
-    second: bool,
-    time: usize,
-    other: usize,
-}
-
-fn read_of(
-    count: usize,
-    capacity: usize,
-    first: bool,
-    second: bool,
-    time: usize,
-    other: usize,
-) -> Readings
-    ensures { λ r. ⌜ r ≡ readingsOf count capacity first second time other ⌝ }
-{
-    Readings {
-        count,
-        capacity,
-        first,
-        second,
-        time,
-        other,
-    }
-}
-
 // Whether the record is good, by whether its channels are.
 fn good(count: usize, capacity: usize, first: bool, second: bool) -> bool
     ensures { λ r. ⌜ r ≡ goodBy count capacity first second ⌝ }
 {
     sampler::good_sizes(count, capacity) & all_of(count, first, second)
+}
+
+fn seen_of(
+    count: usize,
+    capacity: usize,
+    first: bool,
+    second: bool,
+    one: Head,
+    other: Head,
+) -> Seen
+    ensures { λ r. ⌜ r ≡ seenBy count capacity first second one other ⌝ }
+{
+    Seen {
+        good: good(count, capacity, first, second),
+        count,
+        capacity,
+        first: one,
+        second: other,
+    }
+}
+
+// What is read of a record before a call, with no channel copied.
+fn seen(s: &Sampler) -> Seen
+    ensures { λ r. ⌜ r ≡ seenOf (now (s .entry)) ⌝ }
+{
+    let capacity = s.capacity;
+    let first = lent_channel::good(&s.channels[0], capacity);
+    let second = lent_channel::good(&s.channels[1], capacity);
+    let one = s.channels[0].head;
+    let other = s.channels[1].head;
+    seen_of(s.count, capacity, first, second, one, other)
 }
 
 // The number of a change, from whether the record is good and what each channel has against it.
@@ -384,32 +386,32 @@ pub fn process_sample(
 pub fn get_frames_processed(s: &Sampler, channel: usize) -> Counted
     ensures { λ r. ⌜ r ≡ getFramesProcessedOf (now (s .entry)) channel ⌝ }
 {
-    questions::get_frames_processed(*s, channel)
+    questions::frames_in(seen(s), channel)
 }
 
 pub fn get_data_len(s: &Sampler, channel: usize) -> Counted
     ensures { λ r. ⌜ r ≡ getDataLenOf (now (s .entry)) channel ⌝ }
 {
-    questions::get_data_len(*s, channel)
+    questions::length_in(seen(s), channel)
 }
 
 pub fn is_recording(s: &Sampler, channel: usize) -> Told
     ensures { λ r. ⌜ r ≡ isRecordingOf (now (s .entry)) channel ⌝ }
 {
-    questions::is_recording(*s, channel)
+    questions::recording_in(seen(s), channel)
 }
 
 pub fn get_last_recorded_offset(s: &Sampler, channel: usize) -> OffsetAnswer
     ensures { λ r. ⌜ r ≡ getLastRecordedOffsetOf (now (s .entry)) channel ⌝ }
 {
-    questions::get_last_recorded_offset(*s, channel)
+    questions::offset_in(seen(s), channel)
 }
 
 pub fn print_error_info(s: &Sampler, channel: usize, text: &mut [u8]) -> Counted
     ensures { λ r. ⌜ (r ≡ printErrorInfoOf (now (s .entry)) channel (length (now (text .entry))))
         × (now (text .exit) ≡ errorTextAfter (now (s .entry)) channel (now (text .entry))) ⌝ }
 {
-    questions::print_error_info(*s, channel, text)
+    questions::error_in(seen(s), channel, text)
 }
 
 pub fn iter_active_notes(s: &Sampler, channel: usize, notes: &mut [u64]) -> Counted
@@ -505,10 +507,10 @@ fn steps(number: u8, n: usize) -> usize
 }
 
 // Whether record and memory are good.
-fn good_with(t: Readings, size: usize) -> bool
+fn good_with(t: Seen, size: usize) -> bool
     ensures { λ r. ⌜ r ≡ goodWithBy t size ⌝ }
 {
-    if good(t.count, t.capacity, t.first, t.second) {
+    if t.good {
         sampler::enough(t.count, t.capacity, size)
     } else {
         false
@@ -521,13 +523,15 @@ struct Framing {
     number: u8,
 }
 
-fn frame_of(t: Readings, entries: usize, params: Params, size: usize) -> Framing
+fn frame_of(t: Seen, entries: usize, params: Params, size: usize) -> Framing
     ensures { λ r. ⌜ r ≡ framing (frameRows (frameAskedBy t entries size) entries params) entries ⌝ }
 {
+    let one = t.first;
+    let other = t.second;
     let ended = any_of(
         entries,
-        channel::LAST_TIME <= t.time,
-        channel::LAST_TIME <= t.other,
+        channel::LAST_TIME <= one.now,
+        channel::LAST_TIME <= other.now,
     );
     let asked = FrameAsked {
         good: good_with(t, size),
@@ -541,17 +545,10 @@ fn frame_of(t: Readings, entries: usize, params: Params, size: usize) -> Framing
     }
 }
 
-// What is asked of a frame, with no channel copied.
 fn frame_asked(s: &Sampler, entries: usize, params: Params, size: usize) -> Framing
     ensures { λ r. ⌜ r ≡ framing (frameNumber (now (s .entry)) entries params size) entries ⌝ }
 {
-    let capacity = s.capacity;
-    let first = lent_channel::good(&s.channels[0], capacity);
-    let second = lent_channel::good(&s.channels[1], capacity);
-    let time = s.channels[0].head.now;
-    let other = s.channels[1].head.now;
-    let t = read_of(s.count, capacity, first, second, time, other);
-    frame_of(t, entries, params, size)
+    frame_of(seen(s), entries, params, size)
 }
 
 fn latest(n: usize, time: usize, other: usize) -> usize
@@ -567,10 +564,12 @@ fn latest(n: usize, time: usize, other: usize) -> usize
 }
 
 // The frames that are left until a clock stands at its end.
-fn room(t: Readings) -> usize
+fn room(t: Seen) -> usize
     ensures { λ r. ⌜ r ≡ roomLeft t ⌝ }
 {
-    let latest = latest(t.count, t.time, t.other);
+    let one = t.first;
+    let other = t.second;
+    let latest = latest(t.count, one.now, other.now);
     if latest < channel::LAST_TIME {
         channel::LAST_TIME - latest
     } else {
@@ -584,7 +583,7 @@ struct Running {
     ran: Ran,
 }
 
-fn run_of(t: Readings, entries: usize, params: Params, size: usize) -> Running
+fn run_of(t: Seen, entries: usize, params: Params, size: usize) -> Running
     ensures { λ r. ⌜ r ≡ running (t .count) (runDone (runAskedBy t size) entries params) ⌝ }
 {
     let room = room(t);
@@ -601,17 +600,11 @@ fn run_of(t: Readings, entries: usize, params: Params, size: usize) -> Running
     }
 }
 
-// What is asked of a run, with no channel copied: record, memory and parameters are judged once.
+// What is asked of a run: record, memory and parameters are judged once.
 fn run_asked(s: &Sampler, entries: usize, params: Params, size: usize) -> Running
     ensures { λ r. ⌜ r ≡ running (now (s .entry) .count) (runAnswer (now (s .entry)) entries params size) ⌝ }
 {
-    let capacity = s.capacity;
-    let first = lent_channel::good(&s.channels[0], capacity);
-    let second = lent_channel::good(&s.channels[1], capacity);
-    let time = s.channels[0].head.now;
-    let other = s.channels[1].head.now;
-    let t = read_of(s.count, capacity, first, second, time, other);
-    run_of(t, entries, params, size)
+    run_of(seen(s), entries, params, size)
 }
 
 // Whose entry i is: of a frame channel i's, of a run that of its place in its frame. Both calls have one shape, and so
