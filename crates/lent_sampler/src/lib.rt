@@ -110,6 +110,37 @@ fn any_of(n: usize, first: bool, second: bool) -> bool
     first | second
 }
 
+// What is read of a record before a call: what it says of itself, whether each of its two channels is good, and their
+// clocks.
+struct Readings {
+    count: usize,
+    capacity: usize,
+    first: bool,
+    second: bool,
+    time: usize,
+    other: usize,
+}
+
+fn read_of(
+    count: usize,
+    capacity: usize,
+    first: bool,
+    second: bool,
+    time: usize,
+    other: usize,
+) -> Readings
+    ensures { λ r. ⌜ r ≡ readingsOf count capacity first second time other ⌝ }
+{
+    Readings {
+        count,
+        capacity,
+        first,
+        second,
+        time,
+        other,
+    }
+}
+
 // Whether the record is good, by whether its channels are.
 fn good(count: usize, capacity: usize, first: bool, second: bool) -> bool
     ensures { λ r. ⌜ r ≡ goodBy count capacity first second ⌝ }
@@ -117,14 +148,7 @@ fn good(count: usize, capacity: usize, first: bool, second: bool) -> bool
     sampler::good_sizes(count, capacity) & all_of(count, first, second)
 }
 
-fn seen_of(
-    count: usize,
-    capacity: usize,
-    first: bool,
-    second: bool,
-    one: Head,
-    other: Head,
-) -> Seen
+fn seen_of(count: usize, capacity: usize, first: bool, second: bool, one: Head, other: Head) -> Seen
     ensures { λ r. ⌜ r ≡ seenBy count capacity first second one other ⌝ }
 {
     Seen {
@@ -137,7 +161,7 @@ fn seen_of(
 }
 
 // What is read of a record before a call, with no channel copied.
-fn seen(s: &Sampler) -> Seen
+fn look(s: &Sampler) -> Seen
     ensures { λ r. ⌜ r ≡ seenOf (now (s .entry)) ⌝ }
 {
     let capacity = s.capacity;
@@ -386,32 +410,32 @@ pub fn process_sample(
 pub fn get_frames_processed(s: &Sampler, channel: usize) -> Counted
     ensures { λ r. ⌜ r ≡ getFramesProcessedOf (now (s .entry)) channel ⌝ }
 {
-    questions::frames_in(seen(s), channel)
+    questions::frames_in(look(s), channel)
 }
 
 pub fn get_data_len(s: &Sampler, channel: usize) -> Counted
     ensures { λ r. ⌜ r ≡ getDataLenOf (now (s .entry)) channel ⌝ }
 {
-    questions::length_in(seen(s), channel)
+    questions::length_in(look(s), channel)
 }
 
 pub fn is_recording(s: &Sampler, channel: usize) -> Told
     ensures { λ r. ⌜ r ≡ isRecordingOf (now (s .entry)) channel ⌝ }
 {
-    questions::recording_in(seen(s), channel)
+    questions::recording_in(look(s), channel)
 }
 
 pub fn get_last_recorded_offset(s: &Sampler, channel: usize) -> OffsetAnswer
     ensures { λ r. ⌜ r ≡ getLastRecordedOffsetOf (now (s .entry)) channel ⌝ }
 {
-    questions::offset_in(seen(s), channel)
+    questions::offset_in(look(s), channel)
 }
 
 pub fn print_error_info(s: &Sampler, channel: usize, text: &mut [u8]) -> Counted
     ensures { λ r. ⌜ (r ≡ printErrorInfoOf (now (s .entry)) channel (length (now (text .entry))))
         × (now (text .exit) ≡ errorTextAfter (now (s .entry)) channel (now (text .entry))) ⌝ }
 {
-    questions::error_in(seen(s), channel, text)
+    questions::error_in(look(s), channel, text)
 }
 
 pub fn iter_active_notes(s: &Sampler, channel: usize, notes: &mut [u64]) -> Counted
@@ -507,10 +531,10 @@ fn steps(number: u8, n: usize) -> usize
 }
 
 // Whether record and memory are good.
-fn good_with(t: Seen, size: usize) -> bool
+fn good_with(t: Readings, size: usize) -> bool
     ensures { λ r. ⌜ r ≡ goodWithBy t size ⌝ }
 {
-    if t.good {
+    if good(t.count, t.capacity, t.first, t.second) {
         sampler::enough(t.count, t.capacity, size)
     } else {
         false
@@ -523,15 +547,13 @@ struct Framing {
     number: u8,
 }
 
-fn frame_of(t: Seen, entries: usize, params: Params, size: usize) -> Framing
+fn frame_of(t: Readings, entries: usize, params: Params, size: usize) -> Framing
     ensures { λ r. ⌜ r ≡ framing (frameRows (frameAskedBy t entries size) entries params) entries ⌝ }
 {
-    let one = t.first;
-    let other = t.second;
     let ended = any_of(
         entries,
-        channel::LAST_TIME <= one.now,
-        channel::LAST_TIME <= other.now,
+        channel::LAST_TIME <= t.time,
+        channel::LAST_TIME <= t.other,
     );
     let asked = FrameAsked {
         good: good_with(t, size),
@@ -545,10 +567,17 @@ fn frame_of(t: Seen, entries: usize, params: Params, size: usize) -> Framing
     }
 }
 
+// What is asked of a frame, with no channel copied.
 fn frame_asked(s: &Sampler, entries: usize, params: Params, size: usize) -> Framing
     ensures { λ r. ⌜ r ≡ framing (frameNumber (now (s .entry)) entries params size) entries ⌝ }
 {
-    frame_of(seen(s), entries, params, size)
+    let capacity = s.capacity;
+    let first = lent_channel::good(&s.channels[0], capacity);
+    let second = lent_channel::good(&s.channels[1], capacity);
+    let time = s.channels[0].head.now;
+    let other = s.channels[1].head.now;
+    let t = read_of(s.count, capacity, first, second, time, other);
+    frame_of(t, entries, params, size)
 }
 
 fn latest(n: usize, time: usize, other: usize) -> usize
@@ -564,12 +593,10 @@ fn latest(n: usize, time: usize, other: usize) -> usize
 }
 
 // The frames that are left until a clock stands at its end.
-fn room(t: Seen) -> usize
+fn room(t: Readings) -> usize
     ensures { λ r. ⌜ r ≡ roomLeft t ⌝ }
 {
-    let one = t.first;
-    let other = t.second;
-    let latest = latest(t.count, one.now, other.now);
+    let latest = latest(t.count, t.time, t.other);
     if latest < channel::LAST_TIME {
         channel::LAST_TIME - latest
     } else {
@@ -583,7 +610,7 @@ struct Running {
     ran: Ran,
 }
 
-fn run_of(t: Seen, entries: usize, params: Params, size: usize) -> Running
+fn run_of(t: Readings, entries: usize, params: Params, size: usize) -> Running
     ensures { λ r. ⌜ r ≡ running (t .count) (runDone (runAskedBy t size) entries params) ⌝ }
 {
     let room = room(t);
@@ -600,11 +627,17 @@ fn run_of(t: Seen, entries: usize, params: Params, size: usize) -> Running
     }
 }
 
-// What is asked of a run: record, memory and parameters are judged once.
+// What is asked of a run, with no channel copied: record, memory and parameters are judged once.
 fn run_asked(s: &Sampler, entries: usize, params: Params, size: usize) -> Running
     ensures { λ r. ⌜ r ≡ running (now (s .entry) .count) (runAnswer (now (s .entry)) entries params size) ⌝ }
 {
-    run_of(seen(s), entries, params, size)
+    let capacity = s.capacity;
+    let first = lent_channel::good(&s.channels[0], capacity);
+    let second = lent_channel::good(&s.channels[1], capacity);
+    let time = s.channels[0].head.now;
+    let other = s.channels[1].head.now;
+    let t = read_of(s.count, capacity, first, second, time, other);
+    run_of(t, entries, params, size)
 }
 
 // Whose entry i is: of a frame channel i's, of a run that of its place in its frame. Both calls have one shape, and so

@@ -11,7 +11,7 @@ ghost use lib.Seq.{sets};
 ghost use Rattle.binary32.specs.Leaves.{asFloat, asWhole, floorOf, floatOf};
 ghost use Rattle.channel.specs.Channels.{live};
 ghost use Rattle.sampler.specs.Refusals.{channelAt, row, goodSampler, noChannel};
-ghost use Rattle.questions.specs.Seen.{
+ghost use Rattle.questions.specs.Sights.{
   seenOf,
   headIn,
   numberIn,
@@ -112,17 +112,17 @@ pub struct Seen {
     pub second: Head,
 }
 
-fn seen(s: Sampler) -> Seen
+fn look(s: Sampler) -> Seen
     ensures { λ r. ⌜ r ≡ seenOf s ⌝ }
 {
-    let one = s.channels[0];
-    let other = s.channels[1];
+    let first = channel_at(s, 0).head;
+    let second = channel_at(s, 1).head;
     Seen {
         good: s.good(),
         count: s.count,
         capacity: s.capacity,
-        first: one.head,
-        second: other.head,
+        first,
+        second,
     }
 }
 
@@ -187,7 +187,7 @@ pub fn frames_in(t: Seen, channel: usize) -> Counted
 pub fn get_frames_processed(s: Sampler, channel: usize) -> Counted
     ensures { λ r. ⌜ r ≡ getFramesProcessedOf s channel ⌝ }
 {
-    frames_in(seen(s), channel)
+    frames_in(look(s), channel)
 }
 
 pub fn length_in(t: Seen, channel: usize) -> Counted
@@ -204,7 +204,7 @@ pub fn length_in(t: Seen, channel: usize) -> Counted
 pub fn get_data_len(s: Sampler, channel: usize) -> Counted
     ensures { λ r. ⌜ r ≡ getDataLenOf s channel ⌝ }
 {
-    length_in(seen(s), channel)
+    length_in(look(s), channel)
 }
 
 pub fn recording_in(t: Seen, channel: usize) -> Told
@@ -220,7 +220,7 @@ pub fn recording_in(t: Seen, channel: usize) -> Told
 pub fn is_recording(s: Sampler, channel: usize) -> Told
     ensures { λ r. ⌜ r ≡ isRecordingOf s channel ⌝ }
 {
-    recording_in(seen(s), channel)
+    recording_in(look(s), channel)
 }
 
 pub fn offset_in(t: Seen, channel: usize) -> OffsetAnswer
@@ -236,7 +236,7 @@ pub fn offset_in(t: Seen, channel: usize) -> OffsetAnswer
 pub fn get_last_recorded_offset(s: Sampler, channel: usize) -> OffsetAnswer
     ensures { λ r. ⌜ r ≡ getLastRecordedOffsetOf s channel ⌝ }
 {
-    offset_in(seen(s), channel)
+    offset_in(look(s), channel)
 }
 
 // Writes the error text to the front of the list.
@@ -259,7 +259,7 @@ pub fn print_error_info(s: Sampler, channel: usize, text: &mut [u8]) -> Counted
     ensures { λ r. ⌜ r ≡ printErrorInfoOf s channel (length (now (text .entry))) ⌝ }
     ensures { λ r. ⌜ now (text .exit) ≡ errorTextAfter s channel (now (text .entry)) ⌝ }
 {
-    error_in(seen(s), channel, text)
+    error_in(look(s), channel, text)
 }
 
 // A finished voice has no note to list.
