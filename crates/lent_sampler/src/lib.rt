@@ -41,6 +41,7 @@ ghost use Rattle.questions.specs.Questions.{
   activeNotesAfter,
   noInfo,
 };
+ghost use Rattle.questions.specs.Sights.{seenOf};
 ghost use Rattle.questions.specs.Waveforms.{getWaveformSummaryOf, waveformAfter};
 ghost use Rattle.recordings.specs.Waves.{writeWaveOf, waveAfter, readWaveOf, readMemory};
 ghost use Rattle.questions.specs.Lists.{countedOf, listedOf, voiceInfoCounted, voiceInfoAfter};
@@ -50,6 +51,7 @@ ghost use Rattle.lent_sampler.specs.Numbers.{
   anyOf,
   readingsOf,
   goodBy,
+  seenBy,
   goodWithBy,
   askedBy,
   askingOf,
