@@ -8,7 +8,6 @@ use Rattle.channel.proofs.Head.Laws as E′
 use Rattle.sampler.specs.declared.Sampler.{Sampler}
 use Rattle.sampler.specs.Refusals.{channelAt}
 use Rattle.questions.specs.Sights.{seenOf}
-use Rattle.questions.specs.declared.Seen.{Seen}
 use Rattle.questions.proofs.Seen as N
 use Rattle.questions.proofs.Seen.Laws as N′
 use Rattle.walks.proofs.Steps.Data.{Datum, struct}

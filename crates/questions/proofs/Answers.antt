@@ -36,7 +36,7 @@ later-rows false false rest number e h = refl
 module _ (broken absent : Bool) (answer lent : List ℕ) where
   -- r is the answer, and `after` the lent list afterwards
   abbrev pub SaysBy : Counted → List ℕ → Type 0
-  SaysBy r after = (r ≡ listCountedBy broken absent answer (length lent)) × (after ≡ listAfterBy broken absent answer lent)
+  SaysBy r after = (r ≡ listCountedBy answer (listNumberBy broken absent answer (length lent))) × (after ≡ listAfterBy answer lent (listNumberBy broken absent answer (length lent)))
 
   refused-by : (number : ℕ) → listNumberBy broken absent answer (length lent) ≡ number → (number ≡ 0 → ⊥) → SaysBy (Refused number) lent
   unfolding answered

@@ -52,8 +52,8 @@ module _ (s : Sampler) (j : ℕ) where
 
   -- error text and active notes
   pub list-number : (answer : List ℕ) (room : ℕ) → countedNumber (listCounted s j answer room) ≡ listNumber s j answer room
-  unfolding listCounted listNumber
-  list-number answer room = answered-number countedNumber _ _ _ refl (λ n. refl)
+  unfolding listCounted
+  list-number answer room = answered-number countedNumber _ _ (listNumber s j answer room) refl (λ n. refl)
 
   pub info-number : (p : Params) (room : ℕ) → getVoiceInfoOf s j p room .number ≡ infoNumber s j p room
   unfolding getVoiceInfoOf voiceInfosOf

@@ -6,6 +6,7 @@ use Prim.Native.Nat.{ℕ, zero, suc, _<_}
 use native.Mathlib.Omega.{arith}
 use borrow.Author.Tests.{ltb-true}
 use lib.Dec.{ltb}
+use lib.ListN.{length}
 use Rattle.recorder.specs.Recording.{lastRecordedOffsetOf}
 use Rattle.recorder.specs.Recording.{isRecordingOf as recordsOf}
 use Rattle.recorder.specs.ErrorText.{errorText}
@@ -13,7 +14,7 @@ use Rattle.channel.specs.declared.Head.{Head}
 use Rattle.sampler.specs.declared.Sampler.{Sampler}
 use Rattle.sampler.specs.Refusals.{channelAt, row, goodSampler, channelNumber}
 use Rattle.sampler.proofs.Rows.{good-sizes, sizes-count}
-use Rattle.questions.specs.Questions.{answered, getFramesProcessedOf, getDataLenOf, isRecordingOf, getLastRecordedOffsetOf, listCountedBy, listAfterBy, listCounted, listAfter, printErrorInfoOf, errorTextAfter}
+use Rattle.questions.specs.Questions.{answered, getFramesProcessedOf, getDataLenOf, isRecordingOf, getLastRecordedOffsetOf, listNumberBy, listCountedBy, listAfterBy, listNumber, listCounted, listAfter, printErrorInfoOf, errorTextAfter}
 use Rattle.questions.specs.Sights.{seenOf, headIn, framesIn, lengthIn, recordingIn, offsetIn, errorIn, errorAfter}
 use Rattle.questions.specs.declared.Counted.the-variants as counted
 use Rattle.questions.specs.declared.Told.the-variants as told
@@ -54,9 +55,9 @@ module _ (s : Sampler) where
     offset-seen = shown (λ good there h. answered (offset.Done (lastRecordedOffsetOf (h .recorder))) offset.Refused (row (not good) 9 (row (not there) 1 0))) (λ b h k. refl) (λ h k. refl)
 
     pub error-seen : (room : ℕ) → errorIn (seenOf s) j room ≡ printErrorInfoOf s j room
-    unfolding answered listCounted
-    error-seen room = shown (λ good there h. listCountedBy (not good) (not there) (errorText (h .recorder)) room) (λ b h k. refl) (λ h k. refl)
+    unfolding answered listCounted listNumber
+    error-seen room = shown (λ good there h. listCountedBy (errorText (h .recorder)) (listNumberBy (not good) (not there) (errorText (h .recorder)) room)) (λ b h k. refl) (λ h k. refl)
 
     pub text-seen : (text : List ℕ) → errorAfter (seenOf s) j text ≡ errorTextAfter s j text
-    unfolding listAfter
-    text-seen text = shown (λ good there h. listAfterBy (not good) (not there) (errorText (h .recorder)) text) (λ b h k. refl) (λ h k. refl)
+    unfolding listAfter listNumber
+    text-seen text = shown (λ good there h. listAfterBy (errorText (h .recorder)) text (listNumberBy (not good) (not there) (errorText (h .recorder)) (length text))) (λ b h k. refl) (λ h k. refl)

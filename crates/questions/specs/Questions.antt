@@ -72,22 +72,20 @@ getLastRecordedOffsetOf s j = answered (offset.Done (lastRecordedOffsetOf (recor
 abbrev pub listNumberBy : Bool → Bool → List ℕ → ℕ → ℕ
 listNumberBy broken absent answer room = row broken 9 (row absent 1 (row (ltb room (length answer)) 8 0))
 
-abbrev pub listCountedBy : Bool → Bool → List ℕ → ℕ → Counted
-listCountedBy broken absent answer room =
-    answered (counted.Done (length answer)) counted.Refused (listNumberBy broken absent answer room)
+abbrev pub listCountedBy : List ℕ → ℕ → Counted
+listCountedBy answer number = answered (counted.Done (length answer)) counted.Refused number
 
-abbrev pub listAfterBy : Bool → Bool → List ℕ → List ℕ → List ℕ
-listAfterBy broken absent answer lent =
-    cond (eqb (listNumberBy broken absent answer (length lent)) 0) (inFront answer lent) lent
+abbrev pub listAfterBy : List ℕ → List ℕ → ℕ → List ℕ
+listAfterBy answer lent number = cond (eqb number 0) (inFront answer lent) lent
 
 unfoldable pub listNumber : Sampler → ℕ → List ℕ → ℕ → ℕ
 listNumber s j = listNumberBy (not (goodSampler s)) (noChannel s j)
 
 unfoldable pub listCounted : Sampler → ℕ → List ℕ → ℕ → Counted
-listCounted s j = listCountedBy (not (goodSampler s)) (noChannel s j)
+listCounted s j answer room = listCountedBy answer (listNumber s j answer room)
 
 unfoldable pub listAfter : Sampler → ℕ → List ℕ → List ℕ → List ℕ
-listAfter s j = listAfterBy (not (goodSampler s)) (noChannel s j)
+listAfter s j answer lent = listAfterBy answer lent (listNumber s j answer (length lent))
 
 abbrev pub printErrorInfoOf : Sampler → ℕ → ℕ → Counted
 printErrorInfoOf s j room = listCounted s j (errorText (recorderAt s j)) room

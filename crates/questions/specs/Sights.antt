@@ -4,13 +4,14 @@ use Prim.Native.Nat.{ℕ}
 use mathlib.Core.Bool.{not, cond}
 use mathlib.Core.List.{List}
 use lib.Dec.{eqb, ltb}
+use lib.ListN.{length}
 use Rattle.recorder.specs.Recording.{lastRecordedOffsetOf}
 use Rattle.recorder.specs.Recording.{isRecordingOf as recordsOf}
 use Rattle.recorder.specs.ErrorText.{errorText}
 use Rattle.channel.specs.declared.Head.{Head}
 use Rattle.sampler.specs.declared.Sampler.{Sampler}
 use Rattle.sampler.specs.Refusals.{channelAt, row, goodSampler}
-use Rattle.questions.specs.Questions.{answered, listCountedBy, listAfterBy}
+use Rattle.questions.specs.Questions.{answered, listNumberBy, listCountedBy, listAfterBy}
 use Rattle.questions.specs.declared.Seen.{Seen}
 use Rattle.questions.specs.declared.Counted.{Counted}
 use Rattle.questions.specs.declared.Counted.the-variants as counted
@@ -48,10 +49,11 @@ recordingIn t j = answered (told.Done (recordsOf (headIn t j .recorder))) told.R
 abbrev pub offsetIn : Seen → ℕ → OffsetAnswer
 offsetIn t j = answered (offset.Done (lastRecordedOffsetOf (headIn t j .recorder))) offset.Refused (numberIn t j)
 
+abbrev pub errorNumber : Seen → ℕ → ℕ → ℕ
+errorNumber t j = listNumberBy (not (t .good)) (not (ltb j (t .count))) (errorText (headIn t j .recorder))
+
 abbrev pub errorIn : Seen → ℕ → ℕ → Counted
-errorIn t j room =
-    listCountedBy (not (t .good)) (not (ltb j (t .count))) (errorText (headIn t j .recorder)) room
+errorIn t j room = listCountedBy (errorText (headIn t j .recorder)) (errorNumber t j room)
 
 abbrev pub errorAfter : Seen → ℕ → List ℕ → List ℕ
-errorAfter t j text =
-    listAfterBy (not (t .good)) (not (ltb j (t .count))) (errorText (headIn t j .recorder)) text
+errorAfter t j text = listAfterBy (errorText (headIn t j .recorder)) text (errorNumber t j (length text))
