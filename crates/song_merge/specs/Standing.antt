@@ -25,7 +25,8 @@ pub data Sized : ℕ → List ℕ → List Timed → ℕ → Type 0 where
   then : {running ticks status k j : ℕ} {delta event rest : List ℕ} {e : Event} {ts : List Timed}
       → Quantity delta ticks → OneEvent running event e status
       → (byteAt event 0 < 128 → length delta + length event + 1 ≤ k) → length delta + length event ≤ k
-      → Sized status rest ts j → Sized running (delta ++ (event ++ rest)) (record { delta = ticks; event = e } ∷ ts) (k + j)
+      → Sized status rest ts j
+      → Sized running (delta ++ (event ++ rest)) (record { delta = ticks; event = e } ∷ ts) (k + j)
 
 abbrev pub Held : List ℕ → ℕ → ℕ → ℕ → List Timed → ℕ → Type 0
 Held f running at end ts k = Sized running (bytesAt (end - at) f at) ts k
