@@ -170,9 +170,9 @@ size_t vusatica_play_song(vusatica_sampler *s, const uint64_t *list, size_t entr
 
 /* Files of other forms, as those that the calls above read, in the first *written bytes of `out`. A song of format 1 as
  * one of format 0, the events of all its tracks by tick and then by track; `spare` and `out` have `room` bytes each, and
- * are overwritten whatever is answered. 12 13, then 8 with a room that is enough. A WAVE file of whole numbers of 16, 24
- * or 32 bits or floats of 32 or 64, under a `fmt ` of 16, 18 or 40 bytes, as one of 32-bit floats. 17, then 8 with the
- * room that it takes. */
+ * are overwritten whatever is answered. 12 13, then 8 with a room that is enough, of a file below 2^31 bytes. A WAVE
+ * file of whole numbers of 16, 24 or 32 bits or floats of 32 or 64, under a `fmt ` of 16, 18 or 40 bytes, as one of
+ * 32-bit floats. 17, then 8 with the room that it takes. */
 int vusatica_merge_song(const uint8_t *file, size_t length, uint8_t *spare, uint8_t *out, size_t room, size_t *written);
 int vusatica_turn_wave(const uint8_t *file, size_t length, uint8_t *out, size_t room, size_t *written);
 
