@@ -293,7 +293,8 @@ size_t vusatica_play_song(vusatica_sampler *s, const uint64_t *list, size_t entr
 #endif
 
 #ifdef PART_merge_song
-int vusatica_merge_song(const uint8_t *file, size_t length, uint8_t *spare, uint8_t *out, size_t room, size_t *written) {
+int vusatica_merge_song(const uint8_t *file, size_t length, uint8_t *spare, uint8_t *out, size_t room,
+                        size_t *written) {
     slice f = of(file, length), s = of(spare, room), o = of(out, room);
     counted c;
     host_merge_song(&c, &f, &s, &o);

@@ -173,7 +173,8 @@ size_t vusatica_play_song(vusatica_sampler *s, const uint64_t *list, size_t entr
  * are overwritten whatever is answered. 12 13, then 8 with a room that is enough, of a file below 2^31 bytes. A WAVE
  * file of whole numbers of 16, 24 or 32 bits or floats of 32 or 64, under a `fmt ` of 16, 18 or 40 bytes, as one of
  * 32-bit floats. 17, then 8 with the room that it takes. */
-int vusatica_merge_song(const uint8_t *file, size_t length, uint8_t *spare, uint8_t *out, size_t room, size_t *written);
+int vusatica_merge_song(const uint8_t *file, size_t length, uint8_t *spare, uint8_t *out, size_t room,
+                        size_t *written);
 int vusatica_turn_wave(const uint8_t *file, size_t length, uint8_t *out, size_t room, size_t *written);
 
 /* Not here yet: vusatica_backing and the calls vusatica_backed_*, which come with request 9/12. */

@@ -25,8 +25,10 @@ static const char TURN[] = "; `sox IN.wav -e floating-point -b 32 OUT.wav` makes
 static void other_form(form f, const char *what) {
     if (f.real_tag == 1)
         refuse(what, 17, "a WAVE file of %u-bit whole numbers, where 16, 24 and 32 bits are read%s", f.bits, TURN);
-    if (f.real_tag == 3) refuse(what, 17, "a WAVE file of %u-bit floats, where 32 and 64 bits are read%s", f.bits, TURN);
-    refuse(what, 17, "a WAVE file with the tag %u, where 1 (whole numbers) and 3 (floats) are read%s", f.real_tag, TURN);
+    if (f.real_tag == 3)
+        refuse(what, 17, "a WAVE file of %u-bit floats, where 32 and 64 bits are read%s", f.bits, TURN);
+    refuse(what, 17, "a WAVE file with the tag %u, where 1 (whole numbers) and 3 (floats) are read%s", f.real_tag,
+        TURN);
 }
 
 void wave_judged(bytes file, const char *what) {
