@@ -60,6 +60,8 @@ void host_active_notes(counted *, const vusatica_sampler *, size_t, const slice 
 void host_voices(counted *, const vusatica_sampler *, size_t, const vusatica_params *, const slice *);
 void host_waveform(summary *, const vusatica_sampler *, size_t, const slice *, const slice *);
 void host_read_song(counted *, const slice *, uint32_t, const slice *);
+void host_merge_song(counted *, const slice *, const slice *, const slice *);
+void host_turn_wave(counted *, const slice *, const slice *);
 void host_play_song(played *, vusatica_sampler *, const slice *, size_t, uint64_t, const vusatica_params *);
 void host_write_wave(counted *, const vusatica_sampler *, uint32_t, const slice *, const slice *);
 void host_read_wave(rate_read *, vusatica_sampler *, const slice *, const slice *);
@@ -287,5 +289,24 @@ size_t vusatica_play_song(vusatica_sampler *s, const uint64_t *list, size_t entr
     host_play_song(&p, s, &l, *next, frame, params);
     *next = p.next;
     return p.refused;
+}
+#endif
+
+#ifdef PART_merge_song
+int vusatica_merge_song(const uint8_t *file, size_t length, uint8_t *spare, uint8_t *out, size_t room,
+                        size_t *written) {
+    slice f = of(file, length), s = of(spare, room), o = of(out, room);
+    counted c;
+    host_merge_song(&c, &f, &s, &o);
+    return told(written, c);
+}
+#endif
+
+#ifdef PART_turn_wave
+int vusatica_turn_wave(const uint8_t *file, size_t length, uint8_t *out, size_t room, size_t *written) {
+    slice f = of(file, length), o = of(out, room);
+    counted c;
+    host_turn_wave(&c, &f, &o);
+    return told(written, c);
 }
 #endif

@@ -2,9 +2,10 @@
  * docs/HOSTS.md.
  *
  * Each call answers a number: 0 for done, or why it is refused. A refused call changes nothing, neither the record nor
- * what is lent with it, but for a run of frames that reaches the clock's end (6): the frames that it counts stand. No
- * call allocates, locks, keeps a pointer or makes a system call, and each ends. Any thread may call, one call at a
- * time on a record. A pointer for an answer may be NULL where the answer isn't wanted; a refused call answers 0 there.
+ * what is lent with it, but for a run of frames that reaches the clock's end (6): the frames that it counts stand; and
+ * for the lists of a merge. No call allocates, locks, keeps a pointer or makes a system call, and each ends. Any thread
+ * may call, one call at a time on a record. A pointer for an answer may be NULL where the answer isn't wanted; a
+ * refused call answers 0 there.
  *
  * What a host promises, and what comes of it where it doesn't:
  *  1. Only the library writes records and parameters; a copy of one, whole, is as good. Else: 9, or any sound; no
@@ -166,6 +167,15 @@ int vusatica_read_song(const uint8_t *file, size_t length, uint32_t rate, uint64
  * to be called before the frame is played. It answers how many calls were refused. */
 size_t vusatica_play_song(vusatica_sampler *s, const uint64_t *list, size_t entries, size_t *next, uint64_t frame,
                           const vusatica_params *params);
+
+/* Files of other forms, as those that the calls above read, in the first *written bytes of `out`. A song of format 1 as
+ * one of format 0, the events of all its tracks by tick and then by track; `spare` and `out` have `room` bytes each, and
+ * are overwritten whatever is answered. 12 13, then 8 with a room that is enough, of a file below 2^31 bytes. A WAVE
+ * file of whole numbers of 16, 24 or 32 bits or floats of 32 or 64, under a `fmt ` of 16, 18 or 40 bytes, as one of
+ * 32-bit floats. 17, then 8 with the room that it takes. */
+int vusatica_merge_song(const uint8_t *file, size_t length, uint8_t *spare, uint8_t *out, size_t room,
+                        size_t *written);
+int vusatica_turn_wave(const uint8_t *file, size_t length, uint8_t *out, size_t room, size_t *written);
 
 /* Not here yet: vusatica_backing and the calls vusatica_backed_*, which come with request 9/12. */
 

@@ -1,6 +1,6 @@
 /* Where a song breaks the Standard MIDI File document, for a person: the library answers a number alone. The reader
- * walks as `smf` does; it is believed only where it comes to the library's number, and oracle/songs holds it to a third
- * reader. */
+ * walks as `smf` does, and of format 1 as `song_merge`; it is believed only where it comes to the library's number, and
+ * oracle/songs holds it to a third reader. */
 #include <string.h>
 #include "tool.h"
 
@@ -47,17 +47,23 @@ static uint32_t datum(walk *w) {
     return byte;
 }
 
-static uint32_t header(walk *w) {
+typedef struct { uint32_t format, tracks, division; } heading;
+
+static heading header(walk *w) {
+    heading h;
     if (memcmp(next(w, 4), "MThd", 4) != 0) broken(w, 12, "no MThd at the start", 3);
     uint32_t size = high4(next(w, 4));
     if (size < 6) broken(w, 12, "a header shorter than 6 bytes", 7);
-    if (high2(next(w, 2)) != 0) broken(w, 13, "not format 0", 9);
-    if (high2(next(w, 2)) != 1) broken(w, 12, "not one track", 11);
-    uint32_t division = high2(next(w, 2));
-    if (division >= 0x8000) broken(w, 13, "an SMPTE division", 13);
-    if (division == 0) broken(w, 12, "a division of 0", 13);
+    h.format = high2(next(w, 2));
+    if (h.format > 1) broken(w, 13, "not format 0 or 1", 9);
+    h.tracks = high2(next(w, 2));
+    if (h.format == 0 && h.tracks != 1) broken(w, 12, "not one track", 11);
+    if (h.tracks == 0) broken(w, 12, "no track", 11);
+    h.division = high2(next(w, 2));
+    if (h.division >= 0x8000) broken(w, 13, "an SMPTE division", 13);
+    if (h.division == 0) broken(w, 12, "a division of 0", 13);
     if (!is_broken(w)) next(w, size - 6);
-    return division;
+    return h;
 }
 
 /* The length of the next track, whose first byte is then due; none at the end of the file. */
@@ -67,7 +73,7 @@ static int track(walk *w, int seen, uint32_t *size) {
         if (is_broken(w)) return 0;
         if (memcmp(type, "MThd", 4) == 0) broken(w, 12, "a second MThd", w->place - 1);
         int is_track = memcmp(type, "MTrk", 4) == 0;
-        if (is_track && seen) broken(w, 12, "a second MTrk", w->place - 1);
+        if (is_track && seen) broken(w, 12, "an MTrk more than the header counts", w->place - 1);
         *size = high4(next(w, 4));
         if (is_track) return 1;
         next(w, *size);
@@ -128,20 +134,29 @@ static void events(walk *w, uint32_t rate, uint32_t division) {
     }
 }
 
+/* The events of the next track, and that they end where it does. */
+static void track_walked(walk *w, size_t length, uint32_t rate, uint32_t division) {
+    uint32_t size = 0;
+    if (!track(w, 0, &size)) {
+        broken(w, 12, "an MTrk fewer than the header counts", length);
+        return;
+    }
+    if (is_broken(w)) return;
+    size_t full = w->place + size;
+    if (full < w->end) w->end = full;
+    events(w, rate, division);
+    if (w->place < w->end) broken(w, 12, "a byte behind End of Track", w->place);
+    if (full > length) broken(w, 12, "a byte is missing", length);
+    w->end = length;
+}
+
 fault song_fault(bytes file, uint32_t rate) {
     walk w = { file.at, 0, file.length, { 0, NULL, 0 } };
-    uint32_t size = 0, division = header(&w);
-    if (!track(&w, 0, &size)) {
-        broken(&w, 12, "no MTrk", file.length);
-        return w.found;
-    }
-    if (is_broken(&w)) return w.found;
-    size_t full = w.place + size;
-    if (full < w.end) w.end = full;
-    events(&w, rate, division);
-    if (w.place < w.end) broken(&w, 12, "a byte behind End of Track", w.place);
-    if (full > file.length) broken(&w, 12, "a byte is missing", file.length);
-    w.end = file.length;
+    heading h = header(&w);
+    uint32_t size = 0;
+    /* In format 1 a tempo is that of all tracks: the frames of one aren't known. */
+    if (h.format == 1) rate = 0;
+    for (uint32_t i = 0; i < h.tracks && !is_broken(&w); i++) track_walked(&w, file.length, rate, h.division);
     track(&w, 1, &size);
     return w.found;
 }

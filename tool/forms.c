@@ -16,6 +16,11 @@ static form form_at(bytes file, size_t at, uint32_t size) {
     return f;
 }
 
+int is_known(form f) {
+    if (f.real_tag == 1) return f.bits == 16 || f.bits == 24 || f.bits == 32;
+    return f.real_tag == 3 && (f.bits == 32 || f.bits == 64);
+}
+
 form form_of(bytes file) {
     form none = { 0, 0, 0, 0, 0, 0 };
     size_t at = 12;

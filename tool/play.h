@@ -32,6 +32,13 @@ const uint8_t *recorded(bytes file, size_t *samples);
 
 void listing_played(engine *e, bytes file);
 
+/* ---- turn.c: files of other forms, turned into those that the library reads. 0, or the number of the refusal */
+
+/* A song of format 1, its tracks merged, as one of format 0. */
+int song_turned(bytes *file);
+/* A WAVE file of other numbers, or with another head, as one of 32-bit floats. */
+int wave_turned(bytes *file, const char *what);
+
 /* ---- take.c: what a song is played on */
 
 /* Reads take or phrases, and the settings that the job asks for. Answers the rate of the song. */

@@ -48,11 +48,11 @@ const char *words_of(int number) {
     case 9: return "too little memory";
     case 11: return "more than 4096 columns";
     case 12: return "not a good Standard MIDI File";
-    case 13: return "not format 0, or SMPTE times";
+    case 13: return "not format 0 or 1, or SMPTE times";
     case 14: return "a start or stop after frame 2^48";
     case 15: return "it is being recorded";
     case 16: return "another channel count, or channels of different lengths";
-    case 17: return "not a WAVE file of 32-bit floats, or cut short";
+    case 17: return "not a WAVE file that is read, or cut short";
     case 18: return "more than 4194304 samples a channel";
     case 19: return "no such phrase";
     case 21: return "it is being recorded";

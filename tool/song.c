@@ -2,14 +2,16 @@
 #include "play.h"
 
 song song_of(const char *path, uint32_t rate, int show) {
-    bytes file = bytes_of(path, "the song");
+    bytes file = bytes_of(path, "the song"), turned = file;
     song s;
     /* A start or a stop takes at least three bytes of the file, and two words of the list. */
     size_t words = 2 * (file.length / 3 + 1);
     s.list = room(words, sizeof *s.list);
     int number = vusatica_read_song(file.at, file.length, rate, s.list, words, &s.count);
-    if (number == 13 && song_turned(&file))
-        number = vusatica_read_song(file.at, file.length, rate, s.list, words, &s.count);
+    if (number == 13) {
+        number = song_turned(&turned);
+        if (number == 0) number = vusatica_read_song(turned.at, turned.length, rate, s.list, words, &s.count);
+    }
     if (number != 0) song_refused(file, rate, number, show);
     return s;
 }

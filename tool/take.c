@@ -5,7 +5,7 @@
 
 /* No file has more samples a channel than this. */
 static size_t samples_of(bytes file, form f) {
-    return f.channels == 0 ? 0 : file.length / 4 / f.channels;
+    return f.channels == 0 || f.bits < 8 ? 0 : file.length / (f.bits / 8) / f.channels;
 }
 
 /* Reads a WAVE file into a phrase. */
@@ -13,14 +13,17 @@ static uint32_t phrase_read(engine *e, size_t phrase, bytes file, const char *wh
     uint32_t rate = 0;
     int number = vusatica_choose(&e->sampler, phrase);
     if (number == 0) number = vusatica_read_wave(&e->sampler, file.at, file.length, e->memory, e->samples, &rate);
-    if (number == 17 && wave_turned(&file))
-        number = vusatica_read_wave(&e->sampler, file.at, file.length, e->memory, e->samples, &rate);
+    if (number == 17) {
+        number = wave_turned(&file, what);
+        if (number == 0) number = vusatica_read_wave(&e->sampler, file.at, file.length, e->memory, e->samples, &rate);
+    }
     if (number != 0) wave_refused(file, what, number);
     e->chosen = phrase;
     return rate;
 }
 
 static void engine_for(engine *e, form f, size_t capacity, bytes file, const char *what) {
+    wave_judged(file, what);
     if (f.channels != 1 && f.channels != 2) wave_refused(file, what, f.tag == 0 ? 17 : 16);
     engine_made(e, f.channels, 0, capacity);
 }

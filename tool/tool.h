@@ -85,15 +85,12 @@ kind kind_of(bytes file);
 /* What `fmt ` says; tag 0 where there is none. */
 typedef struct { uint32_t tag, channels, rate, bits, size, real_tag; } form;
 form form_of(bytes file);
-
-/* ---- turn.c: the places where a file of another form will be turned into one that the library reads */
-
-int song_turned(bytes *file);
-int wave_turned(bytes *file);
+/* Whether the numbers in it are of a kind that is read. */
+int is_known(form f);
 
 /* ---- reasons.c: why a file is refused, for a person */
 
-/* Refuses a song by number 12, 13, 14 or 22: at which byte, and why. */
+/* Refuses a song by its number: at which byte, and why. */
 void song_refused(bytes file, uint32_t rate, int number, int show);
 /* Refuses a WAVE file by number 16, 17 or 18. */
 void wave_refused(bytes file, const char *what, int number);

@@ -114,6 +114,8 @@ extern "C" {
     fn vusatica_gather(s: *mut Record, memory: *mut u32, samples: usize) -> c_int;
     fn vusatica_read_song(file: *const u8, length: usize, rate: u32, list: *mut u64, room: usize, count: *mut usize) -> c_int;
     fn vusatica_play_song(s: *mut Record, list: *const u64, entries: usize, next: *mut usize, frame: u64, params: *const Params) -> usize;
+    fn vusatica_merge_song(file: *const u8, length: usize, spare: *mut u8, out: *mut u8, room: usize, written: *mut usize) -> c_int;
+    fn vusatica_turn_wave(file: *const u8, length: usize, out: *mut u8, room: usize, written: *mut usize) -> c_int;
 }
 
 impl Params {
@@ -121,6 +123,32 @@ impl Params {
         let mut made = Params([0; 8]);
         done(unsafe { vusatica_params_make(&mut made, settings) }).map(|_| made)
     }
+}
+
+/// What a call writes that is asked with no room first, and answers how much there has to be (8).
+fn written(call: impl Fn(&mut [u8], &mut usize) -> c_int) -> Result<Vec<u8>, Refused> {
+    let mut length = 0;
+    let number = call(&mut [], &mut length);
+    if number != 8 {
+        done(number)?;
+    }
+    let mut out = vec![0; length];
+    done(call(&mut out, &mut length))?;
+    out.truncate(length);
+    Ok(out)
+}
+
+/// A song of format 1 as one of format 0, which `Song::read` takes.
+pub fn merge_song(file: &[u8]) -> Result<Vec<u8>, Refused> {
+    written(|out, length| {
+        let mut spare = vec![0; out.len()];
+        unsafe { vusatica_merge_song(file.as_ptr(), file.len(), spare.as_mut_ptr(), out.as_mut_ptr(), out.len(), length) }
+    })
+}
+
+/// A WAVE file of whole numbers, or of floats of 64 bits, as one of 32-bit floats, which `Sampler::read_wave` takes.
+pub fn turn_wave(file: &[u8]) -> Result<Vec<u8>, Refused> {
+    written(|out, length| unsafe { vusatica_turn_wave(file.as_ptr(), file.len(), out.as_mut_ptr(), out.len(), length) })
 }
 
 /// A song that was read: its starts and stops, and how far it is played.

@@ -383,6 +383,59 @@ static void songs(void) {
     IS(2, next);
 }
 
+/* A song of two tracks, and a take of two samples, turned into what is read. */
+static void turned(void) {
+    static const uint8_t two[] = "MThd\0\0\0\6\0\1\0\2\0\140MTrk\0\0\0\13\0\220\74\100\140\74\0\0\377\57\0"
+                                 "MTrk\0\0\0\10\60\221\100\100\0\377\57\0";
+    static const uint8_t one[] = "MThd\0\0\0\6\0\0\0\1\0\140MTrk\0\0\0\20"
+                                 "\0\220\74\100\60\221\100\100\60\220\74\0\0\377\57\0";
+    static const uint8_t wave[] = "RIFF\50\0\0\0WAVEfmt \20\0\0\0\1\0\1\0\104\254\0\0\210\130\1\0\2\0\20\0"
+                                  "data\4\0\0\0\0\100\0\340";
+    static const uint8_t floats[] = { 0, 0, 0, 0x3F, 0, 0, 0x80, 0xBE };
+    uint8_t other[sizeof two], spare[2 * sizeof two], out[2 * sizeof two];
+    uint64_t list[6];
+    size_t length = sizeof two - 1, count = 7, written = 7;
+    uint32_t rate = 7;
+    IS(13, vusatica_read_song(two, length, 44100, list, 6, &count));
+    IS(0, vusatica_merge_song(two, length, spare, out, 2 * length, &written));
+    IS(sizeof one - 1, written);
+    IS(0, memcmp(out, one, written));
+    IS(0, vusatica_read_song(out, written, 44100, list, 6, &count));
+    IS(3, count);
+    IS(11025, list[2]);
+    IS(8, vusatica_merge_song(two, length, NULL, NULL, 0, &written));
+    IS(2 * length, written);
+    IS(8, vusatica_merge_song(two, length, spare, out, sizeof one - 2, &written));
+    IS(2 * length, written);
+    IS(13, vusatica_merge_song(one, sizeof one - 1, spare, out, sizeof out, &written)); /* of format 0 already */
+    IS(0, written);
+    memcpy(other, two, sizeof two);
+    other[9] = 2;
+    IS(13, vusatica_merge_song(other, length, spare, out, sizeof out, NULL));
+    other[9] = 1, other[12] = 0xE7;
+    IS(13, vusatica_merge_song(other, length, spare, out, sizeof out, NULL));
+    IS(12, vusatica_merge_song(two, length - 1, spare, out, sizeof out, NULL));
+    IS(12, vusatica_merge_song(NULL, 0, spare, out, sizeof out, NULL));
+    length = sizeof wave - 1;
+    set_up(1);
+    REFUSED(17, vusatica_read_wave(&s, wave, length, memory, SAMPLES, &rate));
+    memset(out, 7, sizeof out);
+    IS(8, vusatica_turn_wave(wave, length, out, 65, &written));
+    IS(66, written);
+    IS(7, out[0]);
+    IS(8, vusatica_turn_wave(wave, length, NULL, 0, &written));
+    IS(17, vusatica_turn_wave(wave, length - 1, out, sizeof out, &written));
+    IS(0, written);
+    IS(17, vusatica_turn_wave(NULL, 0, out, sizeof out, NULL));
+    IS(7, out[0]);
+    IS(0, vusatica_turn_wave(wave, length, out, sizeof out, &written));
+    IS(66, written);
+    IS(0, memcmp(out + 58, floats, sizeof floats));
+    IS(7, out[66]);
+    IS(0, vusatica_read_wave(&s, out, written, memory, SAMPLES, &rate));
+    IS(44100, rate);
+}
+
 int main(void) {
     params = made(NULL);
     beyond = made(too_long_attack);
@@ -395,6 +448,7 @@ int main(void) {
     waves();
     phrases();
     songs();
+    turned();
     printf("calls: %d tries, %d failed\n", tries, failed);
     return failed != 0;
 }

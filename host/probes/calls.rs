@@ -2,7 +2,7 @@
 //! What the calls do is tried in C (calls.c). It prints nothing, and panics where something isn't as expected.
 #[path = "../examples/vusatica.rs"]
 mod vusatica;
-use vusatica::{LengthKind, LoopMode, NoteOff, Params, Refused, Sampler, Settings, Song, Voice};
+use vusatica::{merge_song, turn_wave, LengthKind, LoopMode, NoteOff, Params, Refused, Sampler, Settings, Song, Voice};
 
 const RAMP: [f32; 8] = [0.125, 0.25, 0.375, 0.5, 0.625, 0.75, 0.875, 1.0];
 
@@ -87,10 +87,25 @@ fn songs(params: &Params) {
     assert_eq!((song.next_frame(), heard(&mut s, params)), (None, 0.0));
 }
 
+fn turned() {
+    let song = b"MThd\0\0\0\x06\0\x01\0\x02\0\x60MTrk\0\0\0\x0b\0\x90\x3c\x7f\x60\x3c\0\0\xff\x2f\0MTrk\0\0\0\x08\x30\x91\x40\x7f\0\xff\x2f\0";
+    assert_eq!(Song::read(song, 44100).err(), Some(Refused(13)));
+    assert_eq!(Song::read(&merge_song(song).unwrap(), 44100).unwrap().next_frame(), Some(0));
+    assert_eq!(merge_song(&song[..20]), Err(Refused(12)));
+    let wave = b"RIFF\x28\0\0\0WAVEfmt \x10\0\0\0\x01\0\x01\0\x44\xac\0\0\x88\x58\x01\0\x02\0\x10\0data\x04\0\0\0\0\x40\0\xe0";
+    let mut s = Sampler::new(1, false, 64).unwrap();
+    assert_eq!(s.read_wave(wave), Err(Refused(17)));
+    let floats = turn_wave(wave).unwrap();
+    assert_eq!(floats[58..], [0.5f32.to_le_bytes(), (-0.25f32).to_le_bytes()].concat());
+    assert_eq!(s.read_wave(&floats), Ok(44100));
+    assert_eq!(turn_wave(&wave[..40]), Err(Refused(17)));
+}
+
 fn main() {
     let params = Params::new(&settings()).unwrap();
     assert_eq!(Sampler::new(3, false, 64).err(), Some(Refused(9)));
     keys(&params);
     recordings(&params);
     songs(&params);
+    turned();
 }

@@ -2,6 +2,7 @@
 // gives as a byte may be any byte, and each answer is plain numbers.
 pub mod answers;
 pub mod calls;
+pub mod files;
 pub mod settings;
 
 ghost use mathlib.Core.Path.{_≡_};
