@@ -46,7 +46,7 @@ use Rattle.promises.specs.Runs.{
   gather,
   asks,
 }
-use Rattle.promises.specs.Outcomes.{on, along, Allows}
+use Rattle.promises.specs.Outcomes.{on, along, plays, Allows}
 use Rattle.lent_sampler.proofs.start_playing as start-playing
 use Rattle.lent_sampler.proofs.start_playing.Symbol as start-playing-code
 use Rattle.lent_sampler.proofs.stop_playing as stop-playing
@@ -95,7 +95,6 @@ use Rattle.lent_sampler.proofs.write_wave as write-wave
 use Rattle.lent_sampler.proofs.write_wave.Symbol as write-wave-code
 use Rattle.lent_sampler.proofs.read_wave as read-wave
 use Rattle.lent_sampler.proofs.read_wave.Symbol as read-wave-code
-use Rattle.songs.specs.Plays.{playOf}
 use Rattle.lent_songs.proofs.play as play-song
 use Rattle.lent_songs.proofs.play.Symbol as play-song-code
 
@@ -198,4 +197,5 @@ pub record Lent (m : List ℕ) : Type 2 where
   -- what is due of a song, as the player by value plays it
   pub play-song : Ensures play-song.ended play-song-code.routine
       (λ κs (s, (list, (next, (at, (params, _))))) r (left, _).
-      record { sampler = now left; next = r .next; refused = r .refused } ≡ playOf (now s) (now list) next at params)
+      Allows (plays (now s) (now list) next at params)
+      (record { sampler = now left; next = r .next; refused = r .refused }))

@@ -29,7 +29,7 @@ ghost use Rattle.promises.specs.Runs.{
   gather as gatherCall,
   asks,
 };
-ghost use Rattle.promises.specs.Outcomes.{new as setUpCall, on, along, Allows};
+ghost use Rattle.promises.specs.Outcomes.{new as setUpCall, on, along, reads, plays, Allows};
 use channel::Change;
 use common_types::InitParams;
 use common_types::Note;
@@ -45,6 +45,7 @@ use sampler::FrameAnswer;
 use sampler::RunAnswer;
 use sampler::SampleAnswer;
 use sampler::Sampler;
+use songs::Playing;
 
 pub fn new(count: usize, params: InitParams, memory: &[u32]) -> Answer
     ensures { λ r. ⌜ Allows (setUpCall count params (now (memory .entry))) r ⌝ }
@@ -231,4 +232,17 @@ pub fn read_wave(s: Sampler, file: &[u8], memory: &mut [u32]) -> ReadAnswer
         (record { answer = r; memory = now (memory .exit) }) ⌝ }
 {
     recordings::read_wave(s, file, memory)
+}
+
+pub fn read_song(file: &[u8], rate: u32, list: &mut [u64]) -> smf::Counted
+    ensures { λ r. ⌜ Allows (reads (now (file .entry)) rate (now (list .entry)))
+        (record { answer = r; lent = now (list .exit) }) ⌝ }
+{
+    smf::read_song(file, rate, list)
+}
+
+pub fn play(s: Sampler, list: &[u64], next: usize, at: u64, params: Params) -> Playing
+    ensures { λ r. ⌜ Allows (plays s (now (list .entry)) next at params) r ⌝ }
+{
+    songs::play(s, list, next, at, params)
 }

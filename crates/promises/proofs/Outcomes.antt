@@ -24,6 +24,7 @@ use Rattle.questions.proofs.Numbers.{frames-number, data-len-number, recording-
 use Rattle.recordings.specs.declared.ReadAnswer.{ReadAnswer}
 use Rattle.recordings.specs.Waves.{writeWaveOf, waveAfter, readWaveOf, readMemory}
 use Rattle.recordings.proofs.Numbers.{write-number}
+use Rattle.smf.specs.Cues as song
 use Rattle.promises.specs.Runs.{
   World,
   getFramesProcessed,
@@ -53,7 +54,7 @@ use Rattle.promises.specs.Runs.{
   made,
   makes,
 }
-use Rattle.promises.specs.Outcomes.{Given, new, on, along, RunOutcome, Outcome, Allows, Settled, numberIn, leftBy, leftAlong, outputIn, Chain, ended, called, ran}
+use Rattle.promises.specs.Outcomes.{Given, new, on, along, reads, plays, RunOutcome, Outcome, Allows, Settled, numberIn, leftBy, leftAlong, outputIn, Chain, ended, called, ran}
 
 -- ---- one outcome
 pub settled : (g : Given) → Settled g
@@ -86,6 +87,12 @@ settled (along w xs p) =
       allowed = (refl, record { sampler = refl; frame = refl; memory = refl });
       only = λ r h t. record { answer = record { sampler = (h .1 .sampler) t; ran = (h .0) t }; run = (h .1 .frame) t; memory = (h .1 .memory) t };
     }
+settled (reads f rate list) = record {
+  outcome = record { answer = song.countedOf f rate (length list); lent = song.listOf f rate list };
+  allowed = (refl, refl);
+  only = λ r h t. record { answer = (h .0) t; lent = (h .1) t };
+}
+settled (plays s list next at p) = record { outcome = _; allowed = refl; only = λ r h. h }
 settled (on w (readWave f)) = record {
   outcome = record { answer = readWaveOf (w .sampler) f (length (w .memory)); memory = readMemory (w .sampler) f (w .memory) };
   allowed = (refl, refl);

@@ -1,8 +1,8 @@
 -- Every public call with all that it is given, and which outcomes its contract allows: the result, and what was lent to
 -- it as it is at the end. `Allows` says of each call what the `ensures` lines of its function say, in the same
 -- definitions. That it does is checked of each function in the crate `contracts`: of those by value
--- (sampler/src/lib.rt, questions/src/lib.rt, recordings/src/lib.rt) by a twin whose `ensures` is `Allows`, and of those on a record that the
--- host lends (lent_sampler/src/lib.rt) by the theorem `Lent` on the function itself. Definitions only. Assumes nothing.
+-- (sampler/src/lib.rt, questions/src/lib.rt, recordings/src/lib.rt, smf/src/lib.rt, songs/src/lib.rt) by a twin whose `ensures` is `Allows`, and of those on a record that the
+-- host lends (lent_sampler/src/lib.rt, lent_songs/src/lib.rt) by the theorem `Lent` on the function itself. Definitions only. Assumes nothing.
 use mathlib.Core.Path.{_≡_}
 use Prim.Native.Nat.{ℕ}
 use mathlib.Core.List.{List, [], _∷_}
@@ -53,6 +53,11 @@ use Rattle.questions.specs.Waveforms.{getWaveformSummaryOf, waveformAfter}
 use Rattle.recordings.specs.declared.ReadAnswer.{ReadAnswer}
 use Rattle.recordings.specs.Waves.{writeWaveOf, waveAfter, readWaveOf, readMemory}
 use Rattle.questions.specs.Lists.{voiceInfoCounted, voiceInfoAfter}
+use Rattle.smf.specs.Cues.{numberOf, countedOf, listOf}
+use Rattle.smf.specs.declared.Counted.{Counted as SongCounted}
+use Rattle.songs.specs.Plays.{playOf}
+use Rattle.songs.specs.declared.Playing.{Playing}
+use Rattle.sampler.specs.declared.Sampler.{Sampler}
 use Rattle.promises.specs.Runs.{
   World,
   getFramesProcessed,
@@ -78,12 +83,14 @@ use Rattle.promises.specs.Runs.{
   withSampler,
 }
 
--- set-up on a memory; every call on a record, with the memory that is lent to a sample, a frame and a waveform; and a
--- run of frames on them
+-- set-up on a memory; every call on a record, with the memory that is lent to a sample, a frame and a waveform; a run
+-- of frames on them; a song that is read into a list; and what is due of a list, played
 pub data Given : Type 0 where
   new : (count : ℕ) (p : InitParams) (memory : List ℕ) → Given
   on : (w : World) (c : Call) → Given
   along : (w : World) (xs : List Float) (p : Params) → Given
+  reads : (file : List ℕ) (rate : ℕ) (list : List ℕ) → Given
+  plays : (s : Sampler) (list : List ℕ) (next at : ℕ) (p : Params) → Given
 
 -- ---- outcomes
 pub record SampleOutcome : Type 0 where
@@ -121,6 +128,10 @@ pub record WaveformOutcome : Type 0 where
   pub answer : WaveformSummary
   pub lent : List Float
 
+pub record SongOutcome : Type 0 where
+  pub answer : SongCounted
+  pub lent : List ℕ
+
 abbrev pub Outcome : Given → Type 0
 Outcome (new count p m) = Answer
 Outcome (on w (change d)) = Answer
@@ -129,6 +140,8 @@ Outcome (on w (frame xs p)) = FrameOutcome
 Outcome (on w (readWave f)) = ReadOutcome
 Outcome (on w gather) = GatherOutcome
 Outcome (along w xs p) = RunOutcome
+Outcome (reads f rate list) = SongOutcome
+Outcome (plays s list next at p) = Playing
 Outcome (on w (asks (getFramesProcessed j))) = Counted
 Outcome (on w (asks (getDataLen j))) = Counted
 Outcome (on w (asks (isRecording j))) = Told
@@ -157,6 +170,8 @@ Allows (on w gather) r =
 Allows (along w xs p) r =
     (r .answer .ran ≡ runAnswer (w .sampler) (length xs) p (length (w .memory)))
     × Frames (ranOf (w .sampler) xs p (w .memory)) (r .answer .sampler) (r .run) (r .memory)
+Allows (reads f rate list) r = (r .answer ≡ countedOf f rate (length list)) × (r .lent ≡ listOf f rate list)
+Allows (plays s list next at p) r = r ≡ playOf s list next at p
 Allows (on w (asks (getFramesProcessed j))) r = r ≡ getFramesProcessedOf (w .sampler) j
 Allows (on w (asks (getDataLen j))) r = r ≡ getDataLenOf (w .sampler) j
 Allows (on w (asks (isRecording j))) r = r ≡ isRecordingOf (w .sampler) j
@@ -182,7 +197,7 @@ pub record Settled (g : Given) : Type 0 where
 
 -- ---- what is read off an outcome
 
--- document 01's number
+-- document 01's or 02's number; playing a song has none, and answers how many of its calls were refused
 abbrev pub numberIn : (g : Given) → Outcome g → ℕ
 numberIn (new count p m) r = r .number
 numberIn (on w (change d)) r = r .number
@@ -191,6 +206,8 @@ numberIn (on w (frame xs p)) r = r .answer .number
 numberIn (on w (readWave f)) r = r .answer .read .number
 numberIn (on w gather) r = r .answer .number
 numberIn (along w xs p) r = r .answer .ran .number
+numberIn (reads f rate list) r = numberOf (r .answer)
+numberIn (plays s list next at p) r = 0
 numberIn (on w (asks (getFramesProcessed j))) r = countedNumber r
 numberIn (on w (asks (getDataLen j))) r = countedNumber r
 numberIn (on w (asks (isRecording j))) r = toldNumber r
