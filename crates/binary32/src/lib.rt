@@ -1,6 +1,6 @@
-// What the engine needs of binary32 beyond the language's own operators: conversions, rounded shifts, floor, minimum, maximum, size,
-// the crossing test, bit patterns, the square root and a quick remainder. Each public function takes every value of its
-// arguments, and equals a definition in specs/Leaves.antt; the remainder may be left undone.
+// What the engine needs of binary32 beyond the language's own operators: conversions, rounded shifts, floor, minimum,
+// maximum, size, the crossing test, bit patterns, the square root and a quick remainder. Each public function takes every
+// value of its arguments, and equals a definition in specs/Leaves.antt; the remainder may be left undone.
 ghost use mathlib.Core.Path.{_≡_};
 ghost use Prim.Native.Nat.{_+_, _*_, _^_, _≤_, _<_};
 ghost use lib.Dec.{T};
