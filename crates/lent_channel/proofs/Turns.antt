@@ -1,6 +1,6 @@
 -- What turns of voices leave to those behind them: where they begin, how one turn goes on, one that glides and one that a voice doesn't take, and what they have come to where they end; and a channel without voices. Assumes nothing.
 use mathlib.Core.Path.{_≡_, refl, sym, _∙_, ap, subst}
-use Prim.Native.Nat.{ℕ, zero, suc, _+_, _-_, _≤_, _<_, min, zero-le}
+use Prim.Native.Nat.{ℕ, _+_, _-_, _≤_, _<_, min, zero-le}
 use native.Mathlib.Nat.{le-refl, add-zero}
 use native.Mathlib.Omega.{arith}
 use mathlib.Core.Bool.{Bool, true, false, not, cond, true≢false}
@@ -39,13 +39,6 @@ counting r n = record { channel = r .channel; output = r .output; moved = n }
 
 with-count : {r r′ : T.Walked} {n n′ : ℕ} → r ≡ r′ → n ≡ n′ → counting r n ≡ counting r′ n′
 with-count e f = λ i. counting (e i) (f i)
-
--- a store leaves what stands behind it
-pub get-behind : {A : Type 0} (l : List A) (i j : ℕ) (y d : A) → i < j → getD (set l i y) j d ≡ getD l j d
-get-behind [] i j y d h = refl
-get-behind (z ∷ l) i zero y d h = absurd (omega (arith, h))
-get-behind (z ∷ l) zero (suc j) y d h = refl
-get-behind (z ∷ l) (suc i) (suc j) y d h = get-behind l i j y d (omega (arith, h))
 
 -- ---- turns that have gone on go on
 pub onward : {s : Turning} {n : ℕ} {c d e : Channel} {g h k : Going} → Onward s n c g d h → Onward s n d h e k → Onward s n c g e k

@@ -127,10 +127,11 @@ pub record Follows (s : Turning) (t : Tick) (m : List ℕ) : Type 0 where
 abbrev pub Goes : Tick → List ℕ → ℕ → Channel → Going → Channel → Going → Type 0
 Goes t m n c g d h = (s : Turning) → Follows s t m → Onward s n c g d h
 
--- gliding turns: how far they go is left open; each voice before there glided, and the others are as they were
+-- gliding turns: how far they go is left open; each voice before there glided, and the others are as they were, so that
+-- turns of more voices have gone on too
 pub record Glides (t : Tick) (m : List ℕ) (n : ℕ) (c : Channel) (g : Going) (d : Channel) (h : Going) : Type 0 where
   pub further : g .place ≤ h .place
-  pub goes : Goes t m n c g d h
+  pub goes : (e : ℕ) → n ≤ e → e ≤ 32 → Goes t m e c g d h
   pub none : h .place ≡ g .place → (d ≡ c)
   pub level : h .kept ≡ h .place
   pub glided : (i : ℕ) → g .place ≤ i → i < h .place

@@ -253,7 +253,7 @@ pub fn against(c: &Channel, a: Asking) -> Against
     answered(a, c.head, c.count, used, b)
 }
 
-fn added(output: f32, w: Voice) -> f32
+pub fn added(output: f32, w: Voice) -> f32
     ensures { λ r. ⌜ r ≡ add binary32 output (w .«last_sample_value») ⌝ }
 {
     output + w.last_sample_value
@@ -277,7 +277,7 @@ pub struct Turn {
 }
 
 // Before the first turn.
-fn beginning() -> Going
+pub fn beginning() -> Going
     ensures { λ r. ⌜ r ≡ begun ⌝ }
 {
     Going {

@@ -3,6 +3,7 @@ use mathlib.Core.Path.{_≡_, refl}
 use Prim.Native.Nat.{ℕ, _≤_}
 use native.Mathlib.Omega.{arith}
 use mathlib.Core.Option.{none as empty, some}
+use native.Mathlib.Nat.{le-refl}
 use mathlib.Core.List.{List, [], _∷_}
 use lib.ListN.{length}
 use lib.Dec.{ltb, ltb→lt}
@@ -113,7 +114,7 @@ module _ {M : Type 1} (𝓤 : URA M) (H : Heap 𝓤) (A : Atoms 𝓤) (W : Given
       -- some glided
       (λ z. puts ! (of-opd ! (its ! refl)) (fills ! refl (going .typed 𝓤 H A W r _ isr)) $
       move ! (2 ∷ []) $ drop ! $ move ! (0 ∷ 2 ∷ 3 ∷ 4 ∷ []) $ close-ref ! tt (mem C.the-row) d {b = b} {o = o} $ gives-within ! Ends refl refl $ all-freed ! refl $
-      by ! (exits stretching κs q q₁ x a 𝓤 H A W r d isr (ltb→lt (g .place) (r .place) z, said .goes)))
+      by ! (exits stretching κs q q₁ x a 𝓤 H A W r d isr (ltb→lt (g .place) (r .place) z, said .goes n (le-refl n) (may .stands .few))))
       -- none did, and the channel is as it was
       (λ z. skips ! $ let none-did : r .place ≤ g .place = ltb-false (g .place) (r .place) (denied (ltb (g .place) (r .place)) z) in
       rewrite ! 0 (λ (c : Channel). ‵ (partAt C.the-row fullShare c b o)) (said .none (omega (arith, none-did, said .further))) refl $ move ! (0 ∷ 3 ∷ 4 ∷ 5 ∷ 1 ∷ 2 ∷ []) $
