@@ -9,3 +9,6 @@ pub mod RunTurns
 pub mod RunTurned
 pub mod Stepping
 pub mod Changing
+pub mod Seeing
+pub mod Sight
+pub mod Glancing

@@ -105,7 +105,7 @@ module _ (s : Sampler) (two : length (s .channels) ≡ 2) where
       go (c ∷ d ∷ []) e = simp e
       go (c ∷ d ∷ x ∷ l) e = absurd (omega (arith, two, ap length e))
 
-  good-is : goodBy (t .count) (t .capacity) (t .first) (t .second) ≡ goodSampler s
+  pub good-is : goodBy (t .count) (t .capacity) (t .first) (t .second) ≡ goodSampler s
   unfolding goodBy allOf goodSampler
   good-is = ap (λ (b : Bool). goodSizes (s .count) (s .capacity) && b)
       (every-first (goodChannel (s .capacity)) (λ (b : Bool). b) (s .count) (channelAt s 0 ∷ channelAt s 1 ∷ []) ∙ ap (λ (l : List Channel). every (goodChannel (s .capacity)) (take (s .count) l)) are-two)

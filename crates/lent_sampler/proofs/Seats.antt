@@ -94,13 +94,17 @@ module _ {M : Type 1} (𝓤 : URA M) (H : Heap 𝓤) (A : Atoms 𝓤) (W : Given
         (put-at 𝓤 H A W q T.the-type T′.the-laws 0 0 refl refl (b, o) h (withChannels (set (h .channels) j y) h) (T.struct .as-values h) (set (h .channels) j y) refl refl))
         (elem-set 𝓤 H A W q C.the-row tt 2 (h .channels) j new b (o + 0) lt y)
 
+    pub head-read : Inside 𝓤 H A q T.the-row E.the-row h h (channelAt h j .head) (channelAt h j .head) b o (seat o j + head-at)
+    head-read =
+        let c = channelAt h j in
+        within 𝓤 H A W q T.the-row C.the-row E.the-row h h c c (c .head) (c .head) b o (seat o j) (seat o j + head-at) channel-read
+        (cut-record 𝓤 H A q C.the-row E.the-type head-at c c (c .head) (c .head) (b, seat o j) (look-at 𝓤 H A W q C.the-type C′.the-laws 3 head-at refl refl (b, seat o j) c (C.struct .as-values c) refl))
+
     pub clock-read : Inside 𝓤 H A q T.the-row usize h h (channelAt h j .head .now) (channelAt h j .head .now) b o (clock o j)
     clock-read =
-        let c = channelAt h j in
-        within 𝓤 H A W q T.the-row C.the-row usize h h c c (c .head .now) (c .head .now) b o (seat o j) (clock o j) channel-read
-        (within 𝓤 H A W q C.the-row E.the-row usize c c (c .head) (c .head) (c .head .now) (c .head .now) b (seat o j) (seat o j + head-at) (clock o j)
-        (cut-record 𝓤 H A q C.the-row E.the-type head-at c c (c .head) (c .head) (b, seat o j) (look-at 𝓤 H A W q C.the-type C′.the-laws 3 head-at refl refl (b, seat o j) c (C.struct .as-values c) refl))
-        (look-at 𝓤 H A W q E.the-type E′.the-laws 0 0 refl refl (b, seat o j + head-at) (c .head) (E.struct .as-values (c .head)) refl))
+        let e = channelAt h j .head in
+        within 𝓤 H A W q T.the-row E.the-row usize h h e e (e .now) (e .now) b o (seat o j + head-at) (clock o j) head-read
+        (look-at 𝓤 H A W q E.the-type E′.the-laws 0 0 refl refl (b, seat o j + head-at) e (E.struct .as-values e) refl)
 
   pub count-read : Inside 𝓤 H A q T.the-row usize h h (h .count) (h .count) b o (o + count-at)
   count-read = look-at 𝓤 H A W q T.the-type T′.the-laws 1 count-at refl refl (b, o) h (T.struct .as-values h) refl

@@ -16,6 +16,8 @@ use Rattle.sampler.specs.declared.Ran.{Ran}
 use Rattle.sampler.specs.Refusals.{channelAt, goodSizes}
 use Rattle.channel.specs.declared.Change.{Change}
 use Rattle.channel.specs.declared.Against.{Against}
+use Rattle.channel.specs.declared.Head.{Head}
+use Rattle.questions.specs.declared.Seen.{Seen}
 use Rattle.channel.specs.Tables.{asksOf}
 use Rattle.lent_channel.specs.declared.Asking.{Asking}
 use Rattle.lent_sampler.specs.declared.Readings.{Readings}
@@ -50,6 +52,16 @@ readingsIn s =
 -- `goodSampler`, by whether each of the two channels is good
 unfoldable pub goodBy : ℕ → ℕ → Bool → Bool → Bool
 goodBy count capacity first second = goodSizes count capacity && allOf count (first ∷ second ∷ [])
+
+-- `seenOf`, by the same
+abbrev pub seenBy : ℕ → ℕ → Bool → Bool → Head → Head → Seen
+seenBy count capacity first second one other = record {
+  good = goodBy count capacity first second;
+  count = count;
+  capacity = capacity;
+  first = one;
+  second = other;
+}
 
 -- `goodWith`
 unfoldable pub goodWithBy : Readings → ℕ → Bool

@@ -41,6 +41,7 @@ ghost use Rattle.questions.specs.Questions.{
   activeNotesAfter,
   noInfo,
 };
+ghost use Rattle.questions.specs.Sights.{seenOf};
 ghost use Rattle.questions.specs.Waveforms.{getWaveformSummaryOf, waveformAfter};
 ghost use Rattle.recordings.specs.Waves.{writeWaveOf, waveAfter, readWaveOf, readMemory};
 ghost use Rattle.questions.specs.Lists.{countedOf, listedOf, voiceInfoCounted, voiceInfoAfter};
@@ -50,6 +51,7 @@ ghost use Rattle.lent_sampler.specs.Numbers.{
   anyOf,
   readingsOf,
   goodBy,
+  seenBy,
   goodWithBy,
   askedBy,
   askingOf,
@@ -65,6 +67,7 @@ ghost use Rattle.lent_sampler.specs.Hearing.{atVolume};
 use channel::Against;
 use channel::Change;
 use channel::Channel;
+use channel::Head;
 use channel::HeadChange;
 use common_types::Note;
 use common_types::Params;
@@ -72,6 +75,7 @@ use lent_channel::Asking;
 use lent_channel::Heard;
 use questions::Counted;
 use questions::OffsetAnswer;
+use questions::Seen;
 use questions::Told;
 use questions::VoiceInfo;
 use questions::VoiceInfos;
@@ -144,6 +148,30 @@ fn good(count: usize, capacity: usize, first: bool, second: bool) -> bool
     ensures { λ r. ⌜ r ≡ goodBy count capacity first second ⌝ }
 {
     sampler::good_sizes(count, capacity) & all_of(count, first, second)
+}
+
+fn seen_of(count: usize, capacity: usize, first: bool, second: bool, one: Head, other: Head) -> Seen
+    ensures { λ r. ⌜ r ≡ seenBy count capacity first second one other ⌝ }
+{
+    Seen {
+        good: good(count, capacity, first, second),
+        count,
+        capacity,
+        first: one,
+        second: other,
+    }
+}
+
+// What is read of a record before a call, with no channel copied.
+fn look(s: &Sampler) -> Seen
+    ensures { λ r. ⌜ r ≡ seenOf (now (s .entry)) ⌝ }
+{
+    let capacity = s.capacity;
+    let first = lent_channel::good(&s.channels[0], capacity);
+    let second = lent_channel::good(&s.channels[1], capacity);
+    let one = s.channels[0].head;
+    let other = s.channels[1].head;
+    seen_of(s.count, capacity, first, second, one, other)
 }
 
 // The number of a change, from whether the record is good and what each channel has against it.
@@ -384,32 +412,32 @@ pub fn process_sample(
 pub fn get_frames_processed(s: &Sampler, channel: usize) -> Counted
     ensures { λ r. ⌜ r ≡ getFramesProcessedOf (now (s .entry)) channel ⌝ }
 {
-    questions::get_frames_processed(*s, channel)
+    questions::frames_in(look(s), channel)
 }
 
 pub fn get_data_len(s: &Sampler, channel: usize) -> Counted
     ensures { λ r. ⌜ r ≡ getDataLenOf (now (s .entry)) channel ⌝ }
 {
-    questions::get_data_len(*s, channel)
+    questions::length_in(look(s), channel)
 }
 
 pub fn is_recording(s: &Sampler, channel: usize) -> Told
     ensures { λ r. ⌜ r ≡ isRecordingOf (now (s .entry)) channel ⌝ }
 {
-    questions::is_recording(*s, channel)
+    questions::recording_in(look(s), channel)
 }
 
 pub fn get_last_recorded_offset(s: &Sampler, channel: usize) -> OffsetAnswer
     ensures { λ r. ⌜ r ≡ getLastRecordedOffsetOf (now (s .entry)) channel ⌝ }
 {
-    questions::get_last_recorded_offset(*s, channel)
+    questions::offset_in(look(s), channel)
 }
 
 pub fn print_error_info(s: &Sampler, channel: usize, text: &mut [u8]) -> Counted
     ensures { λ r. ⌜ (r ≡ printErrorInfoOf (now (s .entry)) channel (length (now (text .entry))))
         × (now (text .exit) ≡ errorTextAfter (now (s .entry)) channel (now (text .entry))) ⌝ }
 {
-    questions::print_error_info(*s, channel, text)
+    questions::error_in(look(s), channel, text)
 }
 
 pub fn iter_active_notes(s: &Sampler, channel: usize, notes: &mut [u64]) -> Counted

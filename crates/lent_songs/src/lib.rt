@@ -19,7 +19,8 @@ pub struct Played {
 // The change of an entry of the list.
 fn change_at(list: &[u64], place: usize, params: Params) -> Change
     requires { ⌜ 2 * place + 1 < length (now list) ⌝ }
-    ensures { λ r. ⌜ r ≡ changeBy (cueOf (getD (now (list .entry)) (2 * place) 0) (getD (now (list .entry)) (2 * place + 1) 0)) params ⌝ }
+    ensures { λ r. ⌜ r
+        ≡ changeBy (cueOf (getD (now (list .entry)) (2 * place) 0) (getD (now (list .entry)) (2 * place + 1) 0)) params ⌝ }
 {
     songs::change_of(Cue::new(list[2 * place], list[2 * place + 1]), params)
 }

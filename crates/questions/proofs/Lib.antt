@@ -1,4 +1,5 @@
 pub mod Answers
+pub mod Sights
 pub mod Notes
 pub mod Infos
 pub mod Numbers

@@ -1,3 +1,4 @@
 pub mod Questions
+pub mod Sights
 pub mod Waveforms
 pub mod Lists

@@ -1,7 +1,7 @@
 -- What each question of the sampler answers (document 01, module 6), and its refusals in the table's order. Definitions
 -- only. Assumes nothing.
 use Prim.Native.Nat.{ℕ}
-use mathlib.Core.Bool.{not, cond}
+use mathlib.Core.Bool.{Bool, not, cond}
 use mathlib.Core.List.{List, map, _++_}
 use lib.Dec.{eqb, ltb}
 use lib.ListN.{length, drop, replicate}
@@ -69,14 +69,23 @@ getLastRecordedOffsetOf s j = answered (offset.Done (lastRecordedOffsetOf (recor
 
 -- ---- questions whose answer is a list, to be written to a lent one with that much room:
 -- how long it is, and the lent list afterwards
+abbrev pub listNumberBy : Bool → Bool → List ℕ → ℕ → ℕ
+listNumberBy broken absent answer room = row broken 9 (row absent 1 (row (ltb room (length answer)) 8 0))
+
+abbrev pub listCountedBy : List ℕ → ℕ → Counted
+listCountedBy answer number = answered (counted.Done (length answer)) counted.Refused number
+
+abbrev pub listAfterBy : List ℕ → List ℕ → ℕ → List ℕ
+listAfterBy answer lent number = cond (eqb number 0) (inFront answer lent) lent
+
 unfoldable pub listNumber : Sampler → ℕ → List ℕ → ℕ → ℕ
-listNumber s j answer room = row (not (goodSampler s)) 9 (row (noChannel s j) 1 (row (ltb room (length answer)) 8 0))
+listNumber s j = listNumberBy (not (goodSampler s)) (noChannel s j)
 
 unfoldable pub listCounted : Sampler → ℕ → List ℕ → ℕ → Counted
-listCounted s j answer room = answered (counted.Done (length answer)) counted.Refused (listNumber s j answer room)
+listCounted s j answer room = listCountedBy answer (listNumber s j answer room)
 
 unfoldable pub listAfter : Sampler → ℕ → List ℕ → List ℕ → List ℕ
-listAfter s j answer lent = cond (eqb (listNumber s j answer (length lent)) 0) (inFront answer lent) lent
+listAfter s j answer lent = listAfterBy answer lent (listNumber s j answer (length lent))
 
 abbrev pub printErrorInfoOf : Sampler → ℕ → ℕ → Counted
 printErrorInfoOf s j room = listCounted s j (errorText (recorderAt s j)) room

@@ -5,13 +5,24 @@ ghost use Prim.Native.Nat.{_+_, _^_, _≤_};
 ghost use mathlib.Core.Bool.{not};
 ghost use mathlib.Core.List.{[], _∷_, map};
 ghost use lib.Ieee.{binary32, mul};
+ghost use lib.Dec.{ltb};
 ghost use lib.ListN.{length};
 ghost use lib.Seq.{sets};
 ghost use Rattle.binary32.specs.Leaves.{asFloat, asWhole, floorOf, floatOf};
 ghost use Rattle.channel.specs.Channels.{live};
 ghost use Rattle.sampler.specs.Refusals.{channelAt, row, goodSampler, noChannel};
+ghost use Rattle.questions.specs.Sights.{
+  seenOf,
+  headIn,
+  numberIn,
+  framesIn,
+  lengthIn,
+  recordingIn,
+  offsetIn,
+  errorIn,
+  errorAfter,
+};
 ghost use Rattle.questions.specs.Questions.{
-  recorderAt,
   getFramesProcessedOf,
   getDataLenOf,
   isRecordingOf,
@@ -39,6 +50,7 @@ ghost use Rattle.questions.specs.Waveforms.{
   waveformAfter,
 };
 use channel::Channel;
+use channel::Head;
 use common_types::InitParams;
 use common_types::Params;
 use recorder::LastOffset;
@@ -90,13 +102,43 @@ pub struct VoiceInfos {
     pub number: u8,
 }
 
+// What the questions of a recording ask of a record: whether it is good, what it says of itself, and the heads of its two
+// channels.
+pub struct Seen {
+    pub good: bool,
+    pub count: usize,
+    pub capacity: usize,
+    pub first: Head,
+    pub second: Head,
+}
+
+fn look(s: Sampler) -> Seen
+    ensures { λ r. ⌜ r ≡ seenOf s ⌝ }
+{
+    let first = channel_at(s, 0).head;
+    let second = channel_at(s, 1).head;
+    Seen {
+        good: s.good(),
+        count: s.count,
+        capacity: s.capacity,
+        first,
+        second,
+    }
+}
+
 // The rows that each question begins with, and then the rest.
+fn rows(good: bool, count: usize, channel: usize, rest: u8) -> u8
+    ensures { λ r. ⌜ r ≡ row (not good) 9 (row (not (ltb channel count)) 1 rest) ⌝ }
+{
+    let broken = !good;
+    let absent = !(channel < count);
+    first_of(broken, 9, first_of(absent, 1, rest))
+}
+
 fn asked(s: Sampler, channel: usize, rest: u8) -> u8
     ensures { λ r. ⌜ r ≡ row (not (goodSampler s)) 9 (row (noChannel s channel) 1 rest) ⌝ }
 {
-    let broken = !s.good();
-    let absent = !(channel < s.count);
-    first_of(broken, 9, first_of(absent, 1, rest))
+    rows(s.good(), s.count, channel, rest)
 }
 
 // Past the last channel it is a new one, which no answer shows.
@@ -111,69 +153,113 @@ fn channel_at(s: Sampler, channel: usize) -> Channel
     })
 }
 
-fn recorder_at(s: Sampler, channel: usize) -> Recorder
-    ensures { λ r. ⌜ r ≡ recorderAt s channel ⌝ }
+// Past the last channel it is the second's, which no answer shows.
+fn head_in(t: Seen, channel: usize) -> Head
+    ensures { λ r. ⌜ r ≡ headIn t channel ⌝ }
 {
-    let head = channel_at(s, channel).head;
+    if channel == 0 { t.first } else { t.second }
+}
+
+fn recorder_in(t: Seen, channel: usize) -> Recorder
+    ensures { λ r. ⌜ r ≡ headIn t channel .recorder ⌝ }
+{
+    let head = head_in(t, channel);
     head.recorder
+}
+
+fn number_in(t: Seen, channel: usize) -> u8
+    ensures { λ r. ⌜ r ≡ numberIn t channel ⌝ }
+{
+    rows(t.good, t.count, channel, 0)
+}
+
+pub fn frames_in(t: Seen, channel: usize) -> Counted
+    ensures { λ r. ⌜ r ≡ framesIn t channel ⌝ }
+{
+    let number = number_in(t, channel);
+    if number != 0 {
+        return Counted::Refused(number);
+    }
+    let head = head_in(t, channel);
+    Counted::Done(head.now)
 }
 
 pub fn get_frames_processed(s: Sampler, channel: usize) -> Counted
     ensures { λ r. ⌜ r ≡ getFramesProcessedOf s channel ⌝ }
 {
-    let number = asked(s, channel, 0);
+    frames_in(look(s), channel)
+}
+
+pub fn length_in(t: Seen, channel: usize) -> Counted
+    ensures { λ r. ⌜ r ≡ lengthIn t channel ⌝ }
+{
+    let number = number_in(t, channel);
     if number != 0 {
         return Counted::Refused(number);
     }
-    let head = channel_at(s, channel).head;
-    Counted::Done(head.now)
+    let head = head_in(t, channel);
+    Counted::Done(head.data_len)
 }
 
 pub fn get_data_len(s: Sampler, channel: usize) -> Counted
     ensures { λ r. ⌜ r ≡ getDataLenOf s channel ⌝ }
 {
-    let number = asked(s, channel, 0);
+    length_in(look(s), channel)
+}
+
+pub fn recording_in(t: Seen, channel: usize) -> Told
+    ensures { λ r. ⌜ r ≡ recordingIn t channel ⌝ }
+{
+    let number = number_in(t, channel);
     if number != 0 {
-        return Counted::Refused(number);
+        return Told::Refused(number);
     }
-    let head = channel_at(s, channel).head;
-    Counted::Done(head.data_len)
+    Told::Done(recorder_in(t, channel).is_recording())
 }
 
 pub fn is_recording(s: Sampler, channel: usize) -> Told
     ensures { λ r. ⌜ r ≡ isRecordingOf s channel ⌝ }
 {
-    let number = asked(s, channel, 0);
+    recording_in(look(s), channel)
+}
+
+pub fn offset_in(t: Seen, channel: usize) -> OffsetAnswer
+    ensures { λ r. ⌜ r ≡ offsetIn t channel ⌝ }
+{
+    let number = number_in(t, channel);
     if number != 0 {
-        return Told::Refused(number);
+        return OffsetAnswer::Refused(number);
     }
-    Told::Done(recorder_at(s, channel).is_recording())
+    OffsetAnswer::Done(recorder_in(t, channel).last_recorded_offset())
 }
 
 pub fn get_last_recorded_offset(s: Sampler, channel: usize) -> OffsetAnswer
     ensures { λ r. ⌜ r ≡ getLastRecordedOffsetOf s channel ⌝ }
 {
-    let number = asked(s, channel, 0);
-    if number != 0 {
-        return OffsetAnswer::Refused(number);
-    }
-    OffsetAnswer::Done(recorder_at(s, channel).last_recorded_offset())
+    offset_in(look(s), channel)
 }
 
 // Writes the error text to the front of the list.
-pub fn print_error_info(s: Sampler, channel: usize, text: &mut [u8]) -> Counted
-    ensures { λ r. ⌜ r ≡ printErrorInfoOf s channel (length (now (text .entry))) ⌝ }
-    ensures { λ r. ⌜ now (text .exit) ≡ errorTextAfter s channel (now (text .entry)) ⌝ }
+pub fn error_in(t: Seen, channel: usize, text: &mut [u8]) -> Counted
+    ensures { λ r. ⌜ r ≡ errorIn t channel (length (now (text .entry))) ⌝ }
+    ensures { λ r. ⌜ now (text .exit) ≡ errorAfter t channel (now (text .entry)) ⌝ }
 {
-    let number = asked(s, channel, 0);
+    let number = number_in(t, channel);
     if number != 0 {
         return Counted::Refused(number);
     }
-    let written = recorder_at(s, channel).print_error_info(text);
+    let written = recorder_in(t, channel).print_error_info(text);
     match written {
         Text::Written(count) => Counted::Done(count),
         Text::Short => Counted::Refused(8),
     }
+}
+
+pub fn print_error_info(s: Sampler, channel: usize, text: &mut [u8]) -> Counted
+    ensures { λ r. ⌜ r ≡ printErrorInfoOf s channel (length (now (text .entry))) ⌝ }
+    ensures { λ r. ⌜ now (text .exit) ≡ errorTextAfter s channel (now (text .entry)) ⌝ }
+{
+    error_in(look(s), channel, text)
 }
 
 // A finished voice has no note to list.

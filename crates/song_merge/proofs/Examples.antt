@@ -43,7 +43,7 @@ unfolding computing timedOf among mergedOf mergedWith
 ends-last = refl
 
 -- three tracks at one tick, in their order
-three : Merge ("05 C001 00 FF2F00" ∷ "05 C102 00 FF2F00" ∷ "05 C203 00 FF2F00" ∷ []) "05 C001 00 C102 00 C203 00 FF2F00"
+three : Merge ("05 900101 00 FF2F00" ∷ "05 910202 00 FF2F00" ∷ "05 920303 00 FF2F00" ∷ []) "05 900101 00 910202 00 920303 00 FF2F00"
 unfolding computing timedOf among mergedOf mergedWith
 three = refl
 

@@ -15,25 +15,24 @@ use Rattle.song_merge.specs.Songs.{Tracks}
 use Rattle.song_merge.specs.Merges.{mergedOf, allOf}
 use Rattle.song_merge.specs.Standing.{Stands, Held}
 
--- a track of a list from 22 up to a place, and one of a file, in one at the front of a list, which ends at r; with r 0
--- it has no room
+-- what holds of two tracks, with their sizes: one that stands in a list from 22 up to a place, and one of a file
+abbrev pub OfTwo : List ℕ → ℕ → List ℕ → ℕ → ℕ → (List Timed → List Timed → ℕ → ℕ → Type 0) → Type 0
+OfTwo a a-end f at end P = (ts us : List Timed) (j k : ℕ) → Held a 0 22 a-end ts j → Held f 0 at end us k → P ts us j k
+
+-- both in one at the front of a list, which ends at r; with r 0 it has no room
 pub record Joined (a : List ℕ) (a-end : ℕ) (f : List ℕ) (at end : ℕ) (out : List ℕ) (r : ℕ) : Type 0 where
   pub within : r ≤ length out
-  pub merged : (ts us : List Timed) (j k : ℕ) → Held a 0 22 a-end ts j → Held f 0 at end us k → 0 < r
-      → Held out 0 0 r (mergedOf ts us) (j + k)
-  pub long : (ts us : List Timed) (j k : ℕ) → Held a 0 22 a-end ts j → Held f 0 at end us k → r ≤ j + k
-  pub room : (ts us : List Timed) (j k : ℕ) → Held a 0 22 a-end ts j → Held f 0 at end us k → j + k + 5 ≤ length out
-      → 0 < r
+  pub merged : OfTwo a a-end f at end (λ ts us j k. 0 < r → Held out 0 0 r (mergedOf ts us) (j + k))
+  pub long : OfTwo a a-end f at end (λ ts us j k. r ≤ j + k)
+  pub room : OfTwo a a-end f at end (λ ts us j k. j + k + 5 ≤ length out → 0 < r)
 
 -- the same where the merged track takes the place of the first
 pub record Grown (before : List ℕ) (a-end : ℕ) (f : List ℕ) (at end spare : ℕ) (out : List ℕ) (r : ℕ) : Type 0 where
   pub within : r ≤ length out
   pub some : 0 < r → (22 ≤ r) × (0 < a-end)
-  pub merged : (ts us : List Timed) (j k : ℕ) → Held before 0 22 a-end ts j → Held f 0 at end us k → 0 < r
-      → Held out 0 22 r (mergedOf ts us) (j + k)
-  pub long : (ts us : List Timed) (j k : ℕ) → Held before 0 22 a-end ts j → Held f 0 at end us k → r ≤ 22 + j + k
-  pub room : (ts us : List Timed) (j k : ℕ) → Held before 0 22 a-end ts j → Held f 0 at end us k
-      → j + k + 5 ≤ spare → 22 + j + k ≤ length out → 0 < r
+  pub merged : OfTwo before a-end f at end (λ ts us j k. 0 < r → Held out 0 22 r (mergedOf ts us) (j + k))
+  pub long : OfTwo before a-end f at end (λ ts us j k. r ≤ 22 + j + k)
+  pub room : OfTwo before a-end f at end (λ ts us j k. j + k + 5 ≤ spare → 22 + j + k ≤ length out → 0 < r)
 
 -- a track without events
 pub record Started (out : List ℕ) (r : ℕ) : Type 0 where
@@ -53,6 +52,7 @@ closedOf (found.Broken why) end = Broken
 abbrev pub Counted : List ℕ → ℕ → ℕ → List (List Timed) → Type 0
 Counted f at count tss = Tracks (bytesAt (length f - at) f at) tss × (length tss ≡ count)
 
+-- `Broken` where they don't; `To` the end of the merged track, which begins at 22; `Short` where it has no room
 pub record Gathers (f : List ℕ) (count at spare : ℕ) (out : List ℕ) (r : Gathered) : Type 0 where
   pub told : (r ≡ Broken → ⊥) → (tss : List (List Timed)) × Counted f at count tss
   pub taken : (tss : List (List Timed)) → Counted f at count tss → r ≡ Broken → ⊥

@@ -8,7 +8,15 @@ use Rattle.smf.specs.Faults.{faultAt}
 use Rattle.smf.specs.Fields.{twoAt, fourAt}
 use Rattle.smf.specs.Files.{headerType}
 use Rattle.smf.specs.declared.faults.Reason.{Reason}
-use Rattle.smf.specs.declared.faults.Reason.the-variants.{Missing, NoHeader, ShortHeader, OtherFormat, OtherTrackCount, SmpteDivision, NoDivision}
+use Rattle.smf.specs.declared.faults.Reason.the-variants.{
+  Missing,
+  NoHeader,
+  ShortHeader,
+  OtherFormat,
+  OtherTrackCount,
+  SmpteDivision,
+  NoDivision,
+}
 use Rattle.song_merge.specs.declared.chunks.Opened.{Opened}
 use Rattle.song_merge.specs.declared.chunks.Opened.the-variants.{Is, Broken}
 

@@ -25,8 +25,10 @@ pub data Sized : ℕ → List ℕ → List Timed → ℕ → Type 0 where
   then : {running ticks status k j : ℕ} {delta event rest : List ℕ} {e : Event} {ts : List Timed}
       → Quantity delta ticks → OneEvent running event e status
       → (byteAt event 0 < 128 → length delta + length event + 1 ≤ k) → length delta + length event ≤ k
-      → Sized status rest ts j → Sized running (delta ++ (event ++ rest)) (record { delta = ticks; event = e } ∷ ts) (k + j)
+      → Sized status rest ts j
+      → Sized running (delta ++ (event ++ rest)) (record { delta = ticks; event = e } ∷ ts) (k + j)
 
+-- the bytes from a place up to another are such a track, behind a running status
 abbrev pub Held : List ℕ → ℕ → ℕ → ℕ → List Timed → ℕ → Type 0
 Held f running at end ts k = Sized running (bytesAt (end - at) f at) ts k
 
@@ -39,6 +41,7 @@ pub record Before (f : List ℕ) (end : ℕ) (c : Cursor) (t : Timed) (ts : List
   pub rest : Held f (c .after) (c .next) end ts left
   pub size : length (eventBytes f c) + left ≤ k
 
+-- what a cursor stands before: such an event, or the end
 abbrev pub Views : List ℕ → ℕ → Cursor → List Timed → ℕ → Type 0
 Views f end c [] k = (c .ended ≡ true) × (length (endBytes (c .wait)) ≤ k)
 Views f end c (t ∷ ts) k = Before f end c t ts k

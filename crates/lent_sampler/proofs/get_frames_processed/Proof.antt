@@ -1,19 +1,26 @@
--- `lent_sampler::get_frames_processed` meets its contract: `Peek.antt`'s walk, over `questions::get_frames_processed`.
+-- `lent_sampler::get_frames_processed` meets its contract: `Glancing.antt`'s walk, over `look` and `questions::frames_in`.
 use contract.Running.{givenOf, tables, tablesOf}
 use denote.Triple.Spec.{tripleOf}
 use denote.Triple.Table.{entered, cited}
-use mathlib.Core.Path.{_≡_}
+use mathlib.Core.Path.{_≡_, _∙_}
 use mathlib.Core.List.{[], _∷_}
 use mir.Syntax.{w64}
 use Rattle.questions.specs.Questions.{getFramesProcessedOf}
-use Rattle.questions.proofs.get_frames_processed as g
-use Rattle.questions.proofs.get_frames_processed.Symbol as g-def
-use Rattle.questions.proofs.get_frames_processed.Symbol.{name as #g}
-use Rattle.questions.proofs.get_frames_processed.Met as g-thm
+use Rattle.questions.specs.Sights.{seenOf, framesIn}
+use Rattle.questions.proofs.Sights.{frames-seen}
+use Rattle.questions.proofs.frames_in as g
+use Rattle.questions.proofs.frames_in.Symbol as g-def
+use Rattle.questions.proofs.frames_in.Symbol.{name as #g}
+use Rattle.questions.proofs.frames_in.Met as g-thm
 use Rattle.walks.proofs.Steps.Data.{word}
-use Rattle.lent_sampler.proofs.Lent.{sampler, counted}
 use Rattle.walks.proofs.Lending.Arguments.{value, once}
-use Rattle.walks.proofs.Lending.Peek.{peek}
+use Rattle.lent_sampler.proofs.Lent.{sampler, counted}
+use Rattle.lent_sampler.proofs.Sight.{sight}
+use Rattle.lent_sampler.proofs.Glancing.{glance}
+use Rattle.lent_sampler.proofs.look as look
+use Rattle.lent_sampler.proofs.look.Symbol as look-def
+use Rattle.lent_sampler.proofs.look.Symbol.{name as #look}
+use Rattle.lent_sampler.proofs.look.Met as look-thm
 use Rattle.lent_sampler.proofs.get_frames_processed.Key.{name as #f}
 use Rattle.lent_sampler.proofs.get_frames_processed as f
 use Rattle.lent_sampler.proofs.get_frames_processed.Statement as stated
@@ -24,5 +31,8 @@ unfolding code.routine tablesOf
 get-frames-processed-spec 𝓤 H 𝓜 𝓖 𝓡 =
     entered 𝓤 H (tripleOf 𝓤 H (𝓖 .A) f.signature (f.spec 𝓤 H (𝓖 .A) (𝓜 .mem) (𝓡 .run)))
     (tables 𝓤 H 𝓜 𝓡 code.env .C) (tables 𝓤 H 𝓜 𝓡 code.env .Λ) #f code.function (code.unfolded 𝓤 H 𝓜 𝓡)
-    (peek sampler counted 0 (value (word w64) ∷ []) #g (once (λ κs s v r e. r ≡ getFramesProcessedOf s (v .0))) 𝓤 H (𝓖 .A) (givenOf 𝓤 H 𝓜 𝓖) (tablesOf 𝓤 H 𝓜 (tables 𝓤 H 𝓜 𝓡 code.env))
-    (cited 𝓤 H (tripleOf 𝓤 H (𝓖 .A) g.signature (g.spec 𝓤 H (𝓖 .A) (𝓜 .mem) (𝓡 .run))) 𝓜 𝓡 code.env #g g-def.routine code.calls-questions·get-frames-processed (g-thm.met 𝓤 H 𝓜 𝓖 𝓡)))
+    (glance sampler sight counted seenOf 0 (value (word w64) ∷ []) #look #g (once (λ κs t v r e. r ≡ framesIn t (v .0)))
+    (λ κs s v r e. r ≡ getFramesProcessedOf s (v .0)) (λ κs s v r e is. is ∙ frames-seen s (v .0))
+    𝓤 H (𝓖 .A) (givenOf 𝓤 H 𝓜 𝓖) (tablesOf 𝓤 H 𝓜 (tables 𝓤 H 𝓜 𝓡 code.env))
+    (cited 𝓤 H (tripleOf 𝓤 H (𝓖 .A) look.signature (look.spec 𝓤 H (𝓖 .A) (𝓜 .mem) (𝓡 .run))) 𝓜 𝓡 code.env #look look-def.routine code.calls-lent-sampler·look (look-thm.met 𝓤 H 𝓜 𝓖 𝓡))
+    (cited 𝓤 H (tripleOf 𝓤 H (𝓖 .A) g.signature (g.spec 𝓤 H (𝓖 .A) (𝓜 .mem) (𝓡 .run))) 𝓜 𝓡 code.env #g g-def.routine code.calls-questions·frames-in (g-thm.met 𝓤 H 𝓜 𝓖 𝓡)))

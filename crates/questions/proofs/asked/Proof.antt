@@ -1,4 +1,4 @@
--- `asked` meets its contract: the rows that each question begins with, in the table's order. Assumes nothing.
+-- `asked` meets its contract. Assumes nothing.
 use borrow.Author.Needs.{needs}
 use Rattle.questions.proofs.asked.Statement.{statement}
 use Rattle.questions.proofs.asked.Tie as tie
@@ -6,14 +6,11 @@ use Rattle.questions.proofs.asked.Tie as tie
 good-requires : tie.Need-good-requires
 good-requires c κs = search needs
 
-first-of-requires : tie.Need-first-of-requires
-first-of-requires c κs = search needs
-
-first-of-requires-2 : tie.Need-first-of-requires-2
-first-of-requires-2 c κs = search needs
+rows-requires : tie.Need-rows-requires
+rows-requires c κs = search needs
 
 returns : tie.Need-returns
-returns c = simp (c .first-of2 .ensures, c .before .first-of .ensures, c .before .before .before .good2 .ensures)
+returns c = simp (c .rows .ensures, c .before .good2 .ensures)
 
 pub asked-spec : {M : Type 1} → statement M
-asked-spec = tie.close (tie.spec good-requires first-of-requires first-of-requires-2 returns)
+asked-spec = tie.close (tie.spec good-requires rows-requires returns)

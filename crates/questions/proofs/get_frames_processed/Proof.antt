@@ -1,25 +1,17 @@
--- `get_frames_processed` meets its contract. Assumes nothing.
-use borrow.Author.Tests.{ne-eqb}
-use Rattle.sampler.specs.Refusals.{channelNumber}
-use Rattle.questions.specs.Questions.{answered}
+-- `get_frames_processed` meets its contract: what it answers of what is seen is what it answers of the record. Assumes nothing.
 use borrow.Author.Needs.{needs}
+use Rattle.questions.proofs.Sights.{frames-seen}
 use Rattle.questions.proofs.get_frames_processed.Statement.{statement}
 use Rattle.questions.proofs.get_frames_processed.Tie as tie
 
-asked-requires : tie.Need-asked-requires
-asked-requires c κs = search needs
+look-requires : tie.Need-look-requires
+look-requires c κs = search needs
+
+frames-in-requires : tie.Need-frames-in-requires
+frames-in-requires c κs = search needs
 
 returns : tie.Need-returns
-unfolding answered channelNumber
-returns c = simp (← (c .before .asked .ensures), ne-eqb _ _ (c .if1 .taken))
-
-channel-at-requires : tie.Need-channel-at-requires
-channel-at-requires c κs = search needs
-
-returns-2 : tie.Need-returns-2
-unfolding answered channelNumber
-returns-2 c = simp (← (c .before .before .before .asked .ensures), c .before .before .if1 .left, c .before .channel-at .ensures)
+returns c = simp (c .frames-in .ensures, c .before .look .ensures) (frames-seen _ _)
 
 pub get-frames-processed-spec : {M : Type 1} → statement M
-get-frames-processed-spec =
-    tie.close (tie.spec asked-requires returns channel-at-requires returns-2)
+get-frames-processed-spec = tie.close (tie.spec look-requires frames-in-requires returns)

@@ -1,8 +1,6 @@
 -- `one_more` meets its contract. Assumes nothing.
 use borrow.Author.Needs.{needs}
 use borrow.Author.Tests.{eq-eqb, ne-eqb}
-use mathlib.Core.Path.{_≡_}
-use Prim.Native.Nat.{_%_, _^_}
 use native.Mathlib.Omega.{arith}
 use Rattle.songs.specs.Plays.{oneMore}
 use Rattle.songs.proofs.one_more.Statement.{statement}

@@ -1,0 +1,28 @@
+-- `offset_in` meets its contract. Assumes nothing.
+use borrow.Author.Tests.{ne-eqb}
+use Rattle.questions.specs.Questions.{answered}
+use borrow.Author.Needs.{needs}
+use Rattle.questions.proofs.offset_in.Statement.{statement}
+use Rattle.questions.proofs.offset_in.Tie as tie
+
+number-in-requires : tie.Need-number-in-requires
+number-in-requires c κs = search needs
+
+returns : tie.Need-returns
+unfolding answered
+returns c = simp (← (c .before .number-in .ensures), ne-eqb _ _ (c .if1 .taken))
+
+recorder-in-requires : tie.Need-recorder-in-requires
+recorder-in-requires c κs = search needs
+
+last-recorded-offset-requires : tie.Need-last-recorded-offset-requires
+last-recorded-offset-requires c κs = search needs
+
+returns-2 : tie.Need-returns-2
+unfolding answered
+returns-2 c = simp (← (c .before .before .before .number-in .ensures), c .before .before .if1 .left, c .last-recorded-offset .ensures, c .before .recorder-in .ensures)
+
+pub offset-in-spec : {M : Type 1} → statement M
+offset-in-spec =
+    tie.close
+    (tie.spec number-in-requires returns recorder-in-requires last-recorded-offset-requires returns-2)
