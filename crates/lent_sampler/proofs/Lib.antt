@@ -8,6 +8,7 @@ pub mod Turned
 pub mod RunTurns
 pub mod RunTurned
 pub mod Stepping
+pub mod Loops
 pub mod Changing
 pub mod Seeing
 pub mod Sight

@@ -1,0 +1,208 @@
+// One channel's sample in place, with the positions of plain voices lent beside the channel (request 9/12). The channel is
+// the one that `lent_channel` leaves, whatever the positions are.
+ghost use mathlib.Core.Path.{_≡_};
+ghost use Prim.Native.Nat.{_≤_, _<_};
+ghost use mathlib.Core.List.{[], _∷_};
+ghost use Rattle.common_types.specs.Settings.{measureOf};
+ghost use Rattle.channel.specs.Channels.{turningIn, playedOf, processSampleOf, memoryOf};
+ghost use Rattle.lent_channel.specs.Turns.{heardOf, Stands, Next};
+ghost use Rattle.plain_channel.specs.Sides.{
+  coldSide,
+  takenAt,
+  sidePlayed,
+  sideAfter,
+  followedBy,
+  Together,
+  GoTogether,
+  GlideTogether,
+  Paced,
+  FirstPlain,
+};
+use channel::Channel;
+use common_types::Measure;
+use common_types::Params;
+use lent_channel::Going;
+use lent_channel::Heard;
+use plain_voice::Beat;
+use plain_voice::Hot;
+use voice::Tick;
+
+// What stands beside a channel: a position for each voice.
+pub struct Side {
+    pub hots: [Hot; 32],
+}
+
+impl Side {
+    pub fn new() -> Self
+        ensures { λ r. ⌜ r ≡ coldSide ⌝ }
+    {
+        let hot = plain_voice::cold();
+        Self { hots: [hot; 32] }
+    }
+}
+
+// The place of the first plain voice from that one on and before the n-th; else n.
+fn next_plain(side: &Side, from: usize, n: usize) -> usize
+    requires { ⌜ (from ≤ n) × (n ≤ 32) ⌝ }
+    ensures { λ r. ⌜ FirstPlain (now (side .entry)) from n r ⌝ }
+{
+    let mut i: usize = from;
+    while i < n {
+        if side.hots[i].plain {
+            return i;
+        }
+        i = i + 1;
+    }
+    n
+}
+
+// Plain voices take their turns in place, from the next on and before the n-th, up to the first that isn't plain or
+// doesn't glide.
+fn hot_glide(
+    c: &mut Channel,
+    side: &mut Side,
+    t: Tick,
+    b: Beat,
+    g: Going,
+    n: usize,
+    data: &[u32],
+) -> Going
+    requires { ⌜ Stands n g × (g .kept ≡ g .place) × Paced (now c) t b ⌝ }
+    ensures { λ r. ⌜ GlideTogether t (now («data» .entry)) n (now (c .entry)) (now (side .entry)) g (now (c .exit))
+        (now (side .exit)) r ⌝ }
+{
+    let mut output = g.output;
+    let mut i = g.place;
+    while i < n {
+        let h = side.hots[i];
+        if !h.plain {
+            return lent_channel::glided(i, output);
+        }
+        let v = c.voices[i];
+        let q = h.quick(v, t, b, data);
+        if !q.glides {
+            return lent_channel::glided(i, output);
+        }
+        let w = q.voice;
+        c.voices[i] = w;
+        side.hots[i] = h.stepped(b.length);
+        output = lent_channel::added(output, w);
+        i = i + 1;
+    }
+    lent_channel::glided(i, output)
+}
+
+// The voice that stood at g's place has taken its turn, or rested, and stands at g's count of those that stay if it does:
+// its position is judged, and moves up with it.
+fn followed(c: &Channel, side: &mut Side, g: Going, r: Going) -> Going
+    requires { ⌜ (g .place < 32) × (g .kept ≤ g .place) ⌝ }
+    ensures { λ q. ⌜ (q ≡ r) × (now (side .exit) ≡ followedBy (now (c .entry)) g r (now (side .entry))) ⌝ }
+{
+    if g.kept < r.kept {
+        let h = side.hots[g.place];
+        side.hots[g.kept] = h.judged(c.voices[g.kept].clip2, c.head.now, c.head.interpolates);
+    }
+    r
+}
+
+// Turns of voices of the tick's phrase, of which the next is one: those that glide, if all before them did and the next
+// does; else that of the next.
+fn stretch(c: &mut Channel, side: &mut Side, t: Tick, g: Going, n: usize, data: &[u32]) -> Going
+    requires { ⌜ Next n (now c) t g × (t .now ≡ now c .head .now) × (t .interpolates ≡ now c .head .interpolates) ⌝ }
+    ensures { λ r. ⌜ (g .place < r .place)
+        × GoTogether t (now («data» .entry)) n (now (c .entry)) (now (side .entry)) g (now (c .exit)) (now (side .exit)) r ⌝ }
+{
+    if g.glides {
+        let upto = next_plain(side, g.place, n);
+        let mut h = lent_channel::glide(c, t, g, upto, data);
+        if (upto <= h.place) & (upto < n) {
+            h = hot_glide(c, side, t, Beat::of(t), h, n, data);
+        }
+        if g.place < h.place {
+            return h;
+        }
+    }
+    let r = lent_channel::turn_next(c, t, g, data);
+    followed(c, side, g, r)
+}
+
+// The next turns, before the n-th voice: none of a voice whose phrase is empty.
+fn go_on(
+    c: &mut Channel,
+    side: &mut Side,
+    g: Going,
+    n: usize,
+    params: Params,
+    m: Measure,
+    data: &[u32],
+) -> Going
+    requires { ⌜ Stands n g × (g .place < n) × (m ≡ measureOf params) ⌝ }
+    ensures { λ r. ⌜ (g .place < r .place)
+        × Together (turningIn params (now (c .entry)) (now («data» .entry))) n (now (c .entry)) (now (side .entry)) g
+        (now (c .exit)) (now (side .exit)) r ⌝ }
+{
+    let k = c.voices[g.place].phrase;
+    let phrase = c.head
+        .phrase_by(k, c.several, c.table[channel::place_of(k)]);
+    if phrase.length == 0 {
+        let r = lent_channel::rest_next(c, g);
+        return followed(c, side, g, r);
+    }
+    let t = Tick::measured(params, m, c.head.moment_on(k, phrase.length));
+    let room = phrase.room(data.len());
+    stretch(c, side, t, g, n, &data[room.from..room.to])
+}
+
+// Each voice takes its turn if its phrase isn't empty; those that are then to be removed leave, and the others move up in
+// order, with their positions.
+fn play(c: &mut Channel, side: &mut Side, params: Params, data: &[u32]) -> Heard
+    ensures { λ r. ⌜ (r ≡ heardOf (playedOf (turningIn params (now (c .entry)) (now («data» .entry))) (now (c .entry))))
+        × (now (c .exit)
+        ≡ playedOf (turningIn params (now (c .entry)) (now («data» .entry))) (now (c .entry)) .channel)
+        × (now (side .exit) ≡ sidePlayed (turningIn params (now (c .entry)) (now («data» .entry))) (now (c .entry))
+        (now (side .entry))) ⌝ }
+{
+    let n = channel::places(c.count);
+    let m = params.measure();
+    let mut g = lent_channel::beginning();
+    while g.place < n {
+        g = go_on(c, side, g, n, params, m, data);
+    }
+    c.count = g.kept;
+    Heard {
+        output: g.output,
+        moved: lent_channel::moved_of(g),
+    }
+}
+
+// A sample of the channel, its plain voices by their positions.
+pub fn with_sample(
+    c: &mut Channel,
+    side: &mut Side,
+    params: Params,
+    input: f32,
+    data: &mut [u32],
+) -> Heard
+    ensures { λ r. ⌜ (r ≡ heardOf (processSampleOf params input (now (c .entry)) (now («data» .entry))))
+        × (now (c .exit) ≡ processSampleOf params input (now (c .entry)) (now («data» .entry)) .channel)
+        × (now («data» .exit) ≡ memoryOf input (now (c .entry)) (now («data» .entry)))
+        × (now (side .exit) ≡ sideAfter params input (now (c .entry)) (now («data» .entry)) (now (side .entry))) ⌝ }
+{
+    lent_channel::record(c, input, data);
+    let mut played = lent_channel::silence();
+    let mut unfinished = false;
+    if c.count != 0 {
+        played = play(c, side, params, data);
+        unfinished = lent_channel::any_unfinished(c);
+    }
+    lent_channel::close(c, params, unfinished, input, played)
+}
+
+// The voice at that place has just started.
+pub fn take(c: &Channel, side: &mut Side, at: usize)
+    ensures { λ r. ⌜ now (side .exit) ≡ takenAt (now (c .entry)) at (now (side .entry)) ⌝ }
+{
+    if at < channel::places(c.count) {
+        side.hots[at] = plain_voice::hot_at(c.voices[at].clip2, c.head.now, c.head.interpolates);
+    }
+}
