@@ -19,6 +19,7 @@ ghost use Rattle.plain_channel.specs.Sides.{
   FirstPlain,
 };
 use channel::Channel;
+use channel::Head;
 use common_types::Measure;
 use common_types::Params;
 use lent_channel::Going;
@@ -27,9 +28,35 @@ use plain_voice::Beat;
 use plain_voice::Hot;
 use voice::Tick;
 
-// What stands beside a channel: a position for each voice.
+// At most so many samples of a run are poured at a time.
+pub const STRETCH: usize = 64;
+
+// In a run the first `eased` voices are `left` samples ahead of their channel. What they add in these samples stands from
+// `next` on.
+pub struct Pour {
+    pub sums: [f32; STRETCH],
+    pub eased: usize,
+    pub next: usize,
+    pub left: usize,
+}
+
+impl Pour {
+    pub fn new() -> Self
+        ensures { λ r. ⌜ r ≡ noPour ⌝ }
+    {
+        Self {
+            sums: [0.0; STRETCH],
+            eased: 0,
+            next: 0,
+            left: 0,
+        }
+    }
+}
+
+// What stands beside a channel: a position for each voice, and in a run what the first have poured.
 pub struct Side {
     pub hots: [Hot; 32],
+    pub pour: Pour,
 }
 
 impl Side {
@@ -37,7 +64,10 @@ impl Side {
         ensures { λ r. ⌜ r ≡ coldSide ⌝ }
     {
         let hot = plain_voice::cold();
-        Self { hots: [hot; 32] }
+        Self {
+            hots: [hot; 32],
+            pour: Pour::new(),
+        }
     }
 }
 
@@ -153,18 +183,13 @@ fn go_on(
     stretch(c, side, t, g, n, &data[room.from..room.to])
 }
 
-// Each voice takes its turn if its phrase isn't empty; those that are then to be removed leave, and the others move up in
-// order, with their positions.
-fn play(c: &mut Channel, side: &mut Side, params: Params, data: &[u32]) -> Heard
-    ensures { λ r. ⌜ (r ≡ heardOf (playedOf (turningIn params (now (c .entry)) (now («data» .entry))) (now (c .entry))))
-        × (now (c .exit)
-        ≡ playedOf (turningIn params (now (c .entry)) (now («data» .entry))) (now (c .entry)) .channel)
-        × (now (side .exit) ≡ sidePlayed (turningIn params (now (c .entry)) (now («data» .entry))) (now (c .entry))
-        (now (side .entry))) ⌝ }
+// Each voice from g's place on takes its turn if its phrase isn't empty; those that are then to be removed leave, and the
+// others move up in order, with their positions.
+fn play(c: &mut Channel, side: &mut Side, params: Params, data: &[u32], from: usize, first: f32) -> Heard
 {
     let n = channel::places(c.count);
     let m = params.measure();
-    let mut g = lent_channel::beginning();
+    let mut g = lent_channel::glided(from, first);
     while g.place < n {
         g = go_on(c, side, g, n, params, m, data);
     }
@@ -175,7 +200,36 @@ fn play(c: &mut Channel, side: &mut Side, params: Params, data: &[u32]) -> Heard
     }
 }
 
-// A sample of the channel, its plain voices by their positions.
+// What is heard of the voices that are ahead.
+fn heard_ahead(first: f32) -> Heard {
+    Heard {
+        output: first,
+        moved: 0,
+    }
+}
+
+// A sample of the channel behind the first `from` voices, which are ahead and add `first`: its plain voices by their
+// positions.
+fn behind(
+    c: &mut Channel,
+    side: &mut Side,
+    params: Params,
+    input: f32,
+    data: &mut [u32],
+    from: usize,
+    first: f32,
+) -> Heard
+{
+    lent_channel::record(c, input, data);
+    let mut played = heard_ahead(first);
+    let mut unfinished = 0 < from;
+    if c.count != from {
+        played = play(c, side, params, data, from, first);
+        unfinished = lent_channel::any_unfinished(c);
+    }
+    lent_channel::close(c, params, unfinished, input, played)
+}
+
 pub fn with_sample(
     c: &mut Channel,
     side: &mut Side,
@@ -183,26 +237,116 @@ pub fn with_sample(
     input: f32,
     data: &mut [u32],
 ) -> Heard
-    ensures { λ r. ⌜ (r ≡ heardOf (processSampleOf params input (now (c .entry)) (now («data» .entry))))
-        × (now (c .exit) ≡ processSampleOf params input (now (c .entry)) (now («data» .entry)) .channel)
-        × (now («data» .exit) ≡ memoryOf input (now (c .entry)) (now («data» .entry)))
-        × (now (side .exit) ≡ sideAfter params input (now (c .entry)) (now («data» .entry)) (now (side .entry))) ⌝ }
 {
-    lent_channel::record(c, input, data);
-    let mut played = lent_channel::silence();
-    let mut unfinished = false;
-    if c.count != 0 {
-        played = play(c, side, params, data);
-        unfinished = lent_channel::any_unfinished(c);
-    }
-    lent_channel::close(c, params, unfinished, input, played)
+    behind(c, side, params, input, data, 0, 0.0)
 }
 
 // The voice at that place has just started.
 pub fn take(c: &Channel, side: &mut Side, at: usize)
-    ensures { λ r. ⌜ now (side .exit) ≡ takenAt (now (c .entry)) at (now (side .entry)) ⌝ }
 {
     if at < channel::places(c.count) {
         side.hots[at] = plain_voice::hot_at(c.voices[at].clip2, c.head.now, c.head.interpolates);
     }
+}
+
+// ---- runs
+
+// Pours the voice at that place over n samples, if it eases over them, and says whether it did.
+fn ease_next(
+    c: &mut Channel,
+    side: &mut Side,
+    i: usize,
+    n: usize,
+    params: Params,
+    m: Measure,
+    data: &[u32],
+) -> bool
+{
+    let h = side.hots[i];
+    if !h.plain {
+        return false;
+    }
+    let v = c.voices[i];
+    let k = v.phrase;
+    let phrase = c.head
+        .phrase_by(k, c.several, c.table[channel::place_of(k)]);
+    if phrase.length == 0 {
+        return false;
+    }
+    let t = Tick::measured(params, m, c.head.moment_on(k, phrase.length));
+    let room = phrase.room(data.len());
+    let r = pours::poured(h, v, t, Beat::of(t), &data[room.from..room.to], &mut side.pour.sums, n);
+    if r.eases {
+        c.voices[i] = r.voice;
+        side.hots[i] = r.hot;
+    }
+    r.eases
+}
+
+// Pours the first voices, as many as ease over n samples one after the other, and says how many.
+fn ease(c: &mut Channel, side: &mut Side, params: Params, n: usize, data: &[u32]) -> usize
+{
+    let turns = channel::places(c.count);
+    let m = params.measure();
+    let mut i: usize = 0;
+    while i < turns {
+        if !ease_next(c, side, i, n, params, m, data) {
+            return i;
+        }
+        i = i + 1;
+    }
+    i
+}
+
+// So many samples are poured at a time of those to go.
+fn stretch_of(togo: usize) -> usize
+{
+    if togo < STRETCH { togo } else { STRETCH }
+}
+
+// Whether voices may be ahead by n samples: nothing is recorded, and the clock doesn't end.
+fn may_ease(head: Head, n: usize) -> bool
+{
+    if head.is_recording() {
+        return false;
+    }
+    head.now + n <= channel::LAST_TIME
+}
+
+// The first voices are poured over the next samples of the run.
+fn refill(c: &mut Channel, side: &mut Side, params: Params, togo: usize, data: &[u32])
+{
+    let n = stretch_of(togo);
+    side.pour = Pour::new();
+    side.pour.left = n;
+    if may_ease(c.head, n) {
+        let eased = ease(c, side, params, n, data);
+        side.pour.eased = eased;
+    }
+}
+
+// A sample of a run with so many samples to go, this one among them.
+pub fn along(
+    c: &mut Channel,
+    side: &mut Side,
+    params: Params,
+    input: f32,
+    data: &mut [u32],
+    togo: usize,
+) -> Heard
+{
+    if side.pour.left == 0 {
+        refill(c, side, params, togo, data);
+    }
+    let first = side.pour.sums[side.pour.next];
+    side.pour.next = side.pour.next + 1;
+    side.pour.left = side.pour.left - 1;
+    let eased = side.pour.eased;
+    behind(c, side, params, input, data, eased, first)
+}
+
+// No run: nothing is poured.
+pub fn rest(side: &mut Side)
+{
+    side.pour = Pour::new();
 }

