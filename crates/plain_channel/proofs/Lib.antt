@@ -1,3 +1,4 @@
 pub mod Pairing
 pub mod Goings
 pub mod Sides
+pub mod Hotting
