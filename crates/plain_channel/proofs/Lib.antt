@@ -1,2 +1,3 @@
 pub mod Sides
 pub mod Hotting
+pub mod Following
