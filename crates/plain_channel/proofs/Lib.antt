@@ -2,4 +2,5 @@ pub mod Pairing
 pub mod Goings
 pub mod Sides
 pub mod Hotting
+pub mod Following
 pub mod Judging
