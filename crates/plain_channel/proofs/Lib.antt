@@ -1,3 +1,4 @@
 pub mod Sides
 pub mod Hotting
 pub mod Following
+pub mod Seeking
