@@ -5,7 +5,7 @@
 --     reads-hot, sets-hot          position i read, and overwritten
 --     points-hot       a pointer to position i is made, as `points` of lent_channel's Holding makes one to a voice
 --     visits-hot       the walk goes to position i, takes a step of its own there, which leaves w in its place, and comes out again
---     copies-hot       so the position is copied;  `stores-hot`, overwritten
+--     copies-hot       so the position is copied;  `stores-hot`, overwritten, and `stores-hot-last`, where that is the last statement of its part
 -- Assumes `Given`.
 use mathlib.Core.Path.{_≡_, refl, sym, _∙_, subst}
 use Prim.Native.Nat.{ℕ, _+_, _*_, _<_, _^_}
@@ -17,10 +17,10 @@ use mir.Syntax.{Opd as Operand, Body, w64, deref, field, place, copy, int, seq, 
 use mir.Val.{vint, vptr}
 use base.Fml.{Share}
 use prog.Memory.{size}
-use prog.Wp.{Heap, Env, Calls, Loops}
+use prog.Wp.{Heap, Env, Calls, Loops, next}
 use ghost.Atoms.{Atoms}
-use types.Kit.{Given, Item, ‵, raw, Post, Goal, runs, Seq, Step, step, _$_, move, drop}
-use types.Run.{Opd, Rv, look-raw, store-raw, stop, fld, from, load, addr, lit, of-opd, bin, assigns}
+use types.Kit.{Given, Item, ‵, raw, Post, post, Goal, prop, runs, Seq, Step, step, _$_, move, drop}
+use types.Run.{Opd, Rv, look-raw, store-raw, stop, fld, from, load, addr, lit, of-opd, bin, assigns, assigns-last}
 use denote.Memory.{cellAt, partAt, lone}
 use denote.Laws.{Is, shows}
 use denote.Array.{Array}
@@ -101,6 +101,10 @@ abbrev Out : {M : Type 1} (𝓤 : URA M) (H : Heap 𝓤) (A : Atoms 𝓤) (q : S
 Out 𝓤 H A q i b o k k′ u w Γ =
     ‵ (cellAt q (O.the-row .mir) (hot .val u ∷ []) b (hot-spot o i)) ∷ ‵ (O.the-row .own (hot-at k i) (hot .val (hot-at k i) ∷ [])) ∷ raw (Back 𝓤 H A q S.the-row O.the-row k′ w b o (hot-spot o i)) ∷ Γ
 
+-- and the way back with w in its place
+abbrev Storing : {M : Type 1} (𝓤 : URA M) (H : Heap 𝓤) (A : Atoms 𝓤) (i b o : ℕ) (k : Side) (w : Hot) → List (Item 𝓤) → List (Item 𝓤)
+Storing 𝓤 H A i b o k w Γ = Out 𝓤 H A fullShare i b o k (with-hot k i w) (hot-at k i) w Γ
+
 module _ {M : Type 1} {𝓤 : URA M} {H : Heap 𝓤} {A : Atoms 𝓤} {K : Type 0} {W : Given 𝓤 H A} (i b o : ℕ) where
   pub points-hot : K → {E : Env 𝓤 H} {Cs : Calls 𝓤 H} {Λ : Loops 𝓤 H} {Q : Post 𝓤 H} {x : Operand} {m r p t : ℕ} {rest : Body} {Γ Γ₁ Γ₂ Γ₃ : List (Item 𝓤)} → i * hot-bytes < 2 ^ 64
       → Opd K W Γ E x (vint w64 i) → Taken K W E Γ m (vint w64 (i * hot-bytes)) Γ₁ → Held K W E Γ₁ r (vptr b o) → Taken K W E Γ₁ p (vptr b (o + 0)) Γ₂
@@ -130,11 +134,17 @@ module _ {M : Type 1} {𝓤 : URA M} {H : Heap 𝓤} {A : Atoms 𝓤} {K : Type 
         puts z (of-opd z (load z (beyond z t₁ (stop z)) (look-raw z 0 refl))) (d₂ (hot .typed 𝓤 H A W (hot-at k i) _ is)))
 
     -- an operand that is w goes to the place behind local t
-    pub stores-hot : (w : Hot) → K → {E : Env 𝓤 H} {Cs : Calls 𝓤 H} {Λ : Loops 𝓤 H} {Q : Post 𝓤 H} {t : ℕ} {x : Operand} {rest : Body} {Γ : List (Item 𝓤)} → i < length (k .hots) → IsHot w
-        → Opd K W (Out 𝓤 H A fullShare i b o k (with-hot k i w) (hot-at k i) w Γ) E x (hot .val w)
-        → Held K W E (Out 𝓤 H A fullShare i b o k (with-hot k i w) (hot-at k i) w Γ) t (vptr b (hot-spot o i))
-        → Seq K W (‵ (partAt S.the-row fullShare (with-hot k i w) b o) ∷ Γ) (runs Cs Λ E rest Q)
-        → Seq K W (‵ (partAt S.the-row fullShare k b o) ∷ Γ) (runs Cs Λ E (seq (assign (place t (deref O′.mir ∷ [])) (rvOpd x)) rest) Q)
-    stores-hot w z lt is x₁ t₁ go =
-        visits-hot fullShare k (with-hot k i w) w z (sets-hot 𝓤 H A W fullShare k i b o lt w) (λ _. is)
-        (λ _. assigns z (of-opd z x₁) (beyond z t₁ (stop z)) (store-raw z 0 refl (hot .typed 𝓤 H A W w _ is))) (λ _. go)
+    module _ (w : Hot) where
+      pub stores-hot : K → {E : Env 𝓤 H} {Cs : Calls 𝓤 H} {Λ : Loops 𝓤 H} {Q : Post 𝓤 H} {t : ℕ} {x : Operand} {rest : Body} {Γ : List (Item 𝓤)} → i < length (k .hots) → IsHot w
+          → Opd K W (Storing 𝓤 H A i b o k w Γ) E x (hot .val w) → Held K W E (Storing 𝓤 H A i b o k w Γ) t (vptr b (hot-spot o i)) → Seq K W (‵ (partAt S.the-row fullShare (with-hot k i w) b o) ∷ Γ) (runs Cs Λ E rest Q)
+          → Seq K W (‵ (partAt S.the-row fullShare k b o) ∷ Γ) (runs Cs Λ E (seq (assign (place t (deref O′.mir ∷ [])) (rvOpd x)) rest) Q)
+      stores-hot z lt is x₁ t₁ go =
+          visits-hot fullShare k (with-hot k i w) w z (sets-hot 𝓤 H A W fullShare k i b o lt w) (λ _. is)
+          (λ _. assigns z (of-opd z x₁) (beyond z t₁ (stop z)) (store-raw z 0 refl (hot .typed 𝓤 H A W w _ is))) (λ _. go)
+
+      pub stores-hot-last : K → {E : Env 𝓤 H} {Cs : Calls 𝓤 H} {Λ : Loops 𝓤 H} {Q : Post 𝓤 H} {t : ℕ} {x : Operand} {Γ : List (Item 𝓤)} → i < length (k .hots) → IsHot w
+          → Opd K W (Storing 𝓤 H A i b o k w Γ) E x (hot .val w) → Held K W E (Storing 𝓤 H A i b o k w Γ) t (vptr b (hot-spot o i)) → Seq K W (‵ (partAt S.the-row fullShare (with-hot k i w) b o) ∷ Γ) (prop (post 𝓤 H Q next))
+          → Seq K W (‵ (partAt S.the-row fullShare k b o) ∷ Γ) (runs Cs Λ E (assign (place t (deref O′.mir ∷ [])) (rvOpd x)) Q)
+      stores-hot-last z lt is x₁ t₁ go =
+          visits-hot fullShare k (with-hot k i w) w z (sets-hot 𝓤 H A W fullShare k i b o lt w) (λ _. is)
+          (λ _. assigns-last z (of-opd z x₁) (beyond z t₁ (stop z)) (store-raw z 0 refl (hot .typed 𝓤 H A W w _ is))) (λ _. go)

@@ -3,4 +3,5 @@ pub mod Goings
 pub mod Sides
 pub mod Hotting
 pub mod Following
+pub mod Seeking
 pub mod Judging
