@@ -2,3 +2,4 @@ pub mod Pairing
 pub mod Goings
 pub mod Sides
 pub mod Hotting
+pub mod Togethers
