@@ -4,4 +4,5 @@ pub mod Sides
 pub mod Hotting
 pub mod Following
 pub mod Seeking
+pub mod Togethers
 pub mod Judging
