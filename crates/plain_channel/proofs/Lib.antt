@@ -6,3 +6,4 @@ pub mod Following
 pub mod Seeking
 pub mod Togethers
 pub mod Judging
+pub mod Resting
