@@ -19,12 +19,12 @@ use base.Fml.{Share}
 use contract.Lifetimes.{Lfts}
 use prog.Memory.{Memory}
 use prog.Routine.{Routine}
-use prog.Wp.{Heap, Out, Env, afterSeq, afterBlock, afterTurn, Wp, atReturn, WpFn, Tables}
+use prog.Wp.{Heap, Out, Env, returns as returnsᴼ, afterSeq, afterBlock, afterTurn, Wp, atReturn, WpFn, Tables}
 use ghost.Atoms.{Atoms, sem}
 use contract.Monad.{Fun, fact}
 use contract.Running.{givenOf, tables, tablesOf}
 use sound.WpLaws.{fmOf}
-use types.Kit.{Given, Item, ‵, raw, _⊛_, some as any, later, ⋆, anyQ, atRet, _$_, _∵_, !, qed, by, move, use1, use2, drop, split, join, pick, fjoin, await, done}
+use types.Kit.{Given, Item, ‵, raw, _⊛_, some as any, later, ⋆, Post as After, post, runs, Go, Seq, anyQ, atRet, _$_, _∵_, !, qed, by, move, use1, use2, drop, split, join, pick, fjoin, await, done}
 use types.Run.{store-raw, stop, lit, of-opd, bin, un, and-then, no-more, first, branches, skips, assigns, stays, leaves-loop, enter, params1, pass0, exec}
 use denote.Laws.{Is, shows}
 use denote.Ref.{RefT}
@@ -44,7 +44,7 @@ use Rattle.walks.proofs.Steps.Rounds.{rounds}
 use Rattle.walks.proofs.Steps.Tails.{after}
 use Rattle.walks.proofs.Steps.Data.{Datum, struct, word, float}
 use Rattle.walks.proofs.Steps.Calls.{Callee, Says, asks}
-use Rattle.walks.proofs.Steps.Locals.{less, no-less, over, its, held, fills, refills, puts, puts-last, arrives, field-of, beyond, gives, gives-within, leaves-only, all-freed, Addresses, env, allocated, passed}
+use Rattle.walks.proofs.Steps.Locals.{less, no-less, over, its, held, fills, refills, puts, puts-last, arrives, field-of, beyond, gives-within, leaves-only, all-freed, Addresses, env, allocated, passed}
 use Rattle.voice.specs.declared.Voice.{Voice}
 use Rattle.voice.specs.declared.Tick.{Tick}
 use Rattle.voice.specs.declared.Quick.{Quick}
@@ -220,6 +220,13 @@ module _ {M : Type 1} (𝓤 : URA M) (H : Heap 𝓤) (A : Atoms 𝓤) (W : Given
     abbrev Left : Out → SProp 𝓤
     Left = afterBlock 𝓤 H (afterSeq 𝓤 H (Wp 𝓤 H (𝓣 .C) (𝓣 .Λ) En (after 3 (code.function .body)) (atReturn 𝓤 H En Ends)) (atReturn 𝓤 H En Ends))
 
+    -- the function returns how far it has come
+    returns : (s : State) (r : ℕ) → Still s r → {p : After 𝓤 H} → post 𝓤 H p returnsᴼ ≡ atReturn 𝓤 H En Ends returnsᴼ → Seq (Go {0}) W (At s) (runs (𝓣 .C) (𝓣 .Λ) En (after 3 (code.function .body)) p)
+    returns s r g e =
+        asks ! known-Glided (s .i, (s .out, tt)) ((refl, small-at s r g), ((refl, g .fits), tt)) (and-then ! (its ! refl) (and-then ! (its ! refl) (no-more !))) (fills ! refl) (λ isg.
+        move ! (5 ∷ []) $ drop ! $ closes hot-gliding κs q q₁ q₂ x y a ! tt (turned (s .voices)) (beside (s .hots)) $ gives-within ! Ends e refl $
+        all-freed ! refl $ by ! (exits hot-gliding κs q q₁ q₂ x y a 𝓤 H A W (given s) (turned (s .voices)) (beside (s .hots)) isg (said s r g)))
+
     module _ (s : State) (r : ℕ) (g : Still s (suc r)) where
       abbrev i : ℕ
       i = s .i
@@ -314,10 +321,8 @@ module _ {M : Type 1} (𝓤 : URA M) (H : Heap 𝓤) (A : Atoms 𝓤) (W : Given
             arrives ! (ap only (quicked .tells w _ is-w)) (fills ! refl (quicked .typed 𝓤 H A W w _ isq)) $
             puts ! (un ! (field-of ! refl refl) tt) (fills ! refl (tt, tt)) $
             first ! $ branches ! (its ! refl)
-            -- it doesn't glide: the function returns
-            (λ _. asks ! known-Glided (i, (out, tt)) ((refl, small-at s (suc r) g), ((refl, g .fits), tt)) (and-then ! (its ! refl) (and-then ! (its ! refl) (no-more !))) (fills ! refl) (λ isg.
-            move ! (5 ∷ []) $ drop ! $ closes hot-gliding κs q q₁ q₂ x y a ! tt (turned l) (beside hs) $ gives-within ! Ends refl refl $
-            all-freed ! refl $ by ! (exits hot-gliding κs q q₁ q₂ x y a 𝓤 H A W (given s) (turned l) (beside hs) isg (said s (suc r) g))))
+            -- it doesn't glide
+            (λ _. leaves-only ! En 10 refl $ returns s (suc r) g refl)
             (λ glides. skips ! $ leaves-only ! En 13 refl $ by ! (glided w (LL.owed Q.the-type Q′.the-laws w _ isq .0) quickly glides)))))))
 
       more : (X : SProp 𝓤) → ((s′ : State) → Still s′ r → ent 𝓤 (⋆ 𝓤 H A (At s′)) X) → ent 𝓤 (⋆ 𝓤 H A (At s)) (Wp 𝓤 H (𝓣 .C) (𝓣 .Λ) En code.Mir.turn-1 (afterTurn 𝓤 H X Left))
@@ -328,10 +333,8 @@ module _ {M : Type 1} (𝓤 : URA M) (H : Heap 𝓤) (A : Atoms 𝓤) (W : Given
           copies-hot i b₁ o₁ (beside hs) fullShare ! beside-inside (held ! refl) (fills ! refl) (λ isp. puts ! (of-opd ! (its ! refl)) (fills ! refl (hot .typed 𝓤 H A W p _ isp)) $
           puts ! (un ! (field-of ! refl refl) tt) (refills ! refl (tt, tt)) $ move ! (1 ∷ []) $
           first ! $ branches ! (its ! refl)
-          -- it isn't plain: the function returns
-          (λ _. asks ! known-Glided (i, (out, tt)) ((refl, small-at s (suc r) g), ((refl, g .fits), tt)) (and-then ! (its ! refl) (and-then ! (its ! refl) (no-more !))) (fills ! refl) (λ isg.
-          move ! (5 ∷ []) $ drop ! $ closes hot-gliding κs q q₁ q₂ x y a ! tt (turned l) (beside hs) $ gives-within ! Ends refl refl $
-          all-freed ! refl $ by ! (exits hot-gliding κs q q₁ q₂ x y a 𝓤 H A W (given s) (turned l) (beside hs) isg (said s (suc r) g))))
+          -- it isn't plain
+          (λ _. leaves-only ! En 10 refl $ returns s (suc r) g refl)
           (λ plain. skips ! $ leaves-only ! En 11 refl $ by ! (turns X go isp plain)))
 
     module _ (s : State) (g : Still s 0) where
@@ -340,9 +343,7 @@ module _ {M : Type 1} (𝓤 : URA M) (H : Heap 𝓤) (A : Atoms 𝓤) (W : Given
       ends X =
           qed W (At s) ∵ exec ! (𝓣 .C) (𝓣 .Λ) En code.Mir.turn-1 (anyQ (afterTurn 𝓤 H X Left)) $
           puts ! (no-less ! (its ! refl) (its ! refl) (omega (arith, g .left))) (fills ! refl (tt, tt)) $ leaves-loop ! (its ! refl) $ exec ! (𝓣 .C) (𝓣 .Λ) En (after 3 (code.function .body)) (atRet En Ends) $
-          asks ! known-Glided (s .i, (s .out, tt)) ((refl, small-at s 0 g), ((refl, g .fits), tt)) (and-then ! (its ! refl) (and-then ! (its ! refl) (no-more !))) (fills ! refl) (λ isg.
-          move ! (5 ∷ []) $ drop ! $ closes hot-gliding κs q q₁ q₂ x y a ! tt (turned (s .voices)) (beside (s .hots)) $ gives ! refl $
-          all-freed ! refl $ by ! (exits hot-gliding κs q q₁ q₂ x y a 𝓤 H A W (given s) (turned (s .voices)) (beside (s .hots)) isg (said s 0 g)))
+          leaves-only ! En 10 refl $ returns s 0 g refl
 
     abbrev first-state : State
     first-state = record { i = g₀ .place; voices = h .voices; hots = k .hots; out = g₀ .output }
