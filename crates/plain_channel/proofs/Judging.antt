@@ -3,7 +3,7 @@
 --     cools            voices have glided up to the next plain one;  `then-hot`, plain ones from there
 --     still-stands, paced-on     there they stand, and the tick is still the channel's
 -- Assumes nothing.
-use mathlib.Core.Path.{_≡_, refl, sym, _∙_, ap, subst}
+use mathlib.Core.Path.{_≡_, refl, sym, _∙_, ap, ap₂}
 use Prim.Native.Nat.{ℕ, _+_, _≤_, _<_}
 use native.Mathlib.Nat.{le-trans}
 use native.Mathlib.Omega.{arith}
@@ -32,6 +32,10 @@ use Rattle.plain_channel.proofs.Sides.{hots-stay, hots-leave, cool-on}
 use Rattle.plain_channel.proofs.Togethers.{together-on}
 
 -- ---- what `followed` leaves gives the same
+-- with where the turns stand and the channel as equations say them
+as-left : (s : Turning) (n : ℕ) (k : Side) (g : Going) {d e : Channel} {l : Side} {r z : Going} → (r ≡ z) × (d ≡ e) → l ≡ followedBy d g r k → restHots s n d l r ≡ restHots s n e (followedBy e g z k) z
+as-left s n k g {d} {r = r} is judged = ap (λ (x : Side). restHots s n d x r) judged ∙ ap₂ (λ (x : Channel) (y : Going). restHots s n x (followedBy x g y k) y) (is .1) (is .0)
+
 module _ (s : Turning) (c : Channel) (k : Side) (g : Going) (n : ℕ) (stands : Stands n g) (below : g .place < n) (voices : length (c .voices) ≡ 32) (hots : length (k .hots) ≡ 32) (w : Voice) (turned : w ≡ s .turn (nextVoice g c)) where
   abbrev at : ℕ
   at = g .kept
@@ -94,12 +98,13 @@ module _ (t : Tick) (m : List ℕ) (n : ℕ) (c : Channel) (k : Side) (g : Going
 
   pub turn-follows : (r : Going) (d : Channel) → (r ≡ nextTurn t m g next .next) × (d ≡ turnedIn g (nextTurn t m g next) c) → (l : Side) → l ≡ followedBy d g r k → (g .place < r .place) × GoTogether t m n c k g d l r
   turn-follows r d is l judged =
-      let goes = turn-goes t m n c g stands below voices own r d is in
-      (goes .0, λ s follows. record {
-        onward = goes .1 s follows;
-        same = ap (λ (x : Side). restHots s n d x r) judged
-            ∙ subst (λ (z : Going). restHots s n d (followedBy d g z k) z ≡ restHots s n c k g) (sym (is .0)) (subst (λ (e : Channel). restHots s n e (followedBy e g (nextTurn t m g next .next) k) (nextTurn t m g next .next) ≡ restHots s n c k g) (sym (is .1)) (turn-judged s follows));
-      })
+      let goes = turn-goes t m n c g stands below voices own r d is in (
+        goes .0,
+        λ s follows. record {
+          onward = goes .1 s follows;
+          same = as-left s n k g is judged ∙ turn-judged s follows;
+        },
+      )
 
 -- ---- as `rest_next` and `followed` have it: the voice is its own turn
 module _ (s : Turning) (n : ℕ) (c : Channel) (k : Side) (g : Going) (stands : Stands n g) (below : g .place < n) (voices : length (c .voices) ≡ 32) (hots : length (k .hots) ≡ 32) (rests : Rests s (nextVoice g c)) where
@@ -109,12 +114,13 @@ module _ (s : Turning) (n : ℕ) (c : Channel) (k : Side) (g : Going) (stands : 
 
   pub rest-follows : (r : Going) (d : Channel) → (r ≡ restedOf g) × (d ≡ restedIn g c) → (l : Side) → l ≡ followedBy d g r k → (g .place < r .place) × Together s n c k g d l r
   rest-follows r d is l judged =
-      let goes = rest-goes s n c g stands below voices rests r d is in
-      (goes .0, record {
-        onward = goes .1;
-        same = ap (λ (x : Side). restHots s n d x r) judged
-            ∙ subst (λ (z : Going). restHots s n d (followedBy d g z k) z ≡ restHots s n c k g) (sym (is .0)) (subst (λ (e : Channel). restHots s n e (followedBy e g (restedOf g) k) (restedOf g) ≡ restHots s n c k g) (sym (is .1)) rest-judged);
-      })
+      let goes = rest-goes s n c g stands below voices rests r d is in (
+        goes .0,
+        record {
+          onward = goes .1;
+          same = as-left s n k g is judged ∙ rest-judged;
+        },
+      )
 
 -- ---- voices glide up to the next plain one
 module _ (t : Tick) (m : List ℕ) (n j : ℕ) (c d : Channel) (k : Side) (g h : Going) (glided : Glides t m j c g d h) (first : FirstPlain k (g .place) n j) (few : n ≤ 32) (level : g .kept ≡ g .place) (voices : length (c .voices) ≡ 32) (after : length (d .voices) ≡ 32) (hots : length (k .hots) ≡ 32) where
