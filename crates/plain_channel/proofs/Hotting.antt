@@ -41,6 +41,7 @@ use Rattle.plain_voice.proofs.Hot.Laws as O′
 use Rattle.plain_voice.proofs.Beat as B
 use Rattle.plain_voice.proofs.Beat.Laws as B′
 use Rattle.plain_channel.specs.declared.Side.{Side}
+use Rattle.plain_channel.specs.Sides.{withHots}
 use Rattle.plain_channel.proofs.Side as S
 use Rattle.plain_channel.proofs.Side.Laws as S′
 
@@ -66,7 +67,7 @@ abbrev pub hot-at : Side → ℕ → Hot
 hot-at k i = getD (k .hots) i cold
 
 abbrev pub with-hot : Side → ℕ → Hot → Side
-with-hot k i y = record { hots = set (k .hots) i y }
+with-hot k i y = withHots (set (k .hots) i y) k
 
 abbrev pub IsSide : Side → Type 0
 IsSide k = Is S.the-row k (side .val k ∷ [])

@@ -27,12 +27,21 @@ use Rattle.lent_channel.specs.declared.Going.{Going}
 use Rattle.lent_channel.specs.Turns.{nextVoice, nextTurn, turnedIn, restedOf, restedIn, Stands, Onward, Follows, Glides}
 use Rattle.lent_channel.proofs.Turns.{turn-goes, rest-goes, onward-else}
 use Rattle.plain_channel.specs.declared.Side.{Side}
-use Rattle.plain_channel.specs.Sides.{restHots, followedBy, Together, GoTogether, GlideTogether, Paced, FirstPlain}
+use Rattle.plain_channel.specs.Sides.{withHots, restHots, followedBy, Together, GoTogether, GlideTogether, Paced, FirstPlain}
 use Rattle.plain_channel.proofs.Sides.{hots-stay, hots-leave, cool-on}
 use Rattle.plain_channel.proofs.Togethers.{together-on}
 
 -- ---- what `followed` leaves gives the same
 -- with where the turns stand and the channel as equations say them
+-- what is poured is left
+as-poured : (d : Channel) (k : Side) (g r : Going) (l : Side) → l ≡ followedBy d g r k → l .pour ≡ k .pour
+unfolding followedBy
+as-poured d k g r l judged = ap (λ (x : Side). x .pour) judged ∙ go (ltb (g .kept) (r .kept))
+  where
+    go : (b : Bool) → cond b (withHots (set (k .hots) (g .kept) (judgedOf (getD (k .hots) (g .place) cold) (d .head .interpolates) (getD (d .voices) (g .kept) blankVoice .clip2) (d .head .now))) k) k .pour ≡ k .pour
+    go true = refl
+    go false = refl
+
 as-left : (s : Turning) (n : ℕ) (k : Side) (g : Going) {d e : Channel} {l : Side} {r z : Going} → (r ≡ z) × (d ≡ e) → l ≡ followedBy d g r k → restHots s n d l r ≡ restHots s n e (followedBy e g z k) z
 as-left s n k g {d} {r = r} is judged = ap (λ (x : Side). restHots s n d x r) judged ∙ ap₂ (λ (x : Channel) (y : Going). restHots s n x (followedBy x g y k) y) (is .1) (is .0)
 
@@ -51,15 +60,15 @@ module _ (s : Turning) (c : Channel) (k : Side) (g : Going) (n : ℕ) (stands : 
       let d : Channel = withVoices (set (c .voices) at w) (c .count) c in
       let far : ltb at (r .kept) ≡ true = lt-ltb at (r .kept) (omega (arith, kept)) in
       let there : getD (set (c .voices) at w) at blankVoice ≡ w = getD-set-same (c .voices) at w blankVoice (omega (arith, stands .up, below, stands .few, voices)) in
-      ap (λ (z : Bool). restHots s n d (cond z (record { hots = set (k .hots) at (judged (getD (set (c .voices) at w) at blankVoice)) }) k) r) far
-      ∙ ap (λ (u : Voice). restHots s n d (record { hots = set (k .hots) at (judged u) }) r) there
+      ap (λ (z : Bool). restHots s n d (cond z (withHots (set (k .hots) at (judged (getD (set (c .voices) at w) at blankVoice))) k) k) r) far
+      ∙ ap (λ (u : Voice). restHots s n d (withHots (set (k .hots) at (judged u)) k) r) there
       ∙ hots-stay s c k g n (stands .few) below voices hots w turned stays (stands .up) r place kept
 
   -- it leaves
   follows-leave : s .leaves w ≡ true → (r : Going) → r .place ≡ g .place + 1 → r .kept ≡ at → restHots s n c (followedBy c g r k) r ≡ restHots s n c k g
   unfolding followedBy
   follows-leave gone r place kept =
-      ap (λ (z : Bool). restHots s n c (cond z (record { hots = set (k .hots) at (judged (getD (c .voices) at blankVoice)) }) k) r) (le-ltb at (r .kept) (omega (arith, kept)))
+      ap (λ (z : Bool). restHots s n c (cond z (withHots (set (k .hots) at (judged (getD (c .voices) at blankVoice))) k) k) r) (le-ltb at (r .kept) (omega (arith, kept)))
       ∙ hots-leave s c k g n (stands .few) below voices hots w turned gone r place kept
 
 -- ---- as `turn_next` and `followed` have it
@@ -103,6 +112,7 @@ module _ (t : Tick) (m : List ℕ) (n : ℕ) (c : Channel) (k : Side) (g : Going
         λ s follows. record {
           onward = goes .1 s follows;
           same = as-left s n k g is judged ∙ turn-judged s follows;
+          pour = as-poured d k g r l judged;
         },
       )
 
@@ -119,6 +129,7 @@ module _ (s : Turning) (n : ℕ) (c : Channel) (k : Side) (g : Going) (stands : 
         record {
           onward = goes .1;
           same = as-left s n k g is judged ∙ rest-judged;
+          pour = as-poured d k g r l judged;
         },
       )
 

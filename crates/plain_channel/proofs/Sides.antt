@@ -27,10 +27,7 @@ use Rattle.lent_channel.specs.declared.Going.{Going}
 use Rattle.lent_channel.specs.Turns.{begun, glidedTo, Follows, Glides}
 use Rattle.lent_channel.proofs.Turns.{glide-on, onward-else}
 use Rattle.plain_channel.specs.declared.Side.{Side}
-use Rattle.plain_channel.specs.Sides.{hotsKept, sidePlayed, restHots, Together, GoTogether, Paced, FirstPlain}
-
-abbrev withHots : List Hot → Side
-withHots hs = record { hots = hs }
+use Rattle.plain_channel.specs.Sides.{withHots, hotsKept, sidePlayed, restHots, Together, GoTogether, Paced, FirstPlain}
 
 -- a voice that isn't plain keeps what stands beside it
 left : (h : Hot) (on : Bool) (x : Clip) (now : ℕ) → h .plain ≡ false → judgedOf h on x now ≡ h
@@ -74,7 +71,7 @@ module _ (s : Turning) (c : Channel) (k : Side) (g : Going) (n : ℕ) (few : n �
 
     -- it stays, and stands at its place among those that do
     pub hots-stay : s .leaves w ≡ false → at ≤ i → (r : Going) → r .place ≡ i + 1 → r .kept ≡ at + 1
-        → restHots s n (withVoices (set (c .voices) at w) (c .count) c) (withHots (set (k .hots) at (judged w))) r ≡ restHots s n c k g
+        → restHots s n (withVoices (set (c .voices) at w) (c .count) c) (withHots (set (k .hots) at (judged w)) k) r ≡ restHots s n c k g
     unfolding restHots
     hots-stay stays up r place kept =
         ap₂ (λ (p q : ℕ). sets (set (k .hots) at (judged w)) q (hotsKept s (c .head) (slice p n (set (c .voices) at w)) (slice p n (set (k .hots) at (judged w))))) place (kept ∙ add-one at)
@@ -100,7 +97,7 @@ module _ (s : Turning) (c : Channel) (k : Side) (g : Going) (n : ℕ) (few : n �
 -- ---- a plain voice glides: its position moves by one
 module _ (t : Tick) (b : Beat) (m : List ℕ) (n : ℕ) (c : Channel) (k : Side) (i : ℕ) (out : Float) (v : Voice) (h : Hot) (r : Quick) where
   pub hot-on : n ≤ 32 → i < n → length (c .voices) ≡ 32 → length (k .hots) ≡ 32 → getD (c .voices) i blankVoice ≡ v → getD (k .hots) i cold ≡ h → Paced c t b → PlainQuickly h v t b m r → h .plain ≡ true → r .glides ≡ true
-      → GoTogether t m n c k (glidedTo i out) (withVoices (set (c .voices) i (r .voice)) (c .count) c) (withHots (set (k .hots) i (steppedOf h (b .length)))) (glidedTo (i + 1) (add binary32 out (r .voice .«last_sample_value»)))
+      → GoTogether t m n c k (glidedTo i out) (withVoices (set (c .voices) i (r .voice)) (c .count) c) (withHots (set (k .hots) i (steppedOf h (b .length))) k) (glidedTo (i + 1) (add binary32 out (r .voice .«last_sample_value»)))
   unfolding glidedTo turningBy
   hot-on few below voices hots is-voice is-hot paced quick plain so s follows =
       let promised = quick (paced .beat) in
@@ -113,8 +110,9 @@ module _ (t : Tick) (b : Beat) (m : List ℕ) (n : ℕ) (c : Channel) (k : Side)
       promised .1 so plain ∙ ap₂ (λ (on : Bool) (now : ℕ). judgedOf h on (w .clip2) now) (paced .setting) (paced .now) ∙ ap (λ (x : Hot). judgedOf x (c .head .interpolates) (w .clip2) (c .head .now)) (sym is-hot) in
       record {
         onward = glide-on t m n c i out v r few below voices is-voice (promised .0) so s follows;
-        same = ap (λ (x : Hot). restHots s n (withVoices (set (c .voices) i w) (c .count) c) (withHots (set (k .hots) i x)) (glidedTo (i + 1) (add binary32 out (w .«last_sample_value»)))) moved
+        same = ap (λ (x : Hot). restHots s n (withVoices (set (c .voices) i w) (c .count) c) (withHots (set (k .hots) i x) k) (glidedTo (i + 1) (add binary32 out (w .«last_sample_value»)))) moved
             ∙ hots-stay s c k (glidedTo i out) n few below voices hots w (same ∙ ap (s .turn) (sym is-voice)) stays (le-refl i) _ refl refl;
+        pour = refl;
       }
 
 -- ---- voices glide up to the next plain one: what stands beside them is what it was
@@ -159,6 +157,7 @@ module _ (t : Tick) (m : List ℕ) (n j : ℕ) (c d : Channel) (k : Side) (g h :
               ∙ ap (λ (vs : List Voice). sets (k .hots) (h .place) (hotsKept s (c .head) vs (slice (h .place) n (k .hots)))) (same-behind (d .voices) (c .voices) (h .place) n few after voices (glided .rest))
               ∙ ap (λ (p : ℕ). sets (k .hots) p (hotsKept s (c .head) (slice p n (c .voices)) (slice p n (k .hots)))) (sym far)
               ∙ upto (h .place - g .place) (omega (arith, far));
+          pour = refl;
         }
 
 -- ---- from the first turn to the last

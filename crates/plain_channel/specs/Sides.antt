@@ -8,6 +8,7 @@ use lib.Dec.{ltb}
 use lib.ListN.{take, getD, set, replicate}
 use lib.Seq.{sets, slice}
 use lib.Ieee.{Float}
+use Rattle.binary32.specs.Leaves.{zero32}
 use Rattle.common_types.specs.declared.Params.{Params}
 use Rattle.voice.specs.declared.Voice.{Voice}
 use Rattle.voice.specs.declared.Tick.{Tick}
@@ -20,18 +21,25 @@ use Rattle.channel.specs.declared.Channel.{Channel}
 use Rattle.channel.specs.Channels.{live, Turning, turningIn, takenOf, memoryOf}
 use Rattle.lent_channel.specs.declared.Going.{Going}
 use Rattle.lent_channel.specs.Turns.{Stands, Onward, Follows}
+use Rattle.plain_channel.specs.declared.Pour.{Pour}
 use Rattle.plain_channel.specs.declared.Side.{Side}
+
+-- nothing is poured
+unfoldable pub noPour : Pour
+noPour = record { sums = replicate 64 zero32; eased = 0; next = 0; left = 0 }
 
 -- no voice is plain
 unfoldable pub coldSide : Side
-coldSide = record { hots = replicate 32 cold }
+coldSide = record { hots = replicate 32 cold; pour = noPour }
+
+-- other positions beside the same
+abbrev pub withHots : List Hot → Side → Side
+withHots hs k = record { hots = hs; pour = k .pour }
 
 -- ---- a start: the voice at that place is taken, or not
 unfoldable pub takenAt : Channel → ℕ → Side → Side
 takenAt c at k = cond (ltb at (min (c .count) 32))
-    (record {
-      hots = set (k .hots) at (hotAt (c .head .interpolates) (getD (c .voices) at blankVoice .clip2) (c .head .now));
-    })
+    (withHots (set (k .hots) at (hotAt (c .head .interpolates) (getD (c .voices) at blankVoice .clip2) (c .head .now))) k)
     k
 
 -- ---- a sample
@@ -46,7 +54,7 @@ hotsKept s t (v ∷ vs) (h ∷ hs) =
     (judgedOf h (t .interpolates) (w .clip2) (t .now) ∷ hotsKept s t vs hs)
 
 unfoldable pub sidePlayed : Turning → Channel → Side → Side
-sidePlayed s c k = record { hots = sets (k .hots) 0 (hotsKept s (c .head) (live c) (take (c .count) (k .hots))) }
+sidePlayed s c k = withHots (sets (k .hots) 0 (hotsKept s (c .head) (live c) (take (c .count) (k .hots)))) k
 
 -- the voices play once the sample is recorded
 unfoldable pub sideAfter : Params → Float → Channel → List ℕ → Side → Side
@@ -64,16 +72,15 @@ restHots s n c k g = sets (k .hots) (g .kept)
 -- the voice at g's place has taken its turn or rested, after which c and r are: its position is judged if it stayed
 unfoldable pub followedBy : Channel → Going → Going → Side → Side
 followedBy c g r k = cond (ltb (g .kept) (r .kept))
-    (record {
-      hots = set (k .hots) (g .kept) (judgedOf (getD (k .hots) (g .place) cold) (c .head .interpolates)
-          (getD (c .voices) (g .kept) blankVoice .clip2) (c .head .now));
-    })
+    (withHots (set (k .hots) (g .kept) (judgedOf (getD (k .hots) (g .place) cold) (c .head .interpolates)
+    (getD (c .voices) (g .kept) blankVoice .clip2) (c .head .now))) k)
     k
 
 -- from channel c, side k and g to d, l and h turns have gone on: what is left of them gives the same
 pub record Together (s : Turning) (n : ℕ) (c : Channel) (k : Side) (g : Going) (d : Channel) (l : Side) (h : Going) : Type 0 where
   pub onward : Onward s n c g d h
   pub same : restHots s n d l h ≡ restHots s n c k g
+  pub pour : l .pour ≡ k .pour
 
 -- turns of voices of the tick's phrase, whatever others do
 abbrev pub GoTogether : Tick → List ℕ → ℕ → Channel → Side → Going → Channel → Side → Going → Type 0

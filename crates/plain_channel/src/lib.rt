@@ -1,22 +1,36 @@
 // One channel's sample in place, with the positions of plain voices lent beside the channel (request 9/12). The channel is
 // the one that `lent_channel` leaves, whatever the positions are.
 ghost use mathlib.Core.Path.{_≡_};
-ghost use Prim.Native.Nat.{_≤_, _<_};
+ghost use Prim.Native.Nat.{_≤_, _<_, min};
 ghost use mathlib.Core.List.{[], _∷_};
 ghost use Rattle.common_types.specs.Settings.{measureOf};
-ghost use Rattle.channel.specs.Channels.{turningIn, playedOf, processSampleOf, memoryOf};
+ghost use Rattle.channel.specs.Channels.{turningIn, memoryOf};
 ghost use Rattle.lent_channel.specs.Turns.{heardOf, Stands, Next};
 ghost use Rattle.plain_channel.specs.Sides.{
+  noPour,
   coldSide,
   takenAt,
-  sidePlayed,
-  sideAfter,
   followedBy,
   Together,
   GoTogether,
   GlideTogether,
   Paced,
   FirstPlain,
+};
+ghost use Rattle.plain_channel.specs.Ahead.{
+  behindOf,
+  sideBehind,
+  BehindSome,
+  PlaysFrom,
+  restedSide,
+  mayEase,
+  stretchOf,
+  Easing,
+  Eases,
+  EasedBy,
+  Refilled,
+  InRun,
+  Along,
 };
 use channel::Channel;
 use channel::Head;
@@ -185,7 +199,17 @@ fn go_on(
 
 // Each voice from g's place on takes its turn if its phrase isn't empty; those that are then to be removed leave, and the
 // others move up in order, with their positions.
-fn play(c: &mut Channel, side: &mut Side, params: Params, data: &[u32], from: usize, first: f32) -> Heard
+fn play(
+    c: &mut Channel,
+    side: &mut Side,
+    params: Params,
+    from: usize,
+    first: f32,
+    data: &[u32],
+) -> Heard
+    requires { ⌜ from ≤ min (now c .count) 32 ⌝ }
+    ensures { λ r. ⌜ PlaysFrom params (now («data» .entry)) from first (now (c .entry)) (now (side .entry)) r (now (c .exit))
+        (now (side .exit)) ⌝ }
 {
     let n = channel::places(c.count);
     let m = params.measure();
@@ -201,7 +225,9 @@ fn play(c: &mut Channel, side: &mut Side, params: Params, data: &[u32], from: us
 }
 
 // What is heard of the voices that are ahead.
-fn heard_ahead(first: f32) -> Heard {
+fn heard_ahead(first: f32) -> Heard
+    ensures { λ r. ⌜ r ≡ record { output = first; moved = 0 } ⌝ }
+{
     Heard {
         output: first,
         moved: 0,
@@ -210,7 +236,7 @@ fn heard_ahead(first: f32) -> Heard {
 
 // A sample of the channel behind the first `from` voices, which are ahead and add `first`: its plain voices by their
 // positions.
-fn behind(
+pub fn behind(
     c: &mut Channel,
     side: &mut Side,
     params: Params,
@@ -219,30 +245,25 @@ fn behind(
     from: usize,
     first: f32,
 ) -> Heard
+    requires { ⌜ BehindSome from (now c) ⌝ }
+    ensures { λ r. ⌜ (r ≡ heardOf (behindOf params input from first (now (c .entry)) (now («data» .entry))))
+        × (now (c .exit) ≡ behindOf params input from first (now (c .entry)) (now («data» .entry)) .channel)
+        × (now («data» .exit) ≡ memoryOf input (now (c .entry)) (now («data» .entry)))
+        × (now (side .exit) ≡ sideBehind params input from (now (c .entry)) (now («data» .entry)) (now (side .entry))) ⌝ }
 {
     lent_channel::record(c, input, data);
     let mut played = heard_ahead(first);
     let mut unfinished = 0 < from;
     if c.count != from {
-        played = play(c, side, params, data, from, first);
+        played = play(c, side, params, from, first, data);
         unfinished = lent_channel::any_unfinished(c);
     }
     lent_channel::close(c, params, unfinished, input, played)
 }
 
-pub fn with_sample(
-    c: &mut Channel,
-    side: &mut Side,
-    params: Params,
-    input: f32,
-    data: &mut [u32],
-) -> Heard
-{
-    behind(c, side, params, input, data, 0, 0.0)
-}
-
 // The voice at that place has just started.
 pub fn take(c: &Channel, side: &mut Side, at: usize)
+    ensures { λ r. ⌜ now (side .exit) ≡ takenAt (now (c .entry)) at (now (side .entry)) ⌝ }
 {
     if at < channel::places(c.count) {
         side.hots[at] = plain_voice::hot_at(c.voices[at].clip2, c.head.now, c.head.interpolates);
@@ -261,6 +282,9 @@ fn ease_next(
     m: Measure,
     data: &[u32],
 ) -> bool
+    requires { ⌜ Easing params (now «data») i n (now c) (now side) × (i < min (now c .count) 32) × (m ≡ measureOf params) ⌝ }
+    ensures { λ r. ⌜ Eases params (now («data» .entry)) i n (now (c .entry)) (now (side .entry)) r (now (c .exit))
+        (now (side .exit)) ⌝ }
 {
     let h = side.hots[i];
     if !h.plain {
@@ -285,6 +309,9 @@ fn ease_next(
 
 // Pours the first voices, as many as ease over n samples one after the other, and says how many.
 fn ease(c: &mut Channel, side: &mut Side, params: Params, n: usize, data: &[u32]) -> usize
+    requires { ⌜ Easing params (now «data») 0 n (now c) (now side) ⌝ }
+    ensures { λ r. ⌜ EasedBy params (now («data» .entry)) n (now (c .entry)) (now (side .entry)) r (now (c .exit))
+        (now (side .exit)) ⌝ }
 {
     let turns = channel::places(c.count);
     let m = params.measure();
@@ -300,21 +327,28 @@ fn ease(c: &mut Channel, side: &mut Side, params: Params, n: usize, data: &[u32]
 
 // So many samples are poured at a time of those to go.
 fn stretch_of(togo: usize) -> usize
+    ensures { λ r. ⌜ r ≡ stretchOf togo ⌝ }
 {
     if togo < STRETCH { togo } else { STRETCH }
 }
 
 // Whether voices may be ahead by n samples: nothing is recorded, and the clock doesn't end.
 fn may_ease(head: Head, n: usize) -> bool
+    ensures { λ r. ⌜ r ≡ mayEase head n ⌝ }
 {
     if head.is_recording() {
         return false;
     }
-    head.now + n <= channel::LAST_TIME
+    if channel::LAST_TIME < n {
+        return false;
+    }
+    head.now <= channel::LAST_TIME - n
 }
 
 // The first voices are poured over the next samples of the run.
 fn refill(c: &mut Channel, side: &mut Side, params: Params, togo: usize, data: &[u32])
+    ensures { λ r. ⌜ Refilled params (now («data» .entry)) togo (now (c .entry)) (now (side .entry)) (now (c .exit))
+        (now (side .exit)) ⌝ }
 {
     let n = stretch_of(togo);
     side.pour = Pour::new();
@@ -334,6 +368,9 @@ pub fn along(
     data: &mut [u32],
     togo: usize,
 ) -> Heard
+    requires { ⌜ InRun params (now «data») togo (now c) (now side) ⌝ }
+    ensures { λ r. ⌜ Along params input (now («data» .entry)) togo (now (c .entry)) (now (side .entry)) r (now (c .exit))
+        (now (side .exit)) (now («data» .exit)) ⌝ }
 {
     if side.pour.left == 0 {
         refill(c, side, params, togo, data);
@@ -347,6 +384,7 @@ pub fn along(
 
 // No run: nothing is poured.
 pub fn rest(side: &mut Side)
+    ensures { λ r. ⌜ now (side .exit) ≡ restedSide (now (side .entry)) ⌝ }
 {
     side.pour = Pour::new();
 }

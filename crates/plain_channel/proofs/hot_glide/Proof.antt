@@ -82,7 +82,7 @@ use Rattle.lent_channel.proofs.glided.Symbol as glided-def
 use Rattle.lent_channel.proofs.glided.Symbol.{name as #lent-channel·glided}
 use Rattle.lent_channel.proofs.glided.Met as glided-thm
 use Rattle.plain_channel.specs.declared.Side.{Side}
-use Rattle.plain_channel.specs.Sides.{GoTogether, GlideTogether, Paced}
+use Rattle.plain_channel.specs.Sides.{withHots, GoTogether, GlideTogether, Paced}
 use Rattle.plain_channel.proofs.Sides.{hot-on}
 use Rattle.plain_channel.proofs.Togethers.{goes-together, together-from}
 use Rattle.plain_channel.proofs.Hotting.{hot, hot-bytes, hots-are, points-hot, copies-hot, stores-hot}
@@ -118,9 +118,6 @@ record State : Type 0 where
 
 abbrev given : State → Going
 given s = glidedTo (s .i) (s .out)
-
-abbrev beside : List Hot → Side
-beside l = record { hots = l }
 
 module _ {M : Type 1} (𝓤 : URA M) (H : Heap 𝓤) (A : Atoms 𝓤) (W : Given 𝓤 H A) (at-mem : Memory → SProp 𝓤) (run : Routine → Fun 𝓤) (𝓣 : Tables 𝓤 H)
     (known-Turn : Triple 𝓤 (𝓣 .C #plain-voice·Hot·quick) (Turn 𝓤 H A at-mem run)) (known-Stepped : Says 𝓤 H A 𝓣 #plain-voice·Hot·stepped stepping)
@@ -167,6 +164,9 @@ module _ {M : Type 1} (𝓤 : URA M) (H : Heap 𝓤) (A : Atoms 𝓤) (W : Given
 
   abbrev turned : List Voice → Channel
   turned l = withVoices l (h .count) h
+
+  abbrev beside : List Hot → Side
+  beside l = withHots l k
 
   paced : (l : List Voice) → Paced (turned l) t pace
   paced l = record { beat = may .2 .beat; now = may .2 .now; setting = may .2 .setting }

@@ -9,7 +9,7 @@ cold-requires c κs = search needs
 
 returns : tie.Need-returns
 unfolding coldSide
-returns c = simp (c .cold .ensures)
+returns c = simp (c .before .cold .ensures, c .new .ensures)
 
 pub new-spec : {M : Type 1} → statement M
 new-spec = tie.close (tie.spec cold-requires returns)
