@@ -5,3 +5,4 @@ pub mod Stepping
 pub mod Taking
 pub mod Sampling
 pub mod Single
+pub mod Named
