@@ -22,7 +22,6 @@ use types.SemTy.{Body as Holds-in}
 use types.Tokens.{lft-new, lft-end}
 use types.Run.{Opds}
 use denote.Exit.{yes}
-use denote.RattleType.{RattleType}
 use denote.Memory.{mem, partAt}
 use denote.Laws.{Is, shows}
 use denote.Plain.{uint-makes}

@@ -39,7 +39,7 @@ use denote.Ref.{RefT, MutRef, ShrRef, now, ptr-vals, mut-tells}
 use denote.Lend.{lends-shr}
 use denote.Index.{place-is}
 use denote.Signature.{plain}
-use denote.Builtin.{u8, u32, usize, f32, RefMutOf, SliceRefMutOf}
+use denote.Builtin.{u32, usize, f32, RefMutOf, SliceRefMutOf}
 use denote.Steps.{only, owned, peeks, heard, nothing}
 use denote.Triple.Entry.{onEntry}
 use denote.Triple.Spec.{Meets, tripleOf}
