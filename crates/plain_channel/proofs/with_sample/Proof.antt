@@ -325,8 +325,8 @@ module _ {M : Type 1} (𝓤 : URA M) (H : Heap 𝓤) (A : Atoms 𝓤) (W : Given
       puts ! (bin ! (its ! refl) (lit ! tt) tt) (fills ! refl (tt, tt)) $
       first ! $ branches ! (its ! refl)
       (λ _.
-      puts ! (addr ! (beyond ! (holds ! refl) (stop !))) (fills ! refl (tt, tt)) $ puts ! (addr ! (beyond ! (holds ! refl) (stop !))) (fills ! refl (tt, tt)) $
       -- the voices play: the channel and the side are lent on, and the memory is shared
+      puts ! (addr ! (beyond ! (holds ! refl) (stop !))) (fills ! refl (tt, tt)) $ puts ! (addr ! (beyond ! (holds ! refl) (stop !))) (fills ! refl (tt, tt)) $
       puts ! (addr ! (beyond-field ! refl refl refl (stop !))) (fills ! refl (tt, tt)) $
       puts-as ! (ap (sliceVal (b₂, o₂)) (sym long)) (agg ! (and-then ! (its ! refl) (and-then ! (field-of ! refl refl) (no-more !)))) (fills ! refl (tt, (tt, (record { fits = room′ .0 }, tt)))) $
       lft-new ! tt (λ η. move ! (6 ∷ 5 ∷ []) $ rewrite ! 0 (λ (n : ℕ). ‵ (MutSlice (named 2) κ₂ u32 .own (at-memory (xm .name) ms′) (sliceVal (b₂, o₂) n ∷ []))) (sym long) refl $
