@@ -30,28 +30,25 @@ pub struct Pouring {
 fn eases(h: Hot, v: Voice, t: Tick, b: Beat, room: usize, n: usize) -> bool
     ensures { λ r. ⌜ (r ≡ true → b ≡ beatOf t → EasesAt h v t b room n) ⌝ }
 {
-    if !h.plain | v.finished {
+    if LAST_WHOLE < n {
         return false;
     }
-    if (v.phrase != t.phrase) | (n < 1) | (LAST_WHOLE < n) | (room < b.total as usize) {
-        return false;
-    }
+    let last = LAST_WHOLE - n;
     let volume = v.volume;
     let clip2 = v.clip2;
-    if !volume.is_static() | (t.now < clip2.since) {
-        return false;
-    }
-    if !h.agrees(clip2, t, b, v.speed * t.speed, LAST_WHOLE - n) {
-        return false;
-    }
-    if !clip::whole_in(0, LAST_WHOLE - n, v.played) {
-        return false;
-    }
-    if !t.once {
-        return true;
-    }
     let span = t.span;
-    v.played + binary32::usize_to_f32(n) < span.whole_length
+    h.plain
+        & (!v.finished
+            & ((v.phrase == t.phrase)
+                & ((1 <= n)
+                    & ((b.total as usize <= room)
+                        & (volume.is_static()
+                            & ((clip2.since <= t.now)
+                                & (h.agrees(clip2, t, b, v.speed * t.speed, last)
+                                    & (clip::whole_in(0, last, v.played)
+                                        & (!t.once
+                                            | (v.played + binary32::usize_to_f32(n)
+                                                < span.whole_length))))))))))
 }
 
 // ---- what it comes to

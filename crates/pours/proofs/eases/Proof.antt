@@ -1,0 +1,36 @@
+use borrow.Author.Needs.{needs}
+use Rattle.pours.proofs.eases.Statement.{statement}
+use Rattle.pours.proofs.eases.Tie as tie
+
+returns : tie.Need-returns
+returns c = ?
+
+cast-result : tie.Need-cast-result
+cast-result c = search needs
+
+is-static-requires : tie.Need-is-static-requires
+is-static-requires c κs = search needs
+
+agrees-requires : tie.Need-agrees-requires
+agrees-requires c κs = search needs
+
+whole-in-requires : tie.Need-whole-in-requires
+whole-in-requires c κs = search needs
+
+usize-to-f32-requires : tie.Need-usize-to-f32-requires
+usize-to-f32-requires c κs = search needs
+
+returns-2 : tie.Need-returns-2
+returns-2 c = ?
+
+pub eases-spec : {M : Type 1} → statement M
+eases-spec =
+    tie.close
+    (tie.spec
+    returns
+    cast-result
+    is-static-requires
+    agrees-requires
+    whole-in-requires
+    usize-to-f32-requires
+    returns-2)
