@@ -1,2 +1,3 @@
 pub mod Added
+pub mod Straight
 pub mod Easing
