@@ -1,7 +1,7 @@
 -- When a plain voice eases over n samples, and what it then comes to in one go (request 9/12, for runs). Definitions only.
 -- Assumes nothing.
 use mathlib.Core.Path.{_≡_}
-use Prim.Native.Nat.{ℕ, _+_, _*_, _/_, _%_, _^_, _≤_, _<_}
+use Prim.Native.Nat.{ℕ, _+_, _-_, _*_, _/_, _%_, _^_, _≤_, _<_}
 use mathlib.Core.Bool.{true, false}
 use mathlib.Core.List.{List}
 use lib.Dec.{T}
@@ -52,6 +52,11 @@ pub record EasesAt (h : Hot) (v : Voice) (t : Tick) (b : Beat) (room n : ℕ) : 
 -- what it adds from that index
 abbrev pub termAt : List ℕ → Float → ℕ → Float
 termAt m level index = mul binary32 (recordedValueOf m index) level
+
+-- r is what was added before the last of n terms, which may be what was added before all of them
+pub record LastButOne (before : Float) (term : ℕ → Float) (n : ℕ) (r : Float) : Type 0 where
+  pub first : n < 2 → r ≡ before
+  pub later : 2 ≤ n → r ≡ term (n - 2)
 
 -- the voice as it has last sounded that value, after `last`
 unfoldable pub heardOf : Voice → ℕ → Float → Float → Float → Voice

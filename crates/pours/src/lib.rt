@@ -8,7 +8,7 @@ ghost use lib.Ieee.{binary32, add};
 ghost use Rattle.binary32.specs.Leaves.{asFloat};
 ghost use Rattle.clip.specs.Plain.{plainIndex};
 ghost use Rattle.plain_voice.specs.Hots.{beatOf};
-ghost use Rattle.pours.specs.Eases.{EasesAt, termAt, heardOf, movedOf, Added};
+ghost use Rattle.pours.specs.Eases.{EasesAt, termAt, LastButOne, heardOf, movedOf, Added};
 ghost use Rattle.pours.specs.Pours.{Pours};
 use plain_voice::Beat;
 use plain_voice::Hot;
@@ -84,6 +84,17 @@ fn term_at(data: &[u32], level: f32, index: usize) -> f32
     ensures { λ r. ⌜ r ≡ termAt (now («data» .entry)) level index ⌝ }
 {
     voice::recorded(data, index) * level
+}
+
+// What it adds before the last of n samples from that place on, `before` being what it added last.
+fn last_but_one(before: f32, start: usize, place: usize, round: usize, total: usize, data: &[u32], level: f32, n: usize) -> f32
+    requires { ⌜ (start ≤ 2 ^ 22) × (place < round) × (round ≤ 2 ^ 22) × (1 ≤ total) × (n ≤ 2 ^ 24) ⌝ }
+    ensures { λ r. ⌜ LastButOne before (λ (k : ℕ). termAt (now («data» .entry)) level (plainIndex start round total (place + k))) n r ⌝ }
+{
+    if n < 2 {
+        return before;
+    }
+    term_at(data, level, index_at(start, place + (n - 2), round, total))
 }
 
 // The voice after n samples, of which the last two were `last` and the one at that index.
@@ -179,10 +190,7 @@ pub fn poured(h: Hot, v: Voice, t: Tick, b: Beat, data: &[u32], sums: &mut [f32]
     let total = b.total as usize;
     let volume = v.volume;
     let level = volume.level(t.now);
-    let mut last = v.last_sample_value;
-    if 1 < n {
-        last = term_at(data, level, index_at(start, place + (n - 2), round, total));
-    }
+    let last = last_but_one(v.last_sample_value, start, place, round, total, data, level, n);
     let index = index_at(start, place + (n - 1), round, total);
     let value = term_at(data, level, index);
     pour_all(start, place, round, total, data, level, sums, n);

@@ -1,9 +1,13 @@
+-- `eases` meets its contract: its tests are those of `eases-told`. Assumes nothing.
+use mathlib.Core.Path.{sym}
+use mathlib.Core.Bool.{true≢false}
+use Rattle.pours.proofs.Promised.{eases-told}
 use borrow.Author.Needs.{needs}
 use Rattle.pours.proofs.eases.Statement.{statement}
 use Rattle.pours.proofs.eases.Tie as tie
 
 returns : tie.Need-returns
-returns c = ?
+returns c told = absurd (true≢false (sym told))
 
 cast-result : tie.Need-cast-result
 cast-result c = search needs
@@ -21,7 +25,10 @@ usize-to-f32-requires : tie.Need-usize-to-f32-requires
 usize-to-f32-requires c κs = search needs
 
 returns-2 : tie.Need-returns-2
-returns-2 c = ?
+returns-2 c =
+    let a = c .before .before .before .before .before .before .before .before .before .before .before .before .before .before .before .before .before .before .before .args in
+    eases-told (a .h) (a .v) (a .t) (a .b) (a .room) (a .n) (c .before .before .before .before .before .before .before .before .before .before .before .before .before .before .before .before .before .before .if1 .left) (c .before .before .before .before .before .before .before .before .before .before .before .is-static .result) (c .before .before .before .before .before .before .agrees .result) (c .before .before .before .before .before .whole-in .result) (c .before .before .before .usize-to-f32 .result)
+    (c .before .before .before .before .before .before .before .before .before .before .before .is-static .ensures) (c .before .before .before .before .before .before .agrees .ensures) (c .before .before .before .before .before .whole-in .ensures) (c .before .before .before .usize-to-f32 .ensures)
 
 pub eases-spec : {M : Type 1} → statement M
 eases-spec =
