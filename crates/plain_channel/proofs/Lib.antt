@@ -1,3 +1,5 @@
 pub mod Pairing
 pub mod Goings
 pub mod Sides
+pub mod Hotting
+pub mod Togethers
