@@ -3,3 +3,5 @@ pub mod Goings
 pub mod Sides
 pub mod Hotting
 pub mod Togethers
+pub mod Firsts
+pub mod Aheads

@@ -1,0 +1,64 @@
+-- The first of a list, each made something else, and the others as they were; and what a walk over one list after another gives. Over any element type. Assumes nothing.
+use mathlib.Core.Path.{_≡_, refl, sym, ap, _∙_}
+use Prim.Native.Nat.{ℕ, zero, suc, _+_, _≤_, _<_}
+use native.Mathlib.Omega.{arith}
+use mathlib.Core.List.{List, [], _∷_, _++_, map}
+use lib.ListN.{length, take, drop, getD, set, take-append-drop, length-map, List·getD-map, List·getD-append}
+use lib.Seq.{sets, length-take-le, length-front, take-suc, take-at, drop-at, getD-take, getD-drop, take-append-add, getD-append-add}
+use Rattle.walks.specs.Walks.{fold}
+use Rattle.walks.proofs.Lists.Looks.{take-map}
+use Rattle.walks.proofs.Lists.Stored.{fronted-next}
+
+module _ {A : Type 0} where
+  -- ---- each made something else
+  pub map-none : (f : A → A) → ((x : A) → f x ≡ x) → (l : List A) → map f l ≡ l
+  map-none f same [] = refl
+  map-none f same (x ∷ l) = λ i. same x i ∷ map-none f same l i
+
+  pub map-twice : (f g h : A → A) → ((x : A) → g (f x) ≡ h x) → (l : List A) → map g (map f l) ≡ map h l
+  map-twice f g h same [] = refl
+  map-twice f g h same (x ∷ l) = λ i. same x i ∷ map-twice f g h same l i
+
+  -- ---- only the first n
+  module _ (f : A → A) (l : List A) (n : ℕ) where
+    abbrev pub firsts : List A
+    firsts = map f (take n l) ++ drop n l
+
+    pub firsts-none : ((x : A) → f x ≡ x) → firsts ≡ l
+    firsts-none same = ap (λ (r : List A). r ++ drop n l) (map-none f same (take n l)) ∙ take-append-drop n l
+
+    module _ (within : n ≤ length l) where
+      pub firsts-front : length (map f (take n l)) ≡ n
+      firsts-front = length-map (take n l) f ∙ length-take-le n l within
+
+      pub firsts-length : length firsts ≡ length l
+      firsts-length = length-front l (map f (take n l)) n (length-map (take n l) f)
+
+      -- the others are as they were
+      pub firsts-rest : drop n firsts ≡ drop n l
+      firsts-rest = drop-at (map f (take n l)) (drop n l) n firsts-front
+
+    -- one more
+    pub firsts-next : (d : A) → n < length l → set firsts n (f (getD l n d)) ≡ map f (take (suc n) l) ++ drop (suc n) l
+    firsts-next d below =
+        ap (λ (r : List A). set (r ++ drop n l) n (f (getD l n d))) (sym (take-map f n l))
+        ∙ ap (set (take n (map f l) ++ drop n l) n) (sym (List·getD-map f l n d))
+        ∙ fronted-next (map f l) l n (f d) (omega (arith, below, length-map l f)) below
+        ∙ ap (λ (r : List A). r ++ drop (suc n) l) (take-map f (suc n) l)
+
+-- ---- a walk over one list after another, and over what is made of each
+module _ {A S : Type 0} (f : S → A → S) where
+  pub fold-append : (s : S) (xs ys : List A) → fold f s (xs ++ ys) ≡ fold f (fold f s xs) ys
+  unfolding fold
+  fold-append s [] ys = refl
+  fold-append s (x ∷ xs) ys = fold-append (f s x) xs ys
+
+  pub fold-map : (g : A → A) (h : S → A → S) → ((s : S) (x : A) → f s (g x) ≡ h s x) → (s : S) (xs : List A) → fold f s (map g xs) ≡ fold h s xs
+  unfolding fold
+  fold-map g h same s [] = refl
+  fold-map g h same s (x ∷ xs) = fold-map g h same (f s (g x)) xs ∙ ap (λ (r : S). fold h r xs) (same s x)
+
+  -- one more
+  pub fold-next : (s : S) (l : List A) (n : ℕ) (d : A) → n < length l → fold f s (take (suc n) l) ≡ f (fold f s (take n l)) (getD l n d)
+  unfolding fold
+  fold-next s l n d below = ap (fold f s) (take-suc l n d below) ∙ fold-append s (take n l) (getD l n d ∷ [])
