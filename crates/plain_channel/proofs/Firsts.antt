@@ -1,12 +1,13 @@
 -- The first of a list, each made something else, and the others as they were; and what a walk over one list after another gives. Over any element type. Assumes nothing.
 use mathlib.Core.Path.{_≡_, refl, sym, ap, _∙_}
-use Prim.Native.Nat.{ℕ, zero, suc, _+_, _≤_, _<_}
+use Prim.Native.Nat.{ℕ, suc, _+_, _-_, _≤_, _<_}
 use native.Mathlib.Omega.{arith}
 use mathlib.Core.List.{List, [], _∷_, _++_, map}
 use lib.ListN.{length, take, drop, getD, set, take-append-drop, length-map, List·getD-map, List·getD-append}
-use lib.Seq.{sets, length-take-le, length-front, take-suc, take-at, drop-at, getD-take, getD-drop, take-append-add, getD-append-add}
+use lib.Seq.{length-take-le, length-front, take-suc, drop-at, getD-take, getD-drop}
 use Rattle.walks.specs.Walks.{fold}
 use Rattle.walks.proofs.Lists.Looks.{take-map}
+use Rattle.walks.proofs.Lists.Loops.{getD-any}
 use Rattle.walks.proofs.Lists.Stored.{fronted-next}
 
 module _ {A : Type 0} where
@@ -34,9 +35,19 @@ module _ {A : Type 0} where
       pub firsts-length : length firsts ≡ length l
       firsts-length = length-front l (map f (take n l)) n (length-map (take n l) f)
 
+      pub firsts-at : (d : A) (j : ℕ) → j < n → getD firsts j d ≡ f (getD l j d)
+      firsts-at d j below =
+          let low : j < length (map f (take n l)) = let e = firsts-front in omega (arith, below, e) in
+          List·getD-append (map f (take n l)) (drop n l) d j low ∙ getD-any (map f (take n l)) j d (f d) low ∙ List·getD-map f (take n l) j d ∙ ap f (getD-take n l j d below)
+
       -- the others are as they were
       pub firsts-rest : drop n firsts ≡ drop n l
       firsts-rest = drop-at (map f (take n l)) (drop n l) n firsts-front
+
+      pub firsts-else : (d : A) (j : ℕ) → n ≤ j → getD firsts j d ≡ getD l j d
+      firsts-else d j far =
+          let at : n + (j - n) ≡ j = omega (arith, far) in
+          ap (λ (k : ℕ). getD firsts k d) (sym at) ∙ sym (getD-drop n firsts (j - n) d) ∙ ap (λ (r : List A). getD r (j - n) d) firsts-rest ∙ getD-drop n l (j - n) d ∙ ap (λ (k : ℕ). getD l k d) at
 
     -- one more
     pub firsts-next : (d : A) → n < length l → set firsts n (f (getD l n d)) ≡ map f (take (suc n) l) ++ drop (suc n) l

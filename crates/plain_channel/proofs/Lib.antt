@@ -5,3 +5,4 @@ pub mod Hotting
 pub mod Togethers
 pub mod Firsts
 pub mod Aheads
+pub mod Pourings
