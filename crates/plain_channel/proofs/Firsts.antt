@@ -1,10 +1,10 @@
 -- The first of a list, each made something else, and the others as they were; and what a walk over one list after another gives. Over any element type. Assumes nothing.
-use mathlib.Core.Path.{_≡_, refl, sym, ap, _∙_}
-use Prim.Native.Nat.{ℕ, suc, _+_, _-_, _≤_, _<_}
+use mathlib.Core.Path.{_≡_, refl, sym, ap, _∙_, subst}
+use Prim.Native.Nat.{ℕ, zero, suc, _+_, _-_, _≤_, _<_}
 use native.Mathlib.Omega.{arith}
 use mathlib.Core.List.{List, [], _∷_, _++_, map}
 use lib.ListN.{length, take, drop, getD, set, take-append-drop, length-map, List·getD-map, List·getD-append}
-use lib.Seq.{length-take-le, length-front, take-suc, drop-at, getD-take, getD-drop}
+use lib.Seq.{sets, slice, length-take-le, length-front, take-suc, drop-at, getD-take, getD-drop}
 use Rattle.walks.specs.Walks.{fold}
 use Rattle.walks.proofs.Lists.Looks.{take-map}
 use Rattle.walks.proofs.Lists.Loops.{getD-any}
@@ -56,6 +56,39 @@ module _ {A : Type 0} where
         ∙ ap (set (take n (map f l) ++ drop n l) n) (sym (List·getD-map f l n d))
         ∙ fronted-next (map f l) l n (f d) (omega (arith, below, length-map l f)) below
         ∙ ap (λ (r : List A). r ++ drop (suc n) l) (take-map f (suc n) l)
+
+-- ---- a run of stores leaves what stands before it
+module _ {A : Type 0} where
+  sets-cons : (x : A) (l : List A) (j : ℕ) (ys : List A) → sets (x ∷ l) (suc j) ys ≡ x ∷ sets l j ys
+  sets-cons x l j [] = refl
+  sets-cons x l j (y ∷ ys) = sets-cons x (set l j y) (suc j) ys
+
+  sets-seam : (xs l ys : List A) → sets (xs ++ l) (length xs) ys ≡ xs ++ sets l 0 ys
+  sets-seam [] l ys = refl
+  sets-seam (x ∷ xs) l ys = sets-cons x (xs ++ l) (length xs) ys ∙ ap (λ (r : List A). x ∷ r) (sets-seam xs l ys)
+
+  slice-seam : (n : ℕ) (xs l : List A) → length xs ≤ length l → slice (length xs) n (xs ++ drop (length xs) l) ≡ slice (length xs) n l
+  slice-seam n [] l within = refl
+  slice-seam n (x ∷ xs) [] within = absurd (omega (arith, within))
+  slice-seam zero (x ∷ xs) (y ∷ l) within = refl
+  slice-seam (suc n) (x ∷ xs) (y ∷ l) within = slice-seam n xs l (omega (arith, within))
+
+  store-seam : (xs l ys : List A) → length xs ≤ length l → sets l 0 (xs ++ ys) ≡ xs ++ sets (drop (length xs) l) 0 ys
+  store-seam [] l ys within = refl
+  store-seam (x ∷ xs) [] ys within = absurd (omega (arith, within))
+  store-seam (x ∷ xs) (y ∷ l) ys within = sets-cons x l 0 (xs ++ ys) ∙ ap (λ (r : List A). x ∷ r) (store-seam xs l ys (omega (arith, within)))
+
+  -- of a front that is n long
+  module _ (n : ℕ) (xs : List A) (long : length xs ≡ n) where
+    pub sets-behind : (l ys : List A) → sets (xs ++ l) n ys ≡ xs ++ sets l 0 ys
+    sets-behind l ys = subst (λ (k : ℕ). sets (xs ++ l) k ys ≡ xs ++ sets l 0 ys) long (sets-seam xs l ys)
+
+    module _ (l : List A) (within : n ≤ length l) where
+      pub slice-behind : (most : ℕ) → slice n most (xs ++ drop n l) ≡ slice n most l
+      slice-behind most = subst (λ (k : ℕ). slice k most (xs ++ drop k l) ≡ slice k most l) long (slice-seam most xs l (omega (arith, within, long)))
+
+      pub store-behind : (ys : List A) → sets l 0 (xs ++ ys) ≡ xs ++ sets (drop n l) 0 ys
+      store-behind ys = subst (λ (k : ℕ). sets l 0 (xs ++ ys) ≡ xs ++ sets (drop k l) 0 ys) long (store-seam xs l ys (omega (arith, within, long)))
 
 -- ---- a walk over one list after another, and over what is made of each
 module _ {A S : Type 0} (f : S → A → S) where

@@ -6,3 +6,5 @@ pub mod Togethers
 pub mod Firsts
 pub mod Aheads
 pub mod Pourings
+pub mod Laters
+pub mod Behinds
