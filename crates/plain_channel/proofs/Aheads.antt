@@ -28,7 +28,7 @@ use Rattle.plain_channel.proofs.Sides.{hots-begin}
 
 module _ (p : Params) (m : List ℕ) where
   -- ---- but for its voices the channel is what it was
-  pub ahead-else : (e n : ℕ) (d : Channel) → withVoices [] (d .count) (aheadOf p m e n d) ≡ withVoices [] (d .count) d
+  pub ahead-else : (e n : ℕ) (d : Channel) → withVoices [] 0 (aheadOf p m e n d) ≡ withVoices [] 0 d
   unfolding aheadOf
   ahead-else e n d = refl
 

@@ -4,8 +4,9 @@ use Prim.Native.Nat.{ℕ, zero, suc, _+_, _-_, _≤_, _<_}
 use native.Mathlib.Omega.{arith}
 use mathlib.Core.List.{List, [], _∷_, _++_, map}
 use lib.ListN.{length, take, drop, getD, set, take-append-drop, length-map, List·getD-map, List·getD-append}
-use lib.Seq.{sets, slice, length-take-le, length-front, take-suc, drop-at, getD-take, getD-drop}
+use lib.Seq.{sets, slice, length-take-le, take-suc, drop-at, getD-take, getD-drop}
 use Rattle.walks.specs.Walks.{fold}
+use Rattle.walks.specs.Each.{Each}
 use Rattle.walks.proofs.Lists.Looks.{take-map}
 use Rattle.walks.proofs.Lists.Loops.{getD-any}
 use Rattle.walks.proofs.Lists.Stored.{fronted-next}
@@ -32,22 +33,18 @@ module _ {A : Type 0} where
       pub firsts-front : length (map f (take n l)) ≡ n
       firsts-front = length-map (take n l) f ∙ length-take-le n l within
 
-      pub firsts-length : length firsts ≡ length l
-      firsts-length = length-front l (map f (take n l)) n (length-map (take n l) f)
-
-      pub firsts-at : (d : A) (j : ℕ) → j < n → getD firsts j d ≡ f (getD l j d)
-      firsts-at d j below =
+      -- before whatever stands behind them
+      pub firsts-at : (rest : List A) (d : A) (j : ℕ) → j < n → getD (map f (take n l) ++ rest) j d ≡ f (getD l j d)
+      firsts-at rest d j below =
           let low : j < length (map f (take n l)) = let e = firsts-front in omega (arith, below, e) in
-          List·getD-append (map f (take n l)) (drop n l) d j low ∙ getD-any (map f (take n l)) j d (f d) low ∙ List·getD-map f (take n l) j d ∙ ap f (getD-take n l j d below)
+          List·getD-append (map f (take n l)) rest d j low ∙ getD-any (map f (take n l)) j d (f d) low ∙ List·getD-map f (take n l) j d ∙ ap f (getD-take n l j d below)
 
       -- the others are as they were
-      pub firsts-rest : drop n firsts ≡ drop n l
-      firsts-rest = drop-at (map f (take n l)) (drop n l) n firsts-front
-
       pub firsts-else : (d : A) (j : ℕ) → n ≤ j → getD firsts j d ≡ getD l j d
       firsts-else d j far =
           let at : n + (j - n) ≡ j = omega (arith, far) in
-          ap (λ (k : ℕ). getD firsts k d) (sym at) ∙ sym (getD-drop n firsts (j - n) d) ∙ ap (λ (r : List A). getD r (j - n) d) firsts-rest ∙ getD-drop n l (j - n) d ∙ ap (λ (k : ℕ). getD l k d) at
+          let rest : drop n firsts ≡ drop n l = drop-at (map f (take n l)) (drop n l) n firsts-front in
+          ap (λ (k : ℕ). getD firsts k d) (sym at) ∙ sym (getD-drop n firsts (j - n) d) ∙ ap (λ (r : List A). getD r (j - n) d) rest ∙ getD-drop n l (j - n) d ∙ ap (λ (k : ℕ). getD l k d) at
 
     -- one more
     pub firsts-next : (d : A) → n < length l → set firsts n (f (getD l n d)) ≡ map f (take (suc n) l) ++ drop (suc n) l
@@ -56,6 +53,13 @@ module _ {A : Type 0} where
         ∙ ap (set (take n (map f l) ++ drop n l) n) (sym (List·getD-map f l n d))
         ∙ fronted-next (map f l) l n (f d) (omega (arith, below, length-map l f)) below
         ∙ ap (λ (r : List A). r ++ drop (suc n) l) (take-map f (suc n) l)
+
+  -- what holds of each of the first
+  pub each-first : (P : A → Type 0) (d : A) (l : List A) (n : ℕ) → n ≤ length l → ((i : ℕ) → i < n → P (getD l i d)) → Each P (take n l)
+  unfolding Each
+  each-first P d l zero within holds = tt
+  each-first P d [] (suc n) within holds = absurd (omega (arith, within))
+  each-first P d (x ∷ l) (suc n) within holds = (holds 0 (omega arith), each-first P d l n (omega (arith, within)) (λ i low. holds (suc i) (omega (arith, low))))
 
 -- ---- a run of stores leaves what stands before it
 module _ {A : Type 0} where

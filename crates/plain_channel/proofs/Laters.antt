@@ -1,10 +1,11 @@
 -- The channel of the next sample, whatever its voices are: its clock is one more, and its phrases and its setting are what they were. So what a voice does from there on is what it does from here on, but for its first turn. Assumes nothing.
 use mathlib.Core.Path.{_≡_, refl, sym, ap, ap₂, _∙_, subst}
 use Prim.Native.Nat.{ℕ, zero, suc, _+_, _≤_, _<_}
-use mathlib.Core.Bool.{Bool, true, false}
-use mathlib.Core.List.{List}
+use native.Mathlib.Omega.{arith}
+use mathlib.Core.Bool.{Bool, false}
+use mathlib.Core.List.{List, [], _∷_, _++_, map}
 use lib.Dec.{eqb}
-use lib.ListN.{getD}
+use lib.ListN.{length, getD}
 use Rattle.common_types.specs.declared.Params.{Params}
 use Rattle.volume.specs.Levels.{steppedOf}
 use Rattle.phrases.specs.declared.Phrase.{Phrase}
@@ -26,7 +27,7 @@ use Rattle.channel.specs.Tables.{placeOf}
 use Rattle.channel.specs.Heads.{withPassthru, phraseBy, lastTime, closedOf}
 use Rattle.channel.specs.Channels.{withHead, withVoices, phraseAt, momentFor}
 use Rattle.channel.proofs.Heads.{passthru-holds, next-one, closed-now, closed-setting}
-use Rattle.plain_channel.specs.Ahead.{tickIn, heldIn, onBy, hotOnBy, Easy}
+use Rattle.plain_channel.specs.Ahead.{tickIn, heldIn, onBy, hotOnBy, hotsOn, Easy}
 
 -- gliding turns leave a voice unfinished
 pub turns-finished : (t : Tick) (m : List ℕ) (n : ℕ) (v : Voice) → GlidesOn t m n v → turnsOf t m n v .finished ≡ v .finished
@@ -95,3 +96,10 @@ module _ (p : Params) (m : List ℕ) (d : Channel) (early : d .head .now < lastT
       unfinished = holds t held v (easy .glides .0) .finished ∙ easy .unfinished;
       glides = subst (λ (s : Tick). GlidesOn s (heldIn m next w) n w) (sym (next-tick v w stays-of)) (subst (λ (l : List ℕ). GlidesOn (later 1 t) l n w) (sym (next-held v w stays-of)) (easy .glides .1));
     }
+
+  -- ---- and the positions of such voices, before others
+  pub next-hots : (n : ℕ) (vs : List Voice) (hs rest : List Hot) → length vs ≤ length hs → hotsOn p m next n (map (onBy p m d 1) vs) (hotsOn p m d 1 vs hs ++ rest) ≡ hotsOn p m d (suc n) vs hs ++ rest
+  unfolding hotsOn
+  next-hots n [] hs rest room = refl
+  next-hots n (v ∷ vs) [] rest room = absurd (omega (arith, room))
+  next-hots n (v ∷ vs) (h ∷ hs) rest room = λ i. next-hot v n h i ∷ next-hots n vs hs rest (omega (arith, room)) i

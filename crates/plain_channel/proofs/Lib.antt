@@ -8,3 +8,4 @@ pub mod Aheads
 pub mod Pourings
 pub mod Laters
 pub mod Behinds
+pub mod Frames
