@@ -1,9 +1,8 @@
 -- Voices that are ahead of their channel: where there are none of them, or by no sample, it is what it was; and but for its voices it always is. Assumes nothing.
 use mathlib.Core.Path.{_≡_, refl, sym, ap, _∙_}
-use Prim.Native.Nat.{ℕ, zero, suc, _+_, _≤_, _<_, min, zero-le}
+use Prim.Native.Nat.{ℕ, _<_, min, zero-le}
 use native.Mathlib.Nat.{zero-add}
 use native.Mathlib.Omega.{arith}
-use mathlib.Core.Bool.{Bool, false, cond}
 use mathlib.Core.List.{List, [], _∷_}
 use lib.ListN.{length, getD}
 use lib.Seq.{sets, slice}
@@ -18,7 +17,7 @@ use Rattle.pours.specs.Pours.{turnsOf, judgedOn}
 use Rattle.channel.specs.declared.Channel.{Channel}
 use Rattle.channel.specs.declared.Played.{Played}
 use Rattle.channel.specs.Heads.{mixedOf, closedOf}
-use Rattle.channel.specs.Channels.{withHead, withVoices, live, anyUnfinishedOf, Turning, keptOf, tidiedOf, heardOf as heard-of, playedOf, turningIn, takenOf, memoryOf, processSampleOf}
+use Rattle.channel.specs.Channels.{withHead, withVoices, anyUnfinishedOf, Turning, keptOf, tidiedOf, heardOf as heard-of, playedOf, turningIn, takenOf, memoryOf, processSampleOf}
 use Rattle.lent_channel.specs.Turns.{begun, glidedTo, restBy, restOf}
 use Rattle.plain_channel.specs.declared.Side.{Side}
 use Rattle.plain_channel.specs.Sides.{sideAfter}
@@ -35,6 +34,10 @@ module _ (p : Params) (m : List ℕ) where
   pub ahead-count : (e n : ℕ) (d : Channel) → aheadOf p m e n d .count ≡ d .count
   unfolding aheadOf
   ahead-count e n d = refl
+
+  pub ahead-memory : {e n : ℕ} {sums : List Float} {d c : Channel} {hs ks : List Hot} → Ahead p m e n sums d hs c ks → (x : Float) → memoryOf x c m ≡ memoryOf x d m
+  unfolding aheadOf memoryOf
+  ahead-memory ahead x = ap (λ (y : Channel). memoryOf x y m) (ahead .channel)
 
   -- ---- by no sample
   pub ahead-now : (e : ℕ) (d : Channel) → aheadOf p m e 0 d ≡ d

@@ -1,12 +1,11 @@
 -- The first e voices of a channel glide in a sample: each stays in its place and is heard, so the sample is what the others give behind them, whatever these first voices are. Assumes nothing.
 use mathlib.Core.Path.{_≡_, refl, sym, ap, ap₂, _∙_}
-use Prim.Native.Nat.{ℕ, zero, suc, _+_, _-_, _≤_, _<_, min}
+use Prim.Native.Nat.{ℕ, suc, _+_, _-_, _≤_, min}
 use native.Mathlib.Nat.{le-refl}
 use native.Mathlib.Omega.{arith}
-use mathlib.Core.Bool.{Bool, true, false, cond}
+use mathlib.Core.Bool.{Bool, false, cond}
 use mathlib.Core.List.{List, [], _∷_, _++_, map}
-use lib.Dec.{ltb}
-use lib.ListN.{length, take, drop, getD, take-append-drop, length-append, length-map}
+use lib.ListN.{length, take, drop, take-append-drop, length-append}
 use lib.Seq.{sets, slice, length-take-le, take-take}
 use lib.Ieee.{Float, binary32, add}
 use borrow.Author.Tests.{le-ltb}
@@ -20,7 +19,6 @@ use Rattle.voice.specs.Voices.{tickOf}
 use Rattle.plain_voice.specs.declared.Hot.{Hot}
 use Rattle.plain_voice.specs.Hots.{judgedOf}
 use Rattle.pours.specs.Pours.{turnsOf, judgedOn}
-use Rattle.channel.specs.declared.Head.{Head}
 use Rattle.channel.specs.declared.Channel.{Channel}
 use Rattle.channel.specs.declared.Played.{Played}
 use Rattle.channel.specs.Channels.{withVoices, live, Turning, keptOf, tidiedOf, heardOf, playedOf}

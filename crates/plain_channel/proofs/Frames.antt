@@ -6,81 +6,29 @@ use native.Mathlib.Omega.{arith}
 use mathlib.Core.Bool.{Bool, true, false, not, _||_, true≢false}
 use mathlib.Core.List.{List, [], _∷_, _++_, map}
 use lib.ListN.{length, take, drop, getD}
-use lib.Seq.{sets, slice, length-take-le, take-at, drop-at, getD-drop}
+use lib.Seq.{sets, length-take-le, take-at, drop-at, getD-drop}
 use lib.Ieee.{Float, binary32, add}
 use Rattle.binary32.specs.Leaves.{zero32}
 use Rattle.walks.specs.Walks.{any, fold}
 use Rattle.common_types.specs.declared.Params.{Params}
-use Rattle.recorder.specs.declared.Recorder.{Recorder}
 use Rattle.recorder.specs.Recording.{isRecordingOf}
 use Rattle.voice.specs.declared.Voice.{Voice}
-use Rattle.voice.specs.declared.Tick.{Tick}
-use Rattle.voice.specs.Voices.{turnOf, shouldRemoveOf, blankVoice}
-use Rattle.voice.specs.Gliding.{glidesOf}
-use Rattle.voice.proofs.Gliding.{glides}
-use Rattle.voice.proofs.PhraseKept.{turn-phrase, tick-phrase}
+use Rattle.voice.specs.Voices.{blankVoice}
 use Rattle.plain_voice.specs.declared.Hot.{Hot}
-use Rattle.pours.specs.Pours.{turnsOf, GlidesOn}
-use Rattle.channel.specs.declared.Head.{Head}
 use Rattle.channel.specs.declared.Channel.{Channel}
 use Rattle.channel.specs.declared.Played.{Played}
 use Rattle.channel.specs.Heads.{lastTime, closedOf, mixedOf}
-use Rattle.channel.specs.Channels.{withHead, withVoices, live, unfinishedOf, anyUnfinishedOf, Turning, keptOf, tidiedOf, playedOf, addedOf, turningBy, momentFor, turningIn, takenOf, memoryOf, processSampleOf}
+use Rattle.channel.specs.Channels.{withHead, withVoices, live, unfinishedOf, anyUnfinishedOf, Turning, keptOf, playedOf, turningIn, takenOf, memoryOf, processSampleOf}
 use Rattle.channel.proofs.Resting.{untaken, unwritten}
-use Rattle.channel.proofs.Turns.{sounds-by}
-use Rattle.lent_channel.specs.Turns.{glidedTo, restOf, Follows, heardOf}
-use Rattle.lent_channel.proofs.Turns.{follows-own, same-turning}
+use Rattle.lent_channel.specs.Turns.{glidedTo, restOf, heardOf}
 use Rattle.plain_channel.specs.declared.Side.{Side}
 use Rattle.plain_channel.specs.Sides.{hotsKept, sidePlayed, sideAfter, restHots}
-use Rattle.plain_channel.specs.Ahead.{tickIn, heldIn, onBy, aheadOf, hotsOn, hotsAhead, sumAt, Easy, Eased, behindOf, hotsBehind, Ahead}
+use Rattle.plain_channel.specs.Ahead.{onBy, aheadOf, hotsOn, hotsAhead, sumAt, Easy, Eased, behindOf, hotsBehind, Ahead}
 use Rattle.plain_channel.proofs.Firsts.{firsts-front, firsts-at, each-first, map-twice, fold-map}
-use Rattle.plain_channel.proofs.Aheads.{ahead-else, ahead-count, ahead-nobody, hots-nobody, sum-nobody, ahead-nothing, behind-none, hots-none}
-use Rattle.plain_channel.proofs.Laters.{turns-finished, closed-recorder, next-now, next-on, next-easy, next-hots}
-use Rattle.plain_channel.proofs.Behinds.{Stays, AllStay, hots-length, firstOf, othersOf, voicesBehind, countBehind, givenBehind, rest-behind, played-behind, positionsBehind, hots-behind, side-behind}
-
--- ---- a voice that may be poured
-module _ (p : Params) (m : List ℕ) (d : Channel) (v : Voice) (n : ℕ) where
-  abbrev t : Tick
-  t = tickIn p d v
-
-  abbrev held : List ℕ
-  held = heldIn m d v
-
-  -- stays in the next sample
-  easy-stays : Easy p m (suc n) d v → Stays (turningIn p d m) v (onBy p m d 1 v)
-  unfolding turnsOf GlidesOn turningBy addedOf
-  easy-stays easy =
-      let w : Voice = turnOf t held v in
-      let stays = glides t held v (easy .glides .0) in
-      let follows : Follows (turningIn p d m) t held = follows-own p d m (v .phrase) (easy .full) in
-      let own : v .phrase ≡ t .phrase = sym (tick-phrase p (momentFor d (v .phrase))) in
-      record {
-        turns = follows .turns v own;
-        stays = follows .leaves w (turn-phrase t held v ∙ own) ∙ stays .stays-after;
-        adds = λ out. follows .adds out v own
-            ∙ sym (sounds-by t held out (add binary32 out (w .«last_sample_value»)) v w refl (ap (λ (b : Bool). addedOf b out (w .«last_sample_value»)) (sym (stays .stays))));
-      }
-
-  -- and is unfinished after it, and after all
-  easy-soon : Easy p m (suc n) d v → onBy p m d 1 v .finished ≡ false
-  unfolding GlidesOn
-  easy-soon easy = turns-finished t held 1 v (easy .glides .0, tt) ∙ easy .unfinished
-
-easy-late : (p : Params) (m : List ℕ) (d : Channel) (v : Voice) (n : ℕ) → Easy p m n d v → onBy p m d n v .finished ≡ false
-easy-late p m d v n easy = turns-finished (tickIn p d v) (heldIn m d v) n v (easy .glides) ∙ easy .unfinished
-
--- ---- what a sample behind them asks
-module _ (p : Params) (m : List ℕ) {e n : ℕ} {sums : List Float} {d c : Channel} {hs ks : List Hot} (voices : length (d .voices) ≡ 32) (ahead : Ahead p m e n sums d hs c ks) where
-  pub asks-inside : e ≤ min (c .count) 32
-  asks-inside = subst (λ (k : ℕ). e ≤ min k 32) (sym (ap (λ (x : Channel). x .count) (ahead .channel) ∙ ahead-count p m e n d)) (ahead .eased .inside)
-
-  pub asks-unfinished : 0 < e → getD (c .voices) 0 blankVoice .finished ≡ false
-  unfolding aheadOf
-  asks-unfinished some =
-      let within : e ≤ length (d .voices) = let i = ahead .eased .inside in omega (arith, i, voices) in
-      ap (λ (x : Channel). getD (x .voices) 0 blankVoice .finished) (ahead .channel)
-      ∙ ap (λ (v : Voice). v .finished) (firsts-at (onBy p m d n) (d .voices) e within (drop e (d .voices)) blankVoice 0 some)
-      ∙ easy-late p m d (getD (d .voices) 0 blankVoice) n (ahead .eased .each 0 some)
+use Rattle.plain_channel.proofs.Aheads.{ahead-nobody, hots-nobody, sum-nobody, ahead-nothing, behind-none, hots-none}
+use Rattle.plain_channel.proofs.Laters.{closed-recorder, next-now, next-on, next-easy, next-hots}
+use Rattle.plain_channel.proofs.Eases.{easy-stays, easy-soon, easy-late}
+use Rattle.plain_channel.proofs.Behinds.{Stays, AllStay, firstOf, othersOf, voicesBehind, countBehind, givenBehind, rest-behind, played-behind, positionsBehind, hots-behind, side-behind}
 
 -- ---- the first of a channel's voices is unfinished, so one is
 first-unfinished : (l : List Voice) (n : ℕ) → 0 < n → getD l 0 blankVoice .finished ≡ false → any unfinishedOf (take n l) ≡ true
@@ -90,9 +38,27 @@ first-unfinished [] (suc n) some is = absurd (true≢false is)
 first-unfinished (v ∷ l) (suc n) some is = ap (λ (b : Bool). not b || any unfinishedOf (take n l)) is
 
 -- ---- where some are ahead
+module _ (p : Params) (m : List ℕ) (d : Channel) (e : ℕ) where
+  -- what the sample gives before it is closed, where the first voices are made something else by f
+  abbrev given : (Voice → Voice) → Played
+  given f = givenBehind d e (turningIn p d m) f (sumAt p m e d 0)
+
+  abbrev closing : Float → Bool → Played → Played
+  closing x b r = record { channel = withHead (closedOf p b (d .head)) (r .channel); output = mixedOf x (r .output) (d .head); moved = r .moved }
+
+  abbrev closed : Float → (Voice → Voice) → Played
+  closed x f = closing x true (given f)
+
+  -- the channel after it, and what stands beside it where they are n samples ahead
+  abbrev after : (Voice → Voice) → Channel
+  after f = withHead (closedOf p true (d .head)) (given f .channel)
+
+  abbrev positions : List Hot → ℕ → List Hot
+  positions hs n = positionsBehind d e (turningIn p d m) hs (hotsOn p m d n (firstOf d e) (take e hs))
+
 module _ (p : Params) (m : List ℕ) (e n : ℕ) (d : Channel) (voices : length (d .voices) ≡ 32) (some : 0 < e) (eased : Eased p m e (suc n) d) where
-  abbrev s : Turning
-  s = turningIn p d m
+  abbrev turning : Turning
+  turning = turningIn p d m
 
   abbrev ahead-by : Channel
   ahead-by = aheadOf p m e (suc n) d
@@ -107,65 +73,52 @@ module _ (p : Params) (m : List ℕ) (e n : ℕ) (d : Channel) (voices : length 
   within : e ≤ length (d .voices)
   within = let i = eased .inside in omega (arith, i, voices)
 
-  all-stay : AllStay s (onBy p m d 1) (firstOf d e)
-  all-stay = each-first (λ (v : Voice). Stays s v (onBy p m d 1 v)) blankVoice (d .voices) e within (λ i low. easy-stays p m d (getD (d .voices) i blankVoice) n (eased .each i low))
+  all-stay : AllStay turning (onBy p m d 1) (firstOf d e)
+  all-stay = each-first (λ (v : Voice). Stays turning v (onBy p m d 1 v)) blankVoice (d .voices) e within (λ i low. easy-stays p m d (getD (d .voices) i blankVoice) n (eased .each i low))
 
-  -- the channel after the sample, whose first voices are made something else by f, and what is heard of it
-  abbrev after : (Voice → Voice) → Channel
-  after f = withHead (closedOf p true (d .head)) (withVoices (voicesBehind d e s f) (countBehind d e s) d)
-
-  abbrev closing : Float → Bool → Played → Played
-  closing x b r = record { channel = withHead (closedOf p b (d .head)) (r .channel); output = mixedOf x (r .output) (d .head); moved = r .moved }
-
-  abbrev given : (Voice → Voice) → Played
-  given f = givenBehind d e s f (sumAt p m e d 0)
-
-  unfinished : (f : Voice → Voice) → f (getD (d .voices) 0 blankVoice) .finished ≡ false → anyUnfinishedOf (given f .channel) ≡ true
+  unfinished : (f : Voice → Voice) → f (getD (d .voices) 0 blankVoice) .finished ≡ false → anyUnfinishedOf (given p m d e f .channel) ≡ true
   unfolding anyUnfinishedOf
   unfinished f is =
-      first-unfinished (voicesBehind d e s f) (countBehind d e s) (omega (arith, some)) (ap (λ (v : Voice). v .finished) (firsts-at f (d .voices) e within _ blankVoice 0 some) ∙ is)
+      first-unfinished (voicesBehind d e turning f) (countBehind d e turning) (omega (arith, some)) (ap (λ (v : Voice). v .finished) (firsts-at f (d .voices) e within _ blankVoice 0 some) ∙ is)
 
   -- ---- the sample
   module _ (x : Float) where
-    pub sample-given : processSampleOf p x d m ≡ closing x true (given (onBy p m d 1))
+    sample-given : processSampleOf p x d m ≡ closed p m d e x (onBy p m d 1)
     unfolding processSampleOf
     sample-given =
         let soon : onBy p m d 1 (getD (d .voices) 0 blankVoice) .finished ≡ false = easy-soon p m d (getD (d .voices) 0 blankVoice) n (eased .each 0 some) in
         ap₂ (λ (c : Channel) (l : List ℕ). let r = playedOf (turningIn p c l) c in record { channel = withHead (closedOf p (anyUnfinishedOf (r .channel)) (c .head)) (r .channel); output = mixedOf x (r .output) (c .head); moved = r .moved }) (untaken m d still) (unwritten m d still x)
-        ∙ ap (λ (r : Played). closing x (anyUnfinishedOf (r .channel)) r) (played-behind p m d voices e (eased .inside) s all-stay)
-        ∙ ap (λ (b : Bool). closing x b (given (onBy p m d 1))) (unfinished (onBy p m d 1) soon)
+        ∙ ap (λ (r : Played). closing p m d e x (anyUnfinishedOf (r .channel)) r) (played-behind p m d voices e (eased .inside) turning all-stay)
+        ∙ ap (λ (b : Bool). closing p m d e x b (given p m d e (onBy p m d 1))) (unfinished (onBy p m d 1) soon)
 
-    pub behind-given : behindOf p x e (sumAt p m e d 0) ahead-by m ≡ closing x true (given (onBy p m d (suc n)))
+    behind-given : behindOf p x e (sumAt p m e d 0) ahead-by m ≡ closed p m d e x (onBy p m d (suc n))
     unfolding behindOf aheadOf turningIn
     behind-given =
         let late : onBy p m d (suc n) (getD (d .voices) 0 blankVoice) .finished ≡ false = easy-late p m d (getD (d .voices) 0 blankVoice) (suc n) (eased .each 0 some) in
         ap₂ (λ (c : Channel) (l : List ℕ). let r = restOf (turningIn p c l) (min (c .count) 32) c (glidedTo e (sumAt p m e d 0)) in record { channel = withHead (closedOf p (anyUnfinishedOf (r .channel)) (c .head)) (r .channel); output = mixedOf x (r .output) (c .head); moved = r .moved }) (untaken m ahead-by still-ahead) (unwritten m ahead-by still-ahead x)
-        ∙ ap (λ (r : Played). closing x (anyUnfinishedOf (r .channel)) r) (rest-behind p m d voices e (eased .inside) s (suc n) (sumAt p m e d 0))
-        ∙ ap (λ (b : Bool). closing x b (given (onBy p m d (suc n)))) (unfinished (onBy p m d (suc n)) late)
+        ∙ ap (λ (r : Played). closing p m d e x (anyUnfinishedOf (r .channel)) r) (rest-behind p m d voices e (eased .inside) turning (suc n) (sumAt p m e d 0))
+        ∙ ap (λ (b : Bool). closing p m d e x b (given p m d e (onBy p m d (suc n)))) (unfinished (onBy p m d (suc n)) late)
 
     -- and beside it
     module _ (a b : Side) (hots : length (a .hots) ≡ 32) (is : b .hots ≡ hotsAhead p m e (suc n) d (a .hots)) where
-      abbrev positions : ℕ → List Hot
-      positions k = positionsBehind d e s (a .hots) (hotsOn p m d k (firstOf d e) (take e (a .hots)))
-
-      side-given : sideAfter p x d m a .hots ≡ positions 1
+      side-given : sideAfter p x d m a .hots ≡ positions p m d e (a .hots) 1
       unfolding sideAfter
       side-given =
           ap₂ (λ (c : Channel) (l : List ℕ). sidePlayed (turningIn p c l) c a .hots) (untaken m d still) (unwritten m d still x)
-          ∙ side-behind p m d voices e (eased .inside) s (a .hots) hots all-stay a refl
+          ∙ side-behind p m d voices e (eased .inside) turning (a .hots) hots all-stay a refl
 
-      hots-given : hotsBehind p x e ahead-by m b ≡ positions (suc n)
+      hots-given : hotsBehind p x e ahead-by m b ≡ positions p m d e (a .hots) (suc n)
       unfolding hotsBehind aheadOf turningIn
       hots-given =
           ap₂ (λ (c : Channel) (l : List ℕ). restHots (turningIn p c l) (min (c .count) 32) c b (glidedTo e zero32)) (untaken m ahead-by still-ahead) (unwritten m ahead-by still-ahead x)
-          ∙ hots-behind p m d voices e (eased .inside) s (a .hots) hots (suc n) zero32 b is
+          ∙ hots-behind p m d voices e (eased .inside) turning (a .hots) hots (suc n) zero32 b is
 
   -- ---- after it the first are one sample less ahead
   early : d .head .now < lastTime
   early = let c = eased .clock some in omega (arith, c)
 
   abbrev soon : Channel
-  soon = after (onBy p m d 1)
+  soon = after p m d e (onBy p m d 1)
 
   -- they stand where they stood
   stands-at : (i : ℕ) → i < e → getD (soon .voices) i blankVoice ≡ onBy p m d 1 (getD (d .voices) i blankVoice)
@@ -177,7 +130,7 @@ module _ (p : Params) (m : List ℕ) (e n : ℕ) (d : Channel) (voices : length 
   soon-easy : (i : ℕ) → i < e → Easy p m n soon (getD (soon .voices) i blankVoice)
   soon-easy i low = subst (Easy p m n soon) (sym (stands-at i low)) (next-easy p m d early (soon .voices) (soon .count) true (getD (d .voices) i blankVoice) n (eased .each i low))
 
-  pub soon-eased : Eased p m e n soon
+  soon-eased : Eased p m e n soon
   soon-eased = record {
     still = λ z. ap isRecordingOf (closed-recorder p true (d .head)) ∙ still;
     clock = λ z. let c = eased .clock some in let t = next-now p m d early (soon .voices) (soon .count) true in omega (arith, c, t);
@@ -185,21 +138,21 @@ module _ (p : Params) (m : List ℕ) (e n : ℕ) (d : Channel) (voices : length 
     each = soon-easy;
   }
 
-  pub soon-channel : after (onBy p m d (suc n)) ≡ aheadOf p m e n soon
+  soon-channel : after p m d e (onBy p m d (suc n)) ≡ aheadOf p m e n soon
   unfolding aheadOf
   soon-channel =
       let f : Voice → Voice = onBy p m d 1 in
       let g : Voice → Voice = onBy p m soon n in
-      ap (λ (vs : List Voice). withHead (closedOf p true (d .head)) (withVoices vs (countBehind d e s) d))
+      ap (λ (vs : List Voice). withHead (closedOf p true (d .head)) (withVoices vs (countBehind d e turning) d))
       (sym (ap₂ (λ (l r : List Voice). map g l ++ r) stand-first (drop-at (map f (firstOf d e)) _ e (firsts-front f (d .voices) e within))
-      ∙ ap (λ (l : List Voice). l ++ sets (drop e (d .voices)) 0 (keptOf s (othersOf d e))) (map-twice f g (onBy p m d (suc n)) (λ v. next-on p m d early (soon .voices) (soon .count) true v n) (firstOf d e))))
+      ∙ ap (λ (l : List Voice). l ++ sets (drop e (d .voices)) 0 (keptOf turning (othersOf d e))) (map-twice f g (onBy p m d (suc n)) (λ v. next-on p m d early (soon .voices) (soon .count) true v n) (firstOf d e))))
 
-  pub soon-hots : (hs : List Hot) → length hs ≡ 32 → positionsBehind d e s hs (hotsOn p m d (suc n) (firstOf d e) (take e hs)) ≡ hotsAhead p m e n soon (positionsBehind d e s hs (hotsOn p m d 1 (firstOf d e) (take e hs)))
+  soon-hots : (hs : List Hot) → length hs ≡ 32 → positions p m d e hs (suc n) ≡ hotsAhead p m e n soon (positions p m d e hs 1)
   soon-hots hs hots =
       let room : length (firstOf d e) ≤ length (take e hs) = let i = eased .inside in let l = length-take-le e (d .voices) within in let r = length-take-le e hs (omega (arith, i, hots)) in omega (arith, l, r) in
-      sym (ap (λ (vs : List Voice). hotsOn p m soon n vs (positionsBehind d e s hs (hotsOn p m d 1 (firstOf d e) (take e hs)))) stand-first ∙ next-hots p m d early (soon .voices) (soon .count) true n (firstOf d e) (take e hs) _ room)
+      sym (ap (λ (vs : List Voice). hotsOn p m soon n vs (positions p m d e hs 1)) stand-first ∙ next-hots p m d early (soon .voices) (soon .count) true n (firstOf d e) (take e hs) _ room)
 
-  pub soon-sum : (k : ℕ) → sumAt p m e d (suc k) ≡ sumAt p m e soon k
+  soon-sum : (k : ℕ) → sumAt p m e d (suc k) ≡ sumAt p m e soon k
   unfolding sumAt
   soon-sum k =
       let f : Voice → Voice = onBy p m d 1 in
@@ -210,10 +163,6 @@ module _ (p : Params) (m : List ℕ) (e n : ℕ) (d : Channel) (voices : length 
 
 -- ---- whether some are ahead or none
 module _ (p : Params) (m : List ℕ) (n : ℕ) (sums : List Float) (d c : Channel) (x : Float) (voices : length (d .voices) ≡ 32) where
-  pub ahead-memory : (e : ℕ) → c ≡ aheadOf p m e n d → memoryOf x c m ≡ memoryOf x d m
-  unfolding aheadOf memoryOf
-  ahead-memory e is = ap (λ (y : Channel). memoryOf x y m) is
-
   module _ (hs ks : List Hot) where
     nobody-sample : Ahead p m 0 (suc n) sums d hs c ks → behindOf p x 0 (getD sums 0 zero32) c m ≡ processSampleOf p x d m
     nobody-sample ahead =
@@ -221,7 +170,7 @@ module _ (p : Params) (m : List ℕ) (n : ℕ) (sums : List Float) (d c : Channe
         ∙ behind-none p x d m voices
 
     behind-is : (e : ℕ) (some : 0 < e) (ahead : Ahead p m e (suc n) sums d hs c ks)
-        → behindOf p x e (getD sums 0 zero32) c m ≡ closing p m e n d voices some (ahead .eased) x true (given p m e n d voices some (ahead .eased) (onBy p m d (suc n)))
+        → behindOf p x e (getD sums 0 zero32) c m ≡ closed p m d e x (onBy p m d (suc n))
     behind-is e some ahead = ap₂ (λ (out : Float) (y : Channel). behindOf p x e out y m) (ahead .adds 0 (omega arith)) (ahead .channel) ∙ behind-given p m e n d voices some (ahead .eased) x
 
     -- what is heard is what is heard of the channel's sample
@@ -234,7 +183,7 @@ module _ (p : Params) (m : List ℕ) (n : ℕ) (sums : List Float) (d c : Channe
 
   -- and after it the first voices are one sample less ahead
   module _ (a b : Side) (hots : length (a .hots) ≡ 32) where
-    abbrev AheadAfter : ℕ → Type 0
+    abbrev pub AheadAfter : ℕ → Type 0
     AheadAfter e = Ahead p (memoryOf x d m) e n (drop 1 sums) (processSampleOf p x d m .channel) (sideAfter p x d m a .hots) (behindOf p x e (getD sums 0 zero32) c m .channel) (hotsBehind p x e c m b)
 
     nobody-on : Ahead p m 0 (suc n) sums d (a .hots) c (b .hots) → AheadAfter 0

@@ -2,7 +2,7 @@
 use mathlib.Core.Path.{_≡_, refl, sym, ap, ap₂, _∙_, subst}
 use Prim.Native.Nat.{ℕ, zero, suc, _+_, _≤_, _<_}
 use native.Mathlib.Omega.{arith}
-use mathlib.Core.Bool.{Bool, false}
+use mathlib.Core.Bool.{Bool}
 use mathlib.Core.List.{List, [], _∷_, _++_, map}
 use lib.Dec.{eqb}
 use lib.ListN.{length, getD}
@@ -10,12 +10,10 @@ use Rattle.common_types.specs.declared.Params.{Params}
 use Rattle.volume.specs.Levels.{steppedOf}
 use Rattle.phrases.specs.declared.Phrase.{Phrase}
 use Rattle.phrases.specs.Phrases.{noPhrase, storedIn}
-use Rattle.recorder.specs.declared.Recorder.{Recorder}
 use Rattle.voice.specs.declared.Voice.{Voice}
 use Rattle.voice.specs.declared.Moment.{Moment}
 use Rattle.voice.specs.declared.Tick.{Tick}
 use Rattle.voice.specs.Voices.{tickOf, turnOf}
-use Rattle.voice.specs.Gliding.{glidesOf}
 use Rattle.voice.proofs.Gliding.{holds}
 use Rattle.voice.proofs.PhraseKept.{turn-phrase}
 use Rattle.plain_voice.specs.declared.Hot.{Hot}

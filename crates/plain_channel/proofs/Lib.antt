@@ -8,4 +8,5 @@ pub mod Aheads
 pub mod Pourings
 pub mod Laters
 pub mod Behinds
+pub mod Eases
 pub mod Frames

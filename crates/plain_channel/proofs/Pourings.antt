@@ -1,5 +1,5 @@
 -- Voice after voice is poured: with one more ahead, the channel, the positions beside it and the sums are what they are once it is. Assumes nothing.
-use mathlib.Core.Path.{_≡_, refl, sym, ap, ap₂, _∙_, subst}
+use mathlib.Core.Path.{_≡_, refl, sym, ap, _∙_, subst}
 use Prim.Native.Nat.{ℕ, zero, suc, _+_, _≤_, _<_, min}
 use native.Mathlib.Numerals.{add-one}
 use native.Mathlib.Omega.{arith}
@@ -11,7 +11,6 @@ use lib.Ieee.{Float, binary32, add}
 use borrow.Author.Tests.{ltb-true, ltb-false}
 use Rattle.binary32.specs.Leaves.{zero32}
 use Rattle.common_types.specs.declared.Params.{Params}
-use Rattle.phrases.specs.declared.Phrase.{Phrase}
 use Rattle.recorder.specs.Recording.{isRecordingOf}
 use Rattle.voice.specs.declared.Voice.{Voice}
 use Rattle.voice.specs.declared.Tick.{Tick}
