@@ -9,3 +9,10 @@ pub mod Judging
 pub mod Resting
 pub mod Nones
 pub mod Playing
+pub mod Firsts
+pub mod Aheads
+pub mod Pourings
+pub mod Laters
+pub mod Behinds
+pub mod Eases
+pub mod Frames
