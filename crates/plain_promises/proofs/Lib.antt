@@ -1,2 +1,5 @@
 pub mod Same
 pub mod Shapes
+pub mod Turned
+pub mod Calls
+pub mod Members
