@@ -3,3 +3,5 @@ pub mod Shapes
 pub mod Turned
 pub mod Calls
 pub mod Members
+pub mod Turns
+pub mod Plain
