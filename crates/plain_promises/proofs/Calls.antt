@@ -17,18 +17,16 @@ use Rattle.voice.specs.Voices.{blankVoice}
 use Rattle.plain_voice.specs.Hots.{cold, hotAt}
 use Rattle.channel.specs.declared.Channel.{Channel}
 use Rattle.channel.specs.declared.Change.{Change}
-use Rattle.channel.specs.declared.Change.the-variants.{Head}
-use Rattle.channel.specs.declared.HeadChange.the-variants.{Load}
 use Rattle.plain_channel.specs.declared.Side.{Side}
 use Rattle.plain_channel.specs.Sides.{coldSide, takenAt, sideAfter}
 use Rattle.sampler.specs.declared.Sampler.{Sampler}
 use Rattle.sampler.specs.Refusals.{channelAt, sampleNumber, frameNumber}
-use Rattle.sampler.specs.Samplers.{changeOf, Steps, partOf, channelSteppedOf, outputOf, memoryAt, Framed, framed, entryOf, entriesOf}
+use Rattle.sampler.specs.Samplers.{changeOf, Steps, partOf, channelSteppedOf, Framed, framed, entryOf}
 use Rattle.sampler.proofs.Rows.{frame-steps}
 use Rattle.plain_sampler.specs.declared.Backing.{Backing}
 use Rattle.plain_sampler.specs.Backings.{sideAt, withSide, changeBacking, sideStepped, sampleBacking, entriesBacking, frameBacking}
-use Rattle.fates.specs.Events.{Event, idle, changes, gathers, sounds, isSample}
-use Rattle.promises.specs.Runs.{World, Call, change, sample, frame, readWave, gather, asks, code, chan, ownPart, doneTo, event}
+use Rattle.fates.specs.Events.{idle, sounds, isSample}
+use Rattle.promises.specs.Runs.{World, Call, change, sample, frame, readWave, gather, asks, code, chan, doneTo, event}
 use Rattle.promises.proofs.Apart.{part-apart, channel-apart}
 use Rattle.plain_promises.specs.Backed.{besideAfter}
 use Rattle.plain_promises.specs.Members.{hotIn}

@@ -3,7 +3,7 @@ use mathlib.Core.Path.{_≡_, refl, sym, ap, _∙_, subst}
 use mathlib.Core.Bool.{Bool, true, false, not, _&&_, cond, true≢false}
 use mathlib.Core.List.{List, [], _∷_}
 use mathlib.Core.Option.{Option, some}
-use Prim.Native.Nat.{ℕ, _+_, _^_, _<_}
+use Prim.Native.Nat.{ℕ, _+_, _<_}
 use native.Mathlib.Omega.{arith}
 use borrow.Author.Tests.{eq-eqb}
 use lib.ListN.{length, getD, getElem?}
@@ -34,7 +34,7 @@ use Rattle.fates.specs.Places.{Housed, Place, at, gone, voiceAt, follow, follow
 use Rattle.fates.proofs.Lives.{live-length}
 use Rattle.fates.proofs.Clocks.{setting-after, clock-still}
 use Rattle.fates.proofs.Tracks.{at-same, gone-never, tracks}
-use Rattle.promises.specs.Runs.{World, Call, change, start, code, after, chan, doneTo, event, events}
+use Rattle.promises.specs.Runs.{World, Call, start, code, after, chan, doneTo, event, events}
 use Rattle.promises.specs.Demands.{isEmpty}
 use Rattle.promises.proofs.Calls.{Standing, standing-after}
 use Rattle.promises.proofs.Accepted.{start-room}
@@ -125,7 +125,7 @@ module _ (w : World) (st : Standing w) (j : ℕ) (here : j < w .sampler .count) 
         ∙ taken-own d n (sideAt k j) room (omega (arith, long, start-room w st j here position note velocity p ok some-data)) (sh .places j)
         ∙ (λ t. hotAt (same-setting t) (born-there t .clip2) (same-clock t))
 
-    pub taken-exactly : (k : Backing) → Shaped k → plainIn (besideAfter w b k) j n ≡ (not (c .head .interpolates) && plainAt (born .clip2) (c .head .now))
+    taken-exactly : (k : Backing) → Shaped k → plainIn (besideAfter w b k) j n ≡ (not (c .head .interpolates) && plainAt (born .clip2) (c .head .now))
     taken-exactly k sh = ap (λ (x : Hot). x .plain) (taken-hot k sh) ∙ exactly (born .clip2) (c .head .interpolates) (c .head .now) .taken new
 
   module _ (k : Backing) (sh : Shaped k) where

@@ -1,5 +1,4 @@
 -- Request 9/12 of calls, runs of frames among them. Assumes nothing.
-use Prim.Native.Nat.{ℕ, _<_}
 use native.Mathlib.Omega.{arith}
 use Rattle.promises.specs.Runs.{setUp, makes}
 use Rattle.promises.proofs.Calls.{standing-new}

@@ -1,5 +1,5 @@
 -- What calls leave beside the record has two sides of 32 positions, as a new one has. Assumes nothing.
-use mathlib.Core.Path.{_≡_, refl, ap, _∙_, subst}
+use mathlib.Core.Path.{_≡_, refl, _∙_}
 use mathlib.Core.Bool.{Bool, true, false, cond}
 use mathlib.Core.List.{List, [], _∷_}
 use Prim.Native.Nat.{ℕ, zero, suc, _+_, min}
@@ -21,7 +21,7 @@ use Rattle.sampler.specs.Refusals.{channelAt, sampleNumber, frameNumber, doneOf
 use Rattle.sampler.specs.Samplers.{changeOf, partOf, Framed, framed, entryOf, entriesOf}
 use Rattle.plain_sampler.specs.declared.Backing.{Backing}
 use Rattle.plain_sampler.specs.Backings.{coldBacking, sideAt, withSide, takenOn, changeBacking, sideStepped, sampleBacking, entriesBacking, frameBacking, framesBacking, runBacking}
-use Rattle.promises.specs.Runs.{World, Call, change, sample, frame, readWave, gather, asks, Made, one, frames, made, after}
+use Rattle.promises.specs.Runs.{World, Call, change, sample, frame, readWave, gather, asks, Made, one, frames, made}
 use Rattle.plain_promises.specs.Backed.{besideAfter, besideMade, besideAll}
 use Rattle.plain_promises.specs.Members.{Shaped}
 
@@ -38,7 +38,7 @@ shaped-if true k l h g = h
 shaped-if false k l h g = g
 
 -- ---- one side
-pub shaped-with : (k : Backing) (j : ℕ) (s : Side) → Shaped k → length (s .hots) ≡ 32 → Shaped (withSide k j s)
+shaped-with : (k : Backing) (j : ℕ) (s : Side) → Shaped k → length (s .hots) ≡ 32 → Shaped (withSide k j s)
 shaped-with k j s h e = record {
   two = length-set (k .sides) j s ∙ h .two;
   places = λ i. set-at (λ (r : Side). length (r .hots) ≡ 32) (k .sides) j i s coldSide e (h .places i);
