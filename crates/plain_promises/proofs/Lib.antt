@@ -5,3 +5,4 @@ pub mod Calls
 pub mod Members
 pub mod Turns
 pub mod Plain
+pub mod Examples
