@@ -7,7 +7,6 @@ use mathlib.Core.List.{List, [], _∷_}
 use mathlib.Core.Option.{Option, none, some}
 use lib.ListN.{length, getD}
 use lib.Ieee.{Float}
-use Rattle.common_types.specs.declared.InitParams.{InitParams}
 use Rattle.common_types.specs.declared.Params.{Params}
 use Rattle.common_types.specs.declared.Note.{Note}
 use Rattle.clip.specs.Positions.{elapsedAt}
@@ -18,7 +17,7 @@ use Rattle.plain_voice.specs.Hots.{cold, playsPlain, hotAfter}
 use Rattle.channel.specs.declared.Channel.{Channel}
 use Rattle.channel.specs.Channels.{live}
 use Rattle.plain_sampler.specs.declared.Backing.{Backing}
-use Rattle.plain_sampler.specs.Backings.{coldBacking, sideAt}
+use Rattle.plain_sampler.specs.Backings.{sideAt}
 use Rattle.fates.specs.Engine.{bornOf, turnsIn}
 use Rattle.fates.specs.Events.{Event, idle, changes, gathers, sounds, act, isSample}
 use Rattle.fates.specs.Places.{Place, at, gone, voiceAt, follow, followAll}
