@@ -7,3 +7,4 @@ pub mod Seeking
 pub mod Togethers
 pub mod Judging
 pub mod Resting
+pub mod Filling
