@@ -4,7 +4,7 @@
 --     with-pour, with-eased, with-next, with-left      a side with another pour, and a pour with another number;  `is-poured`, `is-eased` and so on, they are of their types
 --     Cell             a side in memory as its one cell;  `spells-side` makes one of it, and `side-again` makes it a side in memory
 --     reads-eased, reads-next, reads-left      the pour's numbers, read off that cell through the reference that a local holds
---     stores-pour, stores-next, stores-left    the pour, and its numbers, stored in it
+--     stores-pour, stores-next, stores-left    the pour, and its numbers, stored in it;  `stores-eased-last`, where that is the last statement of its part
 -- Assumes `Given`.
 use mathlib.Core.Path.{_≡_, refl, sym, _∙_}
 use Prim.Native.Nat.{ℕ, _+_, _<_, _^_}
@@ -16,11 +16,11 @@ use mir.Syntax.{Opd as Operand, Body, w64, tyInt, deref, field, place, copy, seq
 use mir.Val.{vint, vptr}
 use base.Fml.{fat}
 use prog.Memory.{fieldOf}
-use prog.Wp.{Heap, Env, Calls, Loops}
+use prog.Wp.{Heap, Env, Calls, Loops, next}
 use ghost.Atoms.{Atoms}
-use types.Kit.{Given, Item, ‵, Post, Goal, runs, Seq, Step, step, _$_, move, drop, use1, use2}
+use types.Kit.{Given, Item, ‵, Post, post, Goal, prop, runs, Seq, Step, step, _$_, move, drop, use1, use2}
 use types.Part.{whole, sub, look-in, store-in}
-use types.Run.{Opd, stop, fld, load, of-opd, assigns}
+use types.Run.{Opd, stop, fld, load, of-opd, assigns, assigns-last}
 use denote.Memory.{partAt, lone}
 use denote.Laws.{Is, shows}
 use denote.Steps.{owned}
@@ -147,3 +147,9 @@ module _ {M : Type 1} {𝓤 : URA M} {H : Heap 𝓤} {A : Atoms 𝓤} {K : Type 
       stores-left t n fits y r =
           assigns t (of-opd t y) (beyond t r (fld t {τ = pour .ty} {d = pour-at} refl (fld t {τ = tyInt w64} {d = left-at} refl (stop t))))
           (store-in t 0 (sub t 3 {τ = tyInt w64} {d = left-at} refl (sub t 1 {τ = pour .ty} {d = pour-at} refl (whole t))) (tt, record { fits = fits }))
+
+    pub stores-eased-last : {Cs : Calls 𝓤 H} {Λ : Loops 𝓤 H} {Q : Post 𝓤 H} {x : Operand} → K → (n : ℕ) → n < 2 ^ 64 → Opd K W (Cell b o k ∷ Γ) E x (vint w64 n) → Held K W E (Cell b o k ∷ Γ) c (vptr b o)
+        → Step K W (Cell b o (with-pour (with-eased n (k .pour)) k) ∷ Γ) (prop (post 𝓤 H Q next)) (Cell b o k ∷ Γ) (runs Cs Λ E (assign (place c (deref S′.mir ∷ field 1 ∷ field 1 ∷ [])) (rvOpd x)) Q)
+    stores-eased-last t n fits y r =
+        assigns-last t (of-opd t y) (beyond t r (fld t {τ = pour .ty} {d = pour-at} refl (fld t {τ = tyInt w64} {d = eased-at} refl (stop t))))
+        (store-in t 0 (sub t 1 {τ = tyInt w64} {d = eased-at} refl (sub t 1 {τ = pour .ty} {d = pour-at} refl (whole t))) (tt, record { fits = fits }))

@@ -8,3 +8,5 @@ pub mod Togethers
 pub mod Judging
 pub mod Resting
 pub mod Filling
+pub mod Refilling
+pub mod Runs
