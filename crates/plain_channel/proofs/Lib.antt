@@ -7,7 +7,7 @@ pub mod Seeking
 pub mod Togethers
 pub mod Judging
 pub mod Resting
-pub mod Nones
+pub mod Ends
 pub mod Playing
 pub mod Firsts
 pub mod Aheads
