@@ -20,7 +20,7 @@ use Rattle.channel.specs.Channels.{memoryOf, processSampleOf}
 use Rattle.lent_channel.specs.Turns.{heardOf}
 use Rattle.plain_channel.specs.declared.Side.{Side}
 use Rattle.plain_channel.specs.Sides.{noPour, withHots, sideAfter}
-use Rattle.plain_channel.specs.Ahead.{onBy, aheadOf, hotsOn, behindOf, hotsBehind, sideBehind, BehindSome, mayEase, stretchOf, Ahead, AheadBy, Easing, EasedBy, Refilled, Underway, InRun, Along}
+use Rattle.plain_channel.specs.Ahead.{onBy, aheadOf, hotsOn, behindOf, hotsBehind, sideBehind, BehindSome, mayEase, stretchOf, Ahead, AheadBy, Easing, EasedBy, Refilled, Underway, Along}
 use Rattle.plain_channel.proofs.Aheads.{ahead-memory, ahead-now, hots-now, ahead-nothing}
 use Rattle.plain_channel.proofs.Eases.{asks-inside, asks-unfinished}
 use Rattle.plain_channel.proofs.Frames.{ahead-heard, ahead-on}
@@ -118,6 +118,16 @@ module _ (p : Params) (m : List ℕ) {e n : ℕ} {sums : List Float} {d c : Chan
   as-many-hots : length ks ≡ 32 → length hs ≡ 32
   as-many-hots hots = sym (ap length (ahead .hots) ∙ hots-long p m d n (take e (d .voices)) hs) ∙ hots
 
+-- what those that are ahead add in the next sample, a side that has one less, and the sample behind them
+abbrev pub first : Side → Float
+first l = getD (l .pour .sums) (l .pour .next) zero32
+
+abbrev pub stepped : Side → Side
+stepped l = with-pour (with-left (l .pour .left - 1) (with-next (l .pour .next + 1) (l .pour))) l
+
+abbrev pub played : Params → Float → List ℕ → Channel → Side → Played
+played p x m e l = behindOf p x (l .pour .eased) (first l) e m
+
 module _ (p : Params) (x : Float) (m : List ℕ) (togo : ℕ) (e : Channel) (l : Side) (some : 0 < l .pour .left) (voices : length (e .voices) ≡ 32) (hots : length (l .hots) ≡ 32) (all : length (l .pour .sums) ≡ 64) where
   abbrev eased : ℕ
   eased = l .pour .eased
@@ -128,21 +138,11 @@ module _ (p : Params) (x : Float) (m : List ℕ) (togo : ℕ) (e : Channel) (l :
   abbrev sums : List Float
   sums = l .pour .sums
 
-  -- what the sample behind those that are ahead is made of: what they add, and a side that has one less
-  abbrev pub first : Float
-  first = getD sums next zero32
-
-  abbrev pub stepped : Side
-  stepped = with-pour (with-left (l .pour .left - 1) (with-next (next + 1) (l .pour))) l
-
-  abbrev pub played : Played
-  played = behindOf p x eased first e m
-
   module _ (d : Channel) (hs : List Hot) (under : Underway p m togo d hs e l) where
     pub next-low : next < 64
     next-low = omega (arith, some, under .room)
 
-    the-next : drop next sums ≡ first ∷ drop (suc next) sums
+    the-next : drop next sums ≡ first l ∷ drop (suc next) sums
     the-next = drop-cons sums next zero32 (let low = next-low in omega (arith, low, all))
 
     ahead : Ahead p m eased (suc (l .pour .left - 1)) (drop next sums) d hs e (l .hots)
@@ -154,28 +154,28 @@ module _ (p : Params) (x : Float) (m : List ℕ) (togo : ℕ) (e : Channel) (l :
       unfinished = asks-unfinished p m (as-many-voices p m ahead voices) ahead;
     }
 
-    pub heard-so : heardOf played ≡ heardOf (processSampleOf p x d m)
+    heard-so : heardOf (played p x m e l) ≡ heardOf (processSampleOf p x d m)
     heard-so = subst (λ (ys : List Float). heardOf (behindOf p x eased (getD ys 0 zero32) e m) ≡ heardOf (processSampleOf p x d m)) the-next
         (ahead-heard p m (l .pour .left - 1) (drop next sums) d e x (as-many-voices p m ahead voices) hs (l .hots) eased ahead)
 
-    pub memory-so : memoryOf x e m ≡ memoryOf x d m
+    memory-so : memoryOf x e m ≡ memoryOf x d m
     memory-so = ahead-memory p m ahead x
 
     module _ (k : Side) where
       abbrev After : List ℕ → List Float → Float → Type 0
-      After m′ ys out = Ahead p m′ eased (l .pour .left - 1) ys (processSampleOf p x d m .channel) (sideAfter p x d m (withHots hs k) .hots) (behindOf p x eased out e m .channel) (hotsBehind p x eased e m stepped)
+      After m′ ys out = Ahead p m′ eased (l .pour .left - 1) ys (processSampleOf p x d m .channel) (sideAfter p x d m (withHots hs k) .hots) (behindOf p x eased out e m .channel) (hotsBehind p x eased e m (stepped l))
 
-      ahead-next : After (memoryOf x e m) (drop (next + 1) sums) first
+      ahead-next : After (memoryOf x e m) (drop (next + 1) sums) (first l)
       ahead-next =
-          subst (λ (m′ : List ℕ). After m′ (drop (next + 1) sums) first) (sym memory-so)
-          (subst (λ (j : ℕ). After (memoryOf x d m) (drop j sums) first) (sym (one-more next))
+          subst (λ (m′ : List ℕ). After m′ (drop (next + 1) sums) (first l)) (sym memory-so)
+          (subst (λ (j : ℕ). After (memoryOf x d m) (drop j sums) (first l)) (sym (one-more next))
           (subst (λ (ys : List Float). After (memoryOf x d m) (drop 1 ys) (getD ys 0 zero32)) the-next
-          (ahead-on p m (l .pour .left - 1) (drop next sums) d e x (as-many-voices p m ahead voices) (withHots hs k) stepped (as-many-hots p m ahead hots) eased ahead)))
+          (ahead-on p m (l .pour .left - 1) (drop next sums) d e x (as-many-voices p m ahead voices) (withHots hs k) (stepped l) (as-many-hots p m ahead hots) eased ahead)))
 
-      pub under-next : Underway p (memoryOf x e m) (togo - 1) (processSampleOf p x d m .channel) (sideAfter p x d m (withHots hs k) .hots) (played .channel) (sideBehind p x eased e m stepped)
+      under-next : Underway p (memoryOf x e m) (togo - 1) (processSampleOf p x d m .channel) (sideAfter p x d m (withHots hs k) .hots) (played p x m e l .channel) (sideBehind p x eased e m (stepped l))
       under-next = record { ahead = ahead-next; room = omega (arith, some, under .room); left = omega (arith, some, under .left) }
 
-  pub goes-along : (c : Channel) (k : Side) → Ready p m togo c k e l → Along p x m togo c k (heardOf played) (played .channel) (sideBehind p x eased e m stepped) (memoryOf x e m)
+  pub goes-along : (c : Channel) (k : Side) → Ready p m togo c k e l → Along p x m togo c k (heardOf (played p x m e l)) (played p x m e l .channel) (sideBehind p x eased e m (stepped l)) (memoryOf x e m)
   goes-along c k ready = record {
     heard = λ d hs under. heard-so d hs (ready .same d hs under);
     memory = λ d hs under. memory-so d hs (ready .same d hs under);

@@ -1,7 +1,7 @@
 -- `along` meets its contract: a walk of its MIR, by hand. Both borrows are opened once. Where no sample is left both are lent on to `refill`, and the memory is shared; then the next sum is read, the side goes on by a sample,
 -- and both are lent on to `behind`, and the memory again. Both branches meet in `goes-on`. Assumes nothing.
-use mathlib.Core.Path.{_≡_, refl, sym, _∙_, ap, subst}
-use Prim.Native.Nat.{ℕ, _+_, _-_, _*_, _≤_, _<_, _^_}
+use mathlib.Core.Path.{_≡_, refl, _∙_, ap, subst}
+use Prim.Native.Nat.{ℕ, _+_, _-_, _*_, _<_, _^_}
 use native.Mathlib.Omega.{arith}
 use mathlib.Core.Bool.{true, not}
 use mathlib.Core.Option.{Option, none, some}
@@ -158,9 +158,9 @@ module _ {M : Type 1} (𝓤 : URA M) (H : Heap 𝓤) (A : Atoms 𝓤) (W : Given
   abbrev Open : Channel → Side → List (Item 𝓤)
   Open d l = ‵ (partAt C.the-row fullShare d b o) ∷ ‵ (partAt S.the-row fullShare l b₁ o₁) ∷ Kept channel κ q xc ∷ Kept side κ₁ q₁ xk ∷ ‵ (flft κ₂ q₂) ∷ Mem ms ∷ []
 
-  -- and the locals that hold what is passed
-  abbrev At : Addresses (code.function .locals) → Channel → Side → List (Item 𝓤)
-  At at d l = over (Open d l) (env (code.function .locals) at) (none ∷ some (vptr b o) ∷ some (vptr b₁ o₁) ∷ some (params .val p) ∷ some (vfloat binary32 x) ∷ some sl ∷ some (vint w64 togo) ∷ [])
+  -- and the locals: those that hold what is passed, and behind them vs
+  abbrev At : Addresses (code.function .locals) → Channel → Side → List (Option Val) → List (Item 𝓤)
+  At at d l vs = over (Open d l) (env (code.function .locals) at) (none ∷ some (vptr b o) ∷ some (vptr b₁ o₁) ∷ some (params .val p) ∷ some (vfloat binary32 x) ∷ some sl ∷ some (vint w64 togo) ∷ vs)
 
   -- ---- a sample is poured: of channel d and side l
   module _ (d : Channel) (l : Side) (ready : Ready p ms togo c k d l) (isd : Is C.the-row d (cv d ∷ [])) (isl : IsSide l) where
@@ -187,13 +187,13 @@ module _ {M : Type 1} (𝓤 : URA M) (H : Heap 𝓤) (A : Atoms 𝓤) (W : Given
 
     -- what the first add, the side that has one sample less, and what `behind` makes of them
     abbrev adds : Float
-    adds = first p x ms togo d l (ready .some) voices hots sums
+    adds = first l
 
     abbrev l₁ : Side
-    l₁ = stepped p x ms togo d l (ready .some) voices hots sums
+    l₁ = stepped l
 
     abbrev d′ : Channel
-    d′ = played p x ms togo d l (ready .some) voices hots sums .channel
+    d′ = played p x ms d l .channel
 
     abbrev l′ : Side
     l′ = sideBehind p x eased d ms l₁
@@ -202,7 +202,7 @@ module _ {M : Type 1} (𝓤 : URA M) (H : Heap 𝓤) (A : Atoms 𝓤) (W : Given
     ms′ = memoryOf x d ms
 
     abbrev out : Heard
-    out = heardOf (played p x ms togo d l (ready .some) voices hots sums)
+    out = heardOf (played p x ms d l)
 
     long : length ms′ ≡ length ms
     long = memory-kept x d ms
@@ -257,13 +257,10 @@ module _ {M : Type 1} (𝓤 : URA M) (H : Heap 𝓤) (A : Atoms 𝓤) (W : Given
       abbrev En : Env 𝓤 H
       En = env (code.function .locals) at
 
-      abbrev Ends : Val → List (Option Val) → List (Item 𝓤)
-      Ends v vs = over (Open d l₁) En (none ∷ some (vptr b o) ∷ some (vptr b₁ o₁) ∷ some (params .val p) ∷ some (vfloat binary32 x) ∷ some sl ∷ some (vint w64 togo) ∷ some v ∷ vs)
-
       -- the side has gone on: both are lent on to `behind`, and the memory again
-      plays-on : Is f32 adds (vfloat binary32 adds ∷ []) → ent 𝓤 (⋆ 𝓤 H A (Ends (vfloat binary32 adds) (some (vint w64 eased) ∷ []))) (Wp 𝓤 H (𝓣 .C) (𝓣 .Λ) En (after 16 (code.function .body)) (atReturn 𝓤 H En Post))
+      plays-on : Is f32 adds (vfloat binary32 adds ∷ []) → ent 𝓤 (⋆ 𝓤 H A (At at d l₁ (some (vfloat binary32 adds) ∷ some (vint w64 eased) ∷ []))) (Wp 𝓤 H (𝓣 .C) (𝓣 .Λ) En (after 16 (code.function .body)) (atReturn 𝓤 H En Post))
       plays-on isf =
-          qed W (Ends (vfloat binary32 adds) (some (vint w64 eased) ∷ [])) ∵ exec ! (𝓣 .C) (𝓣 .Λ) En (after 16 (code.function .body)) (atRet En Post) $
+          qed W (At at d l₁ (some (vfloat binary32 adds) ∷ some (vint w64 eased) ∷ [])) ∵ exec ! (𝓣 .C) (𝓣 .Λ) En (after 16 (code.function .body)) (atRet En Post) $
           puts ! (addr ! (beyond ! (held ! refl) (stop !))) (fills ! refl (tt, tt)) $ puts ! (addr ! (beyond ! (held ! refl) (stop !))) (fills ! refl (tt, tt)) $
           puts ! (addr ! (beyond-field ! refl refl refl (stop !))) (fills ! refl (tt, tt)) $
           puts ! (agg ! (and-then ! (its ! refl) (and-then ! (field-of ! refl refl) (no-more !)))) (fills ! refl (tt, (tt, (record { fits = room .0 }, tt)))) $
@@ -293,9 +290,9 @@ module _ {M : Type 1} (𝓤 : URA M) (H : Heap 𝓤) (A : Atoms 𝓤) (W : Given
           by ! (exits is-out)))))))))))))
 
       -- the next sum is read, and the side goes on
-      goes-on : ent 𝓤 (⋆ 𝓤 H A (At at d l)) (Wp 𝓤 H (𝓣 .C) (𝓣 .Λ) En (after 3 (code.function .body)) (atReturn 𝓤 H En Post))
+      goes-on : ent 𝓤 (⋆ 𝓤 H A (At at d l [])) (Wp 𝓤 H (𝓣 .C) (𝓣 .Λ) En (after 3 (code.function .body)) (atReturn 𝓤 H En Post))
       goes-on =
-          qed W (At at d l) ∵ exec ! (𝓣 .C) (𝓣 .Λ) En (after 3 (code.function .body)) (atRet En Post) $ move ! (1 ∷ []) $
+          qed W (At at d l []) ∵ exec ! (𝓣 .C) (𝓣 .Λ) En (after 3 (code.function .body)) (atRet En Post) $ move ! (1 ∷ []) $
           spells-side b₁ o₁ l ! (λ _. puts ! (of-opd ! (reads-next b₁ o₁ l ! (held ! refl))) (fills ! refl (tt, record { fits = index-fits })) $ side-again b₁ o₁ l ! isl $
           points-sum next b₁ o₁ ! place-fits (its ! refl) (fills ! refl (tt, record { fits = place-fits })) (held ! refl) (fills ! refl (tt, tt)) (held ! refl) (held ! refl) (fills ! refl (tt, tt)) $
           copies-sum next b₁ o₁ l ! (omega (arith, low, sums)) (held ! refl) (fills ! refl) (λ isf. puts ! (of-opd ! (its ! refl)) (fills ! refl (float binary32 .typed 𝓤 H A W adds _ isf)) $

@@ -1,5 +1,5 @@
 -- `refill` meets its contract: a walk of its MIR, by hand. The side's pour is emptied for a stretch, and both are lent on to `ease` if voices may be ahead. Assumes nothing.
-use mathlib.Core.Path.{_≡_, refl}
+use mathlib.Core.Path.{refl}
 use Prim.Native.Nat.{ℕ}
 use mathlib.Core.List.{List, [], _∷_}
 use lib.ListN.{length}
