@@ -1,5 +1,6 @@
 pub mod Pairing
 pub mod Goings
+pub mod Easings
 pub mod Sides
 pub mod Hotting
 pub mod Following
