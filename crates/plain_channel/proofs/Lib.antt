@@ -8,3 +8,5 @@ pub mod Seeking
 pub mod Togethers
 pub mod Judging
 pub mod Resting
+pub mod Nones
+pub mod Playing

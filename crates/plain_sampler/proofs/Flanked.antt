@@ -14,7 +14,6 @@ use Rattle.common_types.specs.declared.Params.{Params}
 use Rattle.channel.specs.declared.Played.{Played}
 use Rattle.channel.specs.Channels.{memoryOf}
 use Rattle.channel.specs.Channels.{processSampleOf as channelSampleOf}
-use Rattle.plain_channel.specs.declared.Side.{Side}
 use Rattle.plain_channel.specs.Sides.{sideAfter}
 use Rattle.sampler.specs.declared.Sampler.{Sampler}
 use Rattle.sampler.specs.Refusals.{channelAt, frameNumber}

@@ -1,7 +1,8 @@
 pub mod Sides
 pub mod Turns
 pub mod Flanked
-pub mod Stepping
-pub mod Taking
 pub mod Sampling
+pub mod Stepping
 pub mod Single
+pub mod Taking
+pub mod Named

@@ -22,7 +22,6 @@ use types.SemTy.{Body as Holds-in}
 use types.Tokens.{lft-new, lft-end}
 use types.Run.{Opds}
 use denote.Exit.{yes}
-use denote.RattleType.{RattleType}
 use denote.Memory.{mem, partAt}
 use denote.Laws.{Is, shows}
 use denote.Plain.{uint-makes}
@@ -118,20 +117,20 @@ module _ (T C K D P : Datum) (Y : Sounding) (S : Seats T C) (F : Sides K D) (sou
           nothing ! $ owned ! usize (Is usize) (uint-makes 𝓤 H A W w64) e _ (refl, e-fits) $ fjoin ! $ owned ! usize (Is usize) (uint-makes 𝓤 H A W w64) a _ (refl, a-fits) $ fjoin ! $ move ! (3 ∷ 0 ∷ []) $ fjoin ! $
           owned ! f32 (Is f32) (float-makes 𝓤 H A W binary32) x _ isx $ fjoin ! $ owned ! (row P) (Is (row P)) (P .makes 𝓤 H A W) p _ isp $ fjoin ! $ move ! (2 ∷ 0 ∷ []) $ fjoin ! $ move ! (1 ∷ 0 ∷ []) $ fjoin ! $ done !
 
+    abbrev Mem : {M : Type 1} {𝓤 : URA M} → Lft → GName → ℕ → List ℕ → Item 𝓤
+    Mem κ₂ γ₂ ν l = ‵ (MutSlice (named ν) κ₂ u32 .own (xm γ₂ l) (sm ∷ []))
+
+    -- what stands beside the call while it runs
+    abbrev Waiting : {M : Type 1} (𝓤 : URA M) (H : Heap 𝓤) (A : Atoms 𝓤) → Lft → Share → GName → ℕ → ℕ → ℕ → GName → GName → GName → List (Item 𝓤) → List (Item 𝓤)
+    Waiting 𝓤 H A κ₂ q₂ γ₂ α ρ β δ ζ ε Δ = ‵ (LentAgain u32 κ₂ (β ∷ []) q₂ γ₂ b₂ o₂ ε k) ∷ ‵ (flent (ρ ∷ []) (Holds-in (mem (row D)) b₃ (flank o₃ j) ζ)) ∷ raw (Back 𝓤 H A fullShare (row K) (row D) (F .changed h j followed) followed b₃ o₃ (flank o₃ j))
+        ∷ ‵ (flent (α ∷ []) (Holds-in (mem (row C)) b (seat o j) δ)) ∷ raw (Back 𝓤 H A fullShare (row T) (row C) (S .changed t j played) played b o (seat o j)) ∷ Δ
+
     module _ {M : Type 1} {𝓤 : URA M} {H : Heap 𝓤} {A : Atoms 𝓤} {N : Type 0} {W : Given 𝓤 H A} (κ₂ : Lft) (q₂ : Share) (γ₂ : GName) (ν : ℕ) where
-      abbrev Mem : List ℕ → Item 𝓤
-      Mem l = ‵ (MutSlice (named ν) κ₂ u32 .own (xm γ₂ l) (sm ∷ []))
-
-      -- what stands beside the call while it runs
-      abbrev Waiting : ℕ → ℕ → ℕ → GName → GName → GName → List (Item 𝓤) → List (Item 𝓤)
-      Waiting α ρ β δ ζ ε Δ = ‵ (LentAgain u32 κ₂ (β ∷ []) q₂ γ₂ b₂ o₂ ε k) ∷ ‵ (flent (ρ ∷ []) (Holds-in (mem (row D)) b₃ (flank o₃ j) ζ)) ∷ raw (Back 𝓤 H A fullShare (row K) (row D) (F .changed h j followed) followed b₃ o₃ (flank o₃ j))
-          ∷ ‵ (flent (α ∷ []) (Holds-in (mem (row C)) b (seat o j) δ)) ∷ raw (Back 𝓤 H A fullShare (row T) (row C) (S .changed t j played) played b o (seat o j)) ∷ Δ
-
       pub samples-at : N → (𝓣 : Tables 𝓤 H) {E : Env 𝓤 H} {r : After 𝓤 H} {g : Name} {xs : List Operand} {l : Place} {rest : Body} {Δ : List (Item 𝓤)}
           → Triple 𝓤 (𝓣 .C g) (Samples 𝓤 H A) → S .Two t → F .Two h → j < 2 → Is f32 x (vfloat binary32 x ∷ []) → Is (P .like) p (P .val p ∷ []) → a < 2 ^ 64 → e < 2 ^ 64 → (a ≤ e) × (e ≤ length k) → length k ≡ n → Room u32 n → length (records x c part) ≡ length part
-          → ((α ρ β : ℕ) (δ ζ ε : GName) → Opds N W (raw (Samples 𝓤 H A .pre (to-sample 𝓤 H A α ρ β δ ζ ε)) ∷ Waiting α ρ β δ ζ ε Δ) E xs (vptr b (seat o j) ∷ vptr b₃ (flank o₃ j) ∷ P .val p ∷ vfloat binary32 x ∷ sm ∷ vint w64 a ∷ vint w64 e ∷ []))
-          → ((y : Y .like .Denot) (w : Val) → y ≡ sounds p x c part → Is (sounding-row Y) y (w ∷ []) → Seq N W (‵ (partAt (row T) fullShare (S .changed t j played) b o) ∷ ‵ (partAt (row K) fullShare (F .changed h j followed) b₃ o₃) ∷ Mem left ∷ ‵ (flft κ₂ q₂) ∷ ‵ (Y .like .own y (w ∷ [])) ∷ Δ) (lands (𝓣 .C) (𝓣 .Λ) E l w rest r))
-          → Seq N W (‵ (partAt (row T) fullShare t b o) ∷ ‵ (partAt (row K) fullShare h b₃ o₃) ∷ Mem k ∷ ‵ (flft κ₂ q₂) ∷ Δ) (runs (𝓣 .C) (𝓣 .Λ) E (seq (call g xs l) rest) r)
+          → ((α ρ β : ℕ) (δ ζ ε : GName) → Opds N W (raw (Samples 𝓤 H A .pre (to-sample 𝓤 H A α ρ β δ ζ ε)) ∷ Waiting 𝓤 H A κ₂ q₂ γ₂ α ρ β δ ζ ε Δ) E xs (vptr b (seat o j) ∷ vptr b₃ (flank o₃ j) ∷ P .val p ∷ vfloat binary32 x ∷ sm ∷ vint w64 a ∷ vint w64 e ∷ []))
+          → ((y : Y .like .Denot) (w : Val) → y ≡ sounds p x c part → Is (sounding-row Y) y (w ∷ []) → Seq N W (‵ (partAt (row T) fullShare (S .changed t j played) b o) ∷ ‵ (partAt (row K) fullShare (F .changed h j followed) b₃ o₃) ∷ Mem κ₂ γ₂ ν left ∷ ‵ (flft κ₂ q₂) ∷ ‵ (Y .like .own y (w ∷ [])) ∷ Δ) (lands (𝓣 .C) (𝓣 .Λ) E l w rest r))
+          → Seq N W (‵ (partAt (row T) fullShare t b o) ∷ ‵ (partAt (row K) fullShare h b₃ o₃) ∷ Mem κ₂ γ₂ ν k ∷ ‵ (flft κ₂ q₂) ∷ Δ) (runs (𝓣 .C) (𝓣 .Λ) E (seq (call g xs l) rest) r)
       samples-at z 𝓣 known two both low isx isp a-fits e-fits within long room keeps os go =
           use1 W (‵ (partAt (row C) fullShare c b (seat o j)) ⊛ raw (Back 𝓤 H A fullShare (row T) (row C) (S .changed t j played) played b o (seat o j))) (S .sets-channel 𝓤 H A W fullShare t b o j two low played) $ split z $ lft-new z tt (λ α. move z (1 ∷ []) $
           use1 W (later (some (λ (δ : GName). ‵ (MutRef (named 0) (α ∷ []) (row C) .own (lent δ) (vptr b (seat o j) ∷ [])) ⊛ ‵ (flent (α ∷ []) (Holds-in (mem (row C)) b (seat o j) δ))))) (lends-ref 𝓤 H A W (row C) (named 0) (α ∷ []) c b (seat o j)) $ await z tt $ pick z (λ δ. split z $ move z (4 ∷ []) $

@@ -39,7 +39,7 @@ use denote.Ref.{RefT, MutRef, ShrRef, now, ptr-vals, mut-tells}
 use denote.Lend.{lends-shr}
 use denote.Index.{place-is}
 use denote.Signature.{plain}
-use denote.Builtin.{u8, u32, usize, f32, RefMutOf, SliceRefMutOf}
+use denote.Builtin.{u32, usize, f32, RefMutOf, SliceRefMutOf}
 use denote.Steps.{only, owned, peeks, heard, nothing}
 use denote.Triple.Entry.{onEntry}
 use denote.Triple.Spec.{Meets, tripleOf}
@@ -49,13 +49,13 @@ use denote.Triple.Clauses.{Ended, Clauses, ensured, lasts, closing}
 use denote.Triple.Walked.{says, Stays, stay-ref, stay-slice, stay-none, walkOf, ends-at, walked, goes-ref, goes-slice, goes-none, walk-meets}
 use Rattle.walks.proofs.Steps.Inside.{goes-in, comes-out, opened, big}
 use Rattle.walks.proofs.Steps.Data.{Datum, row, lies, word, Sounding, sounding-ty, sounding-row}
-use Rattle.walks.proofs.Tests.{not-false, denied}
+use Rattle.walks.proofs.Tests.{denied}
 use Rattle.walks.proofs.Steps.Calls.{Callee, Says, asks}
 use Rattle.walks.proofs.Steps.Locals.{its, held, fills, field-of, beyond, beyond-field, puts, puts-as, arrives, gives, gives-within, over, Addresses, env, allocated, passed, leaves-only, all-freed}
 use Rattle.lent_channel.proofs.Bytes.{channel-bytes}
 use Rattle.lent_sampler.proofs.Seats.{Seats, seat}
 use Rattle.plain_sampler.proofs.Sides.{side-bytes, Sides, flank}
-use borrow.Author.Tests.{eqb-true}
+use borrow.Author.Tests.{eqb-true, not-false}
 use borrow.Rule.Slice.PartMut.{midOf, putMid, same-len-mid}
 use Rattle.sampler.proofs.Parts.{starts-at}
 use Rattle.lent_channel.proofs.Views.{Viewer}
@@ -86,12 +86,20 @@ module _ (T C K D P Q : Datum) (Y : Sounding) (S : Seats T C) (F : Sides K D) (#
   abbrev Kr : RattleType
   Kr = row K
 
-  -- a sample that isn't refused
-  abbrev playing : Body
-  playing =
-      seq (assign (place 8 []) (rvOpd (copy (place 1 (deref (T .ty) ∷ field 2 ∷ []))))) (
-      seq (call #start (copy (place 3 []) ∷ copy (place 8 []) ∷ []) (place 9 [])) (
-      seq (assign (place 10 []) (op2 (add unsigned) (copy (place 9 [])) (copy (place 8 [])))) (
+  -- a sample that isn't refused: the call, and the answer
+  abbrev answering : Body
+  answering =
+      seq (call #answered (copy (place 11 []) ∷ []) (place 0 [])) (
+      return)
+
+  abbrev sampling : Body
+  sampling =
+      seq (call #sample (copy (place 17 []) ∷ copy (place 21 []) ∷ copy (place 5 []) ∷ copy (place 4 []) ∷ copy (place 23 []) ∷ copy (place 9 []) ∷ copy (place 10 []) ∷ []) (place 11 [])) (
+      answering)
+
+  -- before that the channel, its side and the memory are pointed to
+  abbrev pointing : Body
+  pointing =
       seq (assign (place 13 []) (op2 (mul unsigned) (copy (place 3 [])) (intBig w64 channel-bytes))) (
       seq (assign (place 15 []) (addrOf (place 1 (deref (T .ty) ∷ field 0 ∷ [])))) (
       seq (assign (place 16 []) (op2 offset (copy (place 15 [])) (copy (place 13 [])))) (
@@ -102,9 +110,15 @@ module _ (T C K D P Q : Datum) (Y : Sounding) (S : Seats T C) (F : Sides K D) (#
       seq (assign (place 21 []) (addrOf (place 20 (deref (D .ty) ∷ [])))) (
       seq (assign (place 22 []) (addrOf (place 6 (field 0 ∷ deref (tyInt w32) ∷ [])))) (
       seq (assign (place 23 []) (aggregate (copy (place 22 []) ∷ copy (place 6 (field 1 ∷ [])) ∷ []))) (
-      seq (call #sample (copy (place 17 []) ∷ copy (place 21 []) ∷ copy (place 5 []) ∷ copy (place 4 []) ∷ copy (place 23 []) ∷ copy (place 9 []) ∷ copy (place 10 []) ∷ []) (place 11 [])) (
-      seq (call #answered (copy (place 11 []) ∷ []) (place 0 [])) (
-      return)))))))))))))))
+      sampling))))))))))
+
+  -- and before that the part is found
+  abbrev playing : Body
+  playing =
+      seq (assign (place 8 []) (rvOpd (copy (place 1 (deref (T .ty) ∷ field 2 ∷ []))))) (
+      seq (call #start (copy (place 3 []) ∷ copy (place 8 []) ∷ []) (place 9 [])) (
+      seq (assign (place 10 []) (op2 (add unsigned) (copy (place 9 [])) (copy (place 8 [])))) (
+      pointing)))
 
   abbrev function : Fn
   function = record {
@@ -225,10 +239,13 @@ module _ (T C K D P Q : Datum) (Y : Sounding) (S : Seats T C) (F : Sides K D) (#
       abbrev Opened : List (Item 𝓤)
       Opened = ‵ (fobor κ q (Holds-in (mem Tr) b o γ)) ∷ ‵ (fobs γ (T .like .coded .code s)) ∷ ‵ (fauth γ (T .like .coded .code s)) ∷ ‵ (fobor κ₃ q₃ (Holds-in (mem Kr) b₃ o₃ γ₃)) ∷ ‵ (fobs γ₃ (K .like .coded .code f)) ∷ ‵ (fauth γ₃ (K .like .coded .code f)) ∷ ‵ ftrue ∷ []
 
+      -- what the locals hold all the while
+      abbrev Known : List (Option Val) → List (Option Val)
+      Known more = room ∷ holds-now (vptr b o) ∷ holds-now (vptr b₃ o₃) ∷ holds-now (vint w64 j) ∷ holds-now (vfloat binary32 x) ∷ holds-now (P .val p) ∷ holds-now sm ∷ more
+
       -- where both records are as they were, and more is known
       abbrev At : List (Option Val) → List (Item 𝓤)
-      At more = over (‵ (partAt Tr fullShare s b o) ∷ ‵ (partAt Kr fullShare f b₃ o₃) ∷ Mem m ∷ ‵ (flft κ₂ q₂) ∷ Opened) En
-          (room ∷ holds-now (vptr b o) ∷ holds-now (vptr b₃ o₃) ∷ holds-now (vint w64 j) ∷ holds-now (vfloat binary32 x) ∷ holds-now (P .val p) ∷ holds-now sm ∷ more)
+      At more = over (‵ (partAt Tr fullShare s b o) ∷ ‵ (partAt Kr fullShare f b₃ o₃) ∷ Mem m ∷ ‵ (flft κ₂ q₂) ∷ Opened) En (Known more)
 
       module _ (accepted : number ≡ 0) where
         abbrev size : ℕ
@@ -249,30 +266,75 @@ module _ (T C K D P Q : Datum) (Y : Sounding) (S : Seats T C) (F : Sides K D) (#
         end-fits : a + size < 2 ^ 64
         end-fits = omega (arith, ends-in, room₂ .0)
 
-        plays : ent 𝓤 (⋆ 𝓤 H A (At (holds-now (vint w8 number) ∷ []))) (Wp 𝓤 H Cs Λ En playing (atReturn 𝓤 H En Post))
-        plays =
-            qed W (At (holds-now (vint w8 number) ∷ [])) ∵ exec ! Cs Λ En playing (atRet En Post) $
-            goes-in ! fullShare Tr usize (Is usize) (shows 𝓤 H A usize) (uint-vals w64) (uint-tells w64) s s size size b o (o + capacity-at) (S .reads-capacity 𝓤 H A W fullShare s b o) (λ isc.
-            puts ! (of-opd ! (load ! (beyond ! (held ! refl) (fld ! (S .field₂) (stop !))) (look ! 0 refl))) (fills ! refl (tt, record { fits = isc .1 })) $ comes-out ! fullShare Tr usize s size (vint w64 size ∷ []) b o (o + capacity-at) $
-            asks ! known-start (j, (size, tt)) ((refl, j-fits), ((refl, isc .1), tt)) (and-then ! (its ! refl) (and-then ! (its ! refl) (no-more !))) (fills ! refl) (λ isa.
-            puts ! (bin ! (its ! refl) (its ! refl) (record { fits = end-fits })) (fills ! refl (tt, record { fits = end-fits })) $
+        -- the channel, the part, what the sample gives and what it leaves
+        abbrev c : C .like .Denot
+        c = S .channel s j
+
+        abbrev part : List ℕ
+        part = midOf a (a + size - a) m
+
+        abbrev gave : Y .like .Denot
+        gave = Z .sounds p x c part
+
+        abbrev s′ : T .like .Denot
+        s′ = S .changed s j (Z .plays p x c part)
+
+        abbrev f′ : K .like .Denot
+        f′ = F .changed f j (Z .follows p x c part (F .side f j))
+
+        abbrev m′ : List ℕ
+        m′ = putMid a (a + size - a) m (Z .records x c part)
+
+        -- where the part is found, and more is known
+        abbrev Found : List (Option Val) → List (Option Val)
+        Found more = holds-now (vint w8 number) ∷ holds-now (vint w64 size) ∷ holds-now (vint w64 a) ∷ holds-now (vint w64 (a + size)) ∷ more
+
+        -- where all that the sample is given stands
+        abbrev Giving : List (Item 𝓤)
+        Giving = At (Found (room ∷ room ∷ holds-now (vint w64 (j * channel-bytes)) ∷ room ∷ holds-now (vptr b (o + 0)) ∷ holds-now (vptr b (seat o j)) ∷ holds-now (vptr b (seat o j)) ∷ holds-now (vint w64 (j * side-bytes)) ∷ holds-now (vptr b₃ (o₃ + 0)) ∷ holds-now (vptr b₃ (flank o₃ j)) ∷ holds-now (vptr b₃ (flank o₃ j)) ∷ holds-now (vptr b₂ o₂) ∷ holds-now sm ∷ []))
+
+        -- where the sample is played
+        abbrev Given-back : Y .like .Denot → Val → List (Item 𝓤)
+        Given-back y w = over (‵ (partAt Tr fullShare s′ b o) ∷ ‵ (partAt Kr fullShare f′ b₃ o₃) ∷ Mem m′ ∷ ‵ (flft κ₂ q₂) ∷ ‵ (Y .like .own y (w ∷ [])) ∷ Opened) En (Known (Found (holds-now w ∷ [])))
+
+        answers : (y : Y .like .Denot) (w : Val) → y ≡ gave → ent 𝓤 (⋆ 𝓤 H A (Given-back y w)) (Wp 𝓤 H Cs Λ En answering (atReturn 𝓤 H En Post))
+        answers y w given =
+            qed W (Given-back y w) ∵ exec ! Cs Λ En answering (atRet En Post) $
+            move ! (4 ∷ []) $ use1 W (raw (Answers 𝓤 H A .pre (to-answer y w))) (goes-answer y w) $
+            calls-at ! (fmOf 𝓤 H (W .laws) 𝓣) (Answers 𝓤 H A) known-answered (to-answer y w) (and-then ! (its ! refl) (no-more !)) (λ v.
+            use1 W (later (some (λ (r : Q .like .Denot). (‵ ftrue ⊛ ‵ (Q .like .own r (v ∷ []))) ⊛ raw (ensured 𝓤 H A answer-ended (answer-clauses 𝓤) tt (y, tt) tt r)))) (id⊢ 𝓤 _) $ await ! tt $ pick ! (λ r.
+            split ! $ move ! (1 ∷ []) $ use1 W (raw (fact 𝓤 (r ≡ Z .answers y))) (answer-of y r) $ heard ! (r ≡ Z .answers y) (λ e₁. split ! $ drop ! $ peeks ! (row Q) (Is (row Q)) (shows 𝓤 H A (row Q)) r (v ∷ []) (λ isr. drop ! $
+            let r₀ : Q .like .Denot = Z .answers gave in
+            let is-r : Is (Q .like) r₀ (Q .val r₀ ∷ []) = subst (λ (z : Q .like .Denot). Is (Q .like) z (Q .val z ∷ [])) (e₁ ∙ ap (Z .answers) given) (subst (Is (Q .like) r) (Q .tells r _ isr) isr) in
+            arrives ! (ap only (Q .tells r _ isr) ∙ ap (Q .val) (e₁ ∙ ap (Z .answers) given)) (fills ! refl (Q .typed 𝓤 H A W r₀ _ is-r)) $
+            move ! (1 ∷ 7 ∷ 8 ∷ 9 ∷ []) $ close-ref ! tt (mem Kr) f′ {b = b₃} {o = o₃} $ move ! (3 ∷ 6 ∷ 7 ∷ 8 ∷ []) $ close-ref ! tt (mem Tr) s′ {b = b} {o = o} $ gives ! refl $
+            all-freed ! refl $ by ! (exits r₀ s′ f′ m′ is-r (same-len-mid a (a + size - a) m (Z .records x c part) (Z .keeps x c part)) (Z .played s f j x p m accepted a e))))))
+
+        samples : a < 2 ^ 64 → ent 𝓤 (⋆ 𝓤 H A Giving) (Wp 𝓤 H Cs Λ En sampling (atReturn 𝓤 H En Post))
+        samples a-fits =
+            qed W Giving ∵ exec ! Cs Λ En sampling (atRet En Post) $
+            samples-at T C K D P Y S F (Z .sounds) (Z .plays) (Z .records) (Z .follows) s f p x m b o b₃ o₃ b₂ o₂ (length m) j a (a + size) κ₂ q₂ γ₂ 2 ! 𝓣 known-sample two both (ready .0) isx isp a-fits end-fits (omega arith, ends-in) refl room₂ (Z .keeps x c part)
+            (λ α ρ β δ ζ ε. and-then ! (its ! refl) (and-then ! (its ! refl) (and-then ! (its ! refl) (and-then ! (its ! refl) (and-then ! (its ! refl) (and-then ! (its ! refl) (and-then ! (its ! refl) (no-more !)))))))) (λ y w given isy.
+            arrives ! refl (fills ! refl (Y .typed 𝓤 H A W y w isy)) $ leaves-only ! En 12 refl $ by ! (answers y w given))
+
+        points : a < 2 ^ 64 → ent 𝓤 (⋆ 𝓤 H A (At (Found []))) (Wp 𝓤 H Cs Λ En pointing (atReturn 𝓤 H En Post))
+        points a-fits =
+            qed W (At (Found [])) ∵ exec ! Cs Λ En pointing (atRet En Post) $
             puts ! (bin ! (its ! refl) (big ! (record { fits = lit< tt })) (record { fits = omega (arith, ready .0) })) (fills ! refl (tt, record { fits = omega (arith, ready .0) })) $ puts ! (addr ! (beyond ! (held ! refl) (fld ! (S .field₀) (stop !)))) (fills ! refl (tt, tt)) $
             puts-as ! (ap (vptr b) (sym (place-is channel-bytes (o + 0) j))) (bin ! (its ! refl) (its ! refl) tt) (fills ! refl (tt, tt)) $ puts ! (addr ! (beyond ! (held ! refl) (stop !))) (fills ! refl (tt, tt)) $
             puts ! (bin ! (its ! refl) (lit ! tt) (record { fits = omega (arith, ready .0) })) (fills ! refl (tt, record { fits = omega (arith, ready .0) })) $ puts ! (addr ! (beyond ! (held ! refl) (fld ! (F .field₀) (stop !)))) (fills ! refl (tt, tt)) $
             puts-as ! (ap (vptr b₃) (sym (place-is side-bytes (o₃ + 0) j))) (bin ! (its ! refl) (its ! refl) tt) (fills ! refl (tt, tt)) $ puts ! (addr ! (beyond ! (held ! refl) (stop !))) (fills ! refl (tt, tt)) $
             puts ! (addr ! (beyond-field ! refl refl refl (stop !))) (fills ! refl (tt, tt)) $
             puts ! (agg ! (and-then ! (its ! refl) (and-then ! (field-of ! refl refl) (no-more !)))) (fills ! refl (tt, (tt, (record { fits = room₂ .0 }, tt)))) $
-            samples-at T C K D P Y S F (Z .sounds) (Z .plays) (Z .records) (Z .follows) s f p x m b o b₃ o₃ b₂ o₂ (length m) j a (a + size) κ₂ q₂ γ₂ 2 ! 𝓣 known-sample two both (ready .0) isx isp (isa .1) end-fits (omega arith, ends-in) refl room₂ (Z .keeps x _ _)
-            (λ α ρ β δ ζ ε. and-then ! (its ! refl) (and-then ! (its ! refl) (and-then ! (its ! refl) (and-then ! (its ! refl) (and-then ! (its ! refl) (and-then ! (its ! refl) (and-then ! (its ! refl) (no-more !)))))))) (λ y w given isy.
-            arrives ! refl (fills ! refl (Y .typed 𝓤 H A W y w isy)) $ move ! (4 ∷ []) $ use1 W (raw (Answers 𝓤 H A .pre (to-answer y w))) (goes-answer y w) $
-            calls-at ! (fmOf 𝓤 H (W .laws) 𝓣) (Answers 𝓤 H A) known-answered (to-answer y w) (and-then ! (its ! refl) (no-more !)) (λ v.
-            use1 W (later (some (λ (r : Q .like .Denot). (‵ ftrue ⊛ ‵ (Q .like .own r (v ∷ []))) ⊛ raw (ensured 𝓤 H A answer-ended (answer-clauses 𝓤) tt (y, tt) tt r)))) (id⊢ 𝓤 _) $ await ! tt $ pick ! (λ r.
-            split ! $ move ! (1 ∷ []) $ use1 W (raw (fact 𝓤 (r ≡ Z .answers y))) (answer-of y r) $ heard ! (r ≡ Z .answers y) (λ e₁. split ! $ drop ! $ peeks ! (row Q) (Is (row Q)) (shows 𝓤 H A (row Q)) r (v ∷ []) (λ isr. drop ! $
-            let r₀ : Q .like .Denot = Z .answers (Z .sounds p x (S .channel s j) (midOf a (a + size - a) m)) in
-            let is-r : Is (Q .like) r₀ (Q .val r₀ ∷ []) = subst (λ (z : Q .like .Denot). Is (Q .like) z (Q .val z ∷ [])) (e₁ ∙ ap (Z .answers) given) (subst (Is (Q .like) r) (Q .tells r _ isr) isr) in
-            arrives ! (ap only (Q .tells r _ isr) ∙ ap (Q .val) (e₁ ∙ ap (Z .answers) given)) (fills ! refl (Q .typed 𝓤 H A W r₀ _ is-r)) $
-            move ! (1 ∷ 7 ∷ 8 ∷ 9 ∷ []) $ close-ref ! tt (mem Kr) _ {b = b₃} {o = o₃} $ move ! (3 ∷ 6 ∷ 7 ∷ 8 ∷ []) $ close-ref ! tt (mem Tr) _ {b = b} {o = o} $ gives ! refl $
-            all-freed ! refl $ by ! (exits r₀ _ _ _ is-r (same-len-mid a (a + size - a) m _ (Z .keeps x _ _)) (Z .played s f j x p m accepted a e)))))))))
+            by ! (samples a-fits)
+
+        plays : ent 𝓤 (⋆ 𝓤 H A (At (holds-now (vint w8 number) ∷ []))) (Wp 𝓤 H Cs Λ En playing (atReturn 𝓤 H En Post))
+        plays =
+            qed W (At (holds-now (vint w8 number) ∷ [])) ∵ exec ! Cs Λ En playing (atRet En Post) $
+            goes-in ! fullShare Tr usize (Is usize) (shows 𝓤 H A usize) (uint-vals w64) (uint-tells w64) s s size size b o (o + capacity-at) (S .reads-capacity 𝓤 H A W fullShare s b o) (λ isc.
+            puts ! (of-opd ! (load ! (beyond ! (held ! refl) (fld ! (S .field₂) (stop !))) (look ! 0 refl))) (fills ! refl (tt, record { fits = isc .1 })) $ comes-out ! fullShare Tr usize s size (vint w64 size ∷ []) b o (o + capacity-at) $
+            asks ! known-start (j, (size, tt)) ((refl, j-fits), ((refl, isc .1), tt)) (and-then ! (its ! refl) (and-then ! (its ! refl) (no-more !))) (fills ! refl) (λ isa.
+            puts ! (bin ! (its ! refl) (its ! refl) (record { fits = end-fits })) (fills ! refl (tt, record { fits = end-fits })) $ by ! (points (isa .1))))
 
       begins : ent 𝓤 (⋆ 𝓤 H A (At [])) (Wp 𝓤 H Cs Λ En (function .body) (atReturn 𝓤 H En Post))
       begins =

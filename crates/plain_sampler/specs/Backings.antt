@@ -1,4 +1,4 @@
--- What is lent beside the record, after each call (request 9/12). A refused call leaves it. Definitions only. Assumes
+-- What is lent beside the record, after each call (request 9/12). A refused call leaves the positions. Definitions only. Assumes
 -- nothing.
 use Prim.Native.Nat.{ℕ, zero, suc, _+_}
 use mathlib.Core.Bool.{cond}
@@ -11,6 +11,7 @@ use Rattle.common_types.specs.declared.Params.{Params}
 use Rattle.channel.specs.declared.Change.{Change}
 use Rattle.plain_channel.specs.declared.Side.{Side}
 use Rattle.plain_channel.specs.Sides.{coldSide, sideAfter, takenAt}
+use Rattle.plain_channel.specs.Ahead.{restedSide}
 use Rattle.sampler.specs.declared.Sampler.{Sampler}
 use Rattle.sampler.specs.Refusals.{channelAt, sampleNumber, frameNumber, doneOf}
 use Rattle.sampler.specs.Samplers.{partOf, changeOf, Framed, framed, entryOf, entriesOf}
@@ -64,5 +65,13 @@ framesBacking p (suc n) f k =
     let g = entriesOf p count 0 front in
     framesBacking p n (framed (g .sampler) (drop count (f .frame)) (g .memory)) (entriesBacking p count 0 front k)
 
+-- nothing is poured beside either channel
+abbrev pub restedOn : ℕ → Backing → Backing
+restedOn j k = withSide k j (restedSide (sideAt k j))
+
+unfoldable pub restedBacking : Backing → Backing
+restedBacking k = restedOn 1 (restedOn 0 k)
+
 unfoldable pub runBacking : Sampler → List Float → Params → List ℕ → Backing → Backing
-runBacking s run p m k = framesBacking p (doneOf s (length run) p (length m)) (framed s run m) k
+runBacking s run p m k =
+    restedBacking (framesBacking p (doneOf s (length run) p (length m)) (framed s run m) k)

@@ -1,1 +1,2 @@
 pub mod Backings
+pub mod Streams

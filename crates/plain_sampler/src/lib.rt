@@ -3,7 +3,7 @@
 // that of the lent call says; and it says what becomes of the second.
 ghost use mathlib.Core.Path.{_≡_};
 ghost use mathlib.Core.List.{_++_};
-ghost use Prim.Native.Nat.{_-_, _≤_};
+ghost use Prim.Native.Nat.{_-_, _≤_, _<_};
 ghost use lib.ListN.{length, take, drop};
 ghost use Rattle.sampler.specs.Samplers.{
   startPlayingOf,
@@ -29,6 +29,8 @@ ghost use Rattle.channel.specs.Channels.{processSampleOf, memoryOf};
 ghost use Rattle.lent_channel.specs.Turns.{heardOf};
 ghost use Rattle.lent_sampler.specs.Hearing.{atVolume};
 ghost use Rattle.plain_channel.specs.Sides.{sideAfter};
+ghost use Rattle.plain_channel.specs.Ahead.{InRun};
+ghost use Rattle.plain_sampler.specs.Streams.{PartAlong, toGo};
 ghost use Rattle.plain_sampler.specs.Backings.{
   coldBacking,
   changeBacking,
@@ -185,7 +187,15 @@ fn part_sample(
         ≡ sideAfter params input (now (c .entry)) (take (end - start) (drop start (now (memory .entry))))
         (now (side .entry))) ⌝ }
 {
-    let heard = plain_channel::with_sample(c, side, params, input, &mut memory[start..end]);
+    let heard = plain_channel::behind(
+        c,
+        side,
+        params,
+        input,
+        &mut memory[start..end],
+        0,
+        0.0,
+    );
     lent_sampler::at_volume(params, heard)
 }
 
@@ -286,7 +296,7 @@ pub fn process_frame(
     lent_sampler::frame_done(asked.number, moved)
 }
 
-// A sample of a run on a channel's part of the memory, with so many to go.
+// A sample of a run on a channel's part of the memory, with so many to go, at the parameters' volume.
 fn part_along(
     c: &mut Channel,
     side: &mut Side,
@@ -297,18 +307,27 @@ fn part_along(
     end: usize,
     togo: usize,
 ) -> Heard
+    requires { ⌜ (start ≤ end) × (end ≤ length (now memory))
+        × InRun params (take (end - start) (drop start (now memory))) togo (now c) (now side) ⌝ }
+    ensures { λ r. ⌜ PartAlong params input start end togo (now (c .entry)) (now (side .entry)) (now (memory .entry)) r
+        (now (c .exit)) (now (side .exit)) (now (memory .exit)) ⌝ }
 {
     let heard = plain_channel::along(c, side, params, input, &mut memory[start..end], togo);
     lent_sampler::at_volume(params, heard)
 }
 
-// How many samples entry i's channel has to go, of n entries.
+// How many samples the channel of entry i has to go, that one among them, of n entries.
 fn to_go(i: usize, n: usize, count: usize) -> usize
+    requires { ⌜ i < n ⌝ }
+    ensures { λ r. ⌜ r ≡ toGo i n count ⌝ }
 {
-    if count == 1 { n - i } else { (n - i + 1) / 2 }
+    if count == 1 {
+        return n - i;
+    }
+    (n - i - 1) / 2 + 1
 }
 
-// A run of frames: entry i * count + j is channel j's of frame i.
+// A run of frames: entry i * count + j is channel j's of frame i. Where voices ease, they are played ahead of the others.
 pub fn process_frames(
     s: &mut Sampler,
     k: &mut Backing,
@@ -316,6 +335,12 @@ pub fn process_frames(
     params: Params,
     memory: &mut [u32],
 ) -> Ran
+    ensures { λ r. ⌜ ((r
+        ≡ runAnswer (now (s .entry)) (length (now (run .entry))) params (length (now (memory .entry))))
+        × Frames (ranOf (now (s .entry)) (now (run .entry)) params (now (memory .entry))) (now (s .exit))
+        (now (run .exit)) (now (memory .exit)))
+        × (now (k .exit)
+        ≡ runBacking (now (s .entry)) (now (run .entry)) params (now (memory .entry)) (now (k .entry))) ⌝ }
 {
     let entries = run.len();
     let asked = lent_sampler::run_asked(s, entries, params, memory.len());

@@ -14,7 +14,6 @@ use Rattle.channel.proofs.Channel.Laws as C′
 use Rattle.sampler.specs.declared.Sampler.{Sampler}
 use Rattle.sampler.specs.declared.Answer.{Answer}
 use Rattle.sampler.specs.Refusals.{channelAt}
-use Rattle.sampler.specs.Samplers.{changeOf}
 use Rattle.sampler.proofs.Sampler as T
 use Rattle.lent_channel.proofs.Bytes.{count-at}
 use Rattle.lent_channel.proofs.Holding.{channel}

@@ -55,8 +55,8 @@ use Rattle.lent_channel.specs.declared.Heard.{Heard}
 use Rattle.lent_channel.specs.Turns.{heardOf}
 use Rattle.lent_channel.proofs.Heard as Y
 use Rattle.lent_channel.proofs.Heard.Laws as Y′
+use Rattle.lent_channel.proofs.Holding.{params, sounded}
 use Rattle.lent_channel.proofs.Places.{yv}
-use Rattle.walks.proofs.Steps.Data.{Datum, struct}
 use Rattle.walks.proofs.Steps.Locals.{over, its, held, fills, puts, puts-as, arrives, field-of, beyond, gives, stands, all-freed, Addresses, env, allocated, passed}
 use Rattle.walks.proofs.Steps.Calls.{Callee, Says, asks}
 use Rattle.plain_channel.specs.declared.Side.{Side}
@@ -75,13 +75,6 @@ use Rattle.plain_sampler.proofs.part_sample.Key.{name as #f}
 use Rattle.plain_sampler.proofs.part_sample as f
 use Rattle.plain_sampler.proofs.part_sample.Statement as stated
 use Rattle.plain_sampler.proofs.part_sample.Code as code
-
--- plain data
-abbrev params : Datum
-params = struct P.the-type P′.the-laws P′.the-plain
-
-abbrev sounded : Datum
-sounded = struct Y.the-type Y′.the-laws Y′.the-plain
 
 abbrev stayed : Stays (f.ended .signature .params) (f.ended .kept)
 stayed = (gave-ref (0 ∷ []) tt (plain (λ _. C.the-row)), (gave-ref (1 ∷ []) tt (plain (λ _. D.the-row)), (stay-none (λ _. P.the-row) yes, (stay-none (λ _. f32) yes, (stay-slice (2 ∷ []) tt (plain (λ _. u32)), (stay-none (λ _. usize) yes, (stay-none (λ _. usize) yes, tt)))))))

@@ -1,9 +1,9 @@
 -- `plain_sampler::process_sample` meets its contract: `Single.antt`'s walk, over `sample_asked`, `refused`, `part_start`, `part_sample` and `answered`.
 use mathlib.Core.Path.{_≡_, refl, sym, ap, _∙_}
 use mathlib.Core.Bool.{Bool, cond}
-use mathlib.Core.List.{List}
+use mathlib.Core.List.{List, _++_}
 use Prim.Native.Nat.{ℕ, _+_, _*_, _-_}
-use lib.ListN.{length, getD, take, drop, set}
+use lib.ListN.{length, take, drop, set}
 use lib.Ieee.{Float, binary32, mul}
 use borrow.Author.Tests.{eq-eqb, ne-eqb}
 use contract.Running.{givenOf, tables, tablesOf}
@@ -85,7 +85,7 @@ module _ (s : Sampler) (f : Backing) (j : ℕ) (x : Float) (p : Params) (m : Lis
     played = channelSampleOf p x (channelAt s j) part
 
     is-played : Leaves s f j x p m (record { output = mul binary32 (p .volume) (played .output); number = 0; moved = played .moved }) (withChannels (set (s .channels) j (played .channel)) s)
-        (withSide f j (sideAfter p x (channelAt s j) part (sideAt f j))) _
+        (withSide f j (sideAfter p x (channelAt s j) part (sideAt f j))) (take a m ++ (memoryOf x (channelAt s j) part ++ drop (e - a) (drop a m)))
     unfolding processSampleOf sampleMemory sampleBacking sideStepped
     is-played =
         let is = eq-eqb number 0 accepted in
