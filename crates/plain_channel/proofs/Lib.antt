@@ -8,5 +8,8 @@ pub mod Seeking
 pub mod Togethers
 pub mod Judging
 pub mod Resting
+pub mod Firsts
+pub mod Aheads
+pub mod Pourings
 pub mod Nones
 pub mod Playing
