@@ -21,7 +21,7 @@ use Rattle.channel.specs.Channels.{withHead, withVoices, anyUnfinishedOf, Turni
 use Rattle.lent_channel.specs.Turns.{begun, glidedTo, restBy, restOf}
 use Rattle.plain_channel.specs.declared.Side.{Side}
 use Rattle.plain_channel.specs.Sides.{sideAfter}
-use Rattle.plain_channel.specs.Ahead.{onBy, aheadOf, hotsOn, hotsAhead, sumAt, Eased, behindOf, sideBehind, Ahead}
+use Rattle.plain_channel.specs.Ahead.{onBy, aheadOf, hotsOn, hotsAhead, sumAt, Eased, behindOf, hotsBehind, Ahead}
 use Rattle.plain_channel.proofs.Firsts.{firsts-none}
 use Rattle.plain_channel.proofs.Sides.{hots-begin}
 
@@ -106,6 +106,6 @@ module _ (p : Params) (x : Float) (c : Channel) (m : List ℕ) (all : length (c 
       ap (λ (r : Played). record { channel = withHead (closedOf p (anyUnfinishedOf (r .channel)) (d .head)) (r .channel); output = mixedOf x (r .output) (d .head); moved = r .moved })
       (rest-first (turningIn p d (memoryOf x c m)) d all)
 
-  pub hots-none : (k : Side) → length (k .hots) ≡ 32 → sideBehind p x 0 c m k .hots ≡ sideAfter p x c m k .hots
-  unfolding sideBehind sideAfter takenOf glidedTo begun
+  pub hots-none : (k : Side) → length (k .hots) ≡ 32 → hotsBehind p x 0 c m k ≡ sideAfter p x c m k .hots
+  unfolding hotsBehind sideAfter takenOf glidedTo begun
   hots-none k hots = hots-begin (turningIn p (takenOf m c) (memoryOf x c m)) (takenOf m c) k all hots

@@ -8,8 +8,15 @@ pub mod Seeking
 pub mod Togethers
 pub mod Judging
 pub mod Resting
+pub mod Ends
+pub mod Playing
 pub mod Firsts
 pub mod Aheads
 pub mod Pourings
-pub mod Nones
-pub mod Playing
+pub mod Laters
+pub mod Behinds
+pub mod Eases
+pub mod Frames
+pub mod Filling
+pub mod Refilling
+pub mod Runs
