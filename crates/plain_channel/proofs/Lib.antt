@@ -18,5 +18,6 @@ pub mod Behinds
 pub mod Eases
 pub mod Frames
 pub mod Filling
+pub mod Summing
 pub mod Refilling
 pub mod Runs
