@@ -19,5 +19,6 @@ pub mod Eases
 pub mod Frames
 pub mod Filling
 pub mod Summing
+pub mod Poured
 pub mod Refilling
 pub mod Runs
