@@ -20,5 +20,6 @@ pub mod Frames
 pub mod Filling
 pub mod Summing
 pub mod Poured
+pub mod Nexts
 pub mod Refilling
 pub mod Runs
