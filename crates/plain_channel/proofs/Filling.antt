@@ -2,6 +2,7 @@
 --     pour             its row
 --     empties          what `Pour::new` gives
 --     with-pour, with-eased, with-next, with-left      a side with another pour, and a pour with another number;  `is-poured`, `is-eased` and so on, they are of their types
+--     pour-is, sums-are, eased-fits, next-fits, left-fits      what a side that is of its type says of its pour
 --     Cell             a side in memory as its one cell;  `spells-side` makes one of it, and `side-again` makes it a side in memory
 --     reads-eased, reads-next, reads-left      the pour's numbers, read off that cell through the reference that a local holds
 --     stores-pour, stores-next, stores-left    the pour, and its numbers, stored in it;  `stores-eased-last`, where that is the last statement of its part
