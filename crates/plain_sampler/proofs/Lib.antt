@@ -1,6 +1,8 @@
 pub mod Sides
 pub mod Turns
 pub mod Flanked
+pub mod Togos
+pub mod Streams
 pub mod Sampling
 pub mod Stepping
 pub mod Single
