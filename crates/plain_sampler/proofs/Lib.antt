@@ -9,6 +9,7 @@ pub mod Sampling
 pub mod Alongs
 pub mod Rests
 pub mod Stepping
+pub mod Streaming
 pub mod Single
 pub mod Taking
 pub mod Named

@@ -19,7 +19,6 @@ use denote.Struct.Struct.{Struct}
 use denote.Struct.Declared as D
 use borrow.Struct.Items.{array-same}
 use Rattle.walks.proofs.Steps.Data.{Datum, row}
-use Rattle.channel.specs.declared.Channel.{Channel}
 use Rattle.channel.specs.Channels.{channelOf}
 use Rattle.channel.proofs.Channel as C
 use Rattle.sampler.specs.declared.Sampler.{Sampler}
@@ -30,7 +29,6 @@ use Rattle.sampler.proofs.Sampler.Laws as T′
 use Rattle.lent_channel.proofs.Holding.{channel}
 use Rattle.lent_sampler.proofs.Lent.{sampler}
 use Rattle.lent_sampler.proofs.Seats.{Seats, seats, seat}
-use Rattle.plain_channel.specs.declared.Side.{Side}
 use Rattle.plain_channel.specs.Sides.{coldSide}
 use Rattle.plain_channel.proofs.Side as E
 use Rattle.plain_sampler.specs.declared.Backing.{Backing}

@@ -20,10 +20,9 @@ use Rattle.channel.specs.Channels.{channelOf, memoryOf}
 use Rattle.channel.specs.Channels.{processSampleOf as channelSampleOf}
 use Rattle.channel.proofs.Samples.{memory-kept}
 use Rattle.lent_channel.specs.declared.Heard.{Heard}
-use Rattle.lent_channel.specs.Turns.{heardOf}
 use Rattle.plain_channel.specs.declared.Side.{Side}
 use Rattle.plain_channel.specs.Sides.{noPour, coldSide, sidePlayed, sideAfter}
-use Rattle.plain_channel.specs.Ahead.{aheadOf, hotsAhead, restedSide, Underway, InRun, Along}
+use Rattle.plain_channel.specs.Ahead.{aheadOf, hotsAhead, restedSide, Underway, InRun}
 use Rattle.plain_channel.proofs.Aheads.{ahead-now, hots-now, ahead-nothing}
 use Rattle.sampler.specs.declared.Sampler.{Sampler}
 use Rattle.sampler.specs.Refusals.{channelAt}

@@ -20,7 +20,7 @@ use ghost.Atoms.{Atoms}
 use contract.Monad.{Fun, fact}
 use contract.Running.{givenOf, tables, tablesOf}
 use sound.WpLaws.{fmOf, WpFn-mono}
-use types.Kit.{Given, Item, ‵, raw, _⊛_, some as any, later, ⋆, _$_, _∵_, !, qed, by, move, keep, use1, use2, use3, drop, split, join, pick, rewrite, fsplit, fjoin, feqL, suffices, frame, await, done}
+use types.Kit.{Given, Item, ‵, raw, _⊛_, some as any, later, ⋆, _$_, _∵_, !, qed, by, move, keep, use1, use2, use3, drop, split, join, pick, fsplit, fjoin, feqL, suffices, frame, await, done}
 use types.Part.{agg}
 use types.Tokens.{lft-new, lft-end}
 use types.Run.{stop, addr, lit, bin, and-then, no-more, enter, params1, pass0}
@@ -30,7 +30,7 @@ use denote.Laws.{Is, shows}
 use denote.Plain.{uint-makes, uint-tells, uint-vals}
 use denote.Floats.{float-makes, float-lawful, float-tells, float-vals}
 use denote.Ref.{RefT, MutRef, ptr-vals, mut-tells}
-use denote.Slice.{sliceVal, MutSlice, Room, finally, slice-vals, mut-slice-tells}
+use denote.Slice.{sliceVal, MutSlice, Room, slice-vals, mut-slice-tells}
 use denote.Signature.{plain}
 use denote.Builtin.{usize, u32, f32}
 use denote.Steps.{only, owned, peeks, heard, nothing}

@@ -62,7 +62,7 @@ use Rattle.walks.proofs.Steps.Locals.{over, its, held, fills, puts, puts-as, ar
 use Rattle.walks.proofs.Steps.Calls.{Callee, Says, asks}
 use Rattle.plain_channel.specs.declared.Side.{Side}
 use Rattle.plain_channel.specs.Sides.{sideAfter}
-use Rattle.plain_channel.specs.Ahead.{behindOf, sideBehind, BehindSome}
+use Rattle.plain_channel.specs.Ahead.{behindOf, sideBehind}
 use Rattle.plain_channel.proofs.Pairing.{takes-one, closes-one}
 use Rattle.plain_channel.proofs.Hotting.{hots-are}
 use Rattle.plain_channel.proofs.Aheads.{behind-none, side-none}
