@@ -7,5 +7,12 @@ pub mod Seeking
 pub mod Togethers
 pub mod Judging
 pub mod Resting
-pub mod Nones
+pub mod Ends
 pub mod Playing
+pub mod Firsts
+pub mod Aheads
+pub mod Pourings
+pub mod Laters
+pub mod Behinds
+pub mod Eases
+pub mod Frames

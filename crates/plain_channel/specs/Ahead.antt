@@ -86,10 +86,13 @@ behindOf p x e first c m =
       moved = r .moved;
     }
 
-unfoldable pub sideBehind : Params → Float → ℕ → Channel → List ℕ → Side → Side
-sideBehind p x e c m k =
+unfoldable pub hotsBehind : Params → Float → ℕ → Channel → List ℕ → Side → List Hot
+hotsBehind p x e c m k =
     let d = takenOf m c in
-    withHots (restHots (turningIn p d (memoryOf x c m)) (min (d .count) 32) d k (glidedTo e zero32)) k
+    restHots (turningIn p d (memoryOf x c m)) (min (d .count) 32) d k (glidedTo e zero32)
+
+abbrev pub sideBehind : Params → Float → ℕ → Channel → List ℕ → Side → Side
+sideBehind p x e c m k = withHots (hotsBehind p x e c m k) k
 
 -- what it asks: there are so many voices, and if some are ahead the first isn't finished
 pub record BehindSome (e : ℕ) (c : Channel) : Type 0 where
