@@ -47,6 +47,7 @@ use borrow.Rule.Slice.PartMut.{midOf, putMid, mid-len, same-len-mid, startAt, ke
 use Rattle.common_types.specs.declared.Params.{Params}
 use Rattle.common_types.proofs.Params as P
 use Rattle.common_types.proofs.Params.Laws as P′
+use Rattle.plain_voice.specs.declared.Hot.{Hot}
 use Rattle.channel.specs.declared.Channel.{Channel}
 use Rattle.channel.specs.declared.Played.{Played}
 use Rattle.channel.specs.Channels.{processSampleOf, memoryOf}
@@ -61,11 +62,11 @@ use Rattle.lent_channel.proofs.Places.{yv, places-are}
 use Rattle.walks.proofs.Steps.Locals.{over, its, held, fills, puts, puts-as, arrives, field-of, beyond, gives, stands, all-freed, Addresses, env, allocated, passed}
 use Rattle.walks.proofs.Steps.Calls.{Callee, Says, asks}
 use Rattle.plain_channel.specs.declared.Side.{Side}
-use Rattle.plain_channel.specs.Sides.{sideAfter}
+use Rattle.plain_channel.specs.Sides.{withHots, sidePlayed, sideAfter}
 use Rattle.plain_channel.specs.Ahead.{behindOf, sideBehind}
 use Rattle.plain_channel.proofs.Pairing.{takes-one, closes-one}
 use Rattle.plain_channel.proofs.Hotting.{hots-are}
-use Rattle.plain_channel.proofs.Aheads.{behind-none, side-none}
+use Rattle.plain_channel.proofs.Aheads.{behind-none, hots-none}
 use Rattle.plain_channel.proofs.Side as D
 use Rattle.plain_channel.proofs.behind as g
 use Rattle.plain_channel.proofs.behind.Symbol as g-def
@@ -208,10 +209,14 @@ module _ {M : Type 1} (𝓤 : URA M) (H : Heap 𝓤) (A : Atoms 𝓤) (W : Given
   abbrev Does : Heard → Channel → List ℕ → Side → Type 0
   Does r c′ l y = (r ≡ heardOf played) × (c′ ≡ played .channel) × (l ≡ last) × (y ≡ d′)
 
+  side-none : length (c .voices) ≡ 32 → length (d .hots) ≡ 32 → sideBehind p x 0 c part d ≡ d′
+  unfolding sideAfter sidePlayed
+  side-none voices hots = ap (λ (hs : List Hot). withHots hs d) (hots-none p x c part voices d hots)
+
   does : length (c .voices) ≡ 32 → length (d .hots) ≡ 32 → (r : Heard) (c′ : Channel) (l : List ℕ) (y : Side) → Behind r c′ l y → Does r c′ l y
   does voices hots r c′ l y is =
       let same : behindOf p x 0 none-adds c part ≡ played = ap (λ (v : Float). behindOf p x 0 v c part) is-zero ∙ behind-none p x c part voices in
-      (is .0 ∙ ap heardOf same, is .1 ∙ ap (λ (w : Played). w .channel) same, is .2, is .3 ∙ side-none p x c part voices d hots)
+      (is .0 ∙ ap heardOf same, is .1 ∙ ap (λ (w : Played). w .channel) same, is .2, is .3 ∙ side-none voices hots)
 
   -- where nothing is lent yet, and more is known
   abbrev Holding : Addresses (code.function .locals) → List (Option Val) → List (Item 𝓤)
