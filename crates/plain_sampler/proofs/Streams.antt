@@ -1,6 +1,7 @@
--- The loop of a run in which voices are ahead: what stands after i entries, of the record and the backing that there would be without easing. Both have the memory and the run. Assumes nothing.
---     Streamed         each channel and its side are under way, of these
---     streamed-starts, streamed-asks, streamed-on, streamed-ends       before the first entry; what an entry asks; after it; after the last
+-- The loop of a run in which voices are ahead: what stands after i entries, beside the record and the backing that there would be without easing. The memory and the run are the same of both.
+--     Streamed         so after i entries: each channel and its side are under way of those that there would be
+--     streamed-starts, streamed-low, streamed-asks, streamed-on, streamed-ends     before the first entry; where an entry's channel stands, and what its sample asks; after it; after the last
+-- Assumes nothing.
 use mathlib.Core.Path.{_≡_, refl, sym, ap, _∙_, subst}
 use mathlib.Core.Bool.{Bool, true, false}
 use mathlib.Core.Logic.{_≢_}

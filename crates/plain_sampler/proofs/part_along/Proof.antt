@@ -113,7 +113,7 @@ module _ {M : Type 1} (𝓤 : URA M) (H : Heap 𝓤) (A : Atoms 𝓤) (W : Given
   abbrev Post : Val → SProp 𝓤
   Post = walkOf 𝓤 H A f.ended stayed (f.clauses 𝓤 H A at-mem run) .post (((κ, (κ₃, (κ₁, tt))), (q, (q₃, (q₁, tt))), tt, args, vals), tt)
 
-  -- the part, what the call leaves, and the memory with it
+  -- the part
   abbrev start : ℕ
   start = startAt u32 m a o₁
 
@@ -123,7 +123,7 @@ module _ {M : Type 1} (𝓤 : URA M) (H : Heap 𝓤) (A : Atoms 𝓤) (W : Given
   part-long : length part ≡ e - a
   part-long = mid-len a e m (within .1)
 
-  -- what `along` leaves
+  -- what the call leaves, and the memory with it
   module _ (r : Heard) (c′ : Channel) (d′ : Side) (last : List ℕ) (does : Along p x part togo c d r c′ d′ last) where
     abbrev output : Heard
     output = atVolume p r
