@@ -1,10 +1,10 @@
 -- `ease_next` meets its contract: a walk of its MIR, by hand. The next voice and its position are copied, and its phrase is looked up (`Phrasing`). Where it is plain and its phrase isn't empty, the side's sums are lent to `poured`, with the phrase's part of the memory; where that says that the voice eases,
 -- voice and position are overwritten. Assumes nothing.
 use mathlib.Core.Path.{_≡_, refl, sym, ap, subst}
-use Prim.Native.Nat.{ℕ, _+_, _-_, _*_, _<_, _≤_, _^_}
+use Prim.Native.Nat.{ℕ, _+_, _-_, _*_, _<_, _^_}
 use native.Mathlib.Nat.{le-trans}
 use native.Mathlib.Omega.{arith}
-use mathlib.Core.Bool.{Bool, true, false, not}
+use mathlib.Core.Bool.{Bool, true, false}
 use mathlib.Core.Option.{Option, none as empty, some}
 use mathlib.Core.List.{List, [], _∷_}
 use lib.ListN.{length, getD, set}
@@ -50,7 +50,6 @@ use Rattle.phrases.specs.Phrases.{noPhrase, roomOf}
 use Rattle.phrases.proofs.Rooms.{room-stored}
 use Rattle.phrases.proofs.Phrase as F
 use Rattle.phrases.proofs.Phrase.Laws as F′
-use Rattle.phrases.proofs.Phrase.room as roomed
 use Rattle.phrases.proofs.Phrase.room.Symbol as room-def
 use Rattle.phrases.proofs.Phrase.room.Symbol.{name as #room}
 use Rattle.phrases.proofs.Phrase.room.Met as room-thm
@@ -62,7 +61,6 @@ use Rattle.voice.proofs.Tick.measured.Symbol as tick-def
 use Rattle.voice.proofs.Tick.measured.Symbol.{name as #tick}
 use Rattle.voice.proofs.Tick.measured.Met as tick-thm
 use Rattle.plain_voice.specs.declared.Hot.{Hot}
-use Rattle.plain_voice.specs.declared.Beat.{Beat}
 use Rattle.plain_voice.specs.Hots.{beatOf}
 use Rattle.plain_voice.proofs.Beat.of.Symbol as beat-def
 use Rattle.plain_voice.proofs.Beat.of.Symbol.{name as #beat}
@@ -80,7 +78,6 @@ use Rattle.channel.specs.Channels.{withVoices, phraseAt, momentFor}
 use Rattle.channel.proofs.Slots.{none}
 use Rattle.channel.proofs.Channel as C
 use Rattle.channel.proofs.Channel.Laws as C′
-use Rattle.channel.proofs.place_of as placed
 use Rattle.channel.proofs.place_of.Symbol as place-def
 use Rattle.channel.proofs.place_of.Symbol.{name as #place}
 use Rattle.channel.proofs.place_of.Met as place-thm
@@ -94,7 +91,6 @@ use Rattle.lent_channel.proofs.Bytes.{voice-bytes, phrase-bytes, table-at}
 use Rattle.lent_channel.proofs.Places.{cv, vv, ev, entry-spot, places-are, entries-are, sets-voice}
 use Rattle.lent_channel.proofs.Sharing.{head-is}
 use Rattle.lent_channel.proofs.Holding.{channel, voice, headed, phrase, room, params, measure, moment, tick, phrase-fits, points, visits, copies-voice, points-entry, copies-entry, reads-head, reads-several}
-use Rattle.lent_channel.proofs.Saying.{first-of}
 use Rattle.lent_channel.proofs.Branches.{then-part}
 use Rattle.lent_channel.proofs.Parts.{startOf, start-is, partOf, shares-part}
 use Rattle.plain_channel.specs.declared.Side.{Side}
@@ -102,7 +98,7 @@ use Rattle.plain_channel.specs.Ahead.{tickIn, heldIn, Eases}
 use Rattle.plain_channel.proofs.Hotting.{side, hot, beat, hot-bytes, IsSide, IsHot, hot-at, with-hot, hots-are, points-hot, copies-hot, stores-hot-last}
 use Rattle.plain_channel.proofs.Filling.{pour, pour-at, pour-is, sums-are}
 use Rattle.plain_channel.proofs.Summing.{with-sums, sums-at}
-use Rattle.plain_channel.proofs.Phrasing.{LooksUp, entry-fits, tickBy, tick-is, partIn, part-within, part-long, from-fits, part-fits, part-room}
+use Rattle.plain_channel.proofs.Phrasing.{LooksUp, so-places, so-rooms, entry-fits, tickBy, tick-is, partIn, part-within, part-long, from-fits, part-fits}
 use Rattle.plain_channel.proofs.Poured.{pouring, Poured, pours-at}
 use Rattle.plain_channel.proofs.Nexts.{eases-none, eases-one}
 use Rattle.plain_channel.proofs.Pairing.{Args, Fine, Sl, Tok, Kept, Start, Open, Post, exits, takes-over, closes, meets}
@@ -491,17 +487,11 @@ ease-next-spec 𝓤 H 𝓜 𝓖 𝓡 =
     (tables 𝓤 H 𝓜 𝓡 code.env .C) (tables 𝓤 H 𝓜 𝓡 code.env .Λ) #f code.function (code.unfolded 𝓤 H 𝓜 𝓡)
     (meets easing-next 𝓤 H (𝓖 .A) W 𝓣 code.function (walk 𝓤 H (𝓖 .A) W (𝓜 .mem) (𝓡 .run) 𝓣 (record {
       looks = record {
-        placing = record {
-          met = first-of placed.ended (λ κs a r. r ≡ placeOf (a .0)) (λ κs a r. r < 8) 𝓤 H (𝓖 .A) W 𝓣 #place
-              (cited 𝓤 H _ 𝓜 𝓡 code.env #place place-def.routine code.calls-channel·place-of (place-thm.met 𝓤 H 𝓜 𝓖 𝓡));
-        };
+        placing = so-places 𝓤 H (𝓖 .A) W (𝓜 .mem) (𝓡 .run) 𝓣 (cited 𝓤 H _ 𝓜 𝓡 code.env #place place-def.routine code.calls-channel·place-of (place-thm.met 𝓤 H 𝓜 𝓖 𝓡));
         phrases = record { met = cited 𝓤 H _ 𝓜 𝓡 code.env #phrase phrase-def.routine code.calls-channel·Head·phrase-by (phrase-thm.met 𝓤 H 𝓜 𝓖 𝓡) };
         moments = record { met = cited 𝓤 H _ 𝓜 𝓡 code.env #moment moment-def.routine code.calls-channel·Head·moment-on (moment-thm.met 𝓤 H 𝓜 𝓖 𝓡) };
         ticks = record { met = cited 𝓤 H _ 𝓜 𝓡 code.env #tick tick-def.routine code.calls-voice·Tick·measured (tick-thm.met 𝓤 H 𝓜 𝓖 𝓡) };
-        rooms = record {
-          met = first-of roomed.ended (λ κs a r. r ≡ roomOf (a .0) (a .1 .0)) (λ κs a r. (r .from ≤ r .to) × (r .to ≤ a .1 .0)) 𝓤 H (𝓖 .A) W 𝓣 #room
-              (cited 𝓤 H _ 𝓜 𝓡 code.env #room room-def.routine code.calls-phrases·Phrase·room (room-thm.met 𝓤 H 𝓜 𝓖 𝓡));
-        };
+        rooms = so-rooms 𝓤 H (𝓖 .A) W (𝓜 .mem) (𝓡 .run) 𝓣 (cited 𝓤 H _ 𝓜 𝓡 code.env #room room-def.routine code.calls-phrases·Phrase·room (room-thm.met 𝓤 H 𝓜 𝓖 𝓡));
       };
       beats = record { met = cited 𝓤 H _ 𝓜 𝓡 code.env #beat beat-def.routine code.calls-plain-voice·Beat·of (beat-thm.met 𝓤 H 𝓜 𝓖 𝓡) };
       pours = cited 𝓤 H _ 𝓜 𝓡 code.env #poured poured-def.routine code.calls-pours·poured (poured-thm.met 𝓤 H 𝓜 𝓖 𝓡);
