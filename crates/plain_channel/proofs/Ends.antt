@@ -1,9 +1,9 @@
--- Where no turn is left: what turns have come to, and a channel whose voices are all ahead, which stays as it is. Assumes nothing.
+-- Turns behind some voices: where they begin, what they have come to where none is left, and a channel whose voices are all ahead, which stays as it is. Assumes nothing.
 use mathlib.Core.Path.{_≡_, refl, sym, _∙_, ap}
 use Prim.Native.Nat.{ℕ, zero, suc, _+_, _-_, _≤_, _<_, min, zero-le}
 use native.Mathlib.Nat.{le-refl, lt-irrefl, add-zero}
 use native.Mathlib.Omega.{arith}
-use mathlib.Core.Bool.{Bool, true, false, not, _||_, cond}
+use mathlib.Core.Bool.{Bool, false, not, _||_, cond}
 use mathlib.Core.List.{List, [], _∷_}
 use lib.Dec.{ltb}
 use lib.ListN.{length, take, getD}
@@ -19,7 +19,6 @@ use Rattle.channel.specs.declared.Played.{Played}
 use Rattle.channel.specs.Channels.{withVoices, unfinishedOf, anyUnfinishedOf, Turning, keptOf, tidiedOf, takenOf}
 use Rattle.channel.proofs.Turns as T
 use Rattle.lent_channel.specs.declared.Going.{Going}
-use Rattle.lent_channel.specs.declared.Heard.{Heard}
 use Rattle.lent_channel.specs.Turns.{glidedTo, movedBy, Stands, restBy, restOf, heardOf}
 use Rattle.plain_channel.specs.declared.Side.{Side}
 use Rattle.plain_channel.specs.Sides.{withHots, restHots}
@@ -31,7 +30,7 @@ pub from-there : (n e : ℕ) (first : Float) → n ≤ 32 → e ≤ n → Stands
 unfolding glidedTo
 from-there n e first few inside = record { few = few; inside = inside; up = le-refl e; first = zero-le; all = λ _. refl }
 
--- what they have come to
+-- what they have come to where none is left
 pub rest-end : (s : Turning) (n : ℕ) (c : Channel) (g : Going) → g .place ≡ n → restOf s n c g ≡ record { channel = withVoices (c .voices) (g .kept) c; output = g .output; moved = movedBy g }
 unfolding restBy movedBy tidiedOf behind keptOf without
 rest-end s n c g end =

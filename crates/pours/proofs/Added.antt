@@ -1,7 +1,7 @@
 -- Terms added to sums, part by part. Assumes nothing.
 --     none, one     no term, and one more behind those added
 --     restated, on  by other words for the terms, and one part behind another
-use mathlib.Core.Path.{_≡_, refl, sym, ap, _∙_}
+use mathlib.Core.Path.{_≡_, refl, ap, _∙_}
 use Prim.Native.Nat.{ℕ, _+_, _≤_, _<_}
 use native.Mathlib.Nat.{ne-of-lt, ne-of-gt}
 use native.Mathlib.Omega.{arith}

@@ -4,25 +4,23 @@
 --     turns, judged, poured    the voice, its position and the sums after them
 use mathlib.Core.Path.{_≡_, refl, sym, ap, ap₂, _∙_, subst}
 use Prim.Native.Nat.{ℕ, zero, suc, _+_, _-_, _*_, _/_, _%_, _^_, _≤_, _<_, zero-le}
-use native.Mathlib.Nat.{add-assoc, add-zero, le-trans, mul-pos, mul-add-mod-self-right, mul-add-div-right}
+use native.Mathlib.Nat.{add-zero, le-trans, mul-pos, mul-add-mod-self-right, mul-add-div-right}
 use native.Mathlib.Omega.{arith}
 use mathlib.Core.Bool.{Bool, true, false, not, _&&_, cond, true≢false}
 use mathlib.Core.List.{List, [], _∷_}
-use lib.Dec.{T, lit≤, lit<}
+use lib.Dec.{T, lit≤}
 use lib.IntN.{pos}
 use lib.Ieee.{Float, nan, inf, fin, binary32, add, mul, eq, lt, le}
-use lib.Ieee.Bits.{is-true, is-false}
 use lib.Ieee.Fits.{and-l, and-r, add-fits, ofInt-fits}
 use lib.ListN as ListN
 use lib.Seq.{ext-getD}
 use lib.Pow.{pow-pos}
-use borrow.Author.Tests.{not-true}
-use Rattle.binary32.specs.Leaves.{asFloat, asWhole, absOf, signOf, crossingOf}
+use Rattle.binary32.specs.Leaves.{asFloat, asWhole, absOf, signOf}
 use Rattle.binary32.specs.Wholes.{Is}
 use Rattle.binary32.proofs.Truth.{yes}
 use Rattle.binary32.proofs.Between.{le-le-trans, lt-le-clash}
 use Rattle.binary32.proofs.Units.{units-unique-above}
-use Rattle.binary32.proofs.Wholes.{is-units, float-is-units, float-is, float-sign, add-is, le-is, equal-is, cast-is}
+use Rattle.binary32.proofs.Wholes.{is-units, float-is-units, float-is, float-sign, add-is, le-is, equal-is}
 use Rattle.volume.specs.declared.Volume.{Volume}
 use Rattle.volume.specs.declared.Volume.the-variants.{Static, Linear}
 use Rattle.volume.specs.Levels.{isStaticOf, levelOf, keepsOf}
@@ -33,8 +31,7 @@ use Rattle.clip.specs.Plain.{PlainClip, plainIndex}
 use Rattle.clip.proofs.Plain.{index-is, passes}
 use Rattle.voice.specs.declared.Voice.{Voice}
 use Rattle.voice.specs.declared.Tick.{Tick}
-use Rattle.voice.specs.declared.Quick.{Quick}
-use Rattle.voice.specs.Voices.{recordedValueOf, valueOf, soundedAt, playedOutOf, shouldRemoveOf, turnOf}
+use Rattle.voice.specs.Voices.{recordedValueOf, soundedAt, playedOutOf, shouldRemoveOf, turnOf}
 use Rattle.voice.specs.Gliding.{glidesOf, goesOnOf, quickAt}
 use Rattle.voice.proofs.Values.{value-off}
 use Rattle.voice.proofs.Gliding.{quickly-at}
@@ -255,17 +252,16 @@ module _ (m : List ℕ) (c : Clip) (level : Float) (start length total : ℕ) wh
       }))
 
 -- ---- the position, by a place and laps
-module _ (c : Clip) (h : Hot) (e length : ℕ) (length-is : asWhole 64 (c .length) ≡ length) (start-is : asWhole 64 (c .start) ≡ h .start) (stands : h .lap * length + h .place ≡ e) where
-  pub place-on : (start total k : ℕ) → plainIndex start length total (h .place + k) ≡ plainIndex start length total (e + k)
-  place-on start total k =
-      ap (λ (r : ℕ). (start + r) % total)
-      (sym (mul-add-mod-self-right (h .lap) length (h .place + k)) ∙ ap (λ (x : ℕ). x % length) (omega (arith, stands)))
+module _ (h : Hot) (e length : ℕ) (stands : h .lap * length + h .place ≡ e) where
+  rest-on : (k : ℕ) → (h .place + k) % length ≡ (e + k) % length
+  rest-on k = sym (mul-add-mod-self-right (h .lap) length (h .place + k)) ∙ ap (λ (x : ℕ). x % length) (omega (arith, stands))
 
-  pub moved-to : 1 ≤ length → (n : ℕ) → movedOf h n length ≡ hotAfter c (e + n)
+  pub place-on : (start total k : ℕ) → plainIndex start length total (h .place + k) ≡ plainIndex start length total (e + k)
+  place-on start total k = ap (λ (r : ℕ). (start + r) % total) (rest-on k)
+
+  pub moved-to : (c : Clip) → asWhole 64 (c .length) ≡ length → asWhole 64 (c .start) ≡ h .start → 1 ≤ length → (n : ℕ) → movedOf h n length ≡ hotAfter c (e + n)
   unfolding movedOf hotAfter
-  moved-to low n =
-      let is : h .lap * length + (h .place + n) ≡ e + n = omega (arith, stands) in
-      ap₂ (λ (p l : ℕ). record { place = p; lap = l; start = h .start; plain = true })
-      (sym (mul-add-mod-self-right (h .lap) length (h .place + n)) ∙ ap (λ (x : ℕ). x % length) is)
-      (sym (mul-add-div-right low (h .lap) (h .place + n)) ∙ ap (λ (x : ℕ). x / length) is)
+  moved-to c length-is start-is low n =
+      ap₂ (λ (p l : ℕ). record { place = p; lap = l; start = h .start; plain = true }) (rest-on n)
+      (sym (mul-add-div-right low (h .lap) (h .place + n)) ∙ ap (λ (x : ℕ). x / length) (omega (arith, stands)))
       ∙ ap₂ (λ (l s : ℕ). record { place = (e + n) % l; lap = (e + n) / l; start = s; plain = true }) (sym length-is) (sym start-is)

@@ -1,6 +1,6 @@
 -- The tests of `eases` are enough, and what `poured` then does is what it promises. Assumes nothing.
 use mathlib.Core.Path.{_≡_, refl, sym, ap, ap₂, _∙_, subst}
-use Prim.Native.Nat.{ℕ, zero, suc, _+_, _-_, _*_, _%_, _^_, _≤_, _<_}
+use Prim.Native.Nat.{ℕ, zero, suc, _+_, _-_, _^_, _≤_}
 use native.Mathlib.Nat.{le-trans, mul-le-mul-left}
 use native.Mathlib.Omega.{arith}
 use mathlib.Core.Bool.{Bool, true, false, not, _&&_, _||_, true≢false}
@@ -12,7 +12,7 @@ use lib.Ieee.Fits.{and-l, and-r}
 use lib.ListN as ListN
 use borrow.Author.Tests.{not-true}
 use Rattle.binary32.specs.Leaves.{asFloat, asWhole}
-use Rattle.binary32.specs.Wholes.{Is, wholeIn}
+use Rattle.binary32.specs.Wholes.{wholeIn}
 use Rattle.binary32.proofs.Truth.{yes}
 use Rattle.binary32.proofs.Wholes.{float-is, cast-is, WholeIn, whole-in}
 use Rattle.volume.specs.Levels.{isStaticOf, levelOf}
@@ -23,10 +23,10 @@ use Rattle.voice.specs.declared.Voice.{Voice}
 use Rattle.voice.specs.declared.Tick.{Tick}
 use Rattle.plain_voice.specs.declared.Hot.{Hot}
 use Rattle.plain_voice.specs.declared.Beat.{Beat}
-use Rattle.plain_voice.specs.Hots.{beatOf, hotAfter, Agrees, Agreeing}
+use Rattle.plain_voice.specs.Hots.{beatOf, Agreeing}
 use Rattle.pours.specs.declared.Pouring.{Pouring}
 use Rattle.pours.specs.Eases.{Eases, EasesAt, termAt, LastButOne, heardOf, movedOf, Added}
-use Rattle.pours.specs.Pours.{turnsOf, judgedOn, Pours}
+use Rattle.pours.specs.Pours.{Pours}
 use Rattle.pours.proofs.Easing.{sum-is, Going, termOn, lastOn, glides-on, turns, judged, poured, place-on, moved-to}
 
 -- ---- the tests
@@ -120,7 +120,7 @@ module _ (h : Hot) (v : Voice) (t : Tick) (b : Beat) (m : List ℕ) (before afte
         unfinished = λ g. eases .unfinished;
         glides = λ g. glides-on m c level start length total (suc n) going;
         voice = λ g. voice-is ∙ heard ∙ sym (turns m c level start length total n going);
-        hot = λ g. hot-is ∙ moved-to c h e length length-is start-is (E .stands) (eases .profile .length-low) (suc n) ∙ sym (judged m c level start length total n h (E .plain) going);
+        hot = λ g. hot-is ∙ moved-to h e length (E .stands) c length-is start-is (eases .profile .length-low) (suc n) ∙ sym (judged m c level start length total n h (E .plain) going);
         sums = λ g. poured m c level start length total (suc n) going term (λ k below. ap (termAt m level) (on k)) before after room added;
         else = λ g. absurd (true≢false (sym eased ∙ g));
       }
@@ -138,7 +138,7 @@ module _ (h : Hot) (v : Voice) (t : Tick) (b : Beat) (m : List ℕ) (before afte
       start-is = cast-is start (le-trans (eases .profile .start-top) (lit≤ tt)) (eases .profile .start-is)
 
       on : (k : ℕ) → plainIndex start length total (h .place + k) ≡ plainIndex start length total (e + k)
-      on k = place-on c h e length length-is start-is (E .stands) start total k
+      on k = place-on h e length (E .stands) start total k
 
       at : index ≡ plainIndex start length total (e + n)
       at = index-is ∙ ap (λ (k : ℕ). plainIndex start length total (h .place + k)) (omega arith) ∙ on n

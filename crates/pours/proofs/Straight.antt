@@ -1,5 +1,5 @@
 -- How far a plain voice goes straight on: up to the end of its loop or of the data, its next samples stand one after another. Assumes nothing.
-use mathlib.Core.Path.{_≡_, refl, sym, ap, _∙_}
+use mathlib.Core.Path.{_≡_, sym, ap, _∙_}
 use Prim.Native.Nat.{ℕ, _+_, _-_, _%_, _≤_, _<_}
 use native.Mathlib.Nat.{mod-add-mod, mod-eq-of-lt}
 use native.Mathlib.Omega.{arith}
@@ -11,6 +11,10 @@ use Rattle.pours.proofs.Added.{restated, on}
 
 mod-on : (x j n : ℕ) → x % n + j < n → (x + j) % n ≡ x % n + j
 mod-on x j n below = sym (mod-add-mod x n j) ∙ mod-eq-of-lt below
+
+-- the place n samples on
+pub place-next : (place round f at n : ℕ) → at ≡ (place + f) % round → (at + n) % round ≡ (place + (f + n)) % round
+place-next place round f at n is = ap (λ (x : ℕ). (x + n) % round) is ∙ mod-add-mod (place + f) round n ∙ ap (λ (x : ℕ). x % round) (omega arith)
 
 module _ (start place round total : ℕ) (m : List ℕ) (level : Float) where
   abbrev pub term : ℕ → Float
@@ -33,6 +37,3 @@ module _ (start place round total : ℕ) (m : List ℕ) (level : Float) where
     further done part =
         on done (omega arith) (omega arith)
         (restated part term (λ k low high. ap (termAt m level) (sym (straight (k - f) (omega (arith, low, high))) ∙ ap (λ (x : ℕ). plainIndex start round total (place + x)) (omega (arith, low)))))
-
-  pub place-on : (f at n : ℕ) → at ≡ (place + f) % round → (at + n) % round ≡ (place + (f + n)) % round
-  place-on f at n is = ap (λ (x : ℕ). (x + n) % round) is ∙ mod-add-mod (place + f) round n ∙ ap (λ (x : ℕ). x % round) (omega arith)

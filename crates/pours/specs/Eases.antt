@@ -12,7 +12,7 @@ use Rattle.binary32.specs.Wholes.{Is}
 use Rattle.volume.specs.Levels.{isStaticOf}
 use Rattle.clip.specs.Positions.{elapsedAt}
 use Rattle.clip.specs.Updates.{sameAll}
-use Rattle.clip.specs.Plain.{PlainClip, plainIndex}
+use Rattle.clip.specs.Plain.{PlainClip}
 use Rattle.voice.specs.declared.Voice.{Voice}
 use Rattle.voice.specs.declared.Tick.{Tick}
 use Rattle.voice.specs.Voices.{recordedValueOf}

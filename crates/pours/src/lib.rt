@@ -87,7 +87,16 @@ fn term_at(data: &[u32], level: f32, index: usize) -> f32
 }
 
 // What it adds before the last of n samples from that place on, `before` being what it added last.
-fn last_but_one(before: f32, start: usize, place: usize, round: usize, total: usize, data: &[u32], level: f32, n: usize) -> f32
+fn last_but_one(
+    before: f32,
+    start: usize,
+    place: usize,
+    round: usize,
+    total: usize,
+    data: &[u32],
+    level: f32,
+    n: usize,
+) -> f32
     requires { ⌜ (start ≤ 2 ^ 22) × (place < round) × (round ≤ 2 ^ 22) × (1 ≤ total) × (n ≤ 2 ^ 24) ⌝ }
     ensures { λ r. ⌜ LastButOne before (λ (k : ℕ). termAt (now («data» .entry)) level (plainIndex start round total (place + k))) n r ⌝ }
 {
@@ -157,7 +166,16 @@ fn pour(data: &[u32], from: usize, level: f32, sums: &mut [f32], at: usize, m: u
 }
 
 // Adds n samples from that place on to the first n sums, in parts that go straight on.
-fn pour_all(start: usize, place: usize, round: usize, total: usize, data: &[u32], level: f32, sums: &mut [f32], n: usize)
+fn pour_all(
+    start: usize,
+    place: usize,
+    round: usize,
+    total: usize,
+    data: &[u32],
+    level: f32,
+    sums: &mut [f32],
+    n: usize,
+)
     requires { ⌜ (start ≤ 2 ^ 22) × (place < round) × (round ≤ 2 ^ 22) × (1 ≤ total) × (total ≤ length (now «data»)) × (n ≤ length (now «sums»)) ⌝ }
     ensures { λ _. ⌜ Added (λ (k : ℕ). termAt (now («data» .entry)) level (plainIndex start round total (place + k))) 0 n (now («sums» .entry)) (now («sums» .exit)) ⌝ }
 {
@@ -173,7 +191,15 @@ fn pour_all(start: usize, place: usize, round: usize, total: usize, data: &[u32]
 }
 
 // Adds n samples of the voice to the sums, if it eases over them.
-pub fn poured(h: Hot, v: Voice, t: Tick, b: Beat, data: &[u32], sums: &mut [f32], n: usize) -> Pouring
+pub fn poured(
+    h: Hot,
+    v: Voice,
+    t: Tick,
+    b: Beat,
+    data: &[u32],
+    sums: &mut [f32],
+    n: usize,
+) -> Pouring
     requires { ⌜ (b ≡ beatOf t) × (n ≤ length (now «sums»)) ⌝ }
     ensures { λ r. ⌜ Pours h v t b (now («data» .entry)) n (now («sums» .entry)) (now («sums» .exit)) r ⌝ }
 {
@@ -190,7 +216,16 @@ pub fn poured(h: Hot, v: Voice, t: Tick, b: Beat, data: &[u32], sums: &mut [f32]
     let total = b.total as usize;
     let volume = v.volume;
     let level = volume.level(t.now);
-    let last = last_but_one(v.last_sample_value, start, place, round, total, data, level, n);
+    let last = last_but_one(
+        v.last_sample_value,
+        start,
+        place,
+        round,
+        total,
+        data,
+        level,
+        n,
+    );
     let index = index_at(start, place + (n - 1), round, total);
     let value = term_at(data, level, index);
     pour_all(start, place, round, total, data, level, sums, n);

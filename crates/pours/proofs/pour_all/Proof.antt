@@ -7,7 +7,7 @@ use native.Mathlib.Omega.{arith}
 use borrow.Author.Needs.{needs}
 use Rattle.pours.specs.Eases.{Added}
 use Rattle.pours.proofs.Added.{none}
-use Rattle.pours.proofs.Straight.{term, further, place-on}
+use Rattle.pours.proofs.Straight.{term, further, place-next}
 use Rattle.pours.proofs.pour_all.Statement.{statement}
 use Rattle.pours.proofs.pour_all.Tie as tie
 
@@ -93,7 +93,7 @@ loop-again c =
     let m = d .before .smaller2 .result in (
       f .to,
       subst (λ (x : ℕ). x < a .round) (sym (c .rest2 .ensures)) (mod-lt (l .at + m) (omega (arith, s .pre .1))),
-      c .rest2 .ensures ∙ place-on (a .start) (a .place) (a .round) (a .total) (a .«data» .now) (a .level) (l .f) (l .at) m (l .inv .2),
+      c .rest2 .ensures ∙ place-next (a .place) (a .round) (l .f) (l .at) m (l .inv .2),
       further (a .start) (a .place) (a .round) (a .total) (a .«data» .now) (a .level) (l .f) (l .at) (d .before .before .before .rest .result) m (l .inv .2) (d .before .before .before .rest .ensures) (f .in-loop) (f .in-data) (l .inv .3) (c .before .before .before .pour .ensures),
     )
 
