@@ -19,6 +19,7 @@ pub mod Eases
 pub mod Frames
 pub mod Filling
 pub mod Summing
+pub mod Phrasing
 pub mod Poured
 pub mod Nexts
 pub mod Refilling
