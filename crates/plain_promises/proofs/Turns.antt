@@ -92,9 +92,9 @@ module _ (w : World) (fits : FittingSampler (w .sampler)) where
       let cs = spreadAll (made w (frames xs p)) hs in
       let l = besideRun w (spread w (frames xs p)) k in
       let rested : besideRun (made w (frames xs p)) cs (besideMade w (frames xs p) k) ≡ restedBacking (besideRun w (spread w (frames xs p) ++ cs) k) =
-          ap (besideRun (made w (frames xs p)) cs) (spread-frames xs p f k)
-          ∙ run-rests (made w (frames xs p)) cs l
-          ∙ ap restedBacking (ap (λ (u : World). besideRun u cs l) (sym (spread-leaves (frames xs p) f)) ∙ sym (run-more w (spread w (frames xs p)) cs k)) in
+      ap (besideRun (made w (frames xs p)) cs) (spread-frames xs p f k)
+      ∙ run-rests (made w (frames xs p)) cs l
+      ∙ ap restedBacking (ap (λ (u : World). besideRun u cs l) (sym (spread-leaves (frames xs p) f)) ∙ sym (run-more w (spread w (frames xs p)) cs k)) in
       ap (restedAfter hs) rested ∙ rests-once (hasRun hs) _
 
 -- ---- from set-up on

@@ -232,9 +232,16 @@ module _ {M : Type 1} (𝓤 : URA M) (H : Heap 𝓤) (A : Atoms 𝓤) (W : Given
     with-these δ ε ζ = (at-channel δ d, (at-side ε l₁, (p, (x, (at-memory ζ ms, (eased, (adds, tt)))))))
 
     abbrev to-g : (α β η : ℕ) (δ ε ζ : GName) → G 𝓤 H A at-mem run .Ghost
-    to-g α β η δ ε ζ =
-        (((α ∷ [], (β ∷ [], (η ∷ [], tt))), (fullShare, (fullShare, (fullShare, tt))), tt, with-these δ ε ζ,
-        (vptr b o ∷ [], (vptr b₁ o₁ ∷ [], (params .val p ∷ [], (vfloat binary32 x ∷ [], (sl ∷ [], (vint w64 eased ∷ [], (vfloat binary32 adds ∷ [], tt)))))))), tt)
+    to-g α β η δ ε ζ = (
+      (
+        (α ∷ [], (β ∷ [], (η ∷ [], tt))),
+        (fullShare, (fullShare, (fullShare, tt))),
+        tt,
+        with-these δ ε ζ,
+        (vptr b o ∷ [], (vptr b₁ o₁ ∷ [], (params .val p ∷ [], (vfloat binary32 x ∷ [], (sl ∷ [], (vint w64 eased ∷ [], (vfloat binary32 adds ∷ [], tt))))))),
+      ),
+      tt,
+    )
 
     abbrev Going-in : (α β η : ℕ) (δ ε ζ : GName) → List (Item 𝓤)
     Going-in α β η δ ε ζ = (‵ (flft (α ∷ []) fullShare) ⊛ ‵ (flft (β ∷ []) fullShare) ⊛ ‵ (flft (η ∷ []) fullShare))
