@@ -4,23 +4,14 @@ use mathlib.Core.Path.{_≡_}
 use Prim.Native.Nat.{_<_}
 use mathlib.Core.List.{[], _∷_}
 use mir.Syntax.{w64}
-use Rattle.walks.proofs.Steps.Data.{Datum, struct, word}
+use Rattle.walks.proofs.Steps.Data.{word}
 use Rattle.common_types.specs.Settings.{measureOf}
 use Rattle.channel.specs.Channels.{turningIn}
 use Rattle.lent_channel.specs.Turns.{Stands, Next}
 use Rattle.lent_channel.proofs.Holding.{channel, params, measure, tick, going}
-use Rattle.plain_voice.proofs.Beat as B
-use Rattle.plain_voice.proofs.Beat.Laws as B′
 use Rattle.plain_channel.specs.Sides.{Together, GoTogether, GlideTogether, Paced}
-use Rattle.plain_channel.proofs.Side as S
-use Rattle.plain_channel.proofs.Side.Laws as S′
+use Rattle.plain_channel.proofs.Hotting.{side, beat}
 use Rattle.plain_channel.proofs.Pairing.{Pairer}
-
-abbrev pub beat : Datum
-beat = struct B.the-type B′.the-laws B′.the-plain
-
-abbrev pub side : Datum
-side = struct S.the-type S′.the-laws S′.the-plain
 
 abbrev pub hot-gliding : Pairer channel side
 hot-gliding = record {

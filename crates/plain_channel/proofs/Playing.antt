@@ -7,7 +7,7 @@ use Rattle.walks.proofs.Steps.Data.{word, float}
 use Rattle.lent_channel.proofs.Holding.{channel, params, sounded}
 use Rattle.plain_channel.specs.Ahead.{PlaysFrom}
 use Rattle.plain_channel.proofs.Pairing.{Pairer}
-use Rattle.plain_channel.proofs.Goings.{side}
+use Rattle.plain_channel.proofs.Hotting.{side}
 
 abbrev pub playing : Pairer channel side
 playing = record {

@@ -90,7 +90,7 @@ use Rattle.plain_channel.specs.Sides.{withHots, restHots}
 use Rattle.plain_channel.specs.Ahead.{behindOf, hotsBehind, sideBehind, BehindSome}
 use Rattle.plain_channel.proofs.Ends.{ahead-heard, ahead-gone, ahead-beside, ahead-unfinished, taken-some}
 use Rattle.plain_channel.proofs.Pairing.{Kept, Closed, takes-one, closes-one, pairing, lends}
-use Rattle.plain_channel.proofs.Goings.{side}
+use Rattle.plain_channel.proofs.Hotting.{side}
 use Rattle.plain_channel.proofs.Playing.{playing}
 use Rattle.plain_channel.proofs.Side as S
 use Rattle.plain_channel.proofs.heard_ahead.Symbol as ahead-def

@@ -85,9 +85,9 @@ use Rattle.plain_channel.specs.declared.Side.{Side}
 use Rattle.plain_channel.specs.Sides.{withHots, GoTogether, GlideTogether, Paced}
 use Rattle.plain_channel.proofs.Sides.{hot-on}
 use Rattle.plain_channel.proofs.Togethers.{goes-together, together-from}
-use Rattle.plain_channel.proofs.Hotting.{hot, hot-bytes, hots-are, points-hot, copies-hot, stores-hot}
+use Rattle.plain_channel.proofs.Hotting.{beat, hot, hot-bytes, hots-are, points-hot, copies-hot, stores-hot}
 use Rattle.plain_channel.proofs.Pairing.{Args, Fine, Sl, Tok, Start, Open, Post, exits, closes, takes-over, meets}
-use Rattle.plain_channel.proofs.Goings.{beat, hot-gliding}
+use Rattle.plain_channel.proofs.Goings.{hot-gliding}
 use Rattle.plain_channel.proofs.hot_glide.Key.{name as #plain-channel·hot-glide}
 use Rattle.plain_channel.proofs.hot_glide as f
 use Rattle.plain_channel.proofs.hot_glide.Statement as stated
