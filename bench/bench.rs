@@ -1,9 +1,9 @@
 //! Times the port beside the Rust that it is ported from, in one run and on the same scenarios, and compares the bits of all outputs (docs/BENCHMARKS.md).
-//! The Rust is there twice: as `-O` compiles it, and as one module.
+//! The Rust is there twice: as `-O` compiles it, and as one module. So is the port: by its engine on one lent record, and by the plain engine on two.
 //!
 //!     bench [ROUNDS]                each scenario is played ROUNDS times by each side in turn (9 unless given); a table is printed
 //!     bench rows FRAMES             a line for each scenario: how many samples or calls so many turns of it are, and its name
-//!     bench count SIDE ROW FRAMES   the scenario of that line (from 0), so many turns, once by one side (0, 1 or 2), for a tool that counts instructions
+//!     bench count SIDE ROW FRAMES   the scenario of that line (from 0), so many turns, once by one side (0 to 3), for a tool that counts instructions
 //!     bench idle SIDE ROW FRAMES    the same without what is to be counted
 
 mod clock;
@@ -28,9 +28,11 @@ use std::process::ExitCode;
 use std::time::Duration;
 
 extern "C" {
-    /// The port twice, to play frame by frame and in runs.
+    /// The port's engines, each twice, to play frame by frame and in runs.
     fn port_main() -> i32;
     fn runs_main() -> i32;
+    fn backed_main() -> i32;
+    fn backed_runs_main() -> i32;
     fn whole_played(row: u32, frames: u32, idle: bool) -> u64;
 }
 
@@ -51,9 +53,9 @@ impl Job {
 /// The sum that a side gives, and the time that it took.
 type Side = fn(Job) -> Result<(u64, Duration), String>;
 
-const SIDES: [Side; 3] = [plain, whole, ported];
+const SIDES: [Side; 4] = [rust, whole, ported, backed];
 
-fn plain(job: Job) -> Result<(u64, Duration), String> {
+fn rust(job: Job) -> Result<(u64, Duration), String> {
     Ok(timed(|| original::played(&job.scenario())))
 }
 
@@ -64,6 +66,11 @@ fn whole(job: Job) -> Result<(u64, Duration), String> {
 fn ported(job: Job) -> Result<(u64, Duration), String> {
     let scenario = job.scenario();
     port::played(&scenario.bytes(), if scenario.run > 1 { runs_main } else { port_main })
+}
+
+fn backed(job: Job) -> Result<(u64, Duration), String> {
+    let scenario = job.scenario();
+    port::played(&scenario.bytes(), if scenario.run > 1 { backed_runs_main } else { backed_main })
 }
 
 fn timed(played: impl Fn() -> u64) -> (u64, Duration) {
@@ -95,7 +102,7 @@ impl Times {
 }
 
 /// Each side once, and the sums of all of them.
-fn round(job: Job, times: &mut [Times; 3]) -> Result<Vec<[u64; 2]>, String> {
+fn round(job: Job, times: &mut [Times; 4]) -> Result<Vec<[u64; 2]>, String> {
     let mut sums = Vec::new();
     for (side, times) in SIDES.iter().zip(times) {
         let (sum, all) = side(job)?;
@@ -107,9 +114,9 @@ fn round(job: Job, times: &mut [Times; 3]) -> Result<Vec<[u64; 2]>, String> {
     Ok(sums)
 }
 
-fn row_figures(row: u32, rounds: u32) -> Result<[Figures; 3], String> {
+fn row_figures(row: u32, rounds: u32) -> Result<[Figures; 4], String> {
     let scenario = &SCENARIOS[row as usize];
-    let mut times = [Times::default(), Times::default(), Times::default()];
+    let mut times: [Times; 4] = Default::default();
     for _ in 0..rounds {
         let sums = round(Job { row, frames: scenario.frames, idle: false }, &mut times)?;
         if sums.iter().any(|sum| *sum != sums[0]) {
@@ -119,24 +126,25 @@ fn row_figures(row: u32, rounds: u32) -> Result<[Figures; 3], String> {
     Ok(times.map(|t| t.figures(scenario.units())))
 }
 
-/// The port's time as a part of another side's. What is below a nanosecond is lost beside what is taken away.
-fn ratio(port: &Figures, side: &Figures) -> String {
+/// A side's time as a part of another's. What is below a nanosecond is lost beside what is taken away.
+fn ratio(of: &Figures, side: &Figures) -> String {
     if side.least < 1.0 {
         return "-".into();
     }
-    format!("{:.2}", port.least / side.least)
+    format!("{:.2}", of.least / side.least)
 }
 
 fn run(rounds: u32) -> Result<(), String> {
-    println!("| {:<36} | Rust -O | Rust lto |    port | port / -O | port / lto | middle/least     |", "ns a sample or call");
-    println!("|{}|", ["---"; 7].join("|"));
+    println!("| {:<43} | Rust -O | Rust lto |    port |   plain | port / -O | port / lto | plain / -O | plain / port | middle/least           |", "ns a sample or call");
+    println!("|{}|", ["---"; 10].join("|"));
     for (row, scenario) in SCENARIOS.iter().enumerate() {
         eprint!("\r{} of {}: {:<50}", row + 1, SCENARIOS.len(), scenario.name);
-        let [plain, whole, port] = row_figures(row as u32, rounds)?;
+        let [rust, whole, port, plain] = row_figures(row as u32, rounds)?;
         eprint!("\r{:<70}\r", "");
-        print!("| {:<36} | {:>7.1} | {:>8.1} | {:>7.1} ", scenario.name, plain.least, whole.least, port.least);
-        print!("| {:>9} | {:>10} ", ratio(&port, &plain), ratio(&port, &whole));
-        println!("| {} |", [plain, whole, port].map(|f| format!("{:.2}", f.middle / f.least)).join(", "));
+        print!("| {:<43} | {:>7.1} | {:>8.1} | {:>7.1} | {:>7.1} ", scenario.name, rust.least, whole.least, port.least, plain.least);
+        print!("| {:>9} | {:>10} ", ratio(&port, &rust), ratio(&port, &whole));
+        print!("| {:>10} | {:>12} ", ratio(&plain, &rust), ratio(&plain, &port));
+        println!("| {} |", [rust, whole, port, plain].map(|f| format!("{:.2}", f.middle / f.least)).join(", "));
     }
     eprintln!("all outputs equal, bit for bit");
     Ok(())

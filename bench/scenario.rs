@@ -99,7 +99,22 @@ const PHRASES: Scenario = Scenario { voices: 32, phrases: 8, frames: 20_000, ..P
 /// A call while 8 voices are held, over and over.
 const CALL: Scenario = Scenario { put_back: 1, ramp: 100, auto_passthru: true, frames: 100_000, ..PLAIN };
 
+/// Of 8/12's profile.
+const WHOLE: Scenario = Scenario { speed: 1.0, ratio: 0.25, ..PLAIN };
+
 pub const SCENARIOS: &[Scenario] = &[
+    Scenario { name: "plain: 1 voice", voices: 1, frames: 200_000, ..WHOLE },
+    Scenario { name: "plain: 8 voices", ..WHOLE },
+    Scenario { name: "plain: 32 voices", voices: 32, frames: 20_000, ..WHOLE },
+    Scenario { name: "plain: 32 voices, attack running", voices: 32, frames: 20_000, ramp: LONGEST_RAMP, ..WHOLE },
+    Scenario { name: "plain: 32 voices, eight phrases", voices: 32, frames: 20_000, phrases: 8, ratio: 0.25, stretch: 4, ..WHOLE },
+    Scenario { name: "plain: 32 voices, 16 leave and come back", voices: 32, leaves: true, frames: 20_480, ..WHOLE },
+    Scenario { name: "plain: 32 voices, recording", voices: 32, records: true, frames: 20_480, ..WHOLE },
+    Scenario { name: "plain: 1 voice, runs of 64", voices: 1, frames: 200_000, run: 64, ..WHOLE },
+    Scenario { name: "plain: 8 voices, runs of 64", run: 64, ..WHOLE },
+    Scenario { name: "plain: 32 voices, runs of 64", voices: 32, frames: 20_000, run: 64, ..WHOLE },
+    Scenario { name: "plain: 32 voices, attack running, runs of 64", voices: 32, frames: 20_000, run: 64, ramp: LONGEST_RAMP, ..WHOLE },
+    Scenario { name: "plain: 32 voices, eight phrases, runs of 64", voices: 32, frames: 20_000, run: 64, phrases: 8, stretch: 4, ratio: 0.25, ..WHOLE },
     Scenario { name: "no voices", voices: 0, frames: 500_000, ..PLAIN },
     Scenario { name: "1 voice, loop", voices: 1, frames: 200_000, ..PLAIN },
     Scenario { name: "1 voice, ping-pong", voices: 1, mode: PING_PONG, frames: 200_000, ..PLAIN },

@@ -67,12 +67,30 @@ void host_write_wave(counted *, const vusatica_sampler *, uint32_t, const slice 
 void host_read_wave(rate_read *, vusatica_sampler *, const slice *, const slice *);
 uint8_t host_gather(vusatica_sampler *, const slice *);
 void host_process_sample(sampled *, vusatica_sampler *, size_t, float, const vusatica_params *, const slice *);
+void backed_new(vusatica_backing *);
+uint8_t backed_start_playing(vusatica_sampler *, vusatica_backing *, float, uint8_t, uint8_t, float,
+                             const vusatica_params *);
+uint8_t backed_stop_playing(vusatica_sampler *, vusatica_backing *, uint8_t, uint8_t, const vusatica_params *);
+uint8_t backed_set_note_speed(vusatica_sampler *, vusatica_backing *, uint8_t, uint8_t, float);
+uint8_t backed_start_recording(vusatica_sampler *, vusatica_backing *);
+uint8_t backed_stop_recording(vusatica_sampler *, vusatica_backing *);
+uint8_t backed_reset(vusatica_sampler *, vusatica_backing *);
+uint8_t backed_set_interpolation(vusatica_sampler *, vusatica_backing *, _Bool);
+uint8_t backed_choose_phrase(vusatica_sampler *, vusatica_backing *, size_t);
+uint8_t backed_delete_phrase(vusatica_sampler *, vusatica_backing *, size_t);
+void backed_process_frame(frame_done *, vusatica_sampler *, vusatica_backing *, const slice *, const vusatica_params *,
+                          const slice *);
+void backed_process_frames(ran *, vusatica_sampler *, vusatica_backing *, const slice *, const vusatica_params *,
+                           const slice *);
+void backed_process_sample(sampled *, vusatica_sampler *, vusatica_backing *, size_t, float, const vusatica_params *,
+                           const slice *);
 
 #ifdef PART_about
 uint32_t vusatica_version(void) { return host_vusatica_version(); }
 size_t vusatica_sampler_size(void) { return sizeof(vusatica_sampler); }
 size_t vusatica_params_size(void) { return sizeof(vusatica_params); }
 size_t vusatica_settings_size(void) { return sizeof(vusatica_settings); }
+size_t vusatica_backing_size(void) { return sizeof(vusatica_backing); }
 #endif
 
 #ifdef PART_params_make
@@ -308,5 +326,115 @@ int vusatica_turn_wave(const uint8_t *file, size_t length, uint8_t *out, size_t 
     counted c;
     host_turn_wave(&c, &f, &o);
     return told(written, c);
+}
+#endif
+
+#ifdef PART_backing_init
+void vusatica_backing_init(vusatica_backing *k) { backed_new(k); }
+#endif
+
+#ifdef PART_backed_start
+int vusatica_backed_start(vusatica_sampler *s, vusatica_backing *k, float position, uint8_t note, uint8_t channel,
+                          float velocity, const vusatica_params *params) {
+    return backed_start_playing(s, k, position, note, channel, velocity, params);
+}
+#endif
+
+#ifdef PART_backed_stop
+int vusatica_backed_stop(vusatica_sampler *s, vusatica_backing *k, uint8_t note, uint8_t channel,
+                         const vusatica_params *params) {
+    return backed_stop_playing(s, k, note, channel, params);
+}
+#endif
+
+#ifdef PART_backed_note_speed
+int vusatica_backed_note_speed(vusatica_sampler *s, vusatica_backing *k, uint8_t note, uint8_t channel, float speed) {
+    return backed_set_note_speed(s, k, note, channel, speed);
+}
+#endif
+
+#ifdef PART_backed_record
+int vusatica_backed_record(vusatica_sampler *s, vusatica_backing *k) { return backed_start_recording(s, k); }
+#endif
+
+#ifdef PART_backed_record_stop
+int vusatica_backed_record_stop(vusatica_sampler *s, vusatica_backing *k) { return backed_stop_recording(s, k); }
+#endif
+
+#ifdef PART_backed_reset
+int vusatica_backed_reset(vusatica_sampler *s, vusatica_backing *k) { return backed_reset(s, k); }
+#endif
+
+#ifdef PART_backed_interpolate
+int vusatica_backed_interpolate(vusatica_sampler *s, vusatica_backing *k, int on) {
+    return backed_set_interpolation(s, k, on != 0);
+}
+#endif
+
+#ifdef PART_backed_frame
+int vusatica_backed_frame(vusatica_sampler *s, vusatica_backing *k, float *frame, size_t entries,
+                          const vusatica_params *params, uint32_t *memory, size_t samples, int *moved) {
+    slice f = of(frame, entries), m = of(memory, samples);
+    frame_done done;
+    backed_process_frame(&done, s, k, &f, params, &m);
+    if (moved) *moved = done.moved;
+    return done.number;
+}
+#endif
+
+#ifdef PART_backed_frames
+int vusatica_backed_frames(vusatica_sampler *s, vusatica_backing *k, float *run, size_t entries,
+                           const vusatica_params *params, uint32_t *memory, size_t samples, size_t *frames) {
+    slice f = of(run, entries), m = of(memory, samples);
+    ran done;
+    backed_process_frames(&done, s, k, &f, params, &m);
+    if (frames) *frames = done.frames;
+    return done.number;
+}
+#endif
+
+#ifdef PART_backed_sample
+int vusatica_backed_sample(vusatica_sampler *s, vusatica_backing *k, size_t channel, float input,
+                           const vusatica_params *params, uint32_t *memory, size_t samples, float *output,
+                           int *moved) {
+    slice m = of(memory, samples);
+    sampled done;
+    backed_process_sample(&done, s, k, channel, input, params, &m);
+    if (output) *output = done.output;
+    if (moved) *moved = done.moved;
+    return done.number;
+}
+#endif
+
+#ifdef PART_backed_choose
+int vusatica_backed_choose(vusatica_sampler *s, vusatica_backing *k, size_t phrase) {
+    return backed_choose_phrase(s, k, phrase);
+}
+#endif
+
+#ifdef PART_backed_delete
+int vusatica_backed_delete(vusatica_sampler *s, vusatica_backing *k, size_t phrase) {
+    return backed_delete_phrase(s, k, phrase);
+}
+#endif
+
+/* A gather and a read leave positions alone: they are the sampler's own. */
+#ifdef PART_backed_gather
+int vusatica_backed_gather(vusatica_sampler *s, vusatica_backing *k, uint32_t *memory, size_t samples) {
+    slice m = of(memory, samples);
+    (void)k;
+    return host_gather(s, &m);
+}
+#endif
+
+#ifdef PART_backed_read_wave
+int vusatica_backed_read_wave(vusatica_sampler *s, vusatica_backing *k, const uint8_t *file, size_t length,
+                              uint32_t *memory, size_t samples, uint32_t *rate) {
+    slice f = of(file, length), m = of(memory, samples);
+    rate_read r;
+    (void)k;
+    host_read_wave(&r, s, &f, &m);
+    if (rate) *rate = r.rate;
+    return r.number;
 }
 #endif

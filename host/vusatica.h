@@ -27,7 +27,7 @@ extern "C" {
 #endif
 
 /* Rises with each change of a call or a type here: a host tests vusatica_version() == VUSATICA_VERSION as it starts. */
-#define VUSATICA_VERSION 1u
+#define VUSATICA_VERSION 2u
 
 typedef enum vusatica_number {
     VUSATICA_DONE = 0,
@@ -92,6 +92,9 @@ typedef struct vusatica_settings {
 typedef struct vusatica_sampler { uint64_t opaque[893]; } vusatica_sampler;
 typedef struct vusatica_params { uint64_t opaque[8]; } vusatica_params;
 
+/* What the plain engine has beside a sampler. */
+typedef struct vusatica_backing { uint64_t opaque[198]; } vusatica_backing;
+
 /* The loop of a voice and its place, as parts of its recording. */
 typedef struct vusatica_voice { float start, end, position; } vusatica_voice;
 
@@ -99,6 +102,7 @@ uint32_t vusatica_version(void);
 size_t vusatica_sampler_size(void);
 size_t vusatica_params_size(void);
 size_t vusatica_settings_size(void);
+size_t vusatica_backing_size(void);
 
 /* Parameters of settings. 7, and the parameters are as they were; limits are judged by the calls that take them (4). */
 int vusatica_params_make(vusatica_params *params, const vusatica_settings *settings);
@@ -177,7 +181,31 @@ int vusatica_merge_song(const uint8_t *file, size_t length, uint8_t *spare, uint
                         size_t *written);
 int vusatica_turn_wave(const uint8_t *file, size_t length, uint8_t *out, size_t room, size_t *written);
 
-/* Not here yet: vusatica_backing and the calls vusatica_backed_*, which come with request 9/12. */
+/* The plain engine, for backing tracks (9/12): each call that plays or changes, again, with a backing behind the sampler.
+ * It answers and leaves of the sampler, the memory and the frame what the call above does, whatever the backing holds,
+ * and keeps in the backing where its plain voices stand: loops at speed 1 of whole lengths. So both kinds of calls may be
+ * mixed on one sampler, and a backing that is set up anew in between costs speed alone. */
+void vusatica_backing_init(vusatica_backing *k);
+int vusatica_backed_start(vusatica_sampler *s, vusatica_backing *k, float position, uint8_t note, uint8_t channel,
+                          float velocity, const vusatica_params *params);
+int vusatica_backed_stop(vusatica_sampler *s, vusatica_backing *k, uint8_t note, uint8_t channel,
+                         const vusatica_params *params);
+int vusatica_backed_note_speed(vusatica_sampler *s, vusatica_backing *k, uint8_t note, uint8_t channel, float speed);
+int vusatica_backed_record(vusatica_sampler *s, vusatica_backing *k);
+int vusatica_backed_record_stop(vusatica_sampler *s, vusatica_backing *k);
+int vusatica_backed_reset(vusatica_sampler *s, vusatica_backing *k);
+int vusatica_backed_interpolate(vusatica_sampler *s, vusatica_backing *k, int on);
+int vusatica_backed_frame(vusatica_sampler *s, vusatica_backing *k, float *frame, size_t entries,
+                          const vusatica_params *params, uint32_t *memory, size_t samples, int *moved);
+int vusatica_backed_frames(vusatica_sampler *s, vusatica_backing *k, float *run, size_t entries,
+                           const vusatica_params *params, uint32_t *memory, size_t samples, size_t *frames);
+int vusatica_backed_sample(vusatica_sampler *s, vusatica_backing *k, size_t channel, float input,
+                           const vusatica_params *params, uint32_t *memory, size_t samples, float *output, int *moved);
+int vusatica_backed_choose(vusatica_sampler *s, vusatica_backing *k, size_t phrase);
+int vusatica_backed_delete(vusatica_sampler *s, vusatica_backing *k, size_t phrase);
+int vusatica_backed_gather(vusatica_sampler *s, vusatica_backing *k, uint32_t *memory, size_t samples);
+int vusatica_backed_read_wave(vusatica_sampler *s, vusatica_backing *k, const uint8_t *file, size_t length,
+                              uint32_t *memory, size_t samples, uint32_t *rate);
 
 #ifdef __cplusplus
 }

@@ -1,5 +1,5 @@
-/* How many times faster than it sounds a song is played: processor time, which other work beside it doesn't
- * lengthen, the best of three; nothing is written. */
+/* How many times faster than it sounds a song is played by each engine: processor time, which other work beside it
+ * doesn't lengthen, the best of three; nothing is written. */
 #include <time.h>
 #include "play.h"
 
@@ -7,23 +7,35 @@ enum { ROUNDS = 3 };
 
 static double processor_seconds(void) { return (double)clock() / CLOCKS_PER_SEC; }
 
-void bench_printed(const job *j) {
-    engine *loaded = room(1, sizeof *loaded);
-    uint32_t rate = take_loaded(loaded, j);
-    song s = song_of(j->song, rate, 0);
-    player p = player_of(loaded, s, j);
-    double best = 1e9, seconds = (double)p.frames / rate;
+/* The memory is the same for all: a song records nothing. */
+static player timed(const engine *loaded, song s, const job *j, uint32_t rate, int plain, double *best) {
+    static engine e;
+    player p;
+    *best = 1e9;
     for (int round = 0; round < ROUNDS; round++) {
-        /* The memory is the same: a song records nothing. */
-        engine e = *loaded;
+        e = *loaded;
+        e.plain = plain;
         p = player_of(&e, s, j);
         double began = processor_seconds();
         sound_played(&p, NULL, rate);
         double took = processor_seconds() - began;
-        if (took < best) best = took;
+        if (took < *best) *best = took;
     }
-    player_told(&p);
-    printf("%.1f s of sound, %zu starts and stops, in %.4f s of processor time: %.0f times faster than it sounds\n",
-        seconds, s.count, best, best > 0 ? seconds / best : 0);
+    return p;
+}
+
+void bench_printed(const job *j) {
+    engine *loaded = room(1, sizeof *loaded);
+    uint32_t rate = take_loaded(loaded, j);
+    song s = song_of(j->song, rate, 0);
+    for (int plain = 0; plain < 2; plain++) {
+        double best;
+        player p = timed(loaded, s, j, rate, plain, &best);
+        double seconds = (double)p.frames / rate;
+        if (!plain) player_told(&p);
+        if (!plain) printf("%.1f s of sound, %zu starts and stops\n", seconds, s.count);
+        printf("%s engine: %.4f s of processor time, %.0f times faster than it sounds\n", plain ? "plain" : "lent", best,
+            best > 0 ? seconds / best : 0);
+    }
     out_shown();
 }

@@ -1,4 +1,5 @@
-/* A sampler with its memory and its parameters. */
+/* A sampler with its memory and its parameters, by the calls of the first engine or of the plain one, which sound the
+ * same. */
 #include <string.h>
 #include "play.h"
 
@@ -12,6 +13,7 @@ void engine_made(engine *e, size_t channels, int auto_passthru, size_t capacity)
     e->channels = channels;
     e->samples = channels * capacity;
     e->memory = room(e->samples, sizeof *e->memory);
+    vusatica_backing_init(&e->backing);
     if (vusatica_init(&e->sampler, channels, auto_passthru, e->memory, e->samples) != 0)
         fail(REFUSED, "the engine could not be set up");
     if (engine_set(e, &settings) != 0) fail(REFUSED, "the library refuses its own default settings");
@@ -28,10 +30,32 @@ int engine_set(engine *e, const vusatica_settings *settings) {
     return 0;
 }
 
+static int ran(engine *e, float *run, size_t entries) {
+    vusatica_sampler *s = &e->sampler;
+    if (e->plain)
+        return vusatica_backed_frames(s, &e->backing, run, entries, &e->params, e->memory, e->samples, NULL);
+    return vusatica_frames(s, run, entries, &e->params, e->memory, e->samples, NULL);
+}
+
 void engine_run(engine *e, float *run, size_t frames) {
-    size_t done;
-    int number = vusatica_frames(&e->sampler, run, frames * e->channels, &e->params, e->memory, e->samples, &done);
+    int number = ran(e, run, frames * e->channels);
     if (number != 0) refuse("a frame", number, "%s", words_of(number));
+}
+
+void engine_smooth(engine *e, int on) {
+    if (e->plain) vusatica_backed_interpolate(&e->sampler, &e->backing, on);
+    else vusatica_interpolate(&e->sampler, on);
+}
+
+void engine_choose(engine *e, size_t phrase) {
+    if (e->plain) vusatica_backed_choose(&e->sampler, &e->backing, phrase);
+    else vusatica_choose(&e->sampler, phrase);
+    e->chosen = phrase;
+}
+
+void engine_speed(engine *e, uint8_t note, uint8_t channel, float speed) {
+    if (e->plain) vusatica_backed_note_speed(&e->sampler, &e->backing, note, channel, speed);
+    else vusatica_note_speed(&e->sampler, note, channel, speed);
 }
 
 size_t engine_voices(const engine *e) {

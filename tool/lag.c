@@ -13,7 +13,7 @@ struct lag {
     engine solo; /* the same recordings, and no voice */
     bytes recordings[8];
     uint32_t *memory; /* a copy, which the copies of the record are lent */
-    vusatica_sampler before;
+    engine before;
     int smooth;
     int64_t sounds[8][128]; /* the first sound of each phrase and note, and 2 more: 0 where it isn't known yet */
     key *keys;
@@ -26,11 +26,12 @@ static void solo_made(lag *l, const player *p) {
     engine copy = *p->engine;
     engine_made(&l->solo, copy.channels, 0, copy.samples / copy.channels);
     engine_set(&l->solo, &copy.settings);
-    vusatica_interpolate(&l->solo.sampler, l->smooth);
+    l->solo.plain = copy.plain;
+    engine_smooth(&l->solo, l->smooth);
     for (size_t i = 0; i == 0 || i < p->phrases; i++) {
         uint32_t rate;
-        vusatica_choose(&copy.sampler, i);
-        vusatica_choose(&l->solo.sampler, i);
+        engine_choose(&copy, i);
+        engine_choose(&l->solo, i);
         l->recordings[i] = engine_recording(&copy, 1);
         bytes file = l->recordings[i];
         int number = vusatica_read_wave(&l->solo.sampler, file.at, file.length, l->solo.memory, l->solo.samples, &rate);
@@ -63,7 +64,14 @@ lag *lag_begun(const player *p, int smooth) {
     return l;
 }
 
-void lag_before(lag *l, const player *p) { l->before = p->engine->sampler; }
+/* A copy of the engine, on the copy of the memory. */
+static engine copied(const lag *l, const player *p) {
+    engine e = *p->engine;
+    e.memory = l->memory;
+    return e;
+}
+
+void lag_before(lag *l, const player *p) { l->before = copied(l, p); }
 
 /* Whether the recording has a sound at a place between samples, on any channel. */
 static int sounds_at(const lag *l, bytes recording, size_t channels, float place) {
@@ -99,18 +107,17 @@ static int64_t first_sound(lag *l, const player *p, cue c) {
 }
 
 /* A key alone. */
-static vusatica_sampler alone_of(const lag *l, const player *p, cue c) {
-    vusatica_sampler alone = l->solo.sampler;
-    size_t entry = p->next - 1;
-    vusatica_choose(&alone, phrase_of(p, c));
-    vusatica_play_song(&alone, p->song.list, p->next, &entry, p->frame, &l->solo.params);
-    if (p->pitch >= 0) vusatica_note_speed(&alone, c.note, c.channel, speed_of(c.note, p->pitch));
+static engine alone_of(const lag *l, const player *p, cue c) {
+    engine alone = l->solo;
+    engine_choose(&alone, phrase_of(p, c));
+    cue_called(&p->song, p->next - 1, &alone, p->frame);
+    if (p->pitch >= 0) engine_speed(&alone, c.note, c.channel, speed_of(c.note, p->pitch));
     return alone;
 }
 
-static void sounded(vusatica_sampler *s, float *frame, const player *p, uint32_t *memory) {
+static void sounded(engine *e, float *frame) {
     frame[0] = frame[1] = 0;
-    vusatica_frame(s, frame, p->engine->channels, &p->engine->params, memory, p->engine->samples, NULL);
+    engine_run(e, frame, 1);
 }
 
 /* Frames behind a start: the first in which it is heard, the first in which it sounds where it is alone, and the
@@ -127,13 +134,13 @@ static void first_seen(firsts *f, int64_t k, size_t channels, const float *with,
 }
 
 static firsts firsts_of(lag *l, const player *p, cue c, int64_t first) {
-    vusatica_sampler with = p->engine->sampler, without = l->before, alone = alone_of(l, p, c);
+    engine with = copied(l, p), without = l->before, alone = alone_of(l, p, c);
     firsts f = { NEVER, NEVER, NEVER };
     for (int64_t k = 0; k < first + WINDOW && (f.heard == NEVER || f.summed == NEVER); k++) {
         float w[2], o[2], a[2];
-        sounded(&with, w, p, l->memory);
-        sounded(&without, o, p, l->memory);
-        sounded(&alone, a, p, l->solo.memory);
+        sounded(&with, w);
+        sounded(&without, o);
+        sounded(&alone, a);
         first_seen(&f, k, p->engine->channels, w, o, a);
     }
     return f;

@@ -5,10 +5,12 @@
 #include "tool.h"
 #include "vusatica.h"
 
-/* ---- engine.c: a sampler with its memory and its parameters */
+/* ---- engine.c: a sampler with its memory and its parameters, by the calls of the first engine or of the plain one */
 
 typedef struct {
     vusatica_sampler sampler;
+    vusatica_backing backing; /* the plain engine's */
+    int plain;                /* whether it plays */
     uint32_t *memory;
     size_t samples, channels, chosen;
     vusatica_settings settings;
@@ -21,6 +23,10 @@ void engine_made(engine *e, size_t channels, int auto_passthru, size_t capacity)
 int engine_set(engine *e, const vusatica_settings *settings);
 /* Plays a run of frames in place. */
 void engine_run(engine *e, float *run, size_t frames);
+/* The setting of --smooth, a phrase's choice, and a note's speed. */
+void engine_smooth(engine *e, int on);
+void engine_choose(engine *e, size_t phrase);
+void engine_speed(engine *e, uint8_t note, uint8_t channel, float speed);
 size_t engine_voices(const engine *e);
 uint64_t engine_clock(const engine *e);
 /* The chosen phrase as a WAVE file. */
@@ -53,6 +59,8 @@ typedef struct { uint64_t *list; size_t count; } song;
 song song_of(const char *path, uint32_t rate, int show);
 typedef struct { uint64_t frame; uint8_t note, channel, velocity; } cue;
 cue cue_at(const song *s, size_t entry);
+/* Makes the call of an entry, which is due at this frame: how many are refused, 0 or 1. */
+size_t cue_called(const song *s, size_t entry, engine *e, uint64_t frame);
 
 /* ---- player.c: a song on an engine, its calls made before their frames */
 

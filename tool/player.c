@@ -29,24 +29,23 @@ float speed_of(int note, int pitch) { return (float)pow(2.0, (note - pitch) / 12
 static int is_chosen(player *p, cue c) {
     if (p->phrases == 0) return 1;
     if (c.channel >= p->phrases) return 0;
-    if (p->engine->chosen != c.channel) vusatica_choose(&p->engine->sampler, c.channel);
-    p->engine->chosen = c.channel;
+    if (p->engine->chosen != c.channel) engine_choose(p->engine, c.channel);
     return 1;
 }
 
 /* Makes the next call of the list. */
 static void called(player *p) {
-    engine *e = p->engine;
-    cue c = cue_at(&p->song, p->next);
+    size_t entry = p->next++;
+    cue c = cue_at(&p->song, entry);
     if (c.velocity > 0 && !is_chosen(p, c)) {
-        p->astray++, p->next++;
+        p->astray++;
         return;
     }
     if (p->lag != NULL && c.velocity > 0) lag_before(p->lag, p);
-    size_t refused = vusatica_play_song(&e->sampler, p->song.list, p->next + 1, &p->next, p->frame, &e->params);
+    size_t refused = cue_called(&p->song, entry, p->engine, p->frame);
     p->refused += refused;
     if (c.velocity == 0 || refused > 0) return;
-    if (p->pitch >= 0) vusatica_note_speed(&e->sampler, c.note, c.channel, speed_of(c.note, p->pitch));
+    if (p->pitch >= 0) engine_speed(p->engine, c.note, c.channel, speed_of(c.note, p->pitch));
     if (p->lag != NULL) lag_after(p->lag, p, c);
 }
 

@@ -100,7 +100,8 @@ uint32_t take_loaded(engine *e, const job *j) {
     vusatica_settings s = settings_of(e, j, is_listing, rate);
     int number = engine_set(e, &s);
     if (number != 0) refuse("the take's setting", number, "%s", words_of(number));
-    if (j->smooth) vusatica_interpolate(&e->sampler, 1);
+    e->plain = j->plain;
+    if (j->smooth) engine_smooth(e, 1);
     return rate;
 }
 

@@ -68,7 +68,7 @@ typedef struct {
     span attack, decay;
     int volume_given;
     float volume;
-    int smooth, bars;
+    int smooth, plain, bars;
     int pitch; /* -1: not given */
     size_t block, columns;
 } job;

@@ -92,6 +92,7 @@ static int alone(job *j, const char *word) {
     if (strcmp(word, "--cues") == 0) j->task = CUES;
     else if (strcmp(word, "--bench") == 0) j->task = BENCH;
     else if (strcmp(word, "--smooth") == 0) j->smooth = 1;
+    else if (strcmp(word, "--plain") == 0) j->plain = 1;
     else if (strcmp(word, "--bars") == 0) j->bars = 1;
     else return 0;
     return 1;

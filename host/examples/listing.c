@@ -1,6 +1,7 @@
 /* Plays an event listing (docs/LISTING.md), bytes from standard input, and prints the lines of ./play.
  *
- *     listing [FRAMES]        each frame by a call, or up to FRAMES frames that stand in a row by one
+ *     listing [FRAMES]          each frame by a call, or up to FRAMES frames that stand in a row by one
+ *     listing plain [FRAMES]    the same by the plain engine, which prints the same
  *
  * A run doesn't say how many voices play after each of its frames: a copy of record and memory is played frame by
  * frame for that, and its outputs aren't printed. */
@@ -13,6 +14,8 @@
 #define MOST 1024    /* frames in a run */
 
 static vusatica_sampler s, copy;
+static vusatica_backing k;
+static int plain;                  /* whether the plain engine's calls are made */
 static uint32_t memory[2 * SAMPLES], copied[2 * SAMPLES];
 static vusatica_settings settings = VUSATICA_DEFAULT_SETTINGS;
 static vusatica_params params;
@@ -53,11 +56,22 @@ static void line(size_t time, const float *outputs, const vusatica_sampler *r) {
     printf(" %lu\n", (unsigned long)voices);
 }
 
+/* A frame of the sampler, and of its copy, which the first engine plays. */
+static int frame_of(vusatica_sampler *r, float *frame, uint32_t *of) {
+    if (plain && r == &s) return vusatica_backed_frame(r, &k, frame, channels, &params, of, room, NULL);
+    return vusatica_frame(r, frame, channels, &params, of, room, NULL);
+}
+
 static void one_frame(vusatica_sampler *r, float *frame, uint32_t *of, const float *printed) {
     size_t time;
     done("time", vusatica_frames_processed(r, 0, &time));
-    done("frame", vusatica_frame(r, frame, channels, &params, of, room, NULL));
+    done("frame", frame_of(r, frame, of));
     line(time, printed, r);
+}
+
+static int frames_of(float *run, size_t entries, size_t *frames) {
+    if (plain) return vusatica_backed_frames(&s, &k, run, entries, &params, memory, room, frames);
+    return vusatica_frames(&s, run, entries, &params, memory, room, frames);
 }
 
 static void play_waiting(int by_runs) {
@@ -67,7 +81,7 @@ static void play_waiting(int by_runs) {
         copy = s;
         memcpy(copied, memory, sizeof memory);
         memcpy(run, inputs, sizeof run);
-        done("run", vusatica_frames(&s, run, waiting * channels, &params, memory, room, &frames));
+        done("run", frames_of(run, waiting * channels, &frames));
         if (frames != waiting) done("a run's frames", -1);
     }
     for (i = 0; i < waiting; i++) {
@@ -114,6 +128,18 @@ static int call(const unsigned char *r) {
     }
 }
 
+static int backed_call(const unsigned char *r) {
+    switch (r[0]) {
+    case 0: return new_params(r);
+    case 1: return vusatica_backed_start(&s, &k, real(r + 3), r[1], r[2], real(r + 7), &params);
+    case 2: return vusatica_backed_stop(&s, &k, r[1], r[2], &params);
+    case 3: return vusatica_backed_note_speed(&s, &k, r[1], r[2], real(r + 3));
+    case 4: return vusatica_backed_record(&s, &k);
+    case 5: return vusatica_backed_record_stop(&s, &k);
+    default: return vusatica_backed_reset(&s, &k);
+    }
+}
+
 /* Whether a record of so many bytes, its kind's among them, is one that there is. */
 static int good(const unsigned char *r, size_t size) {
     size_t lengths[] = { 45, 11, 3, 7, 1, 1, 0, 1 };
@@ -123,8 +149,9 @@ static int good(const unsigned char *r, size_t size) {
 }
 
 int main(int count, char **words) {
-    size_t run = count > 1 ? strtoul(words[1], NULL, 10) : 0, at = 3;
-    size_t length = fread(input, 1, sizeof input, stdin);
+    size_t length = fread(input, 1, sizeof input, stdin), run, at = 3;
+    plain = count > 1 && strcmp(words[1], "plain") == 0;
+    run = count > 1 + plain ? strtoul(words[1 + plain], NULL, 10) : 0;
     if (run > MOST) run = MOST;
     if (length < 3 || input[0] < 1 || input[0] > 2 || input[1] < 1 || input[1] > 2 || input[2] > 1) {
         printf("X 0\n");
@@ -134,6 +161,7 @@ int main(int count, char **words) {
     room = SAMPLES * channels;
     done("parameters", vusatica_params_make(&params, &settings));
     done("set-up", vusatica_init(&s, channels, input[2], memory, room));
+    vusatica_backing_init(&k);
     while (at < length) {
         const unsigned char *r = input + at + 2;
         size_t size = length - at < 2 ? 0 : (size_t)input[at] << 8 | input[at + 1], j;
@@ -149,7 +177,7 @@ int main(int count, char **words) {
             if (waiting < run) continue;
         }
         play_waiting(run > 0);
-        if (r[0] != 6) printf("E %d %d\n", r[0], call(r));
+        if (r[0] != 6) printf("E %d %d\n", r[0], plain ? backed_call(r) : call(r));
     }
     play_waiting(run > 0);
     return fflush(stdout) == 0 ? 0 : 1;

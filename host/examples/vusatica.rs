@@ -1,6 +1,7 @@
 //! vusatica.h for hosts in Rust, without unsafe code in the host. What C has to promise holds by itself here: fields are
 //! private, so that only the library writes a record, parameters or a song; references are what they say; and a sampler
-//! has its memory with it. A refused call is an `Err` with its number (docs/HOSTS.md).
+//! has its memory with it. A refused call is an `Err` with its number (docs/HOSTS.md). `Backed` is a sampler that the
+//! plain engine plays.
 #![allow(dead_code)]
 use std::os::raw::{c_char, c_int};
 use std::ptr::null_mut;
@@ -87,6 +88,7 @@ extern "C" {
     fn vusatica_sampler_size() -> usize;
     fn vusatica_params_size() -> usize;
     fn vusatica_settings_size() -> usize;
+    fn vusatica_backing_size() -> usize;
     fn vusatica_params_make(params: *mut Params, settings: *const Settings) -> c_int;
     fn vusatica_init(s: *mut Record, channels: usize, auto_passthru: c_int, memory: *const u32, samples: usize) -> c_int;
     fn vusatica_start(s: *mut Record, position: f32, note: u8, channel: u8, velocity: f32, params: *const Params) -> c_int;
@@ -116,6 +118,21 @@ extern "C" {
     fn vusatica_play_song(s: *mut Record, list: *const u64, entries: usize, next: *mut usize, frame: u64, params: *const Params) -> usize;
     fn vusatica_merge_song(file: *const u8, length: usize, spare: *mut u8, out: *mut u8, room: usize, written: *mut usize) -> c_int;
     fn vusatica_turn_wave(file: *const u8, length: usize, out: *mut u8, room: usize, written: *mut usize) -> c_int;
+    fn vusatica_backing_init(k: *mut u64);
+    fn vusatica_backed_start(s: *mut Record, k: *mut u64, position: f32, note: u8, channel: u8, velocity: f32, params: *const Params) -> c_int;
+    fn vusatica_backed_stop(s: *mut Record, k: *mut u64, note: u8, channel: u8, params: *const Params) -> c_int;
+    fn vusatica_backed_note_speed(s: *mut Record, k: *mut u64, note: u8, channel: u8, speed: f32) -> c_int;
+    fn vusatica_backed_record(s: *mut Record, k: *mut u64) -> c_int;
+    fn vusatica_backed_record_stop(s: *mut Record, k: *mut u64) -> c_int;
+    fn vusatica_backed_reset(s: *mut Record, k: *mut u64) -> c_int;
+    fn vusatica_backed_interpolate(s: *mut Record, k: *mut u64, on: c_int) -> c_int;
+    fn vusatica_backed_frame(s: *mut Record, k: *mut u64, frame: *mut f32, entries: usize, params: *const Params, memory: *mut u32, samples: usize, moved: *mut c_int) -> c_int;
+    fn vusatica_backed_frames(s: *mut Record, k: *mut u64, run: *mut f32, entries: usize, params: *const Params, memory: *mut u32, samples: usize, frames: *mut usize) -> c_int;
+    fn vusatica_backed_sample(s: *mut Record, k: *mut u64, channel: usize, input: f32, params: *const Params, memory: *mut u32, samples: usize, output: *mut f32, moved: *mut c_int) -> c_int;
+    fn vusatica_backed_choose(s: *mut Record, k: *mut u64, phrase: usize) -> c_int;
+    fn vusatica_backed_delete(s: *mut Record, k: *mut u64, phrase: usize) -> c_int;
+    fn vusatica_backed_gather(s: *mut Record, k: *mut u64, memory: *mut u32, samples: usize) -> c_int;
+    fn vusatica_backed_read_wave(s: *mut Record, k: *mut u64, file: *const u8, length: usize, memory: *mut u32, samples: usize, rate: *mut u32) -> c_int;
 }
 
 impl Params {
@@ -173,6 +190,12 @@ impl Song {
     /// The frame of the next start or stop: where a block is to be cut.
     pub fn next_frame(&self) -> Option<u64> {
         self.list.get(2 * self.next).copied()
+    }
+
+    /// Velocity, 0 for a stop, note and channel of the next, three bytes of its second word.
+    fn key(&self) -> [u8; 3] {
+        let word = self.list[2 * self.next + 1];
+        [(word >> 16) as u8, (word >> 8) as u8, word as u8]
     }
 }
 
@@ -315,5 +338,132 @@ impl Sampler {
     /// Makes the calls of the song that are due at this frame, and says how many were refused.
     pub fn play_song(&mut self, song: &mut Song, frame: u64, params: &Params) -> usize {
         unsafe { vusatica_play_song(&mut *self.record, song.list.as_ptr(), song.list.len() / 2, &mut song.next, frame, params) }
+    }
+}
+
+/// A sampler that the plain engine plays, with the engine's backing: the same answers and the same sound, sooner for loops
+/// at speed 1 of whole lengths. Questions are the sampler's own, and `clone` takes all of it.
+#[derive(Clone)]
+pub struct Backed {
+    sampler: Sampler,
+    backing: Vec<u64>,
+}
+
+impl std::ops::Deref for Backed {
+    type Target = Sampler;
+
+    fn deref(&self) -> &Sampler {
+        &self.sampler
+    }
+}
+
+impl Backed {
+    /// The backing has as many bytes as the library says.
+    pub fn new(sampler: Sampler) -> Backed {
+        let mut backing = vec![0; unsafe { vusatica_backing_size() } / 8];
+        unsafe { vusatica_backing_init(backing.as_mut_ptr()) };
+        Backed { sampler, backing }
+    }
+
+    /// The sampler as it stands, for the first engine.
+    pub fn into_sampler(self) -> Sampler {
+        self.sampler
+    }
+
+    /// The two records.
+    fn both(&mut self) -> (*mut Record, *mut u64) {
+        (&mut *self.sampler.record, self.backing.as_mut_ptr())
+    }
+
+    fn memory(&mut self) -> (*mut u32, usize) {
+        (self.sampler.memory.as_mut_ptr(), self.sampler.memory.len())
+    }
+
+    pub fn start(&mut self, position: f32, note: u8, channel: u8, velocity: f32, params: &Params) -> Result<(), Refused> {
+        let (s, k) = self.both();
+        done(unsafe { vusatica_backed_start(s, k, position, note, channel, velocity, params) })
+    }
+
+    pub fn stop(&mut self, note: u8, channel: u8, params: &Params) -> Result<(), Refused> {
+        let (s, k) = self.both();
+        done(unsafe { vusatica_backed_stop(s, k, note, channel, params) })
+    }
+
+    pub fn note_speed(&mut self, note: u8, channel: u8, speed: f32) -> Result<(), Refused> {
+        let (s, k) = self.both();
+        done(unsafe { vusatica_backed_note_speed(s, k, note, channel, speed) })
+    }
+
+    pub fn record(&mut self) -> Result<(), Refused> {
+        let (s, k) = self.both();
+        done(unsafe { vusatica_backed_record(s, k) })
+    }
+
+    pub fn record_stop(&mut self) -> Result<(), Refused> {
+        let (s, k) = self.both();
+        done(unsafe { vusatica_backed_record_stop(s, k) })
+    }
+
+    pub fn reset(&mut self) -> Result<(), Refused> {
+        let (s, k) = self.both();
+        done(unsafe { vusatica_backed_reset(s, k) })
+    }
+
+    pub fn interpolate(&mut self, on: bool) -> Result<(), Refused> {
+        let (s, k) = self.both();
+        done(unsafe { vusatica_backed_interpolate(s, k, on as c_int) })
+    }
+
+    pub fn frame(&mut self, frame: &mut [f32], params: &Params) -> Result<(), Refused> {
+        let ((s, k), (memory, samples)) = (self.both(), self.memory());
+        done(unsafe { vusatica_backed_frame(s, k, frame.as_mut_ptr(), frame.len(), params, memory, samples, null_mut()) })
+    }
+
+    /// How many frames are done, which stand whatever the answer is, and the answer.
+    pub fn frames(&mut self, run: &mut [f32], params: &Params) -> (usize, Result<(), Refused>) {
+        let ((s, k), (memory, samples)) = (self.both(), self.memory());
+        let mut frames = 0;
+        let number = unsafe { vusatica_backed_frames(s, k, run.as_mut_ptr(), run.len(), params, memory, samples, &mut frames) };
+        (frames, done(number))
+    }
+
+    pub fn sample(&mut self, channel: usize, input: f32, params: &Params) -> Result<f32, Refused> {
+        let ((s, k), (memory, samples)) = (self.both(), self.memory());
+        let mut output = 0.0;
+        done(unsafe { vusatica_backed_sample(s, k, channel, input, params, memory, samples, &mut output, null_mut()) }).map(|_| output)
+    }
+
+    pub fn choose(&mut self, phrase: usize) -> Result<(), Refused> {
+        let (s, k) = self.both();
+        done(unsafe { vusatica_backed_choose(s, k, phrase) })
+    }
+
+    pub fn delete(&mut self, phrase: usize) -> Result<(), Refused> {
+        let (s, k) = self.both();
+        done(unsafe { vusatica_backed_delete(s, k, phrase) })
+    }
+
+    pub fn gather(&mut self) -> Result<(), Refused> {
+        let ((s, k), (memory, samples)) = (self.both(), self.memory());
+        done(unsafe { vusatica_backed_gather(s, k, memory, samples) })
+    }
+
+    /// The file's rate.
+    pub fn read_wave(&mut self, file: &[u8]) -> Result<u32, Refused> {
+        let ((s, k), (memory, samples)) = (self.both(), self.memory());
+        let mut rate = 0;
+        done(unsafe { vusatica_backed_read_wave(s, k, file.as_ptr(), file.len(), memory, samples, &mut rate) }).map(|_| rate)
+    }
+
+    /// Makes the calls of the song that are due at this frame, and says how many were refused.
+    pub fn play_song(&mut self, song: &mut Song, frame: u64, params: &Params) -> usize {
+        let mut refused = 0;
+        while matches!(song.next_frame(), Some(due) if due <= frame) {
+            let [velocity, note, channel] = song.key();
+            let made = if velocity > 0 { self.start(0.0, note, channel, velocity as f32 / 127.0, params) } else { self.stop(note, channel, params) };
+            refused += made.is_err() as usize;
+            song.next += 1;
+        }
+        refused
     }
 }

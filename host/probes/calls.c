@@ -1,5 +1,6 @@
-/* Every call of vusatica.h, each number that it can be brought to answer (all but 6, which takes 2^48 frames), and
- * that a refused call leaves record, memory and lists as they were. Its last line is `calls: N tries, M failed`. */
+/* Every call of vusatica.h but the plain engine's (backed.c), each number that it can be brought to answer (all but 6,
+ * which takes 2^48 frames), and that a refused call leaves record, memory and lists as they were. Its last line is
+ * `calls: N tries, M failed`. */
 #include <stdio.h>
 #include <string.h>
 #include "vusatica.h"
@@ -93,6 +94,7 @@ static void set_ups(void) {
     IS(sizeof s, vusatica_sampler_size());
     IS(sizeof params, vusatica_params_size());
     IS(sizeof(vusatica_settings), vusatica_settings_size());
+    IS(sizeof(vusatica_backing), vusatica_backing_size());
     memset(&s, 0, sizeof s);
     IS(9, vusatica_record(&s));
     IS(9, vusatica_init(&s, 0, 0, memory, SAMPLES));

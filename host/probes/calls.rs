@@ -2,7 +2,7 @@
 //! What the calls do is tried in C (calls.c). It prints nothing, and panics where something isn't as expected.
 #[path = "../examples/vusatica.rs"]
 mod vusatica;
-use vusatica::{merge_song, turn_wave, LengthKind, LoopMode, NoteOff, Params, Refused, Sampler, Settings, Song, Voice};
+use vusatica::{merge_song, turn_wave, Backed, LengthKind, LoopMode, NoteOff, Params, Refused, Sampler, Settings, Song, Voice};
 
 const RAMP: [f32; 8] = [0.125, 0.25, 0.375, 0.5, 0.625, 0.75, 0.875, 1.0];
 
@@ -87,6 +87,63 @@ fn songs(params: &Params) {
     assert_eq!((song.next_frame(), heard(&mut s, params)), (None, 0.0));
 }
 
+/// The plain engine's calls, each beside the first engine's.
+fn backed(params: &Params) {
+    let mut s = recorded(params);
+    let mut b = Backed::new(Sampler::new(1, false, 64).unwrap());
+    b.record().unwrap();
+    assert_eq!(b.frames(&mut RAMP.clone(), params), (8, Ok(())));
+    b.record_stop().unwrap();
+    assert_eq!((b.data_length(0), b.is_recording(0)), (Ok(8), Ok(false)));
+    assert_eq!(b.start(0.5, 60, 16, 1.0, params), Err(Refused(2)));
+    b.start(0.5, 60, 3, 0.5, params).unwrap();
+    s.start(0.5, 60, 3, 0.5, params).unwrap();
+    let mut alike = |b: &mut Backed| {
+        let (mut run, mut frame, mut expected) = ([0.0; 13], [0.0], [0.0; 15]);
+        assert_eq!((b.frames(&mut run, params), b.frame(&mut frame, params)), ((13, Ok(())), Ok(())));
+        let last = b.sample(0, 0.0, params).unwrap();
+        assert_eq!(s.frames(&mut expected, params), (15, Ok(())));
+        assert_eq!([&run[..], &frame, &[last]].concat(), expected);
+        expected[0]
+    };
+    assert_eq!(alike(&mut b), 0.625 * 0.5);
+    assert_eq!(alike(&mut b.clone()), 0.5 * 0.5);
+    b.note_speed(60, 3, 0.0).unwrap();
+    let (mut one, mut two) = ([0.0], [0.0]);
+    b.frame(&mut one, params).unwrap();
+    b.frame(&mut two, params).unwrap();
+    assert_eq!(one, two);
+    b.stop(60, 3, params).unwrap();
+    b.frame(&mut one, params).unwrap();
+    assert_eq!(one, [0.0]);
+    b.interpolate(true).unwrap();
+    let mut file = [0; 256];
+    let length = b.write_wave(48000, &mut file).unwrap();
+    b.choose(1).unwrap();
+    assert_eq!((b.data_length(0), b.read_wave(&file[..length]), b.data_length(0)), (Ok(0), Ok(48000), Ok(8)));
+    assert_eq!(b.delete(8), Err(Refused(19)));
+    b.delete(0).unwrap();
+    b.gather().unwrap();
+    let mut first = b.clone().into_sampler();
+    first.start(0.0, 60, 0, 1.0, params).unwrap();
+    assert_eq!(heard(&mut first, params), 0.125);
+    b.reset().unwrap();
+    assert_eq!(b.data_length(0), Ok(0));
+}
+
+fn backed_songs(params: &Params) {
+    let file = b"MThd\0\0\0\x06\0\0\0\x01\0\x60MTrk\0\0\0\x0b\0\x90\x3c\x40\x60\x3c\0\0\xff\x2f\0";
+    let (mut s, mut song, mut again) = (recorded(params), Song::read(file, 44100).unwrap(), Song::read(file, 44100).unwrap());
+    let mut b = Backed::new(s.clone());
+    for frame in [0, 1, 22049, 22050] {
+        assert_eq!((s.play_song(&mut song, frame, params), b.play_song(&mut again, frame, params)), (0, 0));
+        assert_eq!(song.next_frame(), again.next_frame());
+        let mut output = [0.0];
+        b.frame(&mut output, params).unwrap();
+        assert_eq!(heard(&mut s, params).to_bits(), output[0].to_bits());
+    }
+}
+
 fn turned() {
     let song = b"MThd\0\0\0\x06\0\x01\0\x02\0\x60MTrk\0\0\0\x0b\0\x90\x3c\x7f\x60\x3c\0\0\xff\x2f\0MTrk\0\0\0\x08\x30\x91\x40\x7f\0\xff\x2f\0";
     assert_eq!(Song::read(song, 44100).err(), Some(Refused(13)));
@@ -108,4 +165,6 @@ fn main() {
     recordings(&params);
     songs(&params);
     turned();
+    backed(&params);
+    backed_songs(&params);
 }

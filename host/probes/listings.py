@@ -1,6 +1,6 @@
 #!/usr/bin/env python3
 """listings.py SEED COUNT FOLDER: writes event listings (docs/LISTING.md), FOLDER/1.bin and so on: calls of each kind, some of them refused, with every
-field of the parameters at values that are heard apart. One in ten is damaged."""
+field of the parameters at values that are heard apart. Each sixth is of plain voices for the most part, as a backing track has them. One in ten is damaged."""
 import random
 import struct
 import sys
@@ -85,7 +85,33 @@ class Listing:
         return self.bytes
 
 
+class Backing(Listing):
+    """Loops and single plays at speed 1, of whole lengths from whole starts, in longer rows of frames; and what ends that, now and then."""
+
+    def parameters(self):
+        r = self.r
+        if r.random() < 0.2:
+            return super().parameters()
+        kind = r.choice([1, 4])
+        length = r.randrange(1, 60) if kind == 1 else r.choice([1.0, 1.0, 0.5])
+        self.record(0, struct.pack('>II', *[r.choice([0, 0, 10, 100]) for _ in range(2)]) + bytes([r.randrange(2), r.choice([0, 1, 1]), kind])
+                    + real(length) + real(1.0) + real(1.0) + bytes([r.randrange(3)]) + real(r.choice([1.0, 0.5])) + real(44100.0) + real(120.0)
+                    + struct.pack('>II', 4, 4))
+
+    def call(self):
+        r = self.r
+        k = r.random()
+        if k < 0.2:
+            super().call()
+        elif k < 0.5:
+            self.record(1, bytes([r.randrange(6), 0]) + real(r.choice([0.0, 0.0, 0.5, 1.0])) + real(r.choice([1.0, 0.5])))
+        elif k < 0.6:
+            self.record(2, bytes([r.randrange(6), 0]))
+        else:
+            self.frames(r.choice([1, 20, 50]))
+
+
 seed, count, folder = int(sys.argv[1]), int(sys.argv[2]), sys.argv[3]
 for i in range(1, count + 1):
     with open('%s/%d.bin' % (folder, i), 'wb') as out:
-        out.write(Listing(random.Random(seed * 1000003 + i)).made())
+        out.write((Listing if i % 6 else Backing)(random.Random(seed * 1000003 + i)).made())

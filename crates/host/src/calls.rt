@@ -39,7 +39,7 @@ use sampler::Ran;
 use sampler::Sampler;
 
 // Each key, and each call that names a phrase, is the change that a function makes of the host's numbers.
-fn start_of(position: f32, note: u8, channel: u8, velocity: f32, params: Params) -> Change
+pub fn start_of(position: f32, note: u8, channel: u8, velocity: f32, params: Params) -> Change
     ensures { λ r. ⌜ r ≡ Change.Start params position (noteOf note channel) velocity ⌝ }
 {
     Change::Start {
@@ -50,7 +50,7 @@ fn start_of(position: f32, note: u8, channel: u8, velocity: f32, params: Params)
     }
 }
 
-fn stop_of(note: u8, channel: u8, params: Params) -> Change
+pub fn stop_of(note: u8, channel: u8, params: Params) -> Change
     ensures { λ r. ⌜ r ≡ Change.Stop params (noteOf note channel) ⌝ }
 {
     Change::Stop {
@@ -59,7 +59,7 @@ fn stop_of(note: u8, channel: u8, params: Params) -> Change
     }
 }
 
-fn speed_of(note: u8, channel: u8, speed: f32) -> Change
+pub fn speed_of(note: u8, channel: u8, speed: f32) -> Change
     ensures { λ r. ⌜ r ≡ Change.Speed (noteOf note channel) speed ⌝ }
 {
     Change::Speed {
@@ -75,13 +75,13 @@ fn phrase_by(phrase: usize) -> u8
     if phrase < 256 { phrase as u8 } else { 255 }
 }
 
-fn choice_of(phrase: usize) -> Change
+pub fn choice_of(phrase: usize) -> Change
     ensures { λ r. ⌜ r ≡ Change.Head (HeadChange.Choose (phraseBy phrase)) ⌝ }
 {
     Change::Head(HeadChange::Choose(phrase_by(phrase)))
 }
 
-fn deletion_of(phrase: usize) -> Change
+pub fn deletion_of(phrase: usize) -> Change
     ensures { λ r. ⌜ r ≡ Change.Head (HeadChange.Delete (phraseBy phrase)) ⌝ }
 {
     Change::Head(HeadChange::Delete(phrase_by(phrase)))

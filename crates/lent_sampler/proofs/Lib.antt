@@ -7,7 +7,9 @@ pub mod Numbering
 pub mod Turned
 pub mod RunTurns
 pub mod RunTurned
+pub mod Asked
 pub mod Stepping
+pub mod Loops
 pub mod Changing
 pub mod Seeing
 pub mod Sight

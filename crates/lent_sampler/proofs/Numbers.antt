@@ -1,29 +1,30 @@
 -- What is asked of the two channels is what the rows of a call ask of the record. Assumes nothing.
 use mathlib.Core.Path.{_≡_, refl, sym, ap, _∙_}
-use mathlib.Core.Bool.{Bool, true, false, _&&_, _||_, cond}
+use mathlib.Core.Bool.{Bool, true, false, not, _&&_, _||_, cond}
 use mathlib.Core.List.{List, [], _∷_, map}
 use Prim.Native.Nat.{ℕ, zero, suc, _*_, _/_, _-_, _<_, _≤_, _^_, min, max, zero-le}
 use native.Mathlib.Nat.{lt-of-le-of-lt, le-trans, le-of-eq, mul-le-mul-right, div-mul-le-self, min-le-left, zero-mul}
 use native.Mathlib.Omega.{arith}
-use lib.Dec.{leb, eqb}
-use lib.ListN.{length, take}
+use lib.Dec.{leb, ltb, eqb}
+use lib.ListN.{length, take, getD}
 use lib.Seq.{take-nil}
 use Rattle.walks.proofs.Tests.{and-true, or-false}
 use Rattle.walks.specs.Walks.{any, every, fold}
 use Rattle.common_types.specs.declared.Params.{Params}
+use Rattle.common_types.specs.Settings.{beyondLimits}
 use Rattle.channel.specs.declared.Change.{Change}
 use Rattle.channel.specs.declared.Channel.{Channel}
 use Rattle.channel.specs.Tables.{asksOf}
-use Rattle.channel.specs.Channels.{againstOf, goodChannel}
-use Rattle.channel.specs.Heads.{lastTime}
+use Rattle.channel.specs.Channels.{channelOf, againstOf, goodChannel}
+use Rattle.channel.specs.Heads.{headOf, lastTime}
 use Rattle.sampler.specs.declared.Sampler.{Sampler}
 use Rattle.sampler.specs.declared.RunAsked.{RunAsked}
 use Rattle.sampler.specs.declared.Ran.{Ran}
-use Rattle.sampler.specs.Refusals.{channelAt, goodSizes, goodSampler, goodWith, againstAny, atEnd, changeRows, changeNumber, frameRows, frameNumber, latestOf, roomOf, runRows, runDone}
+use Rattle.sampler.specs.Refusals.{row, channelAt, goodSizes, goodSampler, goodWith, againstAny, atEnd, changeRows, changeNumber, sampleNumber, frameRows, frameNumber, latestOf, roomOf, runRows, runDone}
 use Rattle.sampler.specs.Samplers.{runAnswer}
 use Rattle.sampler.proofs.RunRows.{run-asked}
 use Rattle.lent_sampler.specs.declared.Readings.{Readings}
-use Rattle.lent_sampler.specs.Numbers.{allOf, anyOf, readingsIn, goodBy, goodWithBy, askedBy, frameAskedBy, latestTime, roomLeft, runAskedBy}
+use Rattle.lent_sampler.specs.Numbers.{allOf, anyOf, readingsIn, goodBy, goodWithBy, askedBy, timeIn, sampleRows, frameAskedBy, latestTime, roomLeft, runAskedBy}
 
 -- ---- of two, the first n
 pub all-first : (a b : Bool) → a ≡ allOf 1 (a ∷ b ∷ [])
@@ -61,6 +62,12 @@ latest-later n a b h k less = let e : b ≡ max (max 0 a) b = omega (arith, less
 
 pub latest-former : (n a b : ℕ) → (n ≡ 0 → ⊥) → (n ≡ 1 → ⊥) → b ≤ a → a ≡ latestTime n (a ∷ b ∷ [])
 latest-former n a b h k least = let e : a ≡ max (max 0 a) b = omega (arith, least) in e ∙ latest-both n a b h k
+
+-- a channel that isn't one of the two
+pub time-else : (a b n : ℕ) → (n ≡ 0 → ⊥) → (n ≡ 1 → ⊥) → 0 ≡ getD (a ∷ b ∷ []) n 0
+time-else a b zero h k = absurd (h refl)
+time-else a b (suc zero) h k = absurd (k refl)
+time-else a b (suc (suc n)) h k = refl
 
 -- ---- the entries of the frames that are done are among those of the run
 pub played-fit : (a : RunAsked) (n : ℕ) (p : Params) (ran : Ran) → ran ≡ runDone a n p → n < 2 ^ 64 → ran .frames * a .count < 2 ^ 64
@@ -131,6 +138,16 @@ module _ (s : Sampler) (two : length (s .channels) ≡ 2) where
       let blocked = any-is (λ (c : Channel). againstOf (s .capacity) (asksOf x) c .blocked) (s .count) in
       let short = any-is (λ (c : Channel). againstOf (s .capacity) (asksOf x) c .short) (s .count) in
       λ i. changeRows (record { good = good-is i; against = record { blocked = blocked i; short = short i } }) x
+
+  time-is : (j : ℕ) → timeIn t j ≡ channelAt s j .head .now
+  unfolding channelOf headOf
+  time-is zero = refl
+  time-is (suc zero) = refl
+  time-is (suc (suc j)) = ap (λ (l : List Channel). getD l (suc (suc j)) (channelOf (record { «auto_passthru» = false })) .head .now) are-two
+
+  pub sample-is : (j : ℕ) (p : Params) (size : ℕ) → sampleRows t j p size ≡ sampleNumber s j p size
+  unfolding sampleNumber
+  sample-is j p size = λ i. row (not (with-is size i)) 9 (row (not (ltb j (s .count))) 1 (row (beyondLimits p) 4 (row (leb lastTime (time-is j i)) 6 0)))
 
   pub frame-is : (n : ℕ) (p : Params) (size : ℕ) → frameRows (frameAskedBy t n size) n p ≡ frameNumber s n p size
   unfolding frameNumber

@@ -56,7 +56,7 @@ module _ (s : Sampler) (l : List Float) (p : Params) (m : List ℕ) where
   }
 
   -- a run of which a frame is done has a good record
-  done-fitting : 0 < frames → Fitting s (length m)
+  pub done-fitting : 0 < frames → Fitting s (length m)
   unfolding runAnswer doneOf
   done-fitting h = go (working (runNumber s (length l) p (length m))) refl h
     where
@@ -64,7 +64,7 @@ module _ (s : Sampler) (l : List Float) (p : Params) (m : List ℕ) where
       go true e less = fitting s (length m) (run-begins s (length l) p (length m) e .good)
       go false e less = absurd (omega (arith, less))
 
-  inside : steps ≤ length l
+  pub inside : steps ≤ length l
   unfolding runAnswer
   inside = done-turns s (length l) p (length m) .entries
 

@@ -1,11 +1,13 @@
 -- What the rows of a call ask of a record, from what is read of it and of its two channels. Definitions only. Assumes
 -- nothing.
 use Prim.Native.Nat.{ℕ, _*_, _%_, _-_, max}
-use mathlib.Core.Bool.{Bool, _&&_, cond}
+use mathlib.Core.Bool.{Bool, not, _&&_, cond}
 use mathlib.Core.List.{List, [], _∷_}
-use lib.Dec.{leb, eqb}
-use lib.ListN.{take}
+use lib.Dec.{leb, ltb, eqb}
+use lib.ListN.{take, getD}
 use Rattle.walks.specs.Walks.{any, every, fold}
+use Rattle.common_types.specs.declared.Params.{Params}
+use Rattle.common_types.specs.Settings.{beyondLimits}
 use Rattle.channel.specs.Heads.{lastTime}
 use Rattle.channel.specs.Channels.{goodChannel}
 use Rattle.sampler.specs.declared.Sampler.{Sampler}
@@ -13,7 +15,7 @@ use Rattle.sampler.specs.declared.Asked.{Asked}
 use Rattle.sampler.specs.declared.FrameAsked.{FrameAsked}
 use Rattle.sampler.specs.declared.RunAsked.{RunAsked}
 use Rattle.sampler.specs.declared.Ran.{Ran}
-use Rattle.sampler.specs.Refusals.{channelAt, goodSizes}
+use Rattle.sampler.specs.Refusals.{row, channelAt, goodSizes}
 use Rattle.channel.specs.declared.Change.{Change}
 use Rattle.channel.specs.declared.Against.{Against}
 use Rattle.channel.specs.declared.Head.{Head}
@@ -81,6 +83,17 @@ askedBy good count first second = record {
 
 abbrev pub askingOf : Change → ℕ → Asking
 askingOf x capacity = record { ask = asksOf x; capacity = capacity }
+
+-- ---- a sample of one channel
+
+-- the clock of a channel, 0 of one that isn't there
+abbrev pub timeIn : Readings → ℕ → ℕ
+timeIn t j = getD (t .time ∷ t .other ∷ []) j 0
+
+-- `sampleNumber`
+abbrev pub sampleRows : Readings → ℕ → Params → ℕ → ℕ
+sampleRows t j p size = row (not (goodWithBy t size)) 9
+    (row (not (ltb j (t .count))) 1 (row (beyondLimits p) 4 (row (leb lastTime (timeIn t j)) 6 0)))
 
 -- ---- a frame
 

@@ -23,7 +23,7 @@ ghost use Rattle.sampler.specs.Samplers.{
   runAnswer,
 };
 ghost use Rattle.sampler.specs.Samplers.{processSampleOf as sampleOf};
-ghost use Rattle.sampler.specs.Refusals.{changeRows, changeNumber, frameRows, frameNumber, runDone};
+ghost use Rattle.sampler.specs.Refusals.{changeRows, changeNumber, sampleNumber, frameRows, frameNumber, runDone};
 ghost use Rattle.channel.specs.Channels.{processSampleOf, memoryOf};
 ghost use Prim.Native.Nat.{_+_, _*_, _-_, _%_, _^_, _≤_, _<_};
 ghost use mathlib.Core.Bool.{cond};
@@ -55,6 +55,8 @@ ghost use Rattle.lent_sampler.specs.Numbers.{
   goodWithBy,
   askedBy,
   askingOf,
+  timeIn,
+  sampleRows,
   frameAskedBy,
   framing,
   latestTime,
@@ -224,7 +226,7 @@ pub fn change(s: &mut Sampler, change: Change) -> u8
     number
 }
 
-fn start_of(position: f32, note: Note, velocity: f32, params: Params) -> Change
+pub fn start_of(position: f32, note: Note, velocity: f32, params: Params) -> Change
     ensures { λ r. ⌜ r ≡ Change.Start params position note velocity ⌝ }
 {
     Change::Start {
@@ -235,7 +237,7 @@ fn start_of(position: f32, note: Note, velocity: f32, params: Params) -> Change
     }
 }
 
-fn stop_of(note: Note, params: Params) -> Change
+pub fn stop_of(note: Note, params: Params) -> Change
     ensures { λ r. ⌜ r ≡ Change.Stop params note ⌝ }
 {
     Change::Stop {
@@ -244,43 +246,43 @@ fn stop_of(note: Note, params: Params) -> Change
     }
 }
 
-fn speed_of(note: Note, speed: f32) -> Change
+pub fn speed_of(note: Note, speed: f32) -> Change
     ensures { λ r. ⌜ r ≡ Change.Speed note speed ⌝ }
 {
     Change::Speed { note, speed }
 }
 
-fn recording_started() -> Change
+pub fn recording_started() -> Change
     ensures { λ r. ⌜ r ≡ Change.Head HeadChange.StartRecording ⌝ }
 {
     Change::Head(HeadChange::StartRecording)
 }
 
-fn recording_stopped() -> Change
+pub fn recording_stopped() -> Change
     ensures { λ r. ⌜ r ≡ Change.Head HeadChange.StopRecording ⌝ }
 {
     Change::Head(HeadChange::StopRecording)
 }
 
-fn interpolation_set(on: bool) -> Change
+pub fn interpolation_set(on: bool) -> Change
     ensures { λ r. ⌜ r ≡ Change.Head (HeadChange.Interpolate on) ⌝ }
 {
     Change::Head(HeadChange::Interpolate(on))
 }
 
-fn phrase_chosen(phrase: u8) -> Change
+pub fn phrase_chosen(phrase: u8) -> Change
     ensures { λ r. ⌜ r ≡ Change.Head (HeadChange.Choose phrase) ⌝ }
 {
     Change::Head(HeadChange::Choose(phrase))
 }
 
-fn phrase_deleted(phrase: u8) -> Change
+pub fn phrase_deleted(phrase: u8) -> Change
     ensures { λ r. ⌜ r ≡ Change.Head (HeadChange.Delete phrase) ⌝ }
 {
     Change::Head(HeadChange::Delete(phrase))
 }
 
-fn all_reset() -> Change
+pub fn all_reset() -> Change
     ensures { λ r. ⌜ r ≡ Change.Reset ⌝ }
 {
     Change::Reset
@@ -543,10 +545,42 @@ fn good_with(t: Readings, size: usize) -> bool
     }
 }
 
+fn time_in(t: Readings, channel: usize) -> usize
+    ensures { λ r. ⌜ r ≡ timeIn t channel ⌝ }
+{
+    if channel == 0 {
+        return t.time;
+    }
+    if channel == 1 { t.other } else { 0 }
+}
+
+fn sample_rows(t: Readings, channel: usize, params: Params, size: usize) -> u8
+    ensures { λ r. ⌜ r ≡ sampleRows t channel params size ⌝ }
+{
+    let ended = channel::LAST_TIME <= time_in(t, channel);
+    let end = sampler::first_of(ended, 6, 0);
+    let beyond = sampler::first_of(params.beyond_limits(), 4, end);
+    let absent = sampler::first_of(!(channel < t.count), 1, beyond);
+    sampler::first_of(!good_with(t, size), 9, absent)
+}
+
+// The number of a sample of that channel, with no channel copied.
+pub fn sample_asked(s: &Sampler, channel: usize, params: Params, size: usize) -> u8
+    ensures { λ r. ⌜ r ≡ sampleNumber (now (s .entry)) channel params size ⌝ }
+{
+    let capacity = s.capacity;
+    let first = lent_channel::good(&s.channels[0], capacity);
+    let second = lent_channel::good(&s.channels[1], capacity);
+    let time = s.channels[0].head.now;
+    let other = s.channels[1].head.now;
+    let t = read_of(s.count, capacity, first, second, time, other);
+    sample_rows(t, channel, params, size)
+}
+
 // What is asked before a frame is played: how many entries are, and its number.
-struct Framing {
-    entries: usize,
-    number: u8,
+pub struct Framing {
+    pub entries: usize,
+    pub number: u8,
 }
 
 fn frame_of(t: Readings, entries: usize, params: Params, size: usize) -> Framing
@@ -570,7 +604,7 @@ fn frame_of(t: Readings, entries: usize, params: Params, size: usize) -> Framing
 }
 
 // What is asked of a frame, with no channel copied.
-fn frame_asked(s: &Sampler, entries: usize, params: Params, size: usize) -> Framing
+pub fn frame_asked(s: &Sampler, entries: usize, params: Params, size: usize) -> Framing
     ensures { λ r. ⌜ r ≡ framing (frameNumber (now (s .entry)) entries params size) entries ⌝ }
 {
     let capacity = s.capacity;
@@ -607,9 +641,9 @@ fn room(t: Readings) -> usize
 }
 
 // What is asked before a run is played: how many entries are, and what it answers.
-struct Running {
-    entries: usize,
-    ran: Ran,
+pub struct Running {
+    pub entries: usize,
+    pub ran: Ran,
 }
 
 fn run_of(t: Readings, entries: usize, params: Params, size: usize) -> Running
@@ -630,7 +664,7 @@ fn run_of(t: Readings, entries: usize, params: Params, size: usize) -> Running
 }
 
 // What is asked of a run, with no channel copied: record, memory and parameters are judged once.
-fn run_asked(s: &Sampler, entries: usize, params: Params, size: usize) -> Running
+pub fn run_asked(s: &Sampler, entries: usize, params: Params, size: usize) -> Running
     ensures { λ r. ⌜ r ≡ running (now (s .entry) .count) (runAnswer (now (s .entry)) entries params size) ⌝ }
 {
     let capacity = s.capacity;
@@ -644,19 +678,19 @@ fn run_asked(s: &Sampler, entries: usize, params: Params, size: usize) -> Runnin
 
 // Whose entry i is: of a frame channel i's, of a run that of its place in its frame. Both calls have one shape, and so
 // one proof; the first doesn't need the count.
-fn frame_channel(i: usize, _count: usize) -> usize
+pub fn frame_channel(i: usize, _count: usize) -> usize
     ensures { λ r. ⌜ r ≡ i ⌝ }
 {
     i
 }
 
-fn run_channel(i: usize, count: usize) -> usize
+pub fn run_channel(i: usize, count: usize) -> usize
     ensures { λ r. ⌜ r ≡ runSeat i count ⌝ }
 {
     if count == 1 { 0 } else { i % 2 }
 }
 
-fn at_volume(params: Params, heard: Heard) -> Heard
+pub fn at_volume(params: Params, heard: Heard) -> Heard
     ensures { λ r. ⌜ r ≡ atVolume params heard ⌝ }
 {
     Heard {
@@ -697,25 +731,25 @@ pub struct FrameDone {
 
 // The voices that moved up so far, with those of one entry more: at most 62, far from where a byte wraps. A run answers
 // none of them; both calls have one shape, and so one proof.
-fn frame_moved(moved: u8, heard: Heard) -> u8
+pub fn frame_moved(moved: u8, heard: Heard) -> u8
     ensures { λ r. ⌜ r ≡ (moved + heard .moved) % 2 ^ 8 ⌝ }
 {
     std::num::wrapping_add_u8(moved, heard.moved)
 }
 
-fn run_moved(moved: u8, _heard: Heard) -> u8
+pub fn run_moved(moved: u8, _heard: Heard) -> u8
     ensures { λ r. ⌜ r ≡ moved ⌝ }
 {
     moved
 }
 
-fn frame_done(number: u8, moved: u8) -> FrameDone
+pub fn frame_done(number: u8, moved: u8) -> FrameDone
     ensures { λ r. ⌜ r ≡ record { number = number; moved = moved } ⌝ }
 {
     FrameDone { number, moved }
 }
 
-fn run_done(ran: Ran, _moved: u8) -> Ran
+pub fn run_done(ran: Ran, _moved: u8) -> Ran
     ensures { λ r. ⌜ r ≡ ran ⌝ }
 {
     ran

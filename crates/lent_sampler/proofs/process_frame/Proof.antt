@@ -1,27 +1,17 @@
--- `lent_sampler::process_frame` meets its contract: `Stepping.antt`'s walk, over `frame_asked`, `frame_channel`, `part_start`, `part_sample`, `frame_moved` and `frame_done`, by the laws of `Turned.antt`.
-use mathlib.Core.Path.{_≡_, refl}
-use Prim.Native.Nat.{_+_, _%_, _^_}
-use lib.ListN.{length}
+-- `lent_sampler::process_frame` meets its contract: `Stepping.antt`'s walk, over `frame_asked`, `frame_channel`, `part_start`, `part_sample`, `frame_moved` and `frame_done`, by the laws in `Loops.antt`.
 use contract.Running.{givenOf, tables, tablesOf}
 use mir.Syntax.{w8}
 use denote.Triple.Spec.{tripleOf}
 use denote.Triple.Table.{entered, cited}
-use Rattle.channel.specs.Channels.{processSampleOf, memoryOf}
-use Rattle.channel.proofs.Samples.{memory-kept}
-use Rattle.sampler.specs.Refusals.{frameNumber}
-use Rattle.sampler.specs.Samplers.{Frames, framedOf, frameMoved}
 use Rattle.sampler.proofs.part_start.Symbol as start-def
 use Rattle.sampler.proofs.part_start.Symbol.{name as #start}
 use Rattle.sampler.proofs.part_start.Met as start-thm
-use Rattle.lent_channel.specs.Turns.{heardOf}
 use Rattle.walks.proofs.Steps.Data.{word}
 use Rattle.lent_channel.proofs.Holding.{channel}
-use Rattle.lent_sampler.specs.Hearing.{atVolume}
-use Rattle.lent_sampler.specs.Numbers.{framing}
 use Rattle.lent_sampler.proofs.Lent.{sampler, params, sounded, frame-done, frame-asking}
 use Rattle.lent_sampler.proofs.Seats.{seats}
-use Rattle.lent_sampler.proofs.Turned.{Turned, turned-starts, turned-low, turned-on, turned-ends, turned-moved}
-use Rattle.lent_sampler.proofs.Stepping.{Turning, steps-run}
+use Rattle.lent_sampler.proofs.Stepping.{steps-run}
+use Rattle.lent_sampler.proofs.Loops.{frame-turning}
 use Rattle.lent_sampler.proofs.frame_asked as asked
 use Rattle.lent_sampler.proofs.frame_asked.Symbol as asked-def
 use Rattle.lent_sampler.proofs.frame_asked.Symbol.{name as #asked}
@@ -45,33 +35,12 @@ use Rattle.lent_sampler.proofs.process_frame as f
 use Rattle.lent_sampler.proofs.process_frame.Statement as stated
 use Rattle.lent_sampler.proofs.process_frame.Code as code
 
-abbrev turning : Turning sampler channel params (word w8) frame-done sounded frame-asking seats
-turning = record {
-  askedOf = λ s n p size. framing (frameNumber s n p size) n;
-  seatOf = λ i count. i;
-  sounds = λ p x c k. atVolume p (heardOf (processSampleOf p x c k));
-  plays = λ p x c k. processSampleOf p x c k .channel;
-  records = memoryOf;
-  gathers = λ u y. (u + y .moved) % 2 ^ 8;
-  finishes = λ number u. record { number = number; moved = u };
-  Leaves = λ s l p m r t io k. (r .number ≡ frameNumber s (length l) p (length m)) × Frames (framedOf s l p m) t io k × (r .moved ≡ frameMoved s l p m);
-  Turned = Turned;
-  starts = turned-starts;
-  two = λ s l p m i u t io k z. z .two;
-  entries = λ s l p m i u t io k z. z .entries;
-  size = λ s l p m i u t io k z. z .size;
-  ready = λ s l p m i u t io k z h. turned-low s l p m z h;
-  keeps = memory-kept;
-  on = λ s l p m i u t io k z h a e. turned-on s l p m z h a e;
-  ends = λ s l p m i u t io k z e. (refl, turned-ends s l p m z e, turned-moved s l p m z e);
-}
-
 pub process-frame-spec : {M : Type 1} → stated.statement M
 unfolding code.routine tablesOf
 process-frame-spec 𝓤 H 𝓜 𝓖 𝓡 =
     entered 𝓤 H (tripleOf 𝓤 H (𝓖 .A) f.signature (f.spec 𝓤 H (𝓖 .A) (𝓜 .mem) (𝓡 .run)))
     (tables 𝓤 H 𝓜 𝓡 code.env .C) (tables 𝓤 H 𝓜 𝓡 code.env .Λ) #f code.function (code.unfolded 𝓤 H 𝓜 𝓡)
-    (steps-run sampler channel params (word w8) frame-done sounded frame-asking seats #asked #seat #start #sample #gather #answer turning 𝓤 H (𝓖 .A) (givenOf 𝓤 H 𝓜 𝓖) (tablesOf 𝓤 H 𝓜 (tables 𝓤 H 𝓜 𝓡 code.env))
+    (steps-run sampler channel params (word w8) frame-done sounded frame-asking seats #asked #seat #start #sample #gather #answer frame-turning 𝓤 H (𝓖 .A) (givenOf 𝓤 H 𝓜 𝓖) (tablesOf 𝓤 H 𝓜 (tables 𝓤 H 𝓜 𝓡 code.env))
     (cited 𝓤 H (tripleOf 𝓤 H (𝓖 .A) asked.signature (asked.spec 𝓤 H (𝓖 .A) (𝓜 .mem) (𝓡 .run))) 𝓜 𝓡 code.env #asked asked-def.routine code.calls-lent-sampler·frame-asked (asked-thm.met 𝓤 H 𝓜 𝓖 𝓡))
     (record { met = cited 𝓤 H _ 𝓜 𝓡 code.env #seat seat-def.routine code.calls-lent-sampler·frame-channel (seat-thm.met 𝓤 H 𝓜 𝓖 𝓡) })
     (record { met = cited 𝓤 H _ 𝓜 𝓡 code.env #start start-def.routine code.calls-sampler·part-start (start-thm.met 𝓤 H 𝓜 𝓖 𝓡) })

@@ -1,23 +1,15 @@
--- `lent_sampler::process_frames` meets its contract: `Stepping.antt`'s walk, over `run_asked`, `run_channel`, `part_start`, `part_sample`, `run_moved` and `run_done`, by the laws of `RunTurned.antt`.
-use mathlib.Core.Path.{_≡_, refl}
-use lib.ListN.{length}
+-- `lent_sampler::process_frames` meets its contract: `Stepping.antt`'s walk, over `run_asked`, `run_channel`, `part_start`, `part_sample`, `run_moved` and `run_done`, by the laws in `Loops.antt`.
 use contract.Running.{givenOf, tables, tablesOf}
 use denote.Triple.Spec.{tripleOf}
 use denote.Triple.Table.{entered, cited}
-use Rattle.channel.specs.Channels.{processSampleOf, memoryOf}
-use Rattle.channel.proofs.Samples.{memory-kept}
-use Rattle.sampler.specs.Samplers.{Frames, ranOf, runAnswer}
 use Rattle.sampler.proofs.part_start.Symbol as start-def
 use Rattle.sampler.proofs.part_start.Symbol.{name as #start}
 use Rattle.sampler.proofs.part_start.Met as start-thm
-use Rattle.lent_channel.specs.Turns.{heardOf}
 use Rattle.lent_channel.proofs.Holding.{channel}
-use Rattle.lent_sampler.specs.Hearing.{atVolume}
-use Rattle.lent_sampler.specs.Numbers.{running, runSeat}
 use Rattle.lent_sampler.proofs.Lent.{sampler, params, ran, sounded, run-asking}
 use Rattle.lent_sampler.proofs.Seats.{seats}
-use Rattle.lent_sampler.proofs.RunTurned.{Turned, turned-starts, turned-low, turned-on, turned-ends}
-use Rattle.lent_sampler.proofs.Stepping.{Turning, steps-run}
+use Rattle.lent_sampler.proofs.Stepping.{steps-run}
+use Rattle.lent_sampler.proofs.Loops.{run-turning}
 use Rattle.lent_sampler.proofs.run_asked as asked
 use Rattle.lent_sampler.proofs.run_asked.Symbol as asked-def
 use Rattle.lent_sampler.proofs.run_asked.Symbol.{name as #asked}
@@ -41,33 +33,12 @@ use Rattle.lent_sampler.proofs.process_frames as f
 use Rattle.lent_sampler.proofs.process_frames.Statement as stated
 use Rattle.lent_sampler.proofs.process_frames.Code as code
 
-abbrev turning : Turning sampler channel params ran ran sounded run-asking seats
-turning = record {
-  askedOf = λ s n p size. running (s .count) (runAnswer s n p size);
-  seatOf = runSeat;
-  sounds = λ p x c k. atVolume p (heardOf (processSampleOf p x c k));
-  plays = λ p x c k. processSampleOf p x c k .channel;
-  records = memoryOf;
-  gathers = λ u y. u;
-  finishes = λ r u. r;
-  Leaves = λ s l p m r t io k. (r ≡ runAnswer s (length l) p (length m)) × Frames (ranOf s l p m) t io k;
-  Turned = λ s l p m i u t io k. Turned s l p m i t io k;
-  starts = turned-starts;
-  two = λ s l p m i u t io k z. z .two;
-  entries = λ s l p m i u t io k z. z .entries;
-  size = λ s l p m i u t io k z. z .size;
-  ready = λ s l p m i u t io k z h. turned-low s l p m z h;
-  keeps = memory-kept;
-  on = λ s l p m i u t io k z h a e. turned-on s l p m z h a e;
-  ends = λ s l p m i u t io k z e. (refl, turned-ends s l p m z e);
-}
-
 pub process-frames-spec : {M : Type 1} → stated.statement M
 unfolding code.routine tablesOf
 process-frames-spec 𝓤 H 𝓜 𝓖 𝓡 =
     entered 𝓤 H (tripleOf 𝓤 H (𝓖 .A) f.signature (f.spec 𝓤 H (𝓖 .A) (𝓜 .mem) (𝓡 .run)))
     (tables 𝓤 H 𝓜 𝓡 code.env .C) (tables 𝓤 H 𝓜 𝓡 code.env .Λ) #f code.function (code.unfolded 𝓤 H 𝓜 𝓡)
-    (steps-run sampler channel params ran ran sounded run-asking seats #asked #seat #start #sample #gather #answer turning 𝓤 H (𝓖 .A) (givenOf 𝓤 H 𝓜 𝓖) (tablesOf 𝓤 H 𝓜 (tables 𝓤 H 𝓜 𝓡 code.env))
+    (steps-run sampler channel params ran ran sounded run-asking seats #asked #seat #start #sample #gather #answer run-turning 𝓤 H (𝓖 .A) (givenOf 𝓤 H 𝓜 𝓖) (tablesOf 𝓤 H 𝓜 (tables 𝓤 H 𝓜 𝓡 code.env))
     (cited 𝓤 H (tripleOf 𝓤 H (𝓖 .A) asked.signature (asked.spec 𝓤 H (𝓖 .A) (𝓜 .mem) (𝓡 .run))) 𝓜 𝓡 code.env #asked asked-def.routine code.calls-lent-sampler·run-asked (asked-thm.met 𝓤 H 𝓜 𝓖 𝓡))
     (record { met = cited 𝓤 H _ 𝓜 𝓡 code.env #seat seat-def.routine code.calls-lent-sampler·run-channel (seat-thm.met 𝓤 H 𝓜 𝓖 𝓡) })
     (record { met = cited 𝓤 H _ 𝓜 𝓡 code.env #start start-def.routine code.calls-sampler·part-start (start-thm.met 𝓤 H 𝓜 𝓖 𝓡) })

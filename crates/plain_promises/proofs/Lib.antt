@@ -1,0 +1,9 @@
+pub mod Same
+pub mod Shapes
+pub mod Turned
+pub mod Rests
+pub mod Calls
+pub mod Members
+pub mod Turns
+pub mod Plain
+pub mod Examples

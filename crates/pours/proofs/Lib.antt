@@ -1,0 +1,4 @@
+pub mod Added
+pub mod Straight
+pub mod Easing
+pub mod Promised

@@ -1,0 +1,2 @@
+pub mod Pours
+pub mod Eases
