@@ -27,7 +27,7 @@ extern "C" {
 #endif
 
 /* Rises with each change of a call or a type here: a host tests vusatica_version() == VUSATICA_VERSION as it starts. */
-#define VUSATICA_VERSION 1u
+#define VUSATICA_VERSION 2u
 
 typedef enum vusatica_number {
     VUSATICA_DONE = 0,
@@ -93,7 +93,7 @@ typedef struct vusatica_sampler { uint64_t opaque[893]; } vusatica_sampler;
 typedef struct vusatica_params { uint64_t opaque[8]; } vusatica_params;
 
 /* What the plain engine has beside a sampler. */
-typedef struct vusatica_backing { uint64_t opaque[128]; } vusatica_backing;
+typedef struct vusatica_backing { uint64_t opaque[198]; } vusatica_backing;
 
 /* The loop of a voice and its place, as parts of its recording. */
 typedef struct vusatica_voice { float start, end, position; } vusatica_voice;

@@ -11,7 +11,7 @@ ghost use mathlib.Core.Path.{_≡_};
 // The version of the calls and of what crosses with them: it rises with each change of either.
 #[no_mangle]
 pub extern "C" fn vusatica_version() -> u32
-    ensures { λ r. ⌜ r ≡ 1 ⌝ }
+    ensures { λ r. ⌜ r ≡ 2 ⌝ }
 {
-    1
+    2
 }

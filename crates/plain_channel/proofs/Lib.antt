@@ -1,5 +1,6 @@
 pub mod Pairing
 pub mod Goings
+pub mod Easings
 pub mod Sides
 pub mod Hotting
 pub mod Following
@@ -16,3 +17,10 @@ pub mod Laters
 pub mod Behinds
 pub mod Eases
 pub mod Frames
+pub mod Filling
+pub mod Summing
+pub mod Phrasing
+pub mod Poured
+pub mod Nexts
+pub mod Refilling
+pub mod Runs

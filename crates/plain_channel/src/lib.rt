@@ -299,7 +299,15 @@ fn ease_next(
     }
     let t = Tick::measured(params, m, c.head.moment_on(k, phrase.length));
     let room = phrase.room(data.len());
-    let r = pours::poured(h, v, t, Beat::of(t), &data[room.from..room.to], &mut side.pour.sums, n);
+    let r = pours::poured(
+        h,
+        v,
+        t,
+        Beat::of(t),
+        &data[room.from..room.to],
+        &mut side.pour.sums,
+        n,
+    );
     if r.eases {
         c.voices[i] = r.voice;
         side.hots[i] = r.hot;

@@ -18,7 +18,7 @@ use Rattle.plain_voice.specs.Hots.{cold, hotAt}
 use Rattle.channel.specs.declared.Channel.{Channel}
 use Rattle.channel.specs.declared.Change.{Change}
 use Rattle.plain_channel.specs.declared.Side.{Side}
-use Rattle.plain_channel.specs.Sides.{coldSide, takenAt, sideAfter}
+use Rattle.plain_channel.specs.Sides.{coldSide, withHots, takenAt, sideAfter}
 use Rattle.sampler.specs.declared.Sampler.{Sampler}
 use Rattle.sampler.specs.Refusals.{channelAt, sampleNumber, frameNumber}
 use Rattle.sampler.specs.Samplers.{changeOf, Steps, partOf, channelSteppedOf, Framed, framed, entryOf}
@@ -43,14 +43,14 @@ taken-left : (c : Channel) (at : ℕ) (s : Side) (n : ℕ) → n ≢ at → getD
 unfolding takenAt
 taken-left c at s n h =
     let x = hotAt (c .head .interpolates) (getD (c .voices) at blankVoice .clip2) (c .head .now) in
-    either (λ (r : Side). getD (r .hots) n cold) (ltb at (min (c .count) 32)) (record { hots = set (s .hots) at x }) s (getD (s .hots) n cold) (getD-set-other (s .hots) at n x cold h) refl
+    either (λ (r : Side). getD (r .hots) n cold) (ltb at (min (c .count) 32)) (withHots (set (s .hots) at x) s) s (getD (s .hots) n cold) (getD-set-other (s .hots) at n x cold h) refl
 
 pub taken-own : (c : Channel) (at : ℕ) (s : Side) → at < c .count → at < 32 → length (s .hots) ≡ 32
     → getD (takenAt c at s .hots) at cold ≡ hotAt (c .head .interpolates) (getD (c .voices) at blankVoice .clip2) (c .head .now)
 unfolding takenAt
 taken-own c at s h k e =
     let x = hotAt (c .head .interpolates) (getD (c .voices) at blankVoice .clip2) (c .head .now) in
-    ap (λ (b : Bool). getD (cond b (record { hots = set (s .hots) at x }) s .hots) at cold) (lt-ltb at (min (c .count) 32) (omega arith)) ∙ getD-set-same (s .hots) at x cold (omega (arith, e))
+    ap (λ (b : Bool). getD (cond b (withHots (set (s .hots) at x) s) s .hots) at cold) (lt-ltb at (min (c .count) 32) (omega arith)) ∙ getD-set-same (s .hots) at x cold (omega (arith, e))
 
 module _ (s : Sampler) (d : Change) (k : Backing) (two : length (k .sides) ≡ 2) where
   abbrev t : Sampler

@@ -1,6 +1,7 @@
 pub mod Same
 pub mod Shapes
 pub mod Turned
+pub mod Rests
 pub mod Calls
 pub mod Members
 pub mod Turns

@@ -7,6 +7,7 @@ use Rattle.promises.proofs.Makes.{count-makes}
 use Rattle.plain_promises.specs.Plain.{Plain}
 use Rattle.plain_promises.proofs.Same.{same-engine}
 use Rattle.plain_promises.proofs.Shapes.{shaped, new-shaped}
+use Rattle.plain_promises.proofs.Rests.{poured-all}
 use Rattle.plain_promises.proofs.Members.{members}
 use Rattle.plain_promises.proofs.Turns.{beside-in-turn}
 
@@ -17,5 +18,6 @@ plain = record {
       members (makes (setUp count p m) hs) (standing-makes (setUp count p m) hs (standing-new count p m)) j (omega (arith, below, count-makes count p m ok hs)) k sh;
   shaped = shaped;
   new-shaped = new-shaped;
+  poured = poured-all;
   in-turn = beside-in-turn;
 }

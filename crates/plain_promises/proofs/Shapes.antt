@@ -15,18 +15,18 @@ use Rattle.plain_voice.specs.Hots.{cold, hotAt}
 use Rattle.channel.specs.declared.Channel.{Channel}
 use Rattle.channel.specs.Channels.{live, Turning, turningIn, takenOf, memoryOf}
 use Rattle.plain_channel.specs.declared.Side.{Side}
-use Rattle.plain_channel.specs.Sides.{coldSide, takenAt, hotsKept, sidePlayed, sideAfter}
+use Rattle.plain_channel.specs.Sides.{coldSide, withHots, takenAt, hotsKept, sidePlayed, sideAfter}
 use Rattle.sampler.specs.declared.Sampler.{Sampler}
 use Rattle.sampler.specs.Refusals.{channelAt, sampleNumber, frameNumber, doneOf}
 use Rattle.sampler.specs.Samplers.{changeOf, partOf, Framed, framed, entryOf, entriesOf}
 use Rattle.plain_sampler.specs.declared.Backing.{Backing}
-use Rattle.plain_sampler.specs.Backings.{coldBacking, sideAt, withSide, takenOn, changeBacking, sideStepped, sampleBacking, entriesBacking, frameBacking, framesBacking, runBacking}
+use Rattle.plain_sampler.specs.Backings.{coldBacking, sideAt, withSide, takenOn, changeBacking, sideStepped, sampleBacking, entriesBacking, frameBacking, framesBacking, restedOn, restedBacking, runBacking}
 use Rattle.promises.specs.Runs.{World, Call, change, sample, frame, readWave, gather, asks, Made, one, frames, made}
 use Rattle.plain_promises.specs.Backed.{besideAfter, besideMade, besideAll}
 use Rattle.plain_promises.specs.Members.{Shaped}
 
 -- what holds of the element that is stored and of the one at a place holds of the one there afterwards
-set-at : {A : Type 0} (P : A → Type 0) (l : List A) (j i : ℕ) (x d : A) → P x → P (getD l i d) → P (getD (set l j x) i d)
+pub set-at : {A : Type 0} (P : A → Type 0) (l : List A) (j i : ℕ) (x d : A) → P x → P (getD l i d) → P (getD (set l j x) i d)
 set-at P [] j i x d h k = k
 set-at P (y ∷ l) zero zero x d h k = h
 set-at P (y ∷ l) zero (suc i) x d h k = k
@@ -48,7 +48,7 @@ taken-length : (c : Channel) (at : ℕ) (s : Side) → length (takenAt c at s .h
 unfolding takenAt
 taken-length c at s =
     let h = hotAt (c .head .interpolates) (getD (c .voices) at blankVoice .clip2) (c .head .now) in
-    either (λ (r : Side). length (r .hots)) (ltb at (min (c .count) 32)) (record { hots = set (s .hots) at h }) s (length (s .hots)) (length-set (s .hots) at h) refl
+    either (λ (r : Side). length (r .hots)) (ltb at (min (c .count) 32)) (withHots (set (s .hots) at h) s) s (length (s .hots)) (length-set (s .hots) at h) refl
 
 played-length : (t : Turning) (c : Channel) (s : Side) → length (sidePlayed t c s .hots) ≡ length (s .hots)
 unfolding sidePlayed
@@ -89,10 +89,16 @@ shaped-after w (readWave f) k h = h
 shaped-after w gather k h = h
 shaped-after w (asks q) k h = h
 
+shaped-rested : (k : Backing) → Shaped k → Shaped (restedBacking k)
+unfolding restedBacking
+shaped-rested k h =
+    let g = shaped-with k 0 _ h (h .places 0) in
+    shaped-with (restedOn 0 k) 1 _ g (g .places 1)
+
 shaped-made : (w : World) (h : Made) (k : Backing) → Shaped k → Shaped (besideMade w h k)
 unfolding besideMade runBacking
 shaped-made w (one c) k s = shaped-after w c k s
-shaped-made w (frames xs p) k s = shaped-frames p (doneOf (w .sampler) (length xs) p (length (w .memory))) (framed (w .sampler) xs (w .memory)) k s
+shaped-made w (frames xs p) k s = shaped-rested _ (shaped-frames p (doneOf (w .sampler) (length xs) p (length (w .memory))) (framed (w .sampler) xs (w .memory)) k s)
 
 pub shaped : (w : World) (hs : List Made) (k : Backing) → Shaped k → Shaped (besideAll w hs k)
 unfolding besideAll

@@ -1,4 +1,4 @@
--- A run of frames leaves beside the record what its frame calls leave, one after the other. Assumes nothing.
+-- A run of frames leaves beside the record what its frame calls leave, one after the other, with nothing poured. Assumes nothing.
 use mathlib.Core.Path.{_≡_, refl, sym, ap, _∙_, subst}
 use mathlib.Core.List.{List, [], _∷_, _++_}
 use Prim.Native.Nat.{ℕ, zero, suc, _+_, _*_, _≤_}
@@ -16,12 +16,13 @@ use Rattle.sampler.specs.Samplers.{Framed, framed, entriesOf, framedOf}
 use Rattle.sampler.specs.Soundness.{FittingSampler}
 use Rattle.sampler.proofs.RunRows.{done-turns}
 use Rattle.plain_sampler.specs.declared.Backing.{Backing}
-use Rattle.plain_sampler.specs.Backings.{entriesBacking, frameBacking, framesBacking, runBacking}
+use Rattle.plain_sampler.specs.Backings.{entriesBacking, frameBacking, framesBacking, restedBacking, runBacking}
 use Rattle.promises.specs.Runs.{World, setUp, Call, frame, code, after, run, Made, one, frames, framesDone, frameCalls, spread, made, makes, spreadAll, Accepted, FittingMade}
 use Rattle.promises.proofs.Calls.{kept}
 use Rattle.promises.proofs.Turns.{in-turn}
 use Rattle.promises.proofs.Makes.{whole}
-use Rattle.plain_promises.specs.Backed.{besideAfter, besideRun, besideMade, besideAll}
+use Rattle.plain_promises.specs.Backed.{besideAfter, besideRun, besideMade, besideAll, hasRun, restedAfter}
+use Rattle.plain_promises.proofs.Rests.{run-rests, rests-once}
 
 -- ---- an accepted frame of one entry for each channel in use
 module _ (w : World) (xs : List Float) (p : Params) (k : Backing) (ok : code w (frame (take (w .sampler .count) xs) p) ≡ 0) (long : w .sampler .count ≤ length xs) where
@@ -77,11 +78,24 @@ module _ (w : World) (fits : FittingSampler (w .sampler)) where
   spread-leaves (one c) f = refl
   spread-leaves (frames xs p) f = sym (in-turn w fits xs p f .leaves)
 
-  spread-beside : (h : Made) → FittingMade h → (k : Backing) → besideMade w h k ≡ besideRun w (spread w h) k
-  unfolding besideMade spread besideRun FittingMade runBacking
-  spread-beside (one c) f k = refl
-  spread-beside (frames xs p) f k =
-      frames-beside p (w .sampler .count) (framesDone w xs p) w xs k refl (done-turns (w .sampler) (length xs) p (length (w .memory)) .entries) (in-turn w fits xs p f .accepted)
+  spread-frames : (xs : List Float) (p : Params) → FittingMade (frames xs p) → (k : Backing) → besideMade w (frames xs p) k ≡ restedBacking (besideRun w (spread w (frames xs p)) k)
+  unfolding besideMade spread FittingMade runBacking
+  spread-frames xs p f k =
+      ap restedBacking (frames-beside p (w .sampler .count) (framesDone w xs p) w xs k refl (done-turns (w .sampler) (length xs) p (length (w .memory)) .entries) (in-turn w fits xs p f .accepted))
+
+  -- and what follows
+  spread-beside : (h : Made) → FittingMade h → (hs : List Made) (k : Backing)
+      → restedAfter hs (besideRun (made w h) (spreadAll (made w h) hs) (besideMade w h k)) ≡ restedAfter (h ∷ hs) (besideRun w (spreadAll w (h ∷ hs)) k)
+  unfolding besideMade made spread spreadAll besideRun restedAfter hasRun
+  spread-beside (one c) f hs k = refl
+  spread-beside (frames xs p) f hs k =
+      let cs = spreadAll (made w (frames xs p)) hs in
+      let l = besideRun w (spread w (frames xs p)) k in
+      let rested : besideRun (made w (frames xs p)) cs (besideMade w (frames xs p) k) ≡ restedBacking (besideRun w (spread w (frames xs p) ++ cs) k) =
+      ap (besideRun (made w (frames xs p)) cs) (spread-frames xs p f k)
+      ∙ run-rests (made w (frames xs p)) cs l
+      ∙ ap restedBacking (ap (λ (u : World). besideRun u cs l) (sym (spread-leaves (frames xs p) f)) ∙ sym (run-more w (spread w (frames xs p)) cs k)) in
+      ap (restedAfter hs) rested ∙ rests-once (hasRun hs) _
 
 -- ---- from set-up on
 makes-more : (w : World) (gs : List Made) (h : Made) → makes w (gs ++ (h ∷ [])) ≡ made (makes w gs) h
@@ -96,15 +110,14 @@ one-more P (y ∷ xs) x f g = (f .0, one-more P xs x (f .1) g)
 
 module _ (count : ℕ) (p : InitParams) (m : List ℕ) (ok : setUpNumber count (length m) ≡ 0) where
   all-beside : (w : World) (gs : List Made) → Each FittingMade gs → w ≡ makes (setUp count p m) gs → (hs : List Made) → Each FittingMade hs → (k : Backing)
-      → besideAll w hs k ≡ besideRun w (spreadAll w hs) k
-  unfolding besideAll spreadAll besideRun Each
+      → besideAll w hs k ≡ restedAfter hs (besideRun w (spreadAll w hs) k)
+  unfolding besideAll spreadAll besideRun restedAfter hasRun Each
   all-beside w gs f e [] g k = refl
   all-beside w gs f e (h ∷ hs) g k =
       let fits : FittingSampler (w .sampler) = subst (λ (u : World). FittingSampler (u .sampler)) (sym e) (whole count p m ok gs f .fitting) in
       all-beside (made w h) (gs ++ (h ∷ [])) (one-more FittingMade gs h f (g .0)) (ap (λ (u : World). made u h) e ∙ sym (makes-more (setUp count p m) gs h)) hs (g .1) (besideMade w h k)
-      ∙ (λ t. besideRun (sym (spread-leaves w fits h (g .0)) t) (spreadAll (made w h) hs) (spread-beside w fits h (g .0) k t))
-      ∙ sym (run-more w (spread w h) (spreadAll (made w h) hs) k)
+      ∙ spread-beside w fits h (g .0) hs k
 
-  pub beside-in-turn : (hs : List Made) → Each FittingMade hs → (k : Backing) → besideAll (setUp count p m) hs k ≡ besideRun (setUp count p m) (spreadAll (setUp count p m) hs) k
+  pub beside-in-turn : (hs : List Made) → Each FittingMade hs → (k : Backing) → besideAll (setUp count p m) hs k ≡ restedAfter hs (besideRun (setUp count p m) (spreadAll (setUp count p m) hs) k)
   unfolding makes Each
   beside-in-turn hs g k = all-beside (setUp count p m) [] tt refl hs g k

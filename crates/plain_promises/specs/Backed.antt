@@ -1,11 +1,12 @@
 -- A host's calls of the second engine (request 9/12): what each leaves of the record that is lent beside the sampler, and
 -- what its calls leave by their contracts alone. Definitions only. Assumes nothing.
 use mathlib.Core.Path.{_≡_}
+use mathlib.Core.Bool.{Bool, true, false, cond}
 use mathlib.Core.List.{List, [], _∷_}
 use lib.Ieee.{Float}
 use Rattle.common_types.specs.declared.Params.{Params}
 use Rattle.plain_sampler.specs.declared.Backing.{Backing}
-use Rattle.plain_sampler.specs.Backings.{changeBacking, sampleBacking, frameBacking, runBacking}
+use Rattle.plain_sampler.specs.Backings.{changeBacking, sampleBacking, frameBacking, restedBacking, runBacking}
 use Rattle.promises.specs.Runs.{World, Call, change, sample, frame, readWave, gather, asks, after, Made, one, frames, made, makes}
 use Rattle.promises.specs.Outcomes.{Outcome, RunOutcome, on, along, Allows, leftBy, leftAlong}
 
@@ -29,6 +30,16 @@ besideMade w (frames xs p) k = runBacking (w .sampler) xs p (w .memory) k
 unfoldable pub besideAll : World → List Made → Backing → Backing
 besideAll w [] k = k
 besideAll w (h ∷ hs) k = besideAll (made w h) hs (besideMade w h k)
+
+-- whether a run of frames is among calls
+unfoldable pub hasRun : List Made → Bool
+hasRun [] = false
+hasRun (one c ∷ hs) = hasRun hs
+hasRun (frames xs p ∷ hs) = true
+
+-- if so, nothing is poured after them, and if not, what was
+unfoldable pub restedAfter : List Made → Backing → Backing
+restedAfter hs k = cond (hasRun hs) (restedBacking k) k
 
 -- each call leaves what some outcome leaves that its contract allows: of sampler, memory and answer the one of the first
 -- engine's, and of what is lent beside them what it says

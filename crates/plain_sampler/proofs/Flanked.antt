@@ -23,7 +23,7 @@ use Rattle.lent_sampler.specs.Numbers.{runSeat}
 use Rattle.lent_sampler.proofs.RunTurns.{turnOf}
 use Rattle.lent_sampler.proofs.RunTurned.{done-fitting, inside}
 use Rattle.plain_sampler.specs.declared.Backing.{Backing}
-use Rattle.plain_sampler.specs.Backings.{sideAt, withSide, sideStepped, entriesBacking, framesBacking, frameBacking, runBacking}
+use Rattle.plain_sampler.specs.Backings.{sideAt, withSide, sideStepped, entriesBacking, framesBacking, frameBacking, restedBacking, runBacking}
 use Rattle.plain_sampler.proofs.Turns.{sideTurn, sideTurns, frame-turns, run-turns}
 
 -- ---- one entry more: channel j's sample on its part, from a to e
@@ -94,9 +94,9 @@ module _ (s : Sampler) (l : List Float) (p : Params) (m : List ℕ) (f : Backing
   abbrev frames : ℕ
   frames = runAnswer s (length l) p (length m) .frames
 
-  pub whole-run : sideTurns p (λ i. runSeat i (s .count)) (frames * s .count) 0 (framed s l m) f ≡ runBacking s l p m f
+  pub whole-run : restedBacking (sideTurns p (λ i. runSeat i (s .count)) (frames * s .count) 0 (framed s l m) f) ≡ runBacking s l p m f
   unfolding runBacking runAnswer framesBacking sideTurns
-  whole-run = go frames refl
+  whole-run = ap restedBacking (go frames refl)
     where
       go : (n : ℕ) → frames ≡ n → sideTurns p (λ i. runSeat i (s .count)) (frames * s .count) 0 (framed s l m) f ≡ framesBacking p frames (framed s l m) f
       go zero a = ap (λ (n : ℕ). sideTurns p (λ i. runSeat i (s .count)) n 0 (framed s l m) f) (ap (λ (n : ℕ). n * s .count) a ∙ zero-mul (s .count)) ∙ sym (ap (λ (n : ℕ). framesBacking p n (framed s l m) f) a)

@@ -1,4 +1,4 @@
--- The walk of a frame, and of a run of frames, on a lent record T of two channels and a record K of two sides lent beside it: that of `lent_sampler`'s `Stepping.antt`, with a second record. Each turn lends the channel of entry i, its side and the memory to `#sample` (`Sampling.antt`).
+-- The walk of a frame on a lent record T of two channels and a record K of two sides lent beside it: that of `lent_sampler`'s `Stepping.antt`, with a second record. Each turn lends the channel of entry i, its side and the memory to `#sample` (`Sampling.antt`).
 --     Flanking         what becomes of the side in a sample, and what stands beside after i turns (`Flanked`), with its laws
 --     steps-run        the function meets its contract, from those of the calls
 -- Assumes `Given`.

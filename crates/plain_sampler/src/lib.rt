@@ -187,15 +187,7 @@ fn part_sample(
         ≡ sideAfter params input (now (c .entry)) (take (end - start) (drop start (now (memory .entry))))
         (now (side .entry))) ⌝ }
 {
-    let heard = plain_channel::behind(
-        c,
-        side,
-        params,
-        input,
-        &mut memory[start..end],
-        0,
-        0.0,
-    );
+    let heard = plain_channel::behind(c, side, params, input, &mut memory[start..end], 0, 0.0);
     lent_sampler::at_volume(params, heard)
 }
 

@@ -87,7 +87,7 @@ use Rattle.lent_channel.proofs.close.Symbol.{name as #close}
 use Rattle.lent_channel.proofs.close.Met as close-thm
 use Rattle.plain_channel.specs.declared.Side.{Side}
 use Rattle.plain_channel.specs.Sides.{withHots, restHots}
-use Rattle.plain_channel.specs.Ahead.{behindOf, sideBehind, BehindSome}
+use Rattle.plain_channel.specs.Ahead.{behindOf, hotsBehind, sideBehind, BehindSome}
 use Rattle.plain_channel.proofs.Ends.{ahead-heard, ahead-gone, ahead-beside, ahead-unfinished, taken-some}
 use Rattle.plain_channel.proofs.Pairing.{Kept, Closed, takes-one, closes-one, pairing, lends}
 use Rattle.plain_channel.proofs.Goings.{side}
@@ -218,7 +218,7 @@ module _ {M : Type 1} (𝓤 : URA M) (H : Heap 𝓤) (A : Atoms 𝓤) (W : Given
   Post = walkOf 𝓤 H A f.ended stayed (f.clauses 𝓤 H A at-mem run) .post (((κ, (κ₁, (κ₂, tt))), (q, (q₁, (q₂, tt))), tt, a, vals), tt)
 
   done-so : (out ≡ heardOf (behindOf p x from first h ms)) × (last ≡ behindOf p x from first h ms .channel) × (ms′ ≡ memoryOf x h ms) × (k₂ ≡ sideBehind p x from h ms k)
-  unfolding behindOf sideBehind restBy restHots glidedTo
+  unfolding behindOf hotsBehind restBy restHots glidedTo
   done-so = (refl, refl, refl, refl)
 
   -- the borrows and the memory at the end
