@@ -1,4 +1,4 @@
-# The comparison's side of oracle/forms, which says how it is called.
+# The comparison's side of `oracle/compare forms`, which says how it is called.
 import io, math, os, random, shutil, struct, subprocess, sys, tempfile, wave
 from fractions import Fraction
 

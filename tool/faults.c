@@ -1,6 +1,6 @@
 /* Where a song breaks the Standard MIDI File document, for a person: the library answers a number alone. The reader
  * walks as `smf` does, and of format 1 as `song_merge`; it is believed only where it comes to the library's number, and
- * oracle/songs holds it to a third reader. */
+ * oracle/compare songs holds it to a third reader. */
 #include <string.h>
 #include "tool.h"
 

@@ -1,8 +1,8 @@
 #!/usr/bin/env python3
-"""oracle/merges [SEED] [COUNT] [files]: asks the port, as it is compiled, its proof not asked for, to merge songs of format 1, and compares number and bytes.
+"""The comparison's side of `oracle/compare merges`, which says how it is called: asks the port to merge songs of format 1, and compares number and bytes.
 
 The songs are those of RULES, COUNT that are made here (2000 unless given), each with copies that are cut or have a byte changed, asked with room enough and with too little,
-and, where asked for, the files of the Debian packages that oracle/songs names. The merger here is written from the Standard MIDI Files 1.0 document: it sorts all events of all
+and, where asked for, the files of the Debian packages that oracle/songs.py names. The merger here is written from the Standard MIDI Files 1.0 document: it sorts all events of all
 tracks by tick and then by track, and writes each with its status byte. It fails where anything differs."""
 import os, random, subprocess, sys
 
@@ -205,8 +205,8 @@ def damaged(rng, file):
 
 
 def found():
-    """The songs of the packages that oracle/songs names."""
-    text = open(os.path.join(ROOT, 'oracle', 'songs')).read()
+    """The songs of the packages that oracle/songs.py names."""
+    text = open(os.path.join(ROOT, 'oracle', 'songs.py')).read()
     packages = text.split("PACKAGES = ('")[1].split("'")[0].split()
     work = os.path.join(ROOT, 'target', 'songs')
     for package in packages:
@@ -229,16 +229,9 @@ def found():
 
 
 def main():
-    words = sys.argv[1:]
-    if len(words) > 3 or not all(w.isdigit() for w in words[:2]) or words[2:] not in ([], ['files']):
-        print('usage: oracle/merges [SEED] [COUNT] [files]', file=sys.stderr)
-        sys.exit(2)
+    port, words = sys.argv[1:3], sys.argv[3:]
     seed, count = int(words[0]) if words else 1, int(words[1]) if len(words) > 1 else 2000
     rng = random.Random(seed)
-    program = os.path.join(ROOT, 'target', 'oracle', 'port-merges')
-    os.makedirs(os.path.dirname(program), exist_ok=True)
-    subprocess.run([os.path.join(ROOT, 'oracle', 'unproved'), os.path.join(ROOT, 'crates'), os.path.join(ROOT, 'oracle', 'merges.rt.txt'), program], check=True)
-    port = subprocess.run([os.path.join(ROOT, 'oracle', 'port'), '--words', program], capture_output=True, text=True, check=True).stdout.split('\n')[:-1]
     rules = [of_rule(*r) for r in RULES]
     if any(by_merger(file) != (0, out) for file, out in rules):
         sys.exit('the merger breaks a rule')

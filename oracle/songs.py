@@ -1,5 +1,5 @@
 #!/usr/bin/env python3
-"""oracle/songs [PART..]: asks the tool (tool/) for the starts and stops of Standard MIDI Files, and compares what it prints.
+"""oracle/compare songs [PART..]: asks the tool (tool/) for the starts and stops of Standard MIDI Files, and compares what it prints.
 
     rules      the small files of oracle/songs-rules.txt, and what they give
     damaged    every cut and every flipped bit of a small song: each run ends with an answer, and with the reader's below
