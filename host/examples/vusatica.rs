@@ -6,7 +6,7 @@
 use std::os::raw::{c_char, c_int};
 use std::ptr::null_mut;
 
-pub const VERSION: u32 = 1;
+pub const VERSION: u32 = 2;
 
 #[derive(Clone, Copy, Debug, PartialEq, Eq)]
 pub struct Refused(pub i32);

@@ -1,4 +1,4 @@
--- Tracks and what they are merged into, computed: what is read of the one is what is read of the others, merged. `oracle/merges` holds the program to the
+-- Tracks and what they are merged into, computed: what is read of the one is what is read of the others, merged. `oracle/compare merges` holds the program to the
 -- same bytes. Assumes nothing.
 use mathlib.Core.Path.{_≡_, refl}
 use mathlib.Core.List.{List, [], _∷_, _++_, map}
