@@ -41,7 +41,7 @@ use Rattle.plain_channel.proofs.Pour as U
 use Rattle.plain_channel.proofs.Pour.Laws as U′
 use Rattle.plain_channel.proofs.Side as S
 use Rattle.plain_channel.proofs.Side.Laws as S′
-use Rattle.plain_channel.proofs.Filling.{pour-at, values-at, with-pour}
+use Rattle.plain_channel.proofs.Filling.{pour-at, values-at, eased-at, with-pour}
 
 abbrev pub with-sums : List Float → List Float → Side → Side
 with-sums zs us k = with-pour (record { sums = zs; values = us; eased = k .pour .eased; next = k .pour .next; left = k .pour .left }) k
@@ -72,7 +72,7 @@ Listed ys b o = partAt (Array f32 64) fullShare (map (λ v. v) ys) b o
 
 -- the pour's numbers in memory
 abbrev Counted : Pour → (b o : ℕ) → Fml
-Counted u b o = partsAt fullShare counted 512 (u .eased, (u .next, (u .left, tt))) b o
+Counted u b o = partsAt fullShare counted eased-at (u .eased, (u .next, (u .left, tt))) b o
 
 module _ {M : Type 1} (𝓤 : URA M) (H : Heap 𝓤) (A : Atoms 𝓤) where
   -- a side without its pour
@@ -124,7 +124,7 @@ module _ {M : Type 1} (𝓤 : URA M) (H : Heap 𝓤) (A : Atoms 𝓤) where
           qed W (‵ (partAt S.the-row fullShare k b o) ∷ []) ∵ updating ! $
           use1 W (‵ (partAt U.the-row fullShare (k .pour) b (o + pour-at)) ⊛ Pourless k b o)
           (record-apart-as S.the-type S′.the-laws 1 pour-at U.the-row (λ u. u) (λ u. u) (own-same U.the-type) (λ u b o. sym (own-same U.the-type u b o)) (S.struct .as-values) (S.struct .Ghost) (S.struct .make) (λ _. tt) (λ _. refl) (λ _ _. refl) 𝓤 H A W refl refl k b o) $ split ! $
-          use1 W (‵ (Listed ys b (sums-at o)) ⊛ ‵ (partsAt fullShare (listed ∷ counted) 256 (U.the-type .to (k .pour) .1) b (o + pour-at)) ⊛ raw (Whole b (o + pour-at)))
+          use1 W (‵ (Listed ys b (sums-at o)) ⊛ ‵ (partsAt fullShare (listed ∷ counted) values-at (U.the-type .to (k .pour) .1) b (o + pour-at)) ⊛ raw (Whole b (o + pour-at)))
           (record-field-out 𝓤 H A W fullShare (U.the-type .name) members Pour (U.the-type .to) (U.the-type .to-one) (lawfuls 𝓤 H A W (U.struct .parts) U′.the-laws) (k .pour) b (o + pour-at) 0) $ split ! $
           use1 W (later (some (λ (γ : GName). ‵ (Lent ℓ κ b (sums-at o) γ ys) ⊛ ‵ (flent κ (Held f32 (length ys) b (sums-at o) γ))))) (lends-list ℓ κ ys b (sums-at o) all) $ await ! tt $ pick ! (λ γ. split ! $
           -- [the sums, lent; what is held of them; the other fields and the way back; the rest of the side]
