@@ -1,4 +1,6 @@
 pub mod Added
+pub mod Filling
 pub mod Straight
+pub mod Turns
 pub mod Easing
 pub mod Promised

@@ -1,26 +1,47 @@
-// A plain voice's samples of a run in one go (request 9/12): while its level is steady and nothing ends it, each is a
-// recorded value times that level, and they are added to the sums of their frames.
+// A voice's samples of a run in one go (request 9/12): while nothing of it changes and nothing ends it, each is a recorded
+// value times its level, and they are added to the sums of their frames. A plain voice at a steady level goes straight on
+// through the recording; of any other the places are worked out first, and nothing is added where one isn't quickly told.
 ghost use mathlib.Core.Path.{_≡_};
-ghost use mathlib.Core.Bool.{true};
+ghost use mathlib.Core.Bool.{true, false};
 ghost use Prim.Native.Nat.{ℕ, _+_, _-_, _%_, _^_, _≤_, _<_, min};
-ghost use lib.ListN.{length};
-ghost use lib.Ieee.{binary32, add};
-ghost use Rattle.binary32.specs.Leaves.{asFloat};
+ghost use lib.ListN.{length, getD};
+ghost use lib.Ieee.{nan, binary32, mul};
 ghost use Rattle.clip.specs.Plain.{plainIndex};
 ghost use Rattle.plain_voice.specs.Hots.{beatOf};
 ghost use Rattle.pours.specs.Eases.{EasesAt, termAt, LastButOne, heardOf, movedOf, Added};
 ghost use Rattle.pours.specs.Pours.{Pours};
+ghost use Rattle.pours.specs.Steady.{SteadyAt, Stands, Offsets, Fetches, Gathers, leveled};
+use clip::Clip;
+use clip::Mode;
 use plain_voice::Beat;
 use plain_voice::Hot;
 use plain_voice::LAST_WHOLE;
+use voice::Span;
 use voice::Tick;
 use voice::Voice;
+use volume::Volume;
+
+// The last time from which a run is worked out in one go: 2^62.
+const LATEST: usize = 0x4000_0000_0000_0000;
 
 // What pouring a voice gives: whether it eases; if so the voice and its position after all samples.
 pub struct Pouring {
     pub voice: Voice,
     pub hot: Hot,
     pub eases: bool,
+}
+
+// The position of a voice after some samples, where it is known.
+struct Stood {
+    hot: Hot,
+    known: bool,
+}
+
+// What fetching comes to: the last index, how far the voice has played, and whether that has reached the whole length.
+struct Fetched {
+    index: usize,
+    played: f32,
+    over: bool,
 }
 
 // ---- whether a voice eases
@@ -106,9 +127,9 @@ fn last_but_one(
     term_at(data, level, index_at(start, place + (n - 2), round, total))
 }
 
-// The voice after n samples, of which the last two were `last` and the one at that index.
-fn heard(v: Voice, index: usize, value: f32, last: f32, n: usize) -> Voice
-    ensures { λ r. ⌜ r ≡ heardOf v index value last (add binary32 (v .played) (asFloat n)) ⌝ }
+// The voice after some samples, of which the last two were `last` and the one at that index.
+fn heard(v: Voice, index: usize, value: f32, last: f32, played: f32) -> Voice
+    ensures { λ r. ⌜ r ≡ heardOf v index value last played ⌝ }
 {
     let clip2 = v.clip2;
     let volume = v.volume;
@@ -119,7 +140,7 @@ fn heard(v: Voice, index: usize, value: f32, last: f32, n: usize) -> Voice
         clip2,
         volume,
         loop_start_percent: v.loop_start_percent,
-        played: v.played + binary32::usize_to_f32(n),
+        played,
         last_sample_value: value,
         speed: v.speed,
         note,
@@ -190,26 +211,11 @@ fn pour_all(
     }
 }
 
-// Adds n samples of the voice to the sums, if it eases over them.
-pub fn poured(
-    h: Hot,
-    v: Voice,
-    t: Tick,
-    b: Beat,
-    data: &[u32],
-    sums: &mut [f32],
-    n: usize,
-) -> Pouring
-    requires { ⌜ (b ≡ beatOf t) × (n ≤ length (now «sums»)) ⌝ }
+// Adds n samples of a plain voice that eases over them to the sums.
+fn plainly(h: Hot, v: Voice, t: Tick, b: Beat, data: &[u32], sums: &mut [f32], n: usize) -> Pouring
+    requires { ⌜ EasesAt h v t b (length (now «data»)) n × (n ≤ length (now «sums»)) ⌝ }
     ensures { λ r. ⌜ Pours h v t b (now («data» .entry)) n (now («sums» .entry)) (now («sums» .exit)) r ⌝ }
 {
-    if !eases(h, v, t, b, data.len(), n) {
-        return Pouring {
-            voice: v,
-            hot: h,
-            eases: false,
-        };
-    }
     let start = h.start as usize;
     let place = h.place as usize;
     let round = b.length as usize;
@@ -228,10 +234,255 @@ pub fn poured(
     );
     let index = index_at(start, place + (n - 1), round, total);
     let value = term_at(data, level, index);
+    let played = v.played + binary32::usize_to_f32(n);
     pour_all(start, place, round, total, data, level, sums, n);
     Pouring {
-        voice: heard(v, index, value, last, n),
+        voice: heard(v, index, value, last, played),
         hot: moved(h, n, round),
         eases: true,
     }
+}
+
+// ---- any steady voice
+
+// Whether n turns change nothing but what it has sounded and how far it has played, but for play-once.
+fn steady(v: Voice, t: Tick, n: usize) -> bool
+    ensures { λ r. ⌜ (r ≡ true → SteadyAt t n v) ⌝ }
+{
+    if n < 1 {
+        return false;
+    }
+    if LAST_WHOLE < n {
+        return false;
+    }
+    if LATEST < t.now {
+        return false;
+    }
+    let volume = v.volume;
+    let clip2 = v.clip2;
+    let span = t.span;
+    let mode = t.mode;
+    !v.finished
+        & ((v.phrase == t.phrase)
+            & (!t.interpolates
+                & (volume.keeps(t.now + (n - 1))
+                    & clip2.same_all(span.length, v.speed * t.speed, span.data_length, mode))))
+}
+
+// The position after n turns of a steady voice: that of one that isn't plain stays.
+fn position_on(h: Hot, v: Voice, t: Tick, b: Beat, n: usize) -> Stood
+    requires { ⌜ (b ≡ beatOf t) × SteadyAt t n v ⌝ }
+    ensures { λ r. ⌜ Stands h t n v r ⌝ }
+{
+    if !h.plain {
+        return Stood {
+            hot: h,
+            known: true,
+        };
+    }
+    let clip2 = v.clip2;
+    if t.now < clip2.since {
+        return Stood {
+            hot: h,
+            known: false,
+        };
+    }
+    if !h.agrees(clip2, t, b, v.speed * t.speed, LAST_WHOLE - n) {
+        return Stood {
+            hot: h,
+            known: false,
+        };
+    }
+    Stood {
+        hot: moved(h, n, b.length as usize),
+        known: true,
+    }
+}
+
+// Puts the offsets of n samples into the list; or says that one isn't quickly worked out.
+fn offsets(
+    c: Clip,
+    time: usize,
+    span: Span,
+    speed: f32,
+    mode: Mode,
+    values: &mut [f32],
+    n: usize,
+) -> bool
+    requires { ⌜ (time ≤ 2 ^ 62) × (n ≤ 2 ^ 24) × (n ≤ length (now «values»)) ⌝ }
+    ensures { λ r. ⌜ (length (now («values» .exit)) ≡ length (now («values» .entry))) × (r ≡ true → Offsets c time n (now («values» .exit))) ⌝ }
+{
+    let mut told = true;
+    let mut k: usize = 0;
+    while k < n {
+        let near = c.quick_index(time + k, span.length, speed, span.data_length, mode);
+        values[k] = near.offset;
+        told = told & (near.index < clip::NONE);
+        k += 1;
+    }
+    told
+}
+
+// Puts what is recorded at each of n offsets in its place, and adds the speed as often.
+fn fetch(data: &[u32], played: f32, by: f32, whole: f32, values: &mut [f32], n: usize) -> Fetched
+    requires { ⌜ n ≤ length (now «values») ⌝ }
+    ensures { λ r. ⌜ Fetches (now («data» .entry)) played by whole n (now («values» .entry)) (now («values» .exit)) r ⌝ }
+{
+    let mut index: usize = 0;
+    let mut sum = played;
+    let mut over = false;
+    let mut k: usize = 0;
+    while k < n {
+        index = binary32::f32_to_usize(values[k]);
+        values[k] = voice::recorded(data, index);
+        sum = sum + by;
+        over = over | (whole <= binary32::abs(sum));
+        k += 1;
+    }
+    Fetched {
+        index,
+        played: sum,
+        over,
+    }
+}
+
+// Puts what is recorded at each of n samples of a steady voice into the list. It is over where play-once ends it, or where
+// an offset isn't quickly worked out.
+fn gather(v: Voice, t: Tick, data: &[u32], values: &mut [f32], n: usize) -> Fetched
+    requires { ⌜ SteadyAt t n v × (n ≤ length (now «values»)) ⌝ }
+    ensures { λ r. ⌜ (length (now («values» .exit)) ≡ length (now («values» .entry))) × (r .over ≡ false → Gathers (now («data» .entry)) t n v (now («values» .exit)) r) ⌝ }
+{
+    let clip2 = v.clip2;
+    let span = t.span;
+    let mode = t.mode;
+    let speed = v.speed * t.speed;
+    if !offsets(clip2, t.now, span, speed, mode, values, n) {
+        return Fetched {
+            index: 0,
+            played: 0.0,
+            over: true,
+        };
+    }
+    let f = fetch(data, v.played, speed, span.whole_length, values, n);
+    Fetched {
+        index: f.index,
+        played: f.played,
+        over: t.once & f.over,
+    }
+}
+
+// What the list's k-th value sounds at the volume's level then.
+fn value_at(values: &[f32], volume: Volume, time: usize, k: usize) -> f32
+    requires { ⌜ (time ≤ 2 ^ 62) × (k ≤ 2 ^ 24) × (k < length (now «values»)) ⌝ }
+    ensures { λ r. ⌜ r ≡ leveled (now («values» .entry)) volume time k ⌝ }
+{
+    values[k] * volume.level(time + k)
+}
+
+// Before the last of n: what it sounded before all of them, if there is but one.
+fn value_before(before: f32, values: &[f32], volume: Volume, time: usize, n: usize) -> f32
+    requires { ⌜ (time ≤ 2 ^ 62) × (n ≤ 2 ^ 24) × (n ≤ length (now «values»)) ⌝ }
+    ensures { λ r. ⌜ LastButOne before (leveled (now («values» .entry)) volume time) n r ⌝ }
+{
+    if n < 2 {
+        return before;
+    }
+    value_at(values, volume, time, n - 2)
+}
+
+// Adds n values at one level to the first n sums.
+fn add_all(values: &[f32], level: f32, sums: &mut [f32], n: usize)
+    requires { ⌜ (n ≤ length (now «values»)) × (n ≤ length (now «sums»)) ⌝ }
+    ensures { λ _. ⌜ Added (λ (k : ℕ). mul binary32 (getD (now («values» .entry)) k nan) level) 0 n (now («sums» .entry)) (now («sums» .exit)) ⌝ }
+{
+    let mut k: usize = 0;
+    while k < n {
+        sums[k] = sums[k] + values[k] * level;
+        k += 1;
+    }
+}
+
+// Adds n values at the volume's levels to the first n sums.
+fn add_levels(values: &[f32], volume: Volume, time: usize, sums: &mut [f32], n: usize)
+    requires { ⌜ (time ≤ 2 ^ 62) × (n ≤ 2 ^ 24) × (n ≤ length (now «values»)) × (n ≤ length (now «sums»)) ⌝ }
+    ensures { λ _. ⌜ Added (leveled (now («values» .entry)) volume time) 0 n (now («sums» .entry)) (now («sums» .exit)) ⌝ }
+{
+    let mut k: usize = 0;
+    while k < n {
+        sums[k] = sums[k] + values[k] * volume.level(time + k);
+        k += 1;
+    }
+}
+
+fn add_at(values: &[f32], volume: Volume, time: usize, sums: &mut [f32], n: usize)
+    requires { ⌜ (time ≤ 2 ^ 62) × (n ≤ 2 ^ 24) × (n ≤ length (now «values»)) × (n ≤ length (now «sums»)) ⌝ }
+    ensures { λ _. ⌜ Added (leveled (now («values» .entry)) volume time) 0 n (now («sums» .entry)) (now («sums» .exit)) ⌝ }
+{
+    if volume.is_static() {
+        add_all(values, volume.level(time), sums, n);
+    } else {
+        add_levels(values, volume, time, sums, n);
+    }
+}
+
+// Adds n samples of any voice to the sums, if it is steady over them and each is quickly worked out.
+fn fully(
+    h: Hot,
+    v: Voice,
+    t: Tick,
+    b: Beat,
+    data: &[u32],
+    sums: &mut [f32],
+    values: &mut [f32],
+    n: usize,
+) -> Pouring
+    requires { ⌜ (b ≡ beatOf t) × (n ≤ length (now «sums»)) × (n ≤ length (now «values»)) ⌝ }
+    ensures { λ r. ⌜ Pours h v t b (now («data» .entry)) n (now («sums» .entry)) (now («sums» .exit)) r ⌝ }
+{
+    let otherwise = Pouring {
+        voice: v,
+        hot: h,
+        eases: false,
+    };
+    if !steady(v, t, n) {
+        return otherwise;
+    }
+    let s = position_on(h, v, t, b, n);
+    if !s.known {
+        return otherwise;
+    }
+    let hot = s.hot;
+    let g = gather(v, t, data, values, n);
+    if g.over {
+        return otherwise;
+    }
+    let volume = v.volume;
+    let value = value_at(values, volume, t.now, n - 1);
+    let last = value_before(v.last_sample_value, values, volume, t.now, n);
+    add_at(values, volume, t.now, sums, n);
+    Pouring {
+        voice: heard(v, g.index, value, last, g.played),
+        hot,
+        eases: true,
+    }
+}
+
+// Adds n samples of the voice to the sums, if it eases over them. What is left in the list of values is not to be looked at.
+pub fn poured(
+    h: Hot,
+    v: Voice,
+    t: Tick,
+    b: Beat,
+    data: &[u32],
+    sums: &mut [f32],
+    values: &mut [f32],
+    n: usize,
+) -> Pouring
+    requires { ⌜ (b ≡ beatOf t) × (n ≤ length (now «sums»)) × (n ≤ length (now «values»)) ⌝ }
+    ensures { λ r. ⌜ Pours h v t b (now («data» .entry)) n (now («sums» .entry)) (now («sums» .exit)) r ⌝ }
+{
+    if eases(h, v, t, b, data.len(), n) {
+        return plainly(h, v, t, b, data, sums, n);
+    }
+    fully(h, v, t, b, data, sums, values, n)
 }

@@ -1,0 +1,90 @@
+-- `fetch` meets its contract. The invariant: so many are fetched, and the rest stands. The measure is how many are left. Assumes nothing.
+use mathlib.Core.Path.{_≡_, refl, subst}
+use Prim.Native.Nat.{ℕ, _-_, _≤_, _<_, zero-le}
+use native.Mathlib.Omega.{arith}
+use lib.Ieee.{nan}
+use lib.ListN.{length, getD}
+use borrow.Author.Needs.{needs}
+use Rattle.pours.specs.Steady.{Fetches}
+use Rattle.pours.proofs.Filling.{nothing, one-more, left}
+use Rattle.pours.proofs.fetch.Statement.{statement}
+use Rattle.pours.proofs.fetch.Tie as tie
+
+abbrev Inv-loop : tie.InvT-loop
+Inv-loop «data» played by whole values₀ n index₀ sum₀ over₀ k₀ values index sum over k = (k ≤ n) × Fetches «data» played by whole k values₀ values (record { index = index; played = sum; over = over }) × ((j : ℕ) → k ≤ j → getD values j nan ≡ getD values₀ j nan)
+
+abbrev μ-loop : tie.MeasureT-loop
+μ-loop «data» played by whole values₀ n index₀ sum₀ over₀ k₀ values index sum over k = n - k
+
+loop-holds : tie.Need-loop-holds Inv-loop μ-loop
+loop-holds c =
+    let a = c .before .before .args in
+    (zero-le, nothing (a .«data» .now) (a .played) (a .by) (a .whole) (a .values .now), λ j h. refl)
+
+mul-f32-to-usize : tie.Need-mul-f32-to-usize Inv-loop μ-loop
+mul-f32-to-usize c = search needs
+
+slice-read-f32-to-usize : tie.Need-slice-read-f32-to-usize Inv-loop μ-loop
+slice-read-f32-to-usize c = search needs
+
+f32-to-usize-requires : tie.Need-f32-to-usize-requires Inv-loop μ-loop
+f32-to-usize-requires c κs = search needs
+
+recorded-requires : tie.Need-recorded-requires Inv-loop μ-loop
+recorded-requires c κs = search needs
+
+mul-values : tie.Need-mul-values Inv-loop μ-loop
+mul-values c = search needs
+
+slice-write-values : tie.Need-slice-write-values Inv-loop μ-loop
+slice-write-values c = search needs
+
+abs-requires : tie.Need-abs-requires Inv-loop μ-loop
+abs-requires c κs = search needs
+
+add-k : tie.Need-add-k Inv-loop μ-loop
+add-k c = search needs
+
+loop-less : tie.Need-loop-less Inv-loop μ-loop
+loop-less c = search needs
+
+loop-again : tie.Need-loop-again Inv-loop μ-loop
+loop-again c =
+    let s = c .before .before .before .before .before .before .before .before in
+    let a = s .args in
+    let l = c .before .before .before .before .before .loop in
+    let below : l .k < a .n = c .before .before .before .before .loop-test .taken in
+    let room : l .k < length (a .values .now) = omega (arith, below, s .pre) in (
+      omega (arith, below),
+      one-more (a .«data» .now) (a .played) (a .by) (a .whole) (a .values .now) (l .k) (l .values) _ (l .inv .1) room (l .inv .2) _ _ _ (c .before .before .f32-to-usize .ensures) (c .before .recorded .ensures) (c .abs .ensures),
+      left (a .«data» .now) (a .played) (a .by) (a .whole) (a .values .now) (l .k) (l .values) _ (l .inv .1) room (l .inv .2) _,
+    )
+
+same-length : tie.Need-same-length Inv-loop μ-loop
+same-length c = search needs
+
+returns : tie.Need-returns Inv-loop μ-loop
+returns c =
+    let a = c .before .before .before .before .args in
+    let l = c .before .loop in
+    subst (λ (k : ℕ). Fetches (a .«data» .now) (a .played) (a .by) (a .whole) k (a .values .now) (l .values) (record { index = l .index; played = l .sum; over = l .over })) (omega (arith, l .inv .0, c .loop-test .left)) (l .inv .1)
+
+pub fetch-spec : {M : Type 1} → statement M
+fetch-spec =
+    tie.close
+    (tie.spec
+    Inv-loop
+    μ-loop
+    loop-holds
+    mul-f32-to-usize
+    slice-read-f32-to-usize
+    f32-to-usize-requires
+    recorded-requires
+    mul-values
+    slice-write-values
+    abs-requires
+    add-k
+    loop-less
+    loop-again
+    same-length
+    returns)
