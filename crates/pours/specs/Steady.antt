@@ -4,13 +4,14 @@ use mathlib.Core.Path.{_≡_}
 use Prim.Native.Nat.{ℕ, zero, suc, _+_, _-_, _^_, _≤_, _<_}
 use mathlib.Core.Bool.{true, false, _&&_}
 use mathlib.Core.List.{List}
-use lib.Ieee.{Float, nan, binary32, add, mul, le}
+use lib.Dec.{T}
+use lib.Ieee.{Float, nan, binary32, add, mul, rem, le}
 use lib.ListN.{length, getD}
-use Rattle.binary32.specs.Leaves.{asWhole, absOf}
+use Rattle.binary32.specs.Leaves.{zero32, asFloat, asWhole, absOf}
 use Rattle.volume.specs.declared.Volume.{Volume}
 use Rattle.volume.specs.Levels.{levelOf, keepsOf}
 use Rattle.clip.specs.declared.Clip.{Clip}
-use Rattle.clip.specs.Positions.{indexAt, offsetAt}
+use Rattle.clip.specs.Positions.{clampedOf, placedOf, clipToDataOf, indexAt, offsetAt}
 use Rattle.clip.specs.Updates.{sameAll}
 use Rattle.voice.specs.declared.Voice.{Voice}
 use Rattle.voice.specs.declared.Tick.{Tick}
@@ -63,7 +64,24 @@ soundAt m c volume now = termAt m (levelOf volume now) (indexAt c now)
 abbrev pub leveled : List Float → Volume → ℕ → ℕ → Float
 leveled values volume now k = mul binary32 (getD values k nan) (levelOf volume (now + k))
 
--- the offsets of n samples stand in the list
+-- ---- where it is
+
+-- x = shift + count * speed
+abbrev pub travelBy : Float → Float → ℕ → Float
+travelBy shift speed count = add binary32 shift (mul binary32 (asFloat count) speed)
+
+-- r is below 0, or NaN; or y isn't, and r is the offset of that place
+abbrev pub PlacedOffset : Float → Float → Float → Float → Float → Type 0
+PlacedOffset y start length total r =
+    T (le zero32 r) → T (le zero32 y) × (r ≡ rem binary32 (add binary32 start (clampedOf y length)) total)
+
+-- the offsets of n samples stand in the list, by how many there were since the clip's last change
+abbrev pub Counted : Clip → ℕ → ℕ → List Float → Type 0
+Counted c from n values =
+    (k : ℕ) → k < n
+    → getD values k nan ≡ clipToDataOf c (placedOf (c .mode) (travelBy (c .shift) (c .speed) (from + k)) (c .length))
+
+-- by the time
 abbrev pub Offsets : Clip → ℕ → ℕ → List Float → Type 0
 Offsets c now n values = (k : ℕ) → k < n → getD values k nan ≡ offsetAt c (now + k)
 

@@ -2,15 +2,17 @@
 // value times its level, and they are added to the sums of their frames. A plain voice at a steady level goes straight on
 // through the recording; of any other the places are worked out first, and nothing is added where one isn't quickly told.
 ghost use mathlib.Core.Path.{_≡_};
-ghost use mathlib.Core.Bool.{true, false};
+ghost use mathlib.Core.Bool.{true, false, cond};
 ghost use Prim.Native.Nat.{ℕ, _+_, _-_, _%_, _^_, _≤_, _<_, min};
 ghost use lib.ListN.{length, getD};
-ghost use lib.Ieee.{nan, binary32, mul};
+ghost use lib.Ieee.{nan, binary32, mul, rem, neg, lt, le};
+ghost use Rattle.binary32.specs.Leaves.{zero32, OrLess};
+ghost use Rattle.clip.specs.Positions.{raisedOf, loopedOf, foldedOf, bouncedOf, wrappedOf};
 ghost use Rattle.clip.specs.Plain.{plainIndex};
 ghost use Rattle.plain_voice.specs.Hots.{beatOf};
 ghost use Rattle.pours.specs.Eases.{EasesAt, termAt, LastButOne, heardOf, movedOf, Added};
 ghost use Rattle.pours.specs.Pours.{Pours};
-ghost use Rattle.pours.specs.Steady.{SteadyAt, Stands, Offsets, Fetches, Gathers, leveled};
+ghost use Rattle.pours.specs.Steady.{SteadyAt, Stands, Offsets, Fetches, Gathers, leveled, travelBy, PlacedOffset, Counted};
 use clip::Clip;
 use clip::Mode;
 use plain_voice::Beat;
@@ -299,8 +301,109 @@ fn position_on(h: Hot, v: Voice, t: Tick, b: Beat, n: usize) -> Stood
     }
 }
 
-// Puts the offsets of n samples into the list; or says that one isn't quickly worked out.
-fn offsets(
+// ---- where it is at each of n samples
+
+// The travel of a clip so many samples after its last change, the lead of a negative speed among them.
+fn travel(shift: f32, speed: f32, count: u32) -> f32
+    requires { ⌜ count ≤ 2 ^ 24 ⌝ }
+    ensures { λ r. ⌜ r ≡ travelBy shift speed count ⌝ }
+{
+    shift + ((count as i32) as f32) * speed
+}
+
+fn size_of(x: f32) -> f32
+    ensures { λ r. ⌜ r ≡ cond (le zero32 x) x (neg x) ⌝ }
+{
+    if x >= 0.0 { x } else { -x }
+}
+
+fn raised(y: f32, length: f32) -> f32
+    ensures { λ r. ⌜ r ≡ raisedOf y length ⌝ }
+{
+    if y >= 0.0 { y } else { y + length }
+}
+
+// The place in a loop of a travel x whose size leaves y.
+fn turned(x: f32, y: f32, length: f32) -> f32
+    ensures { λ r. ⌜ r ≡ cond (le zero32 x) y (raisedOf (neg y) length) ⌝ }
+{
+    if x >= 0.0 { y } else { raised(-y, length) }
+}
+
+// The place in a loop of a travel, and that on a way there and back; a number below 0 where it isn't quickly worked out.
+fn looped(x: f32, length: f32) -> f32
+    ensures { λ r. ⌜ OrLess (loopedOf x length) r ⌝ }
+{
+    let y = binary32::rem_or_less(size_of(x), length);
+    if y >= 0.0 { turned(x, y, length) } else { y }
+}
+
+fn folded(y: f32, length: f32) -> f32
+    ensures { λ r. ⌜ r ≡ foldedOf y length ⌝ }
+{
+    if y < length {
+        y
+    } else {
+        binary32::max(2.0 * length - y - 1.0, 0.0)
+    }
+}
+
+fn bounced(x: f32, length: f32) -> f32
+    ensures { λ r. ⌜ OrLess (bouncedOf x length) r ⌝ }
+{
+    let y = binary32::rem_or_less(binary32::abs(x), 2.0 * length);
+    if y >= 0.0 { folded(y, length) } else { y }
+}
+
+fn wrapped(mode: Mode, x: f32, length: f32) -> f32
+    ensures { λ r. ⌜ OrLess (wrappedOf mode x length) r ⌝ }
+{
+    match mode {
+        Mode::Loop => looped(x, length),
+        Mode::PingPong => bounced(x, length),
+    }
+}
+
+// s % total, for an s from 0 to below twice the total; else a number below 0.
+fn once_round(s: f32, total: f32) -> f32
+    ensures { λ r. ⌜ OrLess (rem binary32 s total) r ⌝ }
+{
+    if s < total {
+        return s;
+    }
+    let t = s - total;
+    if t < total { t } else { -1.0 }
+}
+
+// The offset of a place of at least 0; else a number below 0.
+fn offset_of(y: f32, start: f32, length: f32, total: f32) -> f32
+    ensures { λ r. ⌜ PlacedOffset y start length total r ⌝ }
+{
+    let t = once_round(start + binary32::min(y, length - 1.0), total);
+    if y >= 0.0 { t } else { -1.0 }
+}
+
+// Puts the offsets of n samples into the list, from so many samples after the clip's last change on, its lead among them;
+// or says that one isn't quickly worked out.
+fn offsets_from(c: Clip, from: u32, values: &mut [f32], n: usize) -> bool
+    requires { ⌜ (from + n ≤ 2 ^ 24 + 1) × (n ≤ length (now «values»)) ⌝ }
+    ensures { λ r. ⌜ (length (now («values» .exit)) ≡ length (now («values» .entry))) × (r ≡ true → Counted c from n (now («values» .exit))) ⌝ }
+{
+    let mode = c.mode;
+    let mut told = true;
+    let mut k: usize = 0;
+    while k < n {
+        let y = wrapped(mode, travel(c.shift, c.speed, from + (k as u32)), c.length);
+        let offset = offset_of(y, c.start, c.length, c.data_length);
+        values[k] = offset;
+        told = told & (offset >= 0.0);
+        k += 1;
+    }
+    told
+}
+
+// The same of any clip at any time.
+fn offsets_any(
     c: Clip,
     time: usize,
     span: Span,
@@ -321,6 +424,33 @@ fn offsets(
         k += 1;
     }
     told
+}
+
+fn lead(speed: f32) -> u32
+    ensures { λ r. ⌜ r ≡ cond (lt speed zero32) 1 0 ⌝ }
+{
+    if speed < 0.0 { 1 } else { 0 }
+}
+
+fn offsets(
+    c: Clip,
+    time: usize,
+    span: Span,
+    speed: f32,
+    mode: Mode,
+    values: &mut [f32],
+    n: usize,
+) -> bool
+    requires { ⌜ (time ≤ 2 ^ 62) × (n ≤ 2 ^ 24) × (n ≤ length (now «values»)) ⌝ }
+    ensures { λ r. ⌜ (length (now («values» .exit)) ≡ length (now («values» .entry))) × (r ≡ true → Offsets c time n (now («values» .exit))) ⌝ }
+{
+    if c.since <= time {
+        let elapsed = time - c.since;
+        if elapsed <= LAST_WHOLE - n {
+            return offsets_from(c, (elapsed as u32) + lead(c.speed), values, n);
+        }
+    }
+    offsets_any(c, time, span, speed, mode, values, n)
 }
 
 // Puts what is recorded at each of n offsets in its place, and adds the speed as often.
