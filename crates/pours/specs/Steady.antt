@@ -41,6 +41,10 @@ unfoldable pub playedOn : Float → Float → ℕ → Float
 playedOn by played zero = played
 playedOn by played (suc k) = add binary32 (playedOn by played k) by
 
+-- none of the next n sums reaches the whole length
+abbrev pub PlaysBelow : Float → Float → Float → ℕ → Type 0
+PlaysBelow played by whole n = (k : ℕ) → k < n → le whole (absOf (playedOn by played (suc k))) ≡ false
+
 -- play-once, if it is so, doesn't end it
 abbrev pub Lasts : Tick → ℕ → Voice → Type 0
 Lasts t n v =
@@ -86,13 +90,12 @@ abbrev pub Offsets : Clip → ℕ → ℕ → List Float → Type 0
 Offsets c now n values = (k : ℕ) → k < n → getD values k nan ≡ offsetAt c (now + k)
 
 -- What fetching promises: what is recorded at the whole part of each of n offsets stands in its place, the index is that
--- of the last, and so often the pace was added to what was played; no sum reached the whole length, unless r says so.
-pub record Fetches (m : List ℕ) (played by whole : Float) (n : ℕ) (before after : List Float) (r : Fetched) : Type 0 where
+-- of the last, and so often the pace was added to what was played.
+pub record Fetches (m : List ℕ) (played by : Float) (n : ℕ) (before after : List Float) (r : Fetched) : Type 0 where
   pub size : length after ≡ length before
   pub values : (k : ℕ) → k < n → getD after k nan ≡ recordedValueOf m (asWhole 64 (getD before k nan))
   pub index : (k : ℕ) → n ≡ suc k → r .index ≡ asWhole 64 (getD before k nan)
   pub far : r .played ≡ playedOn by played n
-  pub lasts : r .over ≡ false → (k : ℕ) → k < n → le whole (absOf (playedOn by played (suc k))) ≡ false
 
 -- What gathering promises: what is recorded at each of n samples stands in the list, and the rest is what it is after
 -- them, of which none ends the voice.

@@ -12,7 +12,7 @@ ghost use Rattle.clip.specs.Plain.{plainIndex};
 ghost use Rattle.plain_voice.specs.Hots.{beatOf};
 ghost use Rattle.pours.specs.Eases.{EasesAt, termAt, LastButOne, heardOf, movedOf, Added};
 ghost use Rattle.pours.specs.Pours.{Pours};
-ghost use Rattle.pours.specs.Steady.{SteadyAt, Stands, Offsets, Fetches, Gathers, leveled, travelBy, PlacedOffset, Counted};
+ghost use Rattle.pours.specs.Steady.{SteadyAt, PlaysBelow, Lasts, Stands, Offsets, Fetches, Gathers, leveled, travelBy, PlacedOffset, Counted};
 use clip::Clip;
 use clip::Mode;
 use plain_voice::Beat;
@@ -39,11 +39,11 @@ struct Stood {
     known: bool,
 }
 
-// What fetching comes to: the last index, how far the voice has played, and whether that has reached the whole length.
+// What fetching comes to, where it is told: the last index, and how far the voice has played.
 struct Fetched {
     index: usize,
     played: f32,
-    over: bool,
+    told: bool,
 }
 
 // ---- whether a voice eases
@@ -453,52 +453,77 @@ fn offsets(
     offsets_any(c, time, span, speed, mode, values, n)
 }
 
+// ---- what it sounds
+
+// Whether a sum of what is played reaches the whole length within n samples.
+fn ends(played: f32, by: f32, whole: f32, n: usize) -> bool
+    ensures { λ r. ⌜ (r ≡ false → PlaysBelow played by whole n) ⌝ }
+{
+    let mut sum = played;
+    let mut over = false;
+    let mut k: usize = 0;
+    while k < n {
+        sum = sum + by;
+        over = over | (whole <= binary32::abs(sum));
+        k += 1;
+    }
+    over
+}
+
+// Whether play-once, if it is so, goes on for n samples.
+fn lasts(v: Voice, t: Tick, n: usize) -> bool
+    ensures { λ r. ⌜ (r ≡ true → Lasts t n v) ⌝ }
+{
+    if t.once {
+        let span = t.span;
+        return !ends(v.played, v.speed * t.speed, span.whole_length, n);
+    }
+    true
+}
+
 // Puts what is recorded at each of n offsets in its place, and adds the speed as often.
-fn fetch(data: &[u32], played: f32, by: f32, whole: f32, values: &mut [f32], n: usize) -> Fetched
+fn fetch(data: &[u32], played: f32, by: f32, values: &mut [f32], n: usize) -> Fetched
     requires { ⌜ n ≤ length (now «values») ⌝ }
-    ensures { λ r. ⌜ Fetches (now («data» .entry)) played by whole n (now («values» .entry)) (now («values» .exit)) r ⌝ }
+    ensures { λ r. ⌜ Fetches (now («data» .entry)) played by n (now («values» .entry)) (now («values» .exit)) r ⌝ }
 {
     let mut index: usize = 0;
     let mut sum = played;
-    let mut over = false;
     let mut k: usize = 0;
     while k < n {
         index = binary32::f32_to_usize(values[k]);
         values[k] = voice::recorded(data, index);
         sum = sum + by;
-        over = over | (whole <= binary32::abs(sum));
         k += 1;
     }
     Fetched {
         index,
         played: sum,
-        over,
+        told: true,
     }
 }
 
-// Puts what is recorded at each of n samples of a steady voice into the list. It is over where play-once ends it, or where
-// an offset isn't quickly worked out.
+// Puts what is recorded at each of n samples of a steady voice into the list. It isn't told where play-once ends it, or
+// where an offset isn't quickly worked out.
 fn gather(v: Voice, t: Tick, data: &[u32], values: &mut [f32], n: usize) -> Fetched
     requires { ⌜ SteadyAt t n v × (n ≤ length (now «values»)) ⌝ }
-    ensures { λ r. ⌜ (length (now («values» .exit)) ≡ length (now («values» .entry))) × (r .over ≡ false → Gathers (now («data» .entry)) t n v (now («values» .exit)) r) ⌝ }
+    ensures { λ r. ⌜ (length (now («values» .exit)) ≡ length (now («values» .entry))) × (r .told ≡ true → Gathers (now («data» .entry)) t n v (now («values» .exit)) r) ⌝ }
 {
+    let otherwise = Fetched {
+        index: 0,
+        played: 0.0,
+        told: false,
+    };
+    if !lasts(v, t, n) {
+        return otherwise;
+    }
     let clip2 = v.clip2;
     let span = t.span;
     let mode = t.mode;
     let speed = v.speed * t.speed;
     if !offsets(clip2, t.now, span, speed, mode, values, n) {
-        return Fetched {
-            index: 0,
-            played: 0.0,
-            over: true,
-        };
+        return otherwise;
     }
-    let f = fetch(data, v.played, speed, span.whole_length, values, n);
-    Fetched {
-        index: f.index,
-        played: f.played,
-        over: t.once & f.over,
-    }
+    fetch(data, v.played, speed, values, n)
 }
 
 // What the list's k-th value sounds at the volume's level then.
@@ -583,7 +608,7 @@ fn fully(
     }
     let hot = s.hot;
     let g = gather(v, t, data, values, n);
-    if g.over {
+    if !g.told {
         return otherwise;
     }
     let volume = v.volume;
