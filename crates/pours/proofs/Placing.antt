@@ -1,19 +1,24 @@
--- Where a clip is, by how many samples there were since its last change. Assumes nothing.
+-- Where a clip is, and how loud a ramp, by how many samples there were since its last change or start. Assumes nothing.
 --     looped-either    the place in a loop, by what remains of the travel's size
 --     placed-told      the offset of a place that is told
 --     travel-by        the travel at a time
-use mathlib.Core.Path.{_≡_, refl, sym, ap, _∙_}
+--     offset-by        and the offset
+--     level-by         the level at a time
+use mathlib.Core.Path.{_≡_, refl, sym, ap, ap₂, _∙_}
 use Prim.Native.Nat.{ℕ, _+_, _-_, _^_, _≤_, _<_}
 use native.Mathlib.Omega.{arith}
 use mathlib.Core.Bool.{Bool, true, false, cond}
 use lib.Dec.{T}
-use lib.Ieee.{Float, binary32, add, mul, rem, neg, lt, le}
+use lib.Ieee.{Float, binary32, add, sub, mul, rem, neg, lt, le}
 use Rattle.binary32.specs.Leaves.{zero32, OrLess, asFloat}
 use Rattle.binary32.proofs.Quotients.{rem-turned}
+use Rattle.volume.specs.declared.Volume.{Volume}
+use Rattle.volume.specs.declared.Volume.the-variants.{Static, Linear}
+use Rattle.volume.specs.Levels.{progressOf, levelOf}
 use Rattle.clip.specs.declared.Clip.{Clip}
 use Rattle.clip.specs.Positions.{elapsedAt, leadOf, travelAt, raisedOf, loopedOf, wrappedOf, clampedOf, placedOf, clipOffsetAt, clipToDataOf, offsetAt}
 use Rattle.clip.proofs.Quick.{looped-ahead, lead-added}
-use Rattle.pours.specs.Steady.{travelBy, PlacedOffset}
+use Rattle.pours.specs.Steady.{travelBy, PlacedOffset, rampBy}
 
 pub looped-either : (x length y : Float) → T (le zero32 y) → y ≡ rem binary32 (cond (le zero32 x) x (neg x)) length → cond (le zero32 x) y (raisedOf (neg y) length) ≡ loopedOf x length
 unfolding loopedOf
@@ -58,3 +63,14 @@ pub offset-by : (c : Clip) (now lead k : ℕ) → lead ≡ cond (lt (c .speed) z
     → clipToDataOf c (placedOf (c .mode) (travelBy (c .shift) (c .speed) (elapsedAt c now + lead + k)) (c .length)) ≡ offsetAt c (now + k)
 unfolding offsetAt clipOffsetAt
 offset-by c now lead k lead-is begun early = ap (λ (x : Float). clipToDataOf c (placedOf (c .mode) x (c .length))) (travel-by c now lead k lead-is begun early)
+
+-- ---- levels
+pub steady-by : (v : Volume) (x : Float) (now : ℕ) → v ≡ Static x → x ≡ levelOf v now
+unfolding levelOf
+steady-by v x now is = sym (ap (λ (z : Volume). levelOf z now) is)
+
+pub level-by : (v : Volume) (a b : ℕ) (x y over : Float) (now k : ℕ) → v ≡ Linear a b x y → over ≡ asFloat (b - a) → a ≤ now → rampBy over x (sub binary32 y x) (now - a + k) ≡ levelOf v (now + k)
+unfolding levelOf progressOf
+level-by v a b x y over now k is over-is begun =
+    ap₂ (λ (d : Float) (e : ℕ). rampBy d x (sub binary32 y x) e) over-is (omega (arith, begun))
+    ∙ sym (ap (λ (z : Volume). levelOf z (now + k)) is)

@@ -5,9 +5,9 @@ use Prim.Native.Nat.{ℕ, zero, suc, _+_, _-_, _^_, _≤_, _<_}
 use mathlib.Core.Bool.{true, false, _&&_}
 use mathlib.Core.List.{List}
 use lib.Dec.{T}
-use lib.Ieee.{Float, nan, binary32, add, mul, rem, le}
+use lib.Ieee.{Float, nan, binary32, add, mul, div, rem, le}
 use lib.ListN.{length, getD}
-use Rattle.binary32.specs.Leaves.{zero32, asFloat, asWhole, absOf}
+use Rattle.binary32.specs.Leaves.{zero32, one32, asFloat, asWhole, minOf, maxOf, absOf}
 use Rattle.volume.specs.declared.Volume.{Volume}
 use Rattle.volume.specs.Levels.{levelOf, keepsOf}
 use Rattle.clip.specs.declared.Clip.{Clip}
@@ -67,6 +67,11 @@ soundAt m c volume now = termAt m (levelOf volume now) (indexAt c now)
 -- a list's k-th value at the volume's level k samples on
 abbrev pub leveled : List Float → Volume → ℕ → ℕ → Float
 leveled values volume now k = mul binary32 (getD values k nan) (levelOf volume (now + k))
+
+-- the level of a ramp that rises so far over so many samples
+abbrev pub rampBy : Float → Float → Float → ℕ → Float
+rampBy over low rise count =
+    add binary32 low (mul binary32 rise (minOf (maxOf (div binary32 (asFloat count) over) zero32) one32))
 
 -- ---- where it is
 

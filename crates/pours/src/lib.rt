@@ -6,13 +6,13 @@ ghost use mathlib.Core.Bool.{true, false, cond};
 ghost use Prim.Native.Nat.{ℕ, _+_, _-_, _%_, _^_, _≤_, _<_, min};
 ghost use lib.ListN.{length, getD};
 ghost use lib.Ieee.{nan, binary32, mul, rem, neg, lt, le};
-ghost use Rattle.binary32.specs.Leaves.{zero32, OrLess};
+ghost use Rattle.binary32.specs.Leaves.{zero32, asFloat, OrLess};
 ghost use Rattle.clip.specs.Positions.{raisedOf, loopedOf, foldedOf, bouncedOf, wrappedOf};
 ghost use Rattle.clip.specs.Plain.{plainIndex};
 ghost use Rattle.plain_voice.specs.Hots.{beatOf};
 ghost use Rattle.pours.specs.Eases.{EasesAt, termAt, LastButOne, heardOf, movedOf, Added};
 ghost use Rattle.pours.specs.Pours.{Pours};
-ghost use Rattle.pours.specs.Steady.{SteadyAt, PlaysBelow, Lasts, Stands, Offsets, Fetches, Gathers, leveled, travelBy, PlacedOffset, Counted};
+ghost use Rattle.pours.specs.Steady.{SteadyAt, PlaysBelow, Lasts, Stands, Offsets, Fetches, Gathers, leveled, travelBy, PlacedOffset, Counted, rampBy};
 use clip::Clip;
 use clip::Mode;
 use plain_voice::Beat;
@@ -303,12 +303,20 @@ fn position_on(h: Hot, v: Voice, t: Tick, b: Beat, n: usize) -> Stood
 
 // ---- where it is at each of n samples
 
+// A small count as a float: as signed, of which the machine makes floats more quickly.
+fn float_of(count: u32) -> f32
+    requires { ⌜ count ≤ 2 ^ 24 ⌝ }
+    ensures { λ r. ⌜ r ≡ asFloat count ⌝ }
+{
+    (count as i32) as f32
+}
+
 // The travel of a clip so many samples after its last change, the lead of a negative speed among them.
 fn travel(shift: f32, speed: f32, count: u32) -> f32
     requires { ⌜ count ≤ 2 ^ 24 ⌝ }
     ensures { λ r. ⌜ r ≡ travelBy shift speed count ⌝ }
 {
-    shift + ((count as i32) as f32) * speed
+    shift + float_of(count) * speed
 }
 
 fn size_of(x: f32) -> f32
@@ -569,14 +577,49 @@ fn add_levels(values: &[f32], volume: Volume, time: usize, sums: &mut [f32], n: 
     }
 }
 
+// The level of a ramp that rises from `low` by `rise` over so many samples.
+fn ramp_level(count: u32, over: f32, low: f32, rise: f32) -> f32
+    requires { ⌜ count ≤ 2 ^ 24 ⌝ }
+    ensures { λ r. ⌜ r ≡ rampBy over low rise count ⌝ }
+{
+    low + rise * binary32::min(binary32::max(float_of(count) / over, 0.0), 1.0)
+}
+
+// Adds n values at the levels of such a ramp to the first n sums.
+fn add_ramp(values: &[f32], from: u32, over: f32, low: f32, rise: f32, sums: &mut [f32], n: usize)
+    requires { ⌜ (from + n ≤ 2 ^ 24) × (n ≤ length (now «values»)) × (n ≤ length (now «sums»)) ⌝ }
+    ensures { λ _. ⌜ Added (λ (k : ℕ). mul binary32 (getD (now («values» .entry)) k nan) (rampBy over low rise (from + k))) 0 n (now («sums» .entry)) (now («sums» .exit)) ⌝ }
+{
+    let mut k: usize = 0;
+    while k < n {
+        sums[k] = sums[k] + values[k] * ramp_level(from + (k as u32), over, low, rise);
+        k += 1;
+    }
+}
+
 fn add_at(values: &[f32], volume: Volume, time: usize, sums: &mut [f32], n: usize)
     requires { ⌜ (time ≤ 2 ^ 62) × (n ≤ 2 ^ 24) × (n ≤ length (now «values»)) × (n ≤ length (now «sums»)) ⌝ }
     ensures { λ _. ⌜ Added (leveled (now («values» .entry)) volume time) 0 n (now («sums» .entry)) (now («sums» .exit)) ⌝ }
 {
-    if volume.is_static() {
-        add_all(values, volume.level(time), sums, n);
-    } else {
-        add_levels(values, volume, time, sums, n);
+    match volume {
+        Volume::Static(level) => add_all(values, level, sums, n),
+        Volume::Linear {
+            time_start,
+            time_end,
+            value_start,
+            value_end,
+        } => {
+            if time_start <= time {
+                let elapsed = time - time_start;
+                if elapsed <= LAST_WHOLE - n {
+                    let over = binary32::usize_to_f32(volume::since(time_start, time_end));
+                    let rise = value_end - value_start;
+                    add_ramp(values, elapsed as u32, over, value_start, rise, sums, n);
+                    return;
+                }
+            }
+            add_levels(values, volume, time, sums, n);
+        }
     }
 }
 

@@ -1,24 +1,15 @@
--- `travel` meets its contract: a small count is the same number as signed. Assumes nothing.
-use mathlib.Core.Path.{sym, ap, subst}
-use native.Mathlib.Omega.{arith}
-use lib.Dec.{T}
-use lib.IntN.{ℤ}
-use lib.Ieee.{binary32, add, mul, ofInt, inFloat}
-use mir.Syntax.{w32}
-use mir.ValLaws.{toZ-pos}
-use Rattle.binary32.proofs.Halves.{castable}
+-- `travel` meets its contract. Assumes nothing.
+use mathlib.Core.Path.{ap}
+use lib.Ieee.{Float, binary32, add, mul}
 use borrow.Author.Needs.{needs}
 use Rattle.pours.proofs.travel.Statement.{statement}
 use Rattle.pours.proofs.travel.Tie as tie
 
-cast-result : tie.Need-cast-result
-cast-result c = search needs
-
-int-to-float-result : tie.Need-int-to-float-result
-int-to-float-result c = subst (λ (z : ℤ). T (inFloat binary32 z)) (sym (toZ-pos w32 _ (omega (arith, c .before .pre)))) (castable binary32 _ (c .before .pre))
+float-of-requires : tie.Need-float-of-requires
+float-of-requires c κs = search needs
 
 returns : tie.Need-returns
-returns c = let a = c .before .args in ap (λ (z : ℤ). add binary32 (a .shift) (mul binary32 (ofInt binary32 z) (a .speed))) (toZ-pos w32 (a .count) (omega (arith, c .before .pre)))
+returns c = let a = c .before .args in ap (λ (x : Float). add binary32 (a .shift) (mul binary32 x (a .speed))) (c .float-of .ensures)
 
 pub travel-spec : {M : Type 1} → statement M
-travel-spec = tie.close (tie.spec cast-result int-to-float-result returns)
+travel-spec = tie.close (tie.spec float-of-requires returns)
