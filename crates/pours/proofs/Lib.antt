@@ -1,5 +1,6 @@
 pub mod Added
 pub mod Filling
+pub mod Placing
 pub mod Straight
 pub mod Turns
 pub mod Easing

@@ -191,21 +191,16 @@ unfolding indexAt
 whole-index c now = sym (floor-cast 64 (offsetAt c now) (offset-fits c now))
 
 module _ (m : List ℕ) (t : Tick) (n : ℕ) (v : Voice) where
-  pub gathered : (before after : List Float) (f : Fetched) (over : Bool) → 1 ≤ n → Offsets (v .clip2) (t .now) n before → Fetches m (v .played) (paceOf t v) (t .span .«whole_length») n before after f
-      → (t .once && f .over) ≡ false → Gathers m t n v after (record { index = f .index; played = f .played; over = over })
-  gathered before after f over some o F clear = record {
+  pub gathered : (before after : List Float) (f : Fetched) → 1 ≤ n → Lasts t n v → Offsets (v .clip2) (t .now) n before → Fetches m (v .played) (paceOf t v) n before after f → Gathers m t n v after f
+  gathered before after f some lasts o F = record {
     recorded = λ k h. F .values k h ∙ ap (recordedValueOf m) (at k h);
     index = F .index (n - 1) (omega (arith, some)) ∙ at (n - 1) (omega (arith, some));
     far = F .far;
-    lasts = λ k h. go (t .once) (f .over) _ clear (λ e. F .lasts e k h);
+    lasts = lasts;
   }
     where
       at : (k : ℕ) → k < n → asWhole 64 (getD before k nan) ≡ indexAt (v .clip2) (t .now + k)
       at k h = ap (asWhole 64) (o k h) ∙ whole-index (v .clip2) (t .now + k)
-
-      go : (once over r : Bool) → (once && over) ≡ false → (over ≡ false → r ≡ false) → (once && r) ≡ false
-      go false over r h is = refl
-      go true over r h is = is h
 
   pub sounds : (values : List Float) (g : Fetched) → Gathers m t n v values g → (k : ℕ) → k < n → leveled values (v .volume) (t .now) k ≡ soundAt m (v .clip2) (v .volume) (t .now + k)
   sounds values g G k h = ap (λ (x : Float). mul binary32 x (levelOf (v .volume) (t .now + k))) (G .recorded k h)

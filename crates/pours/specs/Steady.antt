@@ -4,13 +4,14 @@ use mathlib.Core.Path.{_≡_}
 use Prim.Native.Nat.{ℕ, zero, suc, _+_, _-_, _^_, _≤_, _<_}
 use mathlib.Core.Bool.{true, false, _&&_}
 use mathlib.Core.List.{List}
-use lib.Ieee.{Float, nan, binary32, add, mul, le}
+use lib.Dec.{T}
+use lib.Ieee.{Float, nan, binary32, add, mul, div, rem, le}
 use lib.ListN.{length, getD}
-use Rattle.binary32.specs.Leaves.{asWhole, absOf}
+use Rattle.binary32.specs.Leaves.{zero32, one32, asFloat, asWhole, minOf, maxOf, absOf}
 use Rattle.volume.specs.declared.Volume.{Volume}
 use Rattle.volume.specs.Levels.{levelOf, keepsOf}
 use Rattle.clip.specs.declared.Clip.{Clip}
-use Rattle.clip.specs.Positions.{indexAt, offsetAt}
+use Rattle.clip.specs.Positions.{clampedOf, placedOf, clipToDataOf, indexAt, offsetAt}
 use Rattle.clip.specs.Updates.{sameAll}
 use Rattle.voice.specs.declared.Voice.{Voice}
 use Rattle.voice.specs.declared.Tick.{Tick}
@@ -40,6 +41,10 @@ unfoldable pub playedOn : Float → Float → ℕ → Float
 playedOn by played zero = played
 playedOn by played (suc k) = add binary32 (playedOn by played k) by
 
+-- none of the next n sums reaches the whole length
+abbrev pub PlaysBelow : Float → Float → Float → ℕ → Type 0
+PlaysBelow played by whole n = (k : ℕ) → k < n → le whole (absOf (playedOn by played (suc k))) ≡ false
+
 -- play-once, if it is so, doesn't end it
 abbrev pub Lasts : Tick → ℕ → Voice → Type 0
 Lasts t n v =
@@ -63,18 +68,39 @@ soundAt m c volume now = termAt m (levelOf volume now) (indexAt c now)
 abbrev pub leveled : List Float → Volume → ℕ → ℕ → Float
 leveled values volume now k = mul binary32 (getD values k nan) (levelOf volume (now + k))
 
--- the offsets of n samples stand in the list
+-- the level of a ramp that rises so far over so many samples
+abbrev pub rampBy : Float → Float → Float → ℕ → Float
+rampBy over low rise count =
+    add binary32 low (mul binary32 rise (minOf (maxOf (div binary32 (asFloat count) over) zero32) one32))
+
+-- ---- where it is
+
+-- x = shift + count * speed
+abbrev pub travelBy : Float → Float → ℕ → Float
+travelBy shift speed count = add binary32 shift (mul binary32 (asFloat count) speed)
+
+-- r is below 0, or NaN; or y isn't, and r is the offset of that place
+abbrev pub PlacedOffset : Float → Float → Float → Float → Float → Type 0
+PlacedOffset y start length total r =
+    T (le zero32 r) → T (le zero32 y) × (r ≡ rem binary32 (add binary32 start (clampedOf y length)) total)
+
+-- the offsets of n samples stand in the list, by how many there were since the clip's last change
+abbrev pub Counted : Clip → ℕ → ℕ → List Float → Type 0
+Counted c from n values =
+    (k : ℕ) → k < n
+    → getD values k nan ≡ clipToDataOf c (placedOf (c .mode) (travelBy (c .shift) (c .speed) (from + k)) (c .length))
+
+-- by the time
 abbrev pub Offsets : Clip → ℕ → ℕ → List Float → Type 0
 Offsets c now n values = (k : ℕ) → k < n → getD values k nan ≡ offsetAt c (now + k)
 
 -- What fetching promises: what is recorded at the whole part of each of n offsets stands in its place, the index is that
--- of the last, and so often the pace was added to what was played; no sum reached the whole length, unless r says so.
-pub record Fetches (m : List ℕ) (played by whole : Float) (n : ℕ) (before after : List Float) (r : Fetched) : Type 0 where
+-- of the last, and so often the pace was added to what was played.
+pub record Fetches (m : List ℕ) (played by : Float) (n : ℕ) (before after : List Float) (r : Fetched) : Type 0 where
   pub size : length after ≡ length before
   pub values : (k : ℕ) → k < n → getD after k nan ≡ recordedValueOf m (asWhole 64 (getD before k nan))
   pub index : (k : ℕ) → n ≡ suc k → r .index ≡ asWhole 64 (getD before k nan)
   pub far : r .played ≡ playedOn by played n
-  pub lasts : r .over ≡ false → (k : ℕ) → k < n → le whole (absOf (playedOn by played (suc k))) ≡ false
 
 -- What gathering promises: what is recorded at each of n samples stands in the list, and the rest is what it is after
 -- them, of which none ends the voice.

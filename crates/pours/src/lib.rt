@@ -2,15 +2,17 @@
 // value times its level, and they are added to the sums of their frames. A plain voice at a steady level goes straight on
 // through the recording; of any other the places are worked out first, and nothing is added where one isn't quickly told.
 ghost use mathlib.Core.Path.{_≡_};
-ghost use mathlib.Core.Bool.{true, false};
+ghost use mathlib.Core.Bool.{true, false, cond};
 ghost use Prim.Native.Nat.{ℕ, _+_, _-_, _%_, _^_, _≤_, _<_, min};
 ghost use lib.ListN.{length, getD};
-ghost use lib.Ieee.{nan, binary32, mul};
+ghost use lib.Ieee.{nan, binary32, mul, rem, neg, lt, le};
+ghost use Rattle.binary32.specs.Leaves.{zero32, asFloat, OrLess};
+ghost use Rattle.clip.specs.Positions.{raisedOf, loopedOf, foldedOf, bouncedOf, wrappedOf};
 ghost use Rattle.clip.specs.Plain.{plainIndex};
 ghost use Rattle.plain_voice.specs.Hots.{beatOf};
 ghost use Rattle.pours.specs.Eases.{EasesAt, termAt, LastButOne, heardOf, movedOf, Added};
 ghost use Rattle.pours.specs.Pours.{Pours};
-ghost use Rattle.pours.specs.Steady.{SteadyAt, Stands, Offsets, Fetches, Gathers, leveled};
+ghost use Rattle.pours.specs.Steady.{SteadyAt, PlaysBelow, Lasts, Stands, Offsets, Fetches, Gathers, leveled, travelBy, PlacedOffset, Counted, rampBy};
 use clip::Clip;
 use clip::Mode;
 use plain_voice::Beat;
@@ -37,11 +39,11 @@ struct Stood {
     known: bool,
 }
 
-// What fetching comes to: the last index, how far the voice has played, and whether that has reached the whole length.
+// What fetching comes to, where it is told: the last index, and how far the voice has played.
 struct Fetched {
     index: usize,
     played: f32,
-    over: bool,
+    told: bool,
 }
 
 // ---- whether a voice eases
@@ -299,8 +301,117 @@ fn position_on(h: Hot, v: Voice, t: Tick, b: Beat, n: usize) -> Stood
     }
 }
 
-// Puts the offsets of n samples into the list; or says that one isn't quickly worked out.
-fn offsets(
+// ---- where it is at each of n samples
+
+// A small count as a float: as signed, of which the machine makes floats more quickly.
+fn float_of(count: u32) -> f32
+    requires { ⌜ count ≤ 2 ^ 24 ⌝ }
+    ensures { λ r. ⌜ r ≡ asFloat count ⌝ }
+{
+    (count as i32) as f32
+}
+
+// The travel of a clip so many samples after its last change, the lead of a negative speed among them.
+fn travel(shift: f32, speed: f32, count: u32) -> f32
+    requires { ⌜ count ≤ 2 ^ 24 ⌝ }
+    ensures { λ r. ⌜ r ≡ travelBy shift speed count ⌝ }
+{
+    shift + float_of(count) * speed
+}
+
+fn size_of(x: f32) -> f32
+    ensures { λ r. ⌜ r ≡ cond (le zero32 x) x (neg x) ⌝ }
+{
+    if x >= 0.0 { x } else { -x }
+}
+
+fn raised(y: f32, length: f32) -> f32
+    ensures { λ r. ⌜ r ≡ raisedOf y length ⌝ }
+{
+    if y >= 0.0 { y } else { y + length }
+}
+
+// The place in a loop of a travel x whose size leaves y.
+fn turned(x: f32, y: f32, length: f32) -> f32
+    ensures { λ r. ⌜ r ≡ cond (le zero32 x) y (raisedOf (neg y) length) ⌝ }
+{
+    if x >= 0.0 { y } else { raised(-y, length) }
+}
+
+// The place in a loop of a travel, and that on a way there and back; a number below 0 where it isn't quickly worked out.
+fn looped(x: f32, length: f32) -> f32
+    ensures { λ r. ⌜ OrLess (loopedOf x length) r ⌝ }
+{
+    let y = binary32::rem_or_less(size_of(x), length);
+    if y >= 0.0 { turned(x, y, length) } else { y }
+}
+
+fn folded(y: f32, length: f32) -> f32
+    ensures { λ r. ⌜ r ≡ foldedOf y length ⌝ }
+{
+    if y < length {
+        y
+    } else {
+        binary32::max(2.0 * length - y - 1.0, 0.0)
+    }
+}
+
+fn bounced(x: f32, length: f32) -> f32
+    ensures { λ r. ⌜ OrLess (bouncedOf x length) r ⌝ }
+{
+    let y = binary32::rem_or_less(binary32::abs(x), 2.0 * length);
+    if y >= 0.0 { folded(y, length) } else { y }
+}
+
+fn wrapped(mode: Mode, x: f32, length: f32) -> f32
+    ensures { λ r. ⌜ OrLess (wrappedOf mode x length) r ⌝ }
+{
+    match mode {
+        Mode::Loop => looped(x, length),
+        Mode::PingPong => bounced(x, length),
+    }
+}
+
+// s % total, for an s from 0 to below twice the total; else a number below 0.
+fn once_round(s: f32, total: f32) -> f32
+    ensures { λ r. ⌜ OrLess (rem binary32 s total) r ⌝ }
+{
+    if s < total {
+        return s;
+    }
+    let t = s - total;
+    if t < total { t } else { -1.0 }
+}
+
+// The offset of a place of at least 0; else a number below 0.
+fn offset_of(y: f32, start: f32, length: f32, total: f32) -> f32
+    ensures { λ r. ⌜ PlacedOffset y start length total r ⌝ }
+{
+    let t = once_round(start + binary32::min(y, length - 1.0), total);
+    if y >= 0.0 { t } else { -1.0 }
+}
+
+// Puts the offsets of n samples into the list, from so many samples after the clip's last change on, its lead among them;
+// or says that one isn't quickly worked out.
+fn offsets_from(c: Clip, from: u32, values: &mut [f32], n: usize) -> bool
+    requires { ⌜ (from + n ≤ 2 ^ 24 + 1) × (n ≤ length (now «values»)) ⌝ }
+    ensures { λ r. ⌜ (length (now («values» .exit)) ≡ length (now («values» .entry))) × (r ≡ true → Counted c from n (now («values» .exit))) ⌝ }
+{
+    let mode = c.mode;
+    let mut told = true;
+    let mut k: usize = 0;
+    while k < n {
+        let y = wrapped(mode, travel(c.shift, c.speed, from + (k as u32)), c.length);
+        let offset = offset_of(y, c.start, c.length, c.data_length);
+        values[k] = offset;
+        told = told & (offset >= 0.0);
+        k += 1;
+    }
+    told
+}
+
+// The same of any clip at any time.
+fn offsets_any(
     c: Clip,
     time: usize,
     span: Span,
@@ -323,52 +434,104 @@ fn offsets(
     told
 }
 
+fn lead(speed: f32) -> u32
+    ensures { λ r. ⌜ r ≡ cond (lt speed zero32) 1 0 ⌝ }
+{
+    if speed < 0.0 { 1 } else { 0 }
+}
+
+fn offsets(
+    c: Clip,
+    time: usize,
+    span: Span,
+    speed: f32,
+    mode: Mode,
+    values: &mut [f32],
+    n: usize,
+) -> bool
+    requires { ⌜ (time ≤ 2 ^ 62) × (n ≤ 2 ^ 24) × (n ≤ length (now «values»)) ⌝ }
+    ensures { λ r. ⌜ (length (now («values» .exit)) ≡ length (now («values» .entry))) × (r ≡ true → Offsets c time n (now («values» .exit))) ⌝ }
+{
+    if c.since <= time {
+        let elapsed = time - c.since;
+        if elapsed <= LAST_WHOLE - n {
+            return offsets_from(c, (elapsed as u32) + lead(c.speed), values, n);
+        }
+    }
+    offsets_any(c, time, span, speed, mode, values, n)
+}
+
+// ---- what it sounds
+
+// Whether a sum of what is played reaches the whole length within n samples.
+fn ends(played: f32, by: f32, whole: f32, n: usize) -> bool
+    ensures { λ r. ⌜ (r ≡ false → PlaysBelow played by whole n) ⌝ }
+{
+    let mut sum = played;
+    let mut over = false;
+    let mut k: usize = 0;
+    while k < n {
+        sum = sum + by;
+        over = over | (whole <= binary32::abs(sum));
+        k += 1;
+    }
+    over
+}
+
+// Whether play-once, if it is so, goes on for n samples.
+fn lasts(v: Voice, t: Tick, n: usize) -> bool
+    ensures { λ r. ⌜ (r ≡ true → Lasts t n v) ⌝ }
+{
+    if t.once {
+        let span = t.span;
+        return !ends(v.played, v.speed * t.speed, span.whole_length, n);
+    }
+    true
+}
+
 // Puts what is recorded at each of n offsets in its place, and adds the speed as often.
-fn fetch(data: &[u32], played: f32, by: f32, whole: f32, values: &mut [f32], n: usize) -> Fetched
+fn fetch(data: &[u32], played: f32, by: f32, values: &mut [f32], n: usize) -> Fetched
     requires { ⌜ n ≤ length (now «values») ⌝ }
-    ensures { λ r. ⌜ Fetches (now («data» .entry)) played by whole n (now («values» .entry)) (now («values» .exit)) r ⌝ }
+    ensures { λ r. ⌜ Fetches (now («data» .entry)) played by n (now («values» .entry)) (now («values» .exit)) r ⌝ }
 {
     let mut index: usize = 0;
     let mut sum = played;
-    let mut over = false;
     let mut k: usize = 0;
     while k < n {
         index = binary32::f32_to_usize(values[k]);
         values[k] = voice::recorded(data, index);
         sum = sum + by;
-        over = over | (whole <= binary32::abs(sum));
         k += 1;
     }
     Fetched {
         index,
         played: sum,
-        over,
+        told: true,
     }
 }
 
-// Puts what is recorded at each of n samples of a steady voice into the list. It is over where play-once ends it, or where
-// an offset isn't quickly worked out.
+// Puts what is recorded at each of n samples of a steady voice into the list. It isn't told where play-once ends it, or
+// where an offset isn't quickly worked out.
 fn gather(v: Voice, t: Tick, data: &[u32], values: &mut [f32], n: usize) -> Fetched
     requires { ⌜ SteadyAt t n v × (n ≤ length (now «values»)) ⌝ }
-    ensures { λ r. ⌜ (length (now («values» .exit)) ≡ length (now («values» .entry))) × (r .over ≡ false → Gathers (now («data» .entry)) t n v (now («values» .exit)) r) ⌝ }
+    ensures { λ r. ⌜ (length (now («values» .exit)) ≡ length (now («values» .entry))) × (r .told ≡ true → Gathers (now («data» .entry)) t n v (now («values» .exit)) r) ⌝ }
 {
+    let otherwise = Fetched {
+        index: 0,
+        played: 0.0,
+        told: false,
+    };
+    if !lasts(v, t, n) {
+        return otherwise;
+    }
     let clip2 = v.clip2;
     let span = t.span;
     let mode = t.mode;
     let speed = v.speed * t.speed;
     if !offsets(clip2, t.now, span, speed, mode, values, n) {
-        return Fetched {
-            index: 0,
-            played: 0.0,
-            over: true,
-        };
+        return otherwise;
     }
-    let f = fetch(data, v.played, speed, span.whole_length, values, n);
-    Fetched {
-        index: f.index,
-        played: f.played,
-        over: t.once & f.over,
-    }
+    fetch(data, v.played, speed, values, n)
 }
 
 // What the list's k-th value sounds at the volume's level then.
@@ -414,14 +577,49 @@ fn add_levels(values: &[f32], volume: Volume, time: usize, sums: &mut [f32], n: 
     }
 }
 
+// The level of a ramp that rises from `low` by `rise` over so many samples.
+fn ramp_level(count: u32, over: f32, low: f32, rise: f32) -> f32
+    requires { ⌜ count ≤ 2 ^ 24 ⌝ }
+    ensures { λ r. ⌜ r ≡ rampBy over low rise count ⌝ }
+{
+    low + rise * binary32::min(binary32::max(float_of(count) / over, 0.0), 1.0)
+}
+
+// Adds n values at the levels of such a ramp to the first n sums.
+fn add_ramp(values: &[f32], from: u32, over: f32, low: f32, rise: f32, sums: &mut [f32], n: usize)
+    requires { ⌜ (from + n ≤ 2 ^ 24) × (n ≤ length (now «values»)) × (n ≤ length (now «sums»)) ⌝ }
+    ensures { λ _. ⌜ Added (λ (k : ℕ). mul binary32 (getD (now («values» .entry)) k nan) (rampBy over low rise (from + k))) 0 n (now («sums» .entry)) (now («sums» .exit)) ⌝ }
+{
+    let mut k: usize = 0;
+    while k < n {
+        sums[k] = sums[k] + values[k] * ramp_level(from + (k as u32), over, low, rise);
+        k += 1;
+    }
+}
+
 fn add_at(values: &[f32], volume: Volume, time: usize, sums: &mut [f32], n: usize)
     requires { ⌜ (time ≤ 2 ^ 62) × (n ≤ 2 ^ 24) × (n ≤ length (now «values»)) × (n ≤ length (now «sums»)) ⌝ }
     ensures { λ _. ⌜ Added (leveled (now («values» .entry)) volume time) 0 n (now («sums» .entry)) (now («sums» .exit)) ⌝ }
 {
-    if volume.is_static() {
-        add_all(values, volume.level(time), sums, n);
-    } else {
-        add_levels(values, volume, time, sums, n);
+    match volume {
+        Volume::Static(level) => add_all(values, level, sums, n),
+        Volume::Linear {
+            time_start,
+            time_end,
+            value_start,
+            value_end,
+        } => {
+            if time_start <= time {
+                let elapsed = time - time_start;
+                if elapsed <= LAST_WHOLE - n {
+                    let over = binary32::usize_to_f32(volume::since(time_start, time_end));
+                    let rise = value_end - value_start;
+                    add_ramp(values, elapsed as u32, over, value_start, rise, sums, n);
+                    return;
+                }
+            }
+            add_levels(values, volume, time, sums, n);
+        }
     }
 }
 
@@ -453,7 +651,7 @@ fn fully(
     }
     let hot = s.hot;
     let g = gather(v, t, data, values, n);
-    if g.over {
+    if !g.told {
         return otherwise;
     }
     let volume = v.volume;

@@ -1,5 +1,6 @@
 -- `fetch` meets its contract. The invariant: so many are fetched, and the rest stands. The measure is how many are left. Assumes nothing.
 use mathlib.Core.Path.{_≡_, refl, subst}
+use mathlib.Core.Bool.{true}
 use Prim.Native.Nat.{ℕ, _-_, _≤_, _<_, zero-le}
 use native.Mathlib.Omega.{arith}
 use lib.Ieee.{nan}
@@ -11,15 +12,15 @@ use Rattle.pours.proofs.fetch.Statement.{statement}
 use Rattle.pours.proofs.fetch.Tie as tie
 
 abbrev Inv-loop : tie.InvT-loop
-Inv-loop «data» played by whole values₀ n index₀ sum₀ over₀ k₀ values index sum over k = (k ≤ n) × Fetches «data» played by whole k values₀ values (record { index = index; played = sum; over = over }) × ((j : ℕ) → k ≤ j → getD values j nan ≡ getD values₀ j nan)
+Inv-loop «data» played by values₀ n index₀ sum₀ k₀ values index sum k = (k ≤ n) × Fetches «data» played by k values₀ values (record { index = index; played = sum; told = true }) × ((j : ℕ) → k ≤ j → getD values j nan ≡ getD values₀ j nan)
 
 abbrev μ-loop : tie.MeasureT-loop
-μ-loop «data» played by whole values₀ n index₀ sum₀ over₀ k₀ values index sum over k = n - k
+μ-loop «data» played by values₀ n index₀ sum₀ k₀ values index sum k = n - k
 
 loop-holds : tie.Need-loop-holds Inv-loop μ-loop
 loop-holds c =
     let a = c .before .before .args in
-    (zero-le, nothing (a .«data» .now) (a .played) (a .by) (a .whole) (a .values .now), λ j h. refl)
+    (zero-le, nothing (a .«data» .now) (a .played) (a .by) (a .values .now), λ j h. refl)
 
 mul-f32-to-usize : tie.Need-mul-f32-to-usize Inv-loop μ-loop
 mul-f32-to-usize c = search needs
@@ -39,9 +40,6 @@ mul-values c = search needs
 slice-write-values : tie.Need-slice-write-values Inv-loop μ-loop
 slice-write-values c = search needs
 
-abs-requires : tie.Need-abs-requires Inv-loop μ-loop
-abs-requires c κs = search needs
-
 add-k : tie.Need-add-k Inv-loop μ-loop
 add-k c = search needs
 
@@ -50,14 +48,14 @@ loop-less c = search needs
 
 loop-again : tie.Need-loop-again Inv-loop μ-loop
 loop-again c =
-    let s = c .before .before .before .before .before .before .before .before in
+    let s = c .before .before .before .before .before .before .before in
     let a = s .args in
-    let l = c .before .before .before .before .before .loop in
-    let below : l .k < a .n = c .before .before .before .before .loop-test .taken in
+    let l = c .before .before .before .before .loop in
+    let below : l .k < a .n = c .before .before .before .loop-test .taken in
     let room : l .k < length (a .values .now) = omega (arith, below, s .pre) in (
       omega (arith, below),
-      one-more (a .«data» .now) (a .played) (a .by) (a .whole) (a .values .now) (l .k) (l .values) _ (l .inv .1) room (l .inv .2) _ _ _ (c .before .before .f32-to-usize .ensures) (c .before .recorded .ensures) (c .abs .ensures),
-      left (a .«data» .now) (a .played) (a .by) (a .whole) (a .values .now) (l .k) (l .values) _ (l .inv .1) room (l .inv .2) _,
+      one-more (a .«data» .now) (a .played) (a .by) (a .values .now) (l .k) (l .values) _ (l .inv .1) room (l .inv .2) _ _ (c .before .f32-to-usize .ensures) (c .recorded .ensures),
+      left (a .«data» .now) (a .played) (a .by) (a .values .now) (l .k) (l .values) _ (l .inv .1) room (l .inv .2) _,
     )
 
 same-length : tie.Need-same-length Inv-loop μ-loop
@@ -67,7 +65,7 @@ returns : tie.Need-returns Inv-loop μ-loop
 returns c =
     let a = c .before .before .before .before .args in
     let l = c .before .loop in
-    subst (λ (k : ℕ). Fetches (a .«data» .now) (a .played) (a .by) (a .whole) k (a .values .now) (l .values) (record { index = l .index; played = l .sum; over = l .over })) (omega (arith, l .inv .0, c .loop-test .left)) (l .inv .1)
+    subst (λ (k : ℕ). Fetches (a .«data» .now) (a .played) (a .by) k (a .values .now) (l .values) (record { index = l .index; played = l .sum; told = true })) (omega (arith, l .inv .0, c .loop-test .left)) (l .inv .1)
 
 pub fetch-spec : {M : Type 1} → statement M
 fetch-spec =
@@ -82,7 +80,6 @@ fetch-spec =
     recorded-requires
     mul-values
     slice-write-values
-    abs-requires
     add-k
     loop-less
     loop-again

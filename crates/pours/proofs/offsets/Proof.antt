@@ -1,84 +1,61 @@
--- `offsets` meets its contract. The invariant: so many offsets stand, if each was told. The measure is how many are left. Assumes nothing.
-use mathlib.Core.Path.{_≡_, refl, _∙_}
-use Prim.Native.Nat.{ℕ, _+_, _-_, _≤_, _<_, zero-le}
+-- `offsets` meets its contract: few samples after the clip's last change by how many they are, else as the clip tells. Assumes nothing.
+use mathlib.Core.Path.{_∙_}
+use Prim.Native.Nat.{_+_, _-_, _^_, _≤_}
 use native.Mathlib.Omega.{arith}
-use mathlib.Core.Bool.{true}
-use lib.Dec.{ltb, ltb→lt}
-use lib.Ieee.Bits.{is-true}
-use lib.Ieee.Fits.{and-l, and-r}
-use lib.ListN.{length, length-set}
-use Rattle.binary32.proofs.Truth.{yes}
-use Rattle.clip.specs.Positions.{offsetAt}
-use Rattle.clip.specs.Quick.{noIndex}
+use Rattle.pours.proofs.Placing.{lead-few, offset-by}
 use borrow.Author.Needs.{needs}
-use Rattle.pours.specs.Steady.{Offsets}
-use Rattle.pours.proofs.Filling.{filled}
 use Rattle.pours.proofs.offsets.Statement.{statement}
 use Rattle.pours.proofs.offsets.Tie as tie
 
-abbrev Inv-loop : tie.InvT-loop
-Inv-loop c time span speed mode values₀ n told₀ k₀ values told k = (k ≤ n) × (length values ≡ length values₀) × (told ≡ true → Offsets c time k values)
+sub-if2 : tie.Need-sub-if2
+sub-if2 c = search needs
 
-abbrev μ-loop : tie.MeasureT-loop
-μ-loop c time span speed mode values₀ n told₀ k₀ values told k = n - k
+cast-offsets-from : tie.Need-cast-offsets-from
+cast-offsets-from c = search needs
 
-loop-holds : tie.Need-loop-holds Inv-loop μ-loop
-loop-holds c = (zero-le, refl, λ told k h. absurd (omega (arith, h)))
+lead-requires : tie.Need-lead-requires
+lead-requires c κs = search needs
 
-add-quick-index : tie.Need-add-quick-index Inv-loop μ-loop
-add-quick-index c = search needs
+-- past the tests the samples are few, and its lead is one of them at most
+few : (c : tie.After-lead) → let s = c .before .before .before .before .before .before in (s .args .time - s .args .c .since + s .args .n ≤ 2 ^ 24) × (c .lead .result ≤ 1)
+few c = (omega (arith, c .before .if2 .taken, c .before .before .before .before .before .before .pre .1), lead-few _ (c .lead .ensures))
 
-quick-index-requires : tie.Need-quick-index-requires Inv-loop μ-loop
-quick-index-requires c κs = search needs
+add-offsets-from : tie.Need-add-offsets-from
+add-offsets-from c = let f = few c in record { fits = omega (arith, f .0, f .1) }
 
-mul-values : tie.Need-mul-values Inv-loop μ-loop
-mul-values c = search needs
+offsets-from-requires : tie.Need-offsets-from-requires
+offsets-from-requires c κs = let f = few (c .before) in (omega (arith, f .0, f .1), c .before .before .before .before .before .before .before .pre .2)
 
-slice-write-values : tie.Need-slice-write-values Inv-loop μ-loop
-slice-write-values c = search needs
-
-add-k : tie.Need-add-k Inv-loop μ-loop
-add-k c = search needs
-
-loop-less : tie.Need-loop-less Inv-loop μ-loop
-loop-less c = search needs
-
-loop-again : tie.Need-loop-again Inv-loop μ-loop
-loop-again c =
-    let s = c .before .before .before .before .before in
-    let a = s .args in
-    let l = c .before .before .before .loop in
-    let near = c .before .quick-index .result in
-    let below : l .k < a .n = c .before .before .loop-test .taken in (
-      omega (arith, below),
-      length-set (l .values) (l .k) (near .offset) ∙ l .inv .1,
-      λ told.
-          let told₀ = and-l (l .told) (ltb (near .index) noIndex) (yes told) in
-          let some = ltb→lt _ _ (and-r (l .told) (ltb (near .index) noIndex) (yes told)) in
-          filled (λ (j : ℕ). offsetAt (a .c) (a .time + j)) (l .k) (l .values) (near .offset) (omega (arith, below, s .pre .2, l .inv .1)) (c .before .quick-index .ensures some .2) (l .inv .2 (is-true (l .told) told₀)),
-    )
-
-same-length : tie.Need-same-length Inv-loop μ-loop
+same-length : tie.Need-same-length
 same-length c = search needs
 
-returns : tie.Need-returns Inv-loop μ-loop
+returns : tie.Need-returns
 returns c =
-    let l = c .before .loop in
-    (l .inv .1, λ told k h. l .inv .2 told k (omega (arith, h, c .loop-test .left)))
+    let a = c .before .before .before .before .before .before .before .before .before .before .args in
+    let o = c .before .before .offsets-from .ensures in
+    let l = c .before .before .before .before in
+    (o .0, λ told k h. o .1 told k h ∙ offset-by (a .c) (a .time) (l .lead .result) k (l .lead .ensures) (l .before .before .before .if1 .taken) (omega (arith, few l .0, h)))
+
+offsets-any-requires : tie.Need-offsets-any-requires
+offsets-any-requires c κs = search needs
+
+same-length-2 : tie.Need-same-length-2
+same-length-2 c = search needs
+
+returns-2 : tie.Need-returns-2
+returns-2 c = search needs
 
 pub offsets-spec : {M : Type 1} → statement M
 offsets-spec =
     tie.close
     (tie.spec
-    Inv-loop
-    μ-loop
-    loop-holds
-    add-quick-index
-    quick-index-requires
-    mul-values
-    slice-write-values
-    add-k
-    loop-less
-    loop-again
+    sub-if2
+    cast-offsets-from
+    lead-requires
+    add-offsets-from
+    offsets-from-requires
     same-length
-    returns)
+    returns
+    offsets-any-requires
+    same-length-2
+    returns-2)
