@@ -1,5 +1,6 @@
 -- Where a clip is, and how loud a ramp, by how many samples there were since its last change or start. Assumes nothing.
 --     looped-either    the place in a loop, by what remains of the travel's size
+--     lower-is         the smaller of a place and the last
 --     placed-told      the offset of a place that is told
 --     travel-by        the travel at a time
 --     offset-by        and the offset
@@ -7,10 +8,11 @@
 use mathlib.Core.Path.{_≡_, refl, sym, ap, ap₂, _∙_}
 use Prim.Native.Nat.{ℕ, _+_, _-_, _^_, _≤_, _<_}
 use native.Mathlib.Omega.{arith}
-use mathlib.Core.Bool.{Bool, true, false, cond}
+use mathlib.Core.Bool.{Bool, true, false, not, cond}
 use lib.Dec.{T}
-use lib.Ieee.{Float, binary32, add, sub, mul, rem, neg, lt, le}
-use Rattle.binary32.specs.Leaves.{zero32, OrLess, asFloat}
+use lib.Ieee.{Float, binary32, add, sub, mul, rem, neg, lt, le, isNan}
+use Rattle.binary32.specs.Leaves.{zero32, OrLess, asFloat, minOf}
+use Rattle.binary32.proofs.Between.{le-not-nan}
 use Rattle.binary32.proofs.Quotients.{rem-turned}
 use Rattle.volume.specs.declared.Volume.{Volume}
 use Rattle.volume.specs.declared.Volume.the-variants.{Static, Linear}
@@ -27,6 +29,15 @@ looped-either x length y h = go (le zero32 x)
     go : (b : Bool) → y ≡ rem binary32 (cond b x (neg x)) length → cond b y (raisedOf (neg y) length) ≡ loopedOf x length
     go true e = looped-ahead x length y h e
     go false e = ap (λ (z : Float). raisedOf z length) (rem-turned binary32 x length y e)
+
+-- the smaller of a number and another
+pub lower-is : (y top : Float) (b : Bool) → T (le zero32 y) → lt top y ≡ b → cond b top y ≡ minOf y top
+unfolding minOf
+lower-is y top b low is = sym (ap₂ (λ (n s : Bool). cond n top (cond s top y)) (not-T-false (isNan y) (le-not-nan zero32 y low .1)) is)
+  where
+    not-T-false : (n : Bool) → T (not n) → n ≡ false
+    not-T-false false h = refl
+    not-T-false true h = absurd h
 
 pub placed-told : (c : Clip) (x y r : Float) → OrLess (wrappedOf (c .mode) x (c .length)) y → PlacedOffset y (c .start) (c .length) (c .«data_length») r → T (le zero32 r)
     → r ≡ clipToDataOf c (placedOf (c .mode) x (c .length))

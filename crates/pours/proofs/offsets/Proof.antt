@@ -34,7 +34,7 @@ returns c =
     let a = c .before .before .before .before .before .before .before .before .before .before .args in
     let o = c .before .before .offsets-from .ensures in
     let l = c .before .before .before .before in
-    (o .0, λ told k h. o .1 told k h ∙ offset-by (a .c) (a .time) (l .lead .result) k (l .lead .ensures) (l .before .before .before .if1 .taken) (omega (arith, few l .0, h)))
+    (o .0, λ told k h. (o .1 told k h .0, o .1 told k h .1 ∙ offset-by (a .c) (a .time) (l .lead .result) k (l .lead .ensures) (l .before .before .before .if1 .taken) (omega (arith, few l .0, h))))
 
 offsets-any-requires : tie.Need-offsets-any-requires
 offsets-any-requires c κs = search needs
