@@ -2,6 +2,8 @@
 --     looped-either    the place in a loop, by what remains of the travel's size
 --     lower-is         the smaller of a place and the last
 --     placed-told      the offset of a place that is told
+--     counted-next     one more that is told
+--     looped-on        a travel that isn't below 0
 --     travel-by        the travel at a time
 --     offset-by        and the offset
 --     level-by         the level at a time
@@ -9,7 +11,9 @@ use mathlib.Core.Path.{_≡_, refl, sym, ap, ap₂, _∙_}
 use Prim.Native.Nat.{ℕ, _+_, _-_, _^_, _≤_, _<_}
 use native.Mathlib.Omega.{arith}
 use mathlib.Core.Bool.{Bool, true, false, not, cond}
+use mathlib.Core.List.{List}
 use lib.Dec.{T}
+use lib.ListN.{length, set}
 use lib.Ieee.{Float, binary32, add, sub, mul, rem, neg, lt, le, isNan}
 use Rattle.binary32.specs.Leaves.{zero32, OrLess, asFloat, minOf}
 use Rattle.binary32.proofs.Between.{le-not-nan}
@@ -18,9 +22,12 @@ use Rattle.volume.specs.declared.Volume.{Volume}
 use Rattle.volume.specs.declared.Volume.the-variants.{Static, Linear}
 use Rattle.volume.specs.Levels.{progressOf, levelOf}
 use Rattle.clip.specs.declared.Clip.{Clip}
+use Rattle.clip.specs.declared.Mode.{Mode}
+use Rattle.clip.specs.declared.Mode.the-variants.{Loop}
 use Rattle.clip.specs.Positions.{elapsedAt, leadOf, travelAt, raisedOf, loopedOf, wrappedOf, clampedOf, placedOf, clipOffsetAt, clipToDataOf, offsetAt}
 use Rattle.clip.proofs.Quick.{looped-ahead, lead-added}
-use Rattle.pours.specs.Steady.{travelBy, PlacedOffset, rampBy}
+use Rattle.pours.specs.Steady.{travelBy, PlacedOffset, Low, Counted, rampBy}
+use Rattle.pours.proofs.Filling.{filled}
 
 pub looped-either : (x length y : Float) → T (le zero32 y) → y ≡ rem binary32 (cond (le zero32 x) x (neg x)) length → cond (le zero32 x) y (raisedOf (neg y) length) ≡ loopedOf x length
 unfolding loopedOf
@@ -45,6 +52,18 @@ unfolding clipToDataOf placedOf
 placed-told c x y r wrapped placed told =
     let p = placed told in
     p .1 ∙ ap (λ (z : Float). rem binary32 (add binary32 (c .start) (clampedOf z (c .length))) (c .«data_length»)) (wrapped (p .0))
+
+-- one more that is told
+pub counted-next : (c : Clip) (from k : ℕ) (values : List Float) (x y r : Float) → k < length values → x ≡ travelBy (c .shift) (c .speed) (from + k) → OrLess (wrappedOf (c .mode) x (c .length)) y
+    → PlacedOffset y (c .start) (c .length) (c .«data_length») r → Low r → Counted c from k values → Counted c from (k + 1) (set values k r)
+counted-next c from k values x y r room at wrapped placed low =
+    let here = placed-told c x y r wrapped placed (low .0) ∙ ap (λ (z : Float). clipToDataOf c (placedOf (c .mode) z (c .length))) at in
+    filled (λ (j : ℕ) (z : Float). Low z × (z ≡ clipToDataOf c (placedOf (c .mode) (travelBy (c .shift) (c .speed) (from + j)) (c .length)))) k values r room (low, here)
+
+-- by a remainder that isn't below 0
+pub looped-on : (c : Clip) (x y : Float) → c .mode ≡ Loop → OrLess (rem binary32 x (c .length)) y → OrLess (wrappedOf (c .mode) x (c .length)) y
+unfolding wrappedOf
+looped-on c x y is rest h = looped-ahead x (c .length) y h (rest h) ∙ sym (ap (λ (z : Mode). wrappedOf z x (c .length)) is)
 
 pub lead-few : (speed : Float) {lead : ℕ} → lead ≡ cond (lt speed zero32) 1 0 → lead ≤ 1
 lead-few speed {lead} = go (lt speed zero32)

@@ -424,7 +424,47 @@ fn offsets_from(c: Clip, from: u32, values: &mut [f32], n: usize) -> bool
     told
 }
 
-// The same of any clip at any time.
+// The same of a loop, where no travel is below 0.
+fn offsets_ahead(c: Clip, from: u32, values: &mut [f32], n: usize) -> bool
+    requires { ⌜ (c .mode ≡ Mode.Loop) × (from + n ≤ 2 ^ 24 + 1) × (n ≤ length (now «values»)) ⌝ }
+    ensures { λ r. ⌜ (length (now («values» .exit)) ≡ length (now («values» .entry))) × (r ≡ true → Counted c from n (now («values» .exit))) ⌝ }
+{
+    let mut told = true;
+    let mut k: usize = 0;
+    while k < n {
+        let x = travel(c.shift, c.speed, from + (k as u32));
+        let y = binary32::rem_or_less(x, c.length);
+        let offset = offset_of(y, c.start, c.length, c.data_length);
+        values[k] = offset;
+        told = told & is_low(offset);
+        k += 1;
+    }
+    told
+}
+
+// The same of any loop: most are gone through ahead.
+fn offsets_loop(c: Clip, from: u32, values: &mut [f32], n: usize) -> bool
+    requires { ⌜ (c .mode ≡ Mode.Loop) × (from + n ≤ 2 ^ 24 + 1) × (n ≤ length (now «values»)) ⌝ }
+    ensures { λ r. ⌜ (length (now («values» .exit)) ≡ length (now («values» .entry))) × (r ≡ true → Counted c from n (now («values» .exit))) ⌝ }
+{
+    if offsets_ahead(c, from, values, n) {
+        return true;
+    }
+    offsets_from(c, from, values, n)
+}
+
+fn offsets_by(c: Clip, from: u32, values: &mut [f32], n: usize) -> bool
+    requires { ⌜ (from + n ≤ 2 ^ 24 + 1) × (n ≤ length (now «values»)) ⌝ }
+    ensures { λ r. ⌜ (length (now («values» .exit)) ≡ length (now («values» .entry))) × (r ≡ true → Counted c from n (now («values» .exit))) ⌝ }
+{
+    let mode = c.mode;
+    if clip::same_mode(mode, Mode::Loop) & (c.speed >= 0.0) {
+        return offsets_loop(c, from, values, n);
+    }
+    offsets_from(c, from, values, n)
+}
+
+// The offsets of any clip at any time.
 fn offsets_any(
     c: Clip,
     time: usize,
@@ -469,7 +509,7 @@ fn offsets(
     if c.since <= time {
         let elapsed = time - c.since;
         if elapsed <= LAST_WHOLE - n {
-            return offsets_from(c, (elapsed as u32) + lead(c.speed), values, n);
+            return offsets_by(c, (elapsed as u32) + lead(c.speed), values, n);
         }
     }
     offsets_any(c, time, span, speed, mode, values, n)
