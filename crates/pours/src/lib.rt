@@ -442,24 +442,14 @@ fn offsets_ahead(c: Clip, from: u32, values: &mut [f32], n: usize) -> bool
     told
 }
 
-// The same of any loop: most are gone through ahead.
-fn offsets_loop(c: Clip, from: u32, values: &mut [f32], n: usize) -> bool
-    requires { ⌜ (c .mode ≡ Mode.Loop) × (from + n ≤ 2 ^ 24 + 1) × (n ≤ length (now «values»)) ⌝ }
-    ensures { λ r. ⌜ (length (now («values» .exit)) ≡ length (now («values» .entry))) × (r ≡ true → Counted c from n (now («values» .exit))) ⌝ }
-{
-    if offsets_ahead(c, from, values, n) {
-        return true;
-    }
-    offsets_from(c, from, values, n)
-}
-
+// Either way: most loops are gone through ahead.
 fn offsets_by(c: Clip, from: u32, values: &mut [f32], n: usize) -> bool
     requires { ⌜ (from + n ≤ 2 ^ 24 + 1) × (n ≤ length (now «values»)) ⌝ }
     ensures { λ r. ⌜ (length (now («values» .exit)) ≡ length (now («values» .entry))) × (r ≡ true → Counted c from n (now («values» .exit))) ⌝ }
 {
     let mode = c.mode;
-    if clip::same_mode(mode, Mode::Loop) & (c.speed >= 0.0) {
-        return offsets_loop(c, from, values, n);
+    if clip::same_mode(mode, Mode::Loop) & ((c.speed >= 0.0) & (c.shift >= 0.0)) {
+        return offsets_ahead(c, from, values, n);
     }
     offsets_from(c, from, values, n)
 }

@@ -12,11 +12,11 @@ use Rattle.pours.proofs.offsets_by.Tie as tie
 same-mode-requires : tie.Need-same-mode-requires
 same-mode-requires c κs = search needs
 
-offsets-loop-requires : tie.Need-offsets-loop-requires
-offsets-loop-requires c κs =
-    let s = c .before .before .before .before .before in
+offsets-ahead-requires : tie.Need-offsets-ahead-requires
+offsets-ahead-requires c κs =
+    let s = c .before .before .before .before .before .before in
     let a = s .args in
-    let m = c .before .before .before .same-mode in
+    let m = c .before .before .before .before .same-mode in
     (same-modes (a .c .mode) Loop (subst T (m .ensures) (and-l (m .result) _ (yes (c .before .if1 .taken)))), s .pre .0, s .pre .1)
 
 same-length : tie.Need-same-length
@@ -39,7 +39,7 @@ offsets-by-spec =
     tie.close
     (tie.spec
     same-mode-requires
-    offsets-loop-requires
+    offsets-ahead-requires
     same-length
     returns
     offsets-from-requires
