@@ -13,7 +13,22 @@ ghost use Rattle.clip.specs.Plain.{plainIndex};
 ghost use Rattle.plain_voice.specs.Hots.{beatOf};
 ghost use Rattle.pours.specs.Eases.{EasesAt, termAt, LastButOne, heardOf, movedOf, Added};
 ghost use Rattle.pours.specs.Pours.{Pours};
-ghost use Rattle.pours.specs.Steady.{SteadyAt, PlaysBelow, Lasts, Stands, Low, Lows, Offsets, Fetches, Gathers, leveled, travelBy, PlacedOffset, Counted, rampBy};
+ghost use Rattle.pours.specs.Steady.{
+  SteadyAt,
+  PlaysBelow,
+  Lasts,
+  leveled,
+  rampBy,
+  travelBy,
+  PlacedOffset,
+  Low,
+  Lows,
+  Counted,
+  Offsets,
+  Fetches,
+  Gathers,
+  Stands,
+};
 use clip::Clip;
 use clip::Mode;
 use plain_voice::Beat;
@@ -478,12 +493,14 @@ fn offsets_any(
     told
 }
 
+// How many samples a negative speed is ahead.
 fn lead(speed: f32) -> u32
     ensures { λ r. ⌜ r ≡ cond (lt speed zero32) 1 0 ⌝ }
 {
     if speed < 0.0 { 1 } else { 0 }
 }
 
+// The offsets of n samples from that time on: by counts, which are exact up to 2^24.
 fn offsets(
     c: Clip,
     time: usize,
