@@ -69,7 +69,7 @@ unfolding keepsOf
 steady-keeps (Static x) now h = refl
 steady-keeps (Linear a b x y) now h = absurd (true≢false (sym h))
 
-pub steady-level : (v : Volume) (a b : ℕ) → isStaticOf v ≡ true → levelOf v a ≡ levelOf v b
+steady-level : (v : Volume) (a b : ℕ) → isStaticOf v ≡ true → levelOf v a ≡ levelOf v b
 unfolding levelOf
 steady-level (Static x) a b h = refl
 steady-level (Linear c d x y) a b h = absurd (true≢false (sym h))

@@ -4,7 +4,7 @@
 --     one-more     what one more comes to, and what is left
 --     played-next  one more sum of what is played
 --     below-more   and that it stays below the whole length
-use mathlib.Core.Path.{_≡_, refl, sym, ap, _∙_}
+use mathlib.Core.Path.{_≡_, refl, sym, ap, _∙_, subst}
 use Prim.Native.Nat.{ℕ, suc, _+_, _≤_, _<_}
 use native.Mathlib.Nat.{ne-of-lt, ne-of-gt}
 use native.Mathlib.Omega.{arith}
@@ -20,12 +20,12 @@ use Rattle.voice.specs.Voices.{recordedValueOf}
 use Rattle.pours.specs.declared.Fetched.{Fetched}
 use Rattle.pours.specs.Steady.{playedOn, PlaysBelow, Fetches}
 
-pub filled : (f : ℕ → Float) (k : ℕ) (values : List Float) (x : Float) → k < length values → x ≡ f k → ((j : ℕ) → j < k → getD values j nan ≡ f j) → (j : ℕ) → j < k + 1 → getD (set values k x) j nan ≡ f j
-filled f k values x room is before j below = go (ltb j k) refl
+pub filled : (P : ℕ → Float → Type 0) (k : ℕ) (values : List Float) (x : Float) → k < length values → P k x → ((j : ℕ) → j < k → P j (getD values j nan)) → (j : ℕ) → j < k + 1 → P j (getD (set values k x) j nan)
+filled P k values x room is before j below = go (ltb j k) refl
   where
-    go : (b : Bool) → ltb j k ≡ b → getD (set values k x) j nan ≡ f j
-    go true e = let h = ltb-true j k e in getD-set-other values k j x nan (ne-of-lt h) ∙ before j h
-    go false e = let last : j ≡ k = omega (arith, below, ltb-false j k e) in rw last (getD-set-same values k x nan room ∙ is)
+    go : (b : Bool) → ltb j k ≡ b → P j (getD (set values k x) j nan)
+    go true e = let h = ltb-true j k e in subst (P j) (sym (getD-set-other values k j x nan (ne-of-lt h))) (before j h)
+    go false e = let last : j ≡ k = omega (arith, below, ltb-false j k e) in rw last (subst (P k) (sym (getD-set-same values k x nan room)) is)
 
 pub played-next : (by played : Float) (k : ℕ) (sum : Float) → sum ≡ playedOn by played k → add binary32 sum by ≡ playedOn by played (k + 1)
 unfolding playedOn
@@ -43,7 +43,7 @@ module _ (m : List ℕ) (played by : Float) (before : List Float) where
         let here : index ≡ asWhole 64 (getD before k nan) = index-is ∙ ap (asWhole 64) (rest k (omega arith)) in
         record {
           size = length-set values k x ∙ f .size;
-          values = filled (λ (j : ℕ). recordedValueOf m (asWhole 64 (getD before j nan))) k values x (omega (arith, room, f .size)) (x-is ∙ ap (recordedValueOf m) here) (f .values);
+          values = filled (λ (j : ℕ) (y : Float). y ≡ recordedValueOf m (asWhole 64 (getD before j nan))) k values x (omega (arith, room, f .size)) (x-is ∙ ap (recordedValueOf m) here) (f .values);
           index = λ j h. here ∙ ap (λ (i : ℕ). asWhole 64 (getD before i nan)) (omega (arith, h));
           far = played-next by played k (r .played) (f .far);
         }

@@ -1,24 +1,33 @@
 -- Where a clip is, and how loud a ramp, by how many samples there were since its last change or start. Assumes nothing.
 --     looped-either    the place in a loop, by what remains of the travel's size
+--     lower-is         the smaller of a place and the last
 --     placed-told      the offset of a place that is told
+--     counted-next     one more that is told
+--     looped-on        a travel that isn't below 0
 --     travel-by        the travel at a time
 --     offset-by        and the offset
 --     level-by         the level at a time
 use mathlib.Core.Path.{_≡_, refl, sym, ap, ap₂, _∙_}
 use Prim.Native.Nat.{ℕ, _+_, _-_, _^_, _≤_, _<_}
 use native.Mathlib.Omega.{arith}
-use mathlib.Core.Bool.{Bool, true, false, cond}
+use mathlib.Core.Bool.{Bool, true, false, not, cond}
+use mathlib.Core.List.{List}
 use lib.Dec.{T}
-use lib.Ieee.{Float, binary32, add, sub, mul, rem, neg, lt, le}
-use Rattle.binary32.specs.Leaves.{zero32, OrLess, asFloat}
+use lib.ListN.{length, set}
+use lib.Ieee.{Float, binary32, add, sub, mul, rem, neg, lt, le, isNan}
+use Rattle.binary32.specs.Leaves.{zero32, OrLess, asFloat, minOf}
+use Rattle.binary32.proofs.Between.{le-not-nan}
 use Rattle.binary32.proofs.Quotients.{rem-turned}
 use Rattle.volume.specs.declared.Volume.{Volume}
 use Rattle.volume.specs.declared.Volume.the-variants.{Static, Linear}
 use Rattle.volume.specs.Levels.{progressOf, levelOf}
 use Rattle.clip.specs.declared.Clip.{Clip}
+use Rattle.clip.specs.declared.Mode.{Mode}
+use Rattle.clip.specs.declared.Mode.the-variants.{Loop}
 use Rattle.clip.specs.Positions.{elapsedAt, leadOf, travelAt, raisedOf, loopedOf, wrappedOf, clampedOf, placedOf, clipOffsetAt, clipToDataOf, offsetAt}
 use Rattle.clip.proofs.Quick.{looped-ahead, lead-added}
-use Rattle.pours.specs.Steady.{travelBy, PlacedOffset, rampBy}
+use Rattle.pours.specs.Steady.{travelBy, PlacedOffset, Low, Counted, rampBy}
+use Rattle.pours.proofs.Filling.{filled}
 
 pub looped-either : (x length y : Float) → T (le zero32 y) → y ≡ rem binary32 (cond (le zero32 x) x (neg x)) length → cond (le zero32 x) y (raisedOf (neg y) length) ≡ loopedOf x length
 unfolding loopedOf
@@ -28,12 +37,33 @@ looped-either x length y h = go (le zero32 x)
     go true e = looped-ahead x length y h e
     go false e = ap (λ (z : Float). raisedOf z length) (rem-turned binary32 x length y e)
 
+-- the smaller of a number and another
+pub lower-is : (y top : Float) (b : Bool) → T (le zero32 y) → lt top y ≡ b → cond b top y ≡ minOf y top
+unfolding minOf
+lower-is y top b low is = sym (ap₂ (λ (n s : Bool). cond n top (cond s top y)) (not-T-false (isNan y) (le-not-nan zero32 y low .1)) is)
+  where
+    not-T-false : (n : Bool) → T (not n) → n ≡ false
+    not-T-false false h = refl
+    not-T-false true h = absurd h
+
 pub placed-told : (c : Clip) (x y r : Float) → OrLess (wrappedOf (c .mode) x (c .length)) y → PlacedOffset y (c .start) (c .length) (c .«data_length») r → T (le zero32 r)
     → r ≡ clipToDataOf c (placedOf (c .mode) x (c .length))
 unfolding clipToDataOf placedOf
 placed-told c x y r wrapped placed told =
     let p = placed told in
     p .1 ∙ ap (λ (z : Float). rem binary32 (add binary32 (c .start) (clampedOf z (c .length))) (c .«data_length»)) (wrapped (p .0))
+
+-- one more that is told
+pub counted-next : (c : Clip) (from k : ℕ) (values : List Float) (x y r : Float) → k < length values → x ≡ travelBy (c .shift) (c .speed) (from + k) → OrLess (wrappedOf (c .mode) x (c .length)) y
+    → PlacedOffset y (c .start) (c .length) (c .«data_length») r → Low r → Counted c from k values → Counted c from (k + 1) (set values k r)
+counted-next c from k values x y r room at wrapped placed low =
+    let here = placed-told c x y r wrapped placed (low .0) ∙ ap (λ (z : Float). clipToDataOf c (placedOf (c .mode) z (c .length))) at in
+    filled (λ (j : ℕ) (z : Float). Low z × (z ≡ clipToDataOf c (placedOf (c .mode) (travelBy (c .shift) (c .speed) (from + j)) (c .length)))) k values r room (low, here)
+
+-- by a remainder that isn't below 0
+pub looped-on : (c : Clip) (x y : Float) → c .mode ≡ Loop → OrLess (rem binary32 x (c .length)) y → OrLess (wrappedOf (c .mode) x (c .length)) y
+unfolding wrappedOf
+looped-on c x y is rest h = looped-ahead x (c .length) y h (rest h) ∙ sym (ap (λ (z : Mode). wrappedOf z x (c .length)) is)
 
 pub lead-few : (speed : Float) {lead : ℕ} → lead ≡ cond (lt speed zero32) 1 0 → lead ≤ 1
 lead-few speed {lead} = go (lt speed zero32)

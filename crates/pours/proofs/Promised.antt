@@ -200,7 +200,7 @@ module _ (m : List ℕ) (t : Tick) (n : ℕ) (v : Voice) where
   }
     where
       at : (k : ℕ) → k < n → asWhole 64 (getD before k nan) ≡ indexAt (v .clip2) (t .now + k)
-      at k h = ap (asWhole 64) (o k h) ∙ whole-index (v .clip2) (t .now + k)
+      at k h = ap (asWhole 64) (o k h .1) ∙ whole-index (v .clip2) (t .now + k)
 
   pub sounds : (values : List Float) (g : Fetched) → Gathers m t n v values g → (k : ℕ) → k < n → leveled values (v .volume) (t .now) k ≡ soundAt m (v .clip2) (v .volume) (t .now + k)
   sounds values g G k h = ap (λ (x : Float). mul binary32 x (levelOf (v .volume) (t .now + k))) (G .recorded k h)

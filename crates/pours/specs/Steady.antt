@@ -5,7 +5,7 @@ use Prim.Native.Nat.{ℕ, zero, suc, _+_, _-_, _^_, _≤_, _<_}
 use mathlib.Core.Bool.{true, false, _&&_}
 use mathlib.Core.List.{List}
 use lib.Dec.{T}
-use lib.Ieee.{Float, nan, binary32, add, mul, div, rem, le}
+use lib.Ieee.{Float, nan, binary32, add, mul, div, rem, lt, le, ofBits}
 use lib.ListN.{length, getD}
 use Rattle.binary32.specs.Leaves.{zero32, one32, asFloat, asWhole, minOf, maxOf, absOf}
 use Rattle.volume.specs.declared.Volume.{Volume}
@@ -84,15 +84,24 @@ abbrev pub PlacedOffset : Float → Float → Float → Float → Float → Type
 PlacedOffset y start length total r =
     T (le zero32 r) → T (le zero32 y) × (r ≡ rem binary32 (add binary32 start (clampedOf y length)) total)
 
+-- from 0 to below 2^23, as offsets are
+abbrev pub Low : Float → Type 0
+Low x = T (le zero32 x) × T (lt x (ofBits binary32 1258291200))
+
+abbrev pub Lows : ℕ → List Float → Type 0
+Lows n values = (k : ℕ) → k < n → Low (getD values k nan)
+
 -- the offsets of n samples stand in the list, by how many there were since the clip's last change
 abbrev pub Counted : Clip → ℕ → ℕ → List Float → Type 0
 Counted c from n values =
     (k : ℕ) → k < n
-    → getD values k nan ≡ clipToDataOf c (placedOf (c .mode) (travelBy (c .shift) (c .speed) (from + k)) (c .length))
+    → Low (getD values k nan)
+    × (getD values k nan ≡ clipToDataOf c (placedOf (c .mode) (travelBy (c .shift) (c .speed) (from + k)) (c .length)))
 
 -- by the time
 abbrev pub Offsets : Clip → ℕ → ℕ → List Float → Type 0
-Offsets c now n values = (k : ℕ) → k < n → getD values k nan ≡ offsetAt c (now + k)
+Offsets c now n values =
+    (k : ℕ) → k < n → Low (getD values k nan) × (getD values k nan ≡ offsetAt c (now + k))
 
 -- What fetching promises: what is recorded at the whole part of each of n offsets stands in its place, the index is that
 -- of the last, and so often the pace was added to what was played.

@@ -4,15 +4,31 @@
 ghost use mathlib.Core.Path.{_≡_};
 ghost use mathlib.Core.Bool.{true, false, cond};
 ghost use Prim.Native.Nat.{ℕ, _+_, _-_, _%_, _^_, _≤_, _<_, min};
+ghost use lib.Dec.{T};
 ghost use lib.ListN.{length, getD};
 ghost use lib.Ieee.{nan, binary32, mul, rem, neg, lt, le};
-ghost use Rattle.binary32.specs.Leaves.{zero32, asFloat, OrLess};
+ghost use Rattle.binary32.specs.Leaves.{zero32, asFloat, asWhole, minOf, OrLess};
 ghost use Rattle.clip.specs.Positions.{raisedOf, loopedOf, foldedOf, bouncedOf, wrappedOf};
 ghost use Rattle.clip.specs.Plain.{plainIndex};
 ghost use Rattle.plain_voice.specs.Hots.{beatOf};
 ghost use Rattle.pours.specs.Eases.{EasesAt, termAt, LastButOne, heardOf, movedOf, Added};
 ghost use Rattle.pours.specs.Pours.{Pours};
-ghost use Rattle.pours.specs.Steady.{SteadyAt, PlaysBelow, Lasts, Stands, Offsets, Fetches, Gathers, leveled, travelBy, PlacedOffset, Counted, rampBy};
+ghost use Rattle.pours.specs.Steady.{
+  SteadyAt,
+  PlaysBelow,
+  Lasts,
+  leveled,
+  rampBy,
+  travelBy,
+  PlacedOffset,
+  Low,
+  Lows,
+  Counted,
+  Offsets,
+  Fetches,
+  Gathers,
+  Stands,
+};
 use clip::Clip;
 use clip::Mode;
 use plain_voice::Beat;
@@ -383,12 +399,25 @@ fn once_round(s: f32, total: f32) -> f32
     if t < total { t } else { -1.0 }
 }
 
+// The smaller of a place and the last.
+fn lower(y: f32, top: f32) -> f32
+    ensures { λ r. ⌜ (T (le zero32 y) → r ≡ minOf y top) ⌝ }
+{
+    if top < y { top } else { y }
+}
+
 // The offset of a place of at least 0; else a number below 0.
 fn offset_of(y: f32, start: f32, length: f32, total: f32) -> f32
     ensures { λ r. ⌜ PlacedOffset y start length total r ⌝ }
 {
-    let t = once_round(start + binary32::min(y, length - 1.0), total);
+    let t = once_round(start + lower(y, length - 1.0), total);
     if y >= 0.0 { t } else { -1.0 }
+}
+
+fn is_low(x: f32) -> bool
+    ensures { λ r. ⌜ (r ≡ true → Low x) ⌝ }
+{
+    (x >= 0.0) & (x < 8388608.0)
 }
 
 // Puts the offsets of n samples into the list, from so many samples after the clip's last change on, its lead among them;
@@ -404,13 +433,43 @@ fn offsets_from(c: Clip, from: u32, values: &mut [f32], n: usize) -> bool
         let y = wrapped(mode, travel(c.shift, c.speed, from + (k as u32)), c.length);
         let offset = offset_of(y, c.start, c.length, c.data_length);
         values[k] = offset;
-        told = told & (offset >= 0.0);
+        told = told & is_low(offset);
         k += 1;
     }
     told
 }
 
-// The same of any clip at any time.
+// The same of a loop, where no travel is below 0.
+fn offsets_ahead(c: Clip, from: u32, values: &mut [f32], n: usize) -> bool
+    requires { ⌜ (c .mode ≡ Mode.Loop) × (from + n ≤ 2 ^ 24 + 1) × (n ≤ length (now «values»)) ⌝ }
+    ensures { λ r. ⌜ (length (now («values» .exit)) ≡ length (now («values» .entry))) × (r ≡ true → Counted c from n (now («values» .exit))) ⌝ }
+{
+    let mut told = true;
+    let mut k: usize = 0;
+    while k < n {
+        let x = travel(c.shift, c.speed, from + (k as u32));
+        let y = binary32::rem_or_less(x, c.length);
+        let offset = offset_of(y, c.start, c.length, c.data_length);
+        values[k] = offset;
+        told = told & is_low(offset);
+        k += 1;
+    }
+    told
+}
+
+// Either way: most loops are gone through ahead.
+fn offsets_by(c: Clip, from: u32, values: &mut [f32], n: usize) -> bool
+    requires { ⌜ (from + n ≤ 2 ^ 24 + 1) × (n ≤ length (now «values»)) ⌝ }
+    ensures { λ r. ⌜ (length (now («values» .exit)) ≡ length (now («values» .entry))) × (r ≡ true → Counted c from n (now («values» .exit))) ⌝ }
+{
+    let mode = c.mode;
+    if clip::same_mode(mode, Mode::Loop) & ((c.speed >= 0.0) & (c.shift >= 0.0)) {
+        return offsets_ahead(c, from, values, n);
+    }
+    offsets_from(c, from, values, n)
+}
+
+// The offsets of any clip at any time.
 fn offsets_any(
     c: Clip,
     time: usize,
@@ -428,18 +487,20 @@ fn offsets_any(
     while k < n {
         let near = c.quick_index(time + k, span.length, speed, span.data_length, mode);
         values[k] = near.offset;
-        told = told & (near.index < clip::NONE);
+        told = told & ((near.index < clip::NONE) & is_low(near.offset));
         k += 1;
     }
     told
 }
 
+// How many samples a negative speed is ahead.
 fn lead(speed: f32) -> u32
     ensures { λ r. ⌜ r ≡ cond (lt speed zero32) 1 0 ⌝ }
 {
     if speed < 0.0 { 1 } else { 0 }
 }
 
+// The offsets of n samples from that time on: by counts, which are exact up to 2^24.
 fn offsets(
     c: Clip,
     time: usize,
@@ -455,7 +516,7 @@ fn offsets(
     if c.since <= time {
         let elapsed = time - c.since;
         if elapsed <= LAST_WHOLE - n {
-            return offsets_from(c, (elapsed as u32) + lead(c.speed), values, n);
+            return offsets_by(c, (elapsed as u32) + lead(c.speed), values, n);
         }
     }
     offsets_any(c, time, span, speed, mode, values, n)
@@ -489,16 +550,25 @@ fn lasts(v: Voice, t: Tick, n: usize) -> bool
     true
 }
 
+// The whole part of an offset, as binary32 works out that of a low float: the sum with 2^28 in f64 has 24 digits of
+// fraction, in which none is rounded up to a whole number.
+fn whole_of(x: f32) -> usize
+    requires { ⌜ Low x ⌝ }
+    ensures { λ r. ⌜ r ≡ asWhole 64 x ⌝ }
+{
+    (f64::to_bits((x as f64) + 268435456.0) / 0x100_0000 % 0x1000_0000) as usize
+}
+
 // Puts what is recorded at each of n offsets in its place, and adds the speed as often.
 fn fetch(data: &[u32], played: f32, by: f32, values: &mut [f32], n: usize) -> Fetched
-    requires { ⌜ n ≤ length (now «values») ⌝ }
+    requires { ⌜ (n ≤ length (now «values»)) × Lows n (now «values») ⌝ }
     ensures { λ r. ⌜ Fetches (now («data» .entry)) played by n (now («values» .entry)) (now («values» .exit)) r ⌝ }
 {
     let mut index: usize = 0;
     let mut sum = played;
     let mut k: usize = 0;
     while k < n {
-        index = binary32::f32_to_usize(values[k]);
+        index = whole_of(values[k]);
         values[k] = voice::recorded(data, index);
         sum = sum + by;
         k += 1;

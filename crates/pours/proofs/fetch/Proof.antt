@@ -1,12 +1,13 @@
 -- `fetch` meets its contract. The invariant: so many are fetched, and the rest stands. The measure is how many are left. Assumes nothing.
-use mathlib.Core.Path.{_≡_, refl, subst}
+use mathlib.Core.Path.{_≡_, refl, sym, subst}
 use mathlib.Core.Bool.{true}
 use Prim.Native.Nat.{ℕ, _-_, _≤_, _<_, zero-le}
+use native.Mathlib.Nat.{le-refl}
 use native.Mathlib.Omega.{arith}
 use lib.Ieee.{nan}
 use lib.ListN.{length, getD}
 use borrow.Author.Needs.{needs}
-use Rattle.pours.specs.Steady.{Fetches}
+use Rattle.pours.specs.Steady.{Low, Fetches}
 use Rattle.pours.proofs.Filling.{nothing, one-more, left}
 use Rattle.pours.proofs.fetch.Statement.{statement}
 use Rattle.pours.proofs.fetch.Tie as tie
@@ -22,14 +23,16 @@ loop-holds c =
     let a = c .before .before .args in
     (zero-le, nothing (a .«data» .now) (a .played) (a .by) (a .values .now), λ j h. refl)
 
-mul-f32-to-usize : tie.Need-mul-f32-to-usize Inv-loop μ-loop
-mul-f32-to-usize c = search needs
+mul-whole-of : tie.Need-mul-whole-of Inv-loop μ-loop
+mul-whole-of c = search needs
 
-slice-read-f32-to-usize : tie.Need-slice-read-f32-to-usize Inv-loop μ-loop
-slice-read-f32-to-usize c = search needs
+slice-read-whole-of : tie.Need-slice-read-whole-of Inv-loop μ-loop
+slice-read-whole-of c = search needs
 
-f32-to-usize-requires : tie.Need-f32-to-usize-requires Inv-loop μ-loop
-f32-to-usize-requires c κs = search needs
+whole-of-requires : tie.Need-whole-of-requires Inv-loop μ-loop
+whole-of-requires c κs =
+    let l = c .before .before .loop in
+    subst Low (sym (l .inv .2 (l .k) (le-refl (l .k)))) (c .before .before .before .before .before .pre .1 (l .k) (c .before .loop-test .taken))
 
 recorded-requires : tie.Need-recorded-requires Inv-loop μ-loop
 recorded-requires c κs = search needs
@@ -52,9 +55,9 @@ loop-again c =
     let a = s .args in
     let l = c .before .before .before .before .loop in
     let below : l .k < a .n = c .before .before .before .loop-test .taken in
-    let room : l .k < length (a .values .now) = omega (arith, below, s .pre) in (
+    let room : l .k < length (a .values .now) = omega (arith, below, s .pre .0) in (
       omega (arith, below),
-      one-more (a .«data» .now) (a .played) (a .by) (a .values .now) (l .k) (l .values) _ (l .inv .1) room (l .inv .2) _ _ (c .before .f32-to-usize .ensures) (c .recorded .ensures),
+      one-more (a .«data» .now) (a .played) (a .by) (a .values .now) (l .k) (l .values) _ (l .inv .1) room (l .inv .2) _ _ (c .before .whole-of .ensures) (c .recorded .ensures),
       left (a .«data» .now) (a .played) (a .by) (a .values .now) (l .k) (l .values) _ (l .inv .1) room (l .inv .2) _,
     )
 
@@ -74,9 +77,9 @@ fetch-spec =
     Inv-loop
     μ-loop
     loop-holds
-    mul-f32-to-usize
-    slice-read-f32-to-usize
-    f32-to-usize-requires
+    mul-whole-of
+    slice-read-whole-of
+    whole-of-requires
     recorded-requires
     mul-values
     slice-write-values

@@ -1,5 +1,6 @@
 -- `gather` meets its contract. Assumes nothing.
 use mathlib.Core.Path.{refl, sym, _∙_}
+use native.Mathlib.Omega.{arith}
 use mathlib.Core.Bool.{true≢false}
 use borrow.Author.Tests.{not-false}
 use Rattle.pours.proofs.Promised.{gathered}
@@ -23,7 +24,9 @@ returns-2 : tie.Need-returns-2
 returns-2 c = (c .before .before .before .offsets .ensures .0, λ told. absurd (true≢false (sym told)))
 
 fetch-requires : tie.Need-fetch-requires
-fetch-requires c κs = search needs
+fetch-requires c κs =
+    let o = c .before .before .before .before .offsets in
+    (omega (arith, c .before .before .before .before .before .before .before .before .before .before .before .before .before .before .pre .1, o .ensures .0), λ k h. o .ensures .1 (not-false (o .result) (c .before .if2 .left)) k h .0)
 
 same-length-2 : tie.Need-same-length-2
 same-length-2 c = search needs

@@ -6,8 +6,8 @@ use borrow.Author.Needs.{needs}
 use Rattle.pours.proofs.offset_of.Statement.{statement}
 use Rattle.pours.proofs.offset_of.Tie as tie
 
-min-requires : tie.Need-min-requires
-min-requires c κs = search needs
+lower-requires : tie.Need-lower-requires
+lower-requires c κs = search needs
 
 once-round-requires : tie.Need-once-round-requires
 once-round-requires c κs = search needs
@@ -16,11 +16,12 @@ returns : tie.Need-returns
 unfolding ofBits
 returns c h =
     let a = c .before .before .before .args in
-    (yes (c .if1 .taken), c .before .once-round .ensures h ∙ ap (λ (y : Float). rem binary32 (add binary32 (a .start) y) (a .total)) (c .before .before .min .ensures))
+    let low = yes (c .if1 .taken) in
+    (low, c .before .once-round .ensures h ∙ ap (λ (y : Float). rem binary32 (add binary32 (a .start) y) (a .total)) (c .before .before .lower .ensures low))
 
 returns-2 : tie.Need-returns-2
 unfolding ofBits le neg
 returns-2 c h = absurd h
 
 pub offset-of-spec : {M : Type 1} → statement M
-offset-of-spec = tie.close (tie.spec min-requires once-round-requires returns returns-2)
+offset-of-spec = tie.close (tie.spec lower-requires once-round-requires returns returns-2)

@@ -10,8 +10,8 @@ use Rattle.pours.proofs.offsets.Tie as tie
 sub-if2 : tie.Need-sub-if2
 sub-if2 c = search needs
 
-cast-offsets-from : tie.Need-cast-offsets-from
-cast-offsets-from c = search needs
+cast-offsets-by : tie.Need-cast-offsets-by
+cast-offsets-by c = search needs
 
 lead-requires : tie.Need-lead-requires
 lead-requires c κs = search needs
@@ -20,11 +20,11 @@ lead-requires c κs = search needs
 few : (c : tie.After-lead) → let s = c .before .before .before .before .before .before in (s .args .time - s .args .c .since + s .args .n ≤ 2 ^ 24) × (c .lead .result ≤ 1)
 few c = (omega (arith, c .before .if2 .taken, c .before .before .before .before .before .before .pre .1), lead-few _ (c .lead .ensures))
 
-add-offsets-from : tie.Need-add-offsets-from
-add-offsets-from c = let f = few c in record { fits = omega (arith, f .0, f .1) }
+add-offsets-by : tie.Need-add-offsets-by
+add-offsets-by c = let f = few c in record { fits = omega (arith, f .0, f .1) }
 
-offsets-from-requires : tie.Need-offsets-from-requires
-offsets-from-requires c κs = let f = few (c .before) in (omega (arith, f .0, f .1), c .before .before .before .before .before .before .before .pre .2)
+offsets-by-requires : tie.Need-offsets-by-requires
+offsets-by-requires c κs = let f = few (c .before) in (omega (arith, f .0, f .1), c .before .before .before .before .before .before .before .pre .2)
 
 same-length : tie.Need-same-length
 same-length c = search needs
@@ -32,9 +32,9 @@ same-length c = search needs
 returns : tie.Need-returns
 returns c =
     let a = c .before .before .before .before .before .before .before .before .before .before .args in
-    let o = c .before .before .offsets-from .ensures in
+    let o = c .before .before .offsets-by .ensures in
     let l = c .before .before .before .before in
-    (o .0, λ told k h. o .1 told k h ∙ offset-by (a .c) (a .time) (l .lead .result) k (l .lead .ensures) (l .before .before .before .if1 .taken) (omega (arith, few l .0, h)))
+    (o .0, λ told k h. (o .1 told k h .0, o .1 told k h .1 ∙ offset-by (a .c) (a .time) (l .lead .result) k (l .lead .ensures) (l .before .before .before .if1 .taken) (omega (arith, few l .0, h))))
 
 offsets-any-requires : tie.Need-offsets-any-requires
 offsets-any-requires c κs = search needs
@@ -50,10 +50,10 @@ offsets-spec =
     tie.close
     (tie.spec
     sub-if2
-    cast-offsets-from
+    cast-offsets-by
     lead-requires
-    add-offsets-from
-    offsets-from-requires
+    add-offsets-by
+    offsets-by-requires
     same-length
     returns
     offsets-any-requires

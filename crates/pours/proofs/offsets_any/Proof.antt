@@ -4,6 +4,7 @@ use Prim.Native.Nat.{ℕ, _+_, _-_, _≤_, _<_, zero-le}
 use native.Mathlib.Omega.{arith}
 use mathlib.Core.Bool.{true}
 use lib.Dec.{ltb, ltb→lt}
+use lib.Ieee.{Float}
 use lib.Ieee.Bits.{is-true}
 use lib.Ieee.Fits.{and-l, and-r}
 use lib.ListN.{length, length-set}
@@ -11,7 +12,7 @@ use Rattle.binary32.proofs.Truth.{yes}
 use Rattle.clip.specs.Positions.{offsetAt}
 use Rattle.clip.specs.Quick.{noIndex}
 use borrow.Author.Needs.{needs}
-use Rattle.pours.specs.Steady.{Offsets}
+use Rattle.pours.specs.Steady.{Low, Offsets}
 use Rattle.pours.proofs.Filling.{filled}
 use Rattle.pours.proofs.offsets_any.Statement.{statement}
 use Rattle.pours.proofs.offsets_any.Tie as tie
@@ -43,19 +44,24 @@ add-k c = search needs
 loop-less : tie.Need-loop-less Inv-loop μ-loop
 loop-less c = search needs
 
+is-low-requires : tie.Need-is-low-requires Inv-loop μ-loop
+is-low-requires c κs = search needs
+
 loop-again : tie.Need-loop-again Inv-loop μ-loop
 loop-again c =
-    let s = c .before .before .before .before .before in
+    let s = c .before .before .before .before .before .before in
     let a = s .args in
-    let l = c .before .before .before .loop in
-    let near = c .before .quick-index .result in
-    let below : l .k < a .n = c .before .before .loop-test .taken in (
+    let l = c .before .before .before .before .loop in
+    let near = c .before .before .quick-index .result in
+    let below : l .k < a .n = c .before .before .before .loop-test .taken in (
       omega (arith, below),
       length-set (l .values) (l .k) (near .offset) ∙ l .inv .1,
       λ told.
-          let told₀ = and-l (l .told) (ltb (near .index) noIndex) (yes told) in
-          let some = ltb→lt _ _ (and-r (l .told) (ltb (near .index) noIndex) (yes told)) in
-          filled (λ (j : ℕ). offsetAt (a .c) (a .time + j)) (l .k) (l .values) (near .offset) (omega (arith, below, s .pre .2, l .inv .1)) (c .before .quick-index .ensures some .2) (l .inv .2 (is-true (l .told) told₀)),
+          let told₀ = and-l (l .told) _ (yes told) in
+          let told₁ = and-r (l .told) _ (yes told) in
+          let some = ltb→lt _ _ (and-l (ltb (near .index) noIndex) (c .is-low .result) told₁) in
+          let low = c .is-low .ensures (is-true (c .is-low .result) (and-r (ltb (near .index) noIndex) (c .is-low .result) told₁)) in
+          filled (λ (j : ℕ) (y : Float). Low y × (y ≡ offsetAt (a .c) (a .time + j))) (l .k) (l .values) (near .offset) (omega (arith, below, s .pre .2, l .inv .1)) (low, c .before .before .quick-index .ensures some .2) (l .inv .2 (is-true (l .told) told₀)),
     )
 
 same-length : tie.Need-same-length Inv-loop μ-loop
@@ -77,6 +83,7 @@ offsets-any-spec =
     quick-index-requires
     mul-values
     slice-write-values
+    is-low-requires
     add-k
     loop-less
     loop-again

@@ -1,19 +1,15 @@
 -- `offsets_from` meets its contract. The invariant: so many offsets stand, if each was told. The measure is how many are left. Assumes nothing.
-use mathlib.Core.Path.{_≡_, refl, ap, _∙_}
-use Prim.Native.Nat.{ℕ, _+_, _-_, _≤_, _<_, zero-le}
+use mathlib.Core.Path.{_≡_, refl, _∙_}
+use Prim.Native.Nat.{_-_, _≤_, _<_, zero-le}
 use native.Mathlib.Omega.{arith}
-use mathlib.Core.Bool.{true}
-use lib.Ieee.{Float, le, ofBits}
+use mathlib.Core.Bool.{Bool, true}
 use lib.Ieee.Bits.{is-true}
 use lib.Ieee.Fits.{and-l, and-r}
 use lib.ListN.{length, length-set}
 use borrow.Author.Needs.{needs}
-use Rattle.binary32.specs.Leaves.{zero32}
 use Rattle.binary32.proofs.Truth.{yes}
-use Rattle.clip.specs.Positions.{placedOf, clipToDataOf}
-use Rattle.pours.specs.Steady.{travelBy, Counted}
-use Rattle.pours.proofs.Filling.{filled}
-use Rattle.pours.proofs.Placing.{placed-told}
+use Rattle.pours.specs.Steady.{Counted}
+use Rattle.pours.proofs.Placing.{counted-next}
 use Rattle.pours.proofs.offsets_from.Statement.{statement}
 use Rattle.pours.proofs.offsets_from.Tie as tie
 
@@ -53,22 +49,22 @@ add-k c = search needs
 loop-less : tie.Need-loop-less Inv-loop μ-loop
 loop-less c = search needs
 
+is-low-requires : tie.Need-is-low-requires Inv-loop μ-loop
+is-low-requires c κs = search needs
+
 loop-again : tie.Need-loop-again Inv-loop μ-loop
-unfolding ofBits
 loop-again c =
-    let s = c .before .before .before .before .before .before in
+    let s = c .before .before .before .before .before .before .before in
     let a = s .args in
-    let l = c .before .before .before .before .loop in
-    let r = c .offset-of .result in
-    let below : l .k < a .n = c .before .before .before .loop-test .taken in (
+    let l = c .before .before .before .before .before .loop in
+    let r = c .before .offset-of .result in
+    let low : Bool = c .is-low .result in
+    let below : l .k < a .n = c .before .before .before .before .loop-test .taken in (
       omega (arith, below),
       length-set (l .values) (l .k) r ∙ l .inv .1,
       λ told.
-          let here =
-          placed-told (a .c) _ _ r (c .before .wrapped .ensures) (c .offset-of .ensures) (and-r (l .told) (le zero32 r) (yes told))
-          ∙ ap (λ (x : Float). clipToDataOf (a .c) (placedOf (a .c .mode) x (a .c .length))) (c .before .before .travel .ensures) in
-          filled (λ (j : ℕ). clipToDataOf (a .c) (placedOf (a .c .mode) (travelBy (a .c .shift) (a .c .speed) (a .from + j)) (a .c .length))) (l .k) (l .values) r (omega (arith, below, s .pre .1, l .inv .1)) here
-          (l .inv .2 (is-true (l .told) (and-l (l .told) (le zero32 r) (yes told)))),
+          counted-next (a .c) (a .from) (l .k) (l .values) _ _ r (omega (arith, below, s .pre .1, l .inv .1)) (c .before .before .before .travel .ensures) (c .before .before .wrapped .ensures) (c .before .offset-of .ensures)
+          (c .is-low .ensures (is-true low (and-r (l .told) low (yes told)))) (l .inv .2 (is-true (l .told) (and-l (l .told) low (yes told)))),
     )
 
 same-length : tie.Need-same-length Inv-loop μ-loop
@@ -93,6 +89,7 @@ offsets-from-spec =
     offset-of-requires
     mul-values
     slice-write-values
+    is-low-requires
     add-k
     loop-less
     loop-again
