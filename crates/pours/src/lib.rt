@@ -34,7 +34,6 @@ use clip::Mode;
 use plain_voice::Beat;
 use plain_voice::Hot;
 use plain_voice::LAST_WHOLE;
-use voice::Span;
 use voice::Tick;
 use voice::Voice;
 use volume::Volume;
@@ -469,30 +468,6 @@ fn offsets_by(c: Clip, from: u32, values: &mut [f32], n: usize) -> bool
     offsets_from(c, from, values, n)
 }
 
-// The offsets of any clip at any time.
-fn offsets_any(
-    c: Clip,
-    time: usize,
-    span: Span,
-    speed: f32,
-    mode: Mode,
-    values: &mut [f32],
-    n: usize,
-) -> bool
-    requires { ⌜ (time ≤ 2 ^ 62) × (n ≤ 2 ^ 24) × (n ≤ length (now «values»)) ⌝ }
-    ensures { λ r. ⌜ (length (now («values» .exit)) ≡ length (now («values» .entry))) × (r ≡ true → Offsets c time n (now («values» .exit))) ⌝ }
-{
-    let mut told = true;
-    let mut k: usize = 0;
-    while k < n {
-        let near = c.quick_index(time + k, span.length, speed, span.data_length, mode);
-        values[k] = near.offset;
-        told = told & ((near.index < clip::NONE) & is_low(near.offset));
-        k += 1;
-    }
-    told
-}
-
 // How many samples a negative speed is ahead.
 fn lead(speed: f32) -> u32
     ensures { λ r. ⌜ r ≡ cond (lt speed zero32) 1 0 ⌝ }
@@ -500,16 +475,9 @@ fn lead(speed: f32) -> u32
     if speed < 0.0 { 1 } else { 0 }
 }
 
-// The offsets of n samples from that time on: by counts, which are exact up to 2^24.
-fn offsets(
-    c: Clip,
-    time: usize,
-    span: Span,
-    speed: f32,
-    mode: Mode,
-    values: &mut [f32],
-    n: usize,
-) -> bool
+// The offsets of n samples from that time on, by counts, which are exact up to 2^24. Past that none is told: the clip's
+// own quick way, called from here too, would stand apart from the turns that have it compiled in.
+fn offsets(c: Clip, time: usize, values: &mut [f32], n: usize) -> bool
     requires { ⌜ (time ≤ 2 ^ 62) × (n ≤ 2 ^ 24) × (n ≤ length (now «values»)) ⌝ }
     ensures { λ r. ⌜ (length (now («values» .exit)) ≡ length (now («values» .entry))) × (r ≡ true → Offsets c time n (now («values» .exit))) ⌝ }
 {
@@ -519,7 +487,7 @@ fn offsets(
             return offsets_by(c, (elapsed as u32) + lead(c.speed), values, n);
         }
     }
-    offsets_any(c, time, span, speed, mode, values, n)
+    false
 }
 
 // ---- what it sounds
@@ -595,10 +563,8 @@ fn gather(v: Voice, t: Tick, data: &[u32], values: &mut [f32], n: usize) -> Fetc
         return otherwise;
     }
     let clip2 = v.clip2;
-    let span = t.span;
-    let mode = t.mode;
     let speed = v.speed * t.speed;
-    if !offsets(clip2, t.now, span, speed, mode, values, n) {
+    if !offsets(clip2, t.now, values, n) {
         return otherwise;
     }
     fetch(data, v.played, speed, values, n)

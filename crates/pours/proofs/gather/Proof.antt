@@ -26,19 +26,19 @@ returns-2 c = (c .before .before .before .offsets .ensures .0, λ told. absurd (
 fetch-requires : tie.Need-fetch-requires
 fetch-requires c κs =
     let o = c .before .before .before .before .offsets in
-    (omega (arith, c .before .before .before .before .before .before .before .before .before .before .before .before .before .before .pre .1, o .ensures .0), λ k h. o .ensures .1 (not-false (o .result) (c .before .if2 .left)) k h .0)
+    (omega (arith, c .before .before .before .before .before .before .before .before .before .before .before .before .before .pre .1, o .ensures .0), λ k h. o .ensures .1 (not-false (o .result) (c .before .if2 .left)) k h .0)
 
 same-length-2 : tie.Need-same-length-2
 same-length-2 c = search needs
 
 returns-3 : tie.Need-returns-3
 returns-3 c =
-    let s = c .before .before .before .before .before .before .before .before .before .before .before .before .before .before .before .before .before in
+    let s = c .before .before .before .before .before .before .before .before .before .before .before .before .before .before .before .before in
     let a = s .args in
     let f = c .before .before .fetch in
     let o = c .before .before .before .before .before .before .before .offsets in
-    let l = c .before .before .before .before .before .before .before .before .before .before .before .before .before .before .lasts in
-    (f .ensures .size ∙ o .ensures .0, λ told. gathered (a .«data» .now) (a .t) (a .n) (a .v) _ _ (f .result) (s .pre .0 .some) (l .ensures (not-false (l .result) (c .before .before .before .before .before .before .before .before .before .before .before .before .before .if1 .left))) (o .ensures .1 (not-false (o .result) (c .before .before .before .before .if2 .left))) (f .ensures))
+    let l = c .before .before .before .before .before .before .before .before .before .before .before .before .before .lasts in
+    (f .ensures .size ∙ o .ensures .0, λ told. gathered (a .«data» .now) (a .t) (a .n) (a .v) _ _ (f .result) (s .pre .0 .some) (l .ensures (not-false (l .result) (c .before .before .before .before .before .before .before .before .before .before .before .before .if1 .left))) (o .ensures .1 (not-false (o .result) (c .before .before .before .before .if2 .left))) (f .ensures))
 
 pub gather-spec : {M : Type 1} → statement M
 gather-spec =

