@@ -66,7 +66,7 @@ const LOOP: u8 = 1;
 const PING_PONG: u8 = 2;
 const LONGEST_RAMP: u64 = 1 << 24;
 
-const PLAIN: Scenario = Scenario {
+const BASE: Scenario = Scenario {
     name: "",
     act: Act::Frame,
     put_back: 0,
@@ -91,16 +91,16 @@ const PLAIN: Scenario = Scenario {
 };
 
 /// One frame of 32 voices, over and over.
-const LONE_FRAME: Scenario = Scenario { put_back: 32, voices: 32, frames: 20_000, ..PLAIN };
+const LONE_FRAME: Scenario = Scenario { put_back: 32, voices: 32, frames: 20_000, ..BASE };
 
 /// 32 voices on eight phrases.
-const PHRASES: Scenario = Scenario { voices: 32, phrases: 8, frames: 20_000, ..PLAIN };
+const PHRASES: Scenario = Scenario { voices: 32, phrases: 8, frames: 20_000, ..BASE };
 
 /// A call while 8 voices are held, over and over.
-const CALL: Scenario = Scenario { put_back: 1, ramp: 100, auto_passthru: true, frames: 100_000, ..PLAIN };
+const CALL: Scenario = Scenario { put_back: 1, ramp: 100, auto_passthru: true, frames: 100_000, ..BASE };
 
 /// Of 8/12's profile.
-const WHOLE: Scenario = Scenario { speed: 1.0, ratio: 0.25, ..PLAIN };
+const WHOLE: Scenario = Scenario { speed: 1.0, ratio: 0.25, ..BASE };
 
 pub const SCENARIOS: &[Scenario] = &[
     Scenario { name: "plain: 1 voice", voices: 1, frames: 200_000, ..WHOLE },
@@ -115,49 +115,53 @@ pub const SCENARIOS: &[Scenario] = &[
     Scenario { name: "plain: 32 voices, runs of 64", voices: 32, frames: 20_000, run: 64, ..WHOLE },
     Scenario { name: "plain: 32 voices, attack running, runs of 64", voices: 32, frames: 20_000, run: 64, ramp: LONGEST_RAMP, ..WHOLE },
     Scenario { name: "plain: 32 voices, eight phrases, runs of 64", voices: 32, frames: 20_000, run: 64, phrases: 8, stretch: 4, ratio: 0.25, ..WHOLE },
-    Scenario { name: "no voices", voices: 0, frames: 500_000, ..PLAIN },
-    Scenario { name: "1 voice, loop", voices: 1, frames: 200_000, ..PLAIN },
-    Scenario { name: "1 voice, ping-pong", voices: 1, mode: PING_PONG, frames: 200_000, ..PLAIN },
-    Scenario { name: "8 voices, loop", ..PLAIN },
-    Scenario { name: "8 voices, ping-pong", mode: PING_PONG, ..PLAIN },
-    Scenario { name: "32 voices, loop", voices: 32, frames: 20_000, ..PLAIN },
-    Scenario { name: "32 voices, ping-pong", voices: 32, mode: PING_PONG, frames: 20_000, ..PLAIN },
-    Scenario { name: "8 voices, reverse speed", reverse: -1.0, ..PLAIN },
-    Scenario { name: "8 voices, play-once", mode: ONCE, speed: 0.05, ratio: 1.0, ..PLAIN },
-    Scenario { name: "8 voices, attack running", ramp: LONGEST_RAMP, ..PLAIN },
-    Scenario { name: "8 voices, decay running", ramp: LONGEST_RAMP, stopped: 1, ..PLAIN },
-    Scenario { name: "32 voices, attack running", voices: 32, ramp: LONGEST_RAMP, frames: 20_000, ..PLAIN },
-    Scenario { name: "8 voices, recording", records: true, ..PLAIN },
-    Scenario { name: "no voices, recording", voices: 0, records: true, frames: 500_000, ..PLAIN },
-    Scenario { name: "8 voices, growing recording", grows: true, ..PLAIN },
-    Scenario { name: "8 voices, clock at 2^40", clock: 1 << 40, ..PLAIN },
-    Scenario { name: "1 voice, parameters change", voices: 1, changes: true, frames: 200_000, ..PLAIN },
-    Scenario { name: "8 voices, parameters change", changes: true, ..PLAIN },
-    Scenario { name: "32 voices, parameters change", voices: 32, changes: true, frames: 20_000, ..PLAIN },
-    Scenario { name: "32 voices, 16 leave and come back", voices: 32, leaves: true, frames: 20_480, ..PLAIN },
+    Scenario { name: "no voices", voices: 0, frames: 500_000, ..BASE },
+    Scenario { name: "1 voice, loop", voices: 1, frames: 200_000, ..BASE },
+    Scenario { name: "1 voice, ping-pong", voices: 1, mode: PING_PONG, frames: 200_000, ..BASE },
+    Scenario { name: "8 voices, loop", ..BASE },
+    Scenario { name: "8 voices, ping-pong", mode: PING_PONG, ..BASE },
+    Scenario { name: "32 voices, loop", voices: 32, frames: 20_000, ..BASE },
+    Scenario { name: "32 voices, ping-pong", voices: 32, mode: PING_PONG, frames: 20_000, ..BASE },
+    Scenario { name: "8 voices, reverse speed", reverse: -1.0, ..BASE },
+    Scenario { name: "8 voices, play-once", mode: ONCE, speed: 0.05, ratio: 1.0, ..BASE },
+    Scenario { name: "8 voices, attack running", ramp: LONGEST_RAMP, ..BASE },
+    Scenario { name: "8 voices, decay running", ramp: LONGEST_RAMP, stopped: 1, ..BASE },
+    Scenario { name: "32 voices, attack running", voices: 32, ramp: LONGEST_RAMP, frames: 20_000, ..BASE },
+    Scenario { name: "8 voices, recording", records: true, ..BASE },
+    Scenario { name: "no voices, recording", voices: 0, records: true, frames: 500_000, ..BASE },
+    Scenario { name: "8 voices, growing recording", grows: true, ..BASE },
+    Scenario { name: "8 voices, clock at 2^40", clock: 1 << 40, ..BASE },
+    Scenario { name: "1 voice, parameters change", voices: 1, changes: true, frames: 200_000, ..BASE },
+    Scenario { name: "8 voices, parameters change", changes: true, ..BASE },
+    Scenario { name: "32 voices, parameters change", voices: 32, changes: true, frames: 20_000, ..BASE },
+    Scenario { name: "32 voices, 16 leave and come back", voices: 32, leaves: true, frames: 20_480, ..BASE },
     Scenario { name: "a frame of 32 voices, 16 leave", stopped: 2, ..LONE_FRAME },
     Scenario { name: "a frame of 32 voices, none leaves", ..LONE_FRAME },
-    Scenario { name: "no voices, runs of 64", voices: 0, frames: 500_000, run: 64, ..PLAIN },
-    Scenario { name: "1 voice, loop, runs of 64", voices: 1, frames: 200_000, run: 64, ..PLAIN },
-    Scenario { name: "8 voices, loop, runs of 64", run: 64, ..PLAIN },
-    Scenario { name: "32 voices, loop, runs of 64", voices: 32, frames: 20_000, run: 64, ..PLAIN },
-    Scenario { name: "1 voice, loop, ten million frames", voices: 1, frames: 10_000_000, ..PLAIN },
+    Scenario { name: "no voices, runs of 64", voices: 0, frames: 500_000, run: 64, ..BASE },
+    Scenario { name: "1 voice, loop, runs of 64", voices: 1, frames: 200_000, run: 64, ..BASE },
+    Scenario { name: "8 voices, loop, runs of 64", run: 64, ..BASE },
+    Scenario { name: "32 voices, loop, runs of 64", voices: 32, frames: 20_000, run: 64, ..BASE },
+    Scenario { name: "32 voices, ping-pong, runs of 64", voices: 32, mode: PING_PONG, frames: 20_000, run: 64, ..BASE },
+    Scenario { name: "32 voices, reverse speed, runs of 64", voices: 32, reverse: -1.0, frames: 20_000, run: 64, ..BASE },
+    Scenario { name: "32 voices, attack running, runs of 64", voices: 32, ramp: LONGEST_RAMP, frames: 20_000, run: 64, ..BASE },
+    Scenario { name: "8 voices, play-once, runs of 64", mode: ONCE, speed: 0.05, ratio: 1.0, run: 64, ..BASE },
+    Scenario { name: "1 voice, loop, ten million frames", voices: 1, frames: 10_000_000, ..BASE },
     Scenario { name: "call: start", act: Act::Start, ..CALL },
     Scenario { name: "call: stop", act: Act::Stop, ..CALL },
     Scenario { name: "call: note speed", act: Act::NoteSpeed, ..CALL },
     Scenario { name: "call: start of recording", act: Act::StartRecording, ..CALL },
     Scenario { name: "call: stop of recording", act: Act::StopRecording, grows: true, ..CALL },
     Scenario { name: "call: reset", act: Act::Reset, ..CALL },
-    Scenario { name: "smooth: 1 voice, loop", voices: 1, frames: 200_000, smooth: true, ..PLAIN },
-    Scenario { name: "smooth: 8 voices, loop", smooth: true, ..PLAIN },
-    Scenario { name: "smooth: 32 voices, loop", voices: 32, frames: 20_000, smooth: true, ..PLAIN },
-    Scenario { name: "smooth: 8 voices, ping-pong", mode: PING_PONG, smooth: true, ..PLAIN },
-    Scenario { name: "smooth: 32 voices, ping-pong", voices: 32, mode: PING_PONG, frames: 20_000, smooth: true, ..PLAIN },
-    Scenario { name: "smooth: 8 voices, reverse speed", reverse: -1.0, smooth: true, ..PLAIN },
-    Scenario { name: "smooth: 8 voices, play-once", mode: ONCE, speed: 0.05, ratio: 1.0, smooth: true, ..PLAIN },
-    Scenario { name: "smooth: 8 voices, parameters change", changes: true, smooth: true, ..PLAIN },
-    Scenario { name: "smooth: 8 voices, loop, runs of 64", run: 64, smooth: true, ..PLAIN },
-    Scenario { name: "smooth: 32 voices, loop, runs of 64", voices: 32, frames: 20_000, run: 64, smooth: true, ..PLAIN },
+    Scenario { name: "smooth: 1 voice, loop", voices: 1, frames: 200_000, smooth: true, ..BASE },
+    Scenario { name: "smooth: 8 voices, loop", smooth: true, ..BASE },
+    Scenario { name: "smooth: 32 voices, loop", voices: 32, frames: 20_000, smooth: true, ..BASE },
+    Scenario { name: "smooth: 8 voices, ping-pong", mode: PING_PONG, smooth: true, ..BASE },
+    Scenario { name: "smooth: 32 voices, ping-pong", voices: 32, mode: PING_PONG, frames: 20_000, smooth: true, ..BASE },
+    Scenario { name: "smooth: 8 voices, reverse speed", reverse: -1.0, smooth: true, ..BASE },
+    Scenario { name: "smooth: 8 voices, play-once", mode: ONCE, speed: 0.05, ratio: 1.0, smooth: true, ..BASE },
+    Scenario { name: "smooth: 8 voices, parameters change", changes: true, smooth: true, ..BASE },
+    Scenario { name: "smooth: 8 voices, loop, runs of 64", run: 64, smooth: true, ..BASE },
+    Scenario { name: "smooth: 32 voices, loop, runs of 64", voices: 32, frames: 20_000, run: 64, smooth: true, ..BASE },
     Scenario { name: "eight phrases: 32 voices, each on another than the one before", ..PHRASES },
     Scenario { name: "eight phrases: 32 voices, four in turn on one", stretch: 4, ..PHRASES },
     Scenario { name: "eight phrases: no voices", voices: 0, frames: 500_000, ..PHRASES },

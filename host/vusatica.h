@@ -93,7 +93,7 @@ typedef struct vusatica_sampler { uint64_t opaque[893]; } vusatica_sampler;
 typedef struct vusatica_params { uint64_t opaque[8]; } vusatica_params;
 
 /* What the plain engine has beside a sampler. */
-typedef struct vusatica_backing { uint64_t opaque[198]; } vusatica_backing;
+typedef struct vusatica_backing { uint64_t opaque[262]; } vusatica_backing;
 
 /* The loop of a voice and its place, as parts of its recording. */
 typedef struct vusatica_voice { float start, end, position; } vusatica_voice;

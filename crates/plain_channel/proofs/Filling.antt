@@ -2,7 +2,7 @@
 --     pour             its row
 --     empties          what `Pour::new` gives
 --     with-pour, with-eased, with-next, with-left      a side with another pour, and a pour with another number;  `is-poured`, `is-eased` and so on, they are of their types
---     pour-is, sums-are, eased-fits, next-fits, left-fits      what a side that is of its type says of its pour
+--     pour-is, sums-are, values-are, eased-fits, next-fits, left-fits      what a side that is of its type says of its pour
 --     Cell             a side in memory as its one cell;  `spells-side` makes one of it, and `side-again` makes it a side in memory
 --     reads-eased, reads-next, reads-left      the pour's numbers, read off that cell through the reference that a local holds
 --     stores-pour, stores-next, stores-left    the pour, and its numbers, stored in it;  `stores-eased-last`, where that is the last statement of its part
@@ -65,27 +65,30 @@ empties = record { takes = []; gives = pour; says = λ _. noPour }
 abbrev pub pour-at : ℕ
 pour-at = at (fieldOf (lone (S.the-row .mir)) 1)
 
+abbrev pub values-at : ℕ
+values-at = at (fieldOf (lone (U.the-row .mir)) 1)
+
 abbrev pub eased-at : ℕ
-eased-at = at (fieldOf (lone (U.the-row .mir)) 1)
+eased-at = at (fieldOf (lone (U.the-row .mir)) 2)
 
 abbrev pub next-at : ℕ
-next-at = at (fieldOf (lone (U.the-row .mir)) 2)
+next-at = at (fieldOf (lone (U.the-row .mir)) 3)
 
 abbrev pub left-at : ℕ
-left-at = at (fieldOf (lone (U.the-row .mir)) 3)
+left-at = at (fieldOf (lone (U.the-row .mir)) 4)
 
 -- ---- a side with another pour, and a pour with other numbers
 abbrev pub with-pour : Pour → Side → Side
 with-pour u k = record { hots = k .hots; pour = u }
 
 abbrev pub with-eased : ℕ → Pour → Pour
-with-eased n u = record { sums = u .sums; eased = n; next = u .next; left = u .left }
+with-eased n u = record { sums = u .sums; values = u .values; eased = n; next = u .next; left = u .left }
 
 abbrev pub with-next : ℕ → Pour → Pour
-with-next n u = record { sums = u .sums; eased = u .eased; next = n; left = u .left }
+with-next n u = record { sums = u .sums; values = u .values; eased = u .eased; next = n; left = u .left }
 
 abbrev pub with-left : ℕ → Pour → Pour
-with-left n u = record { sums = u .sums; eased = u .eased; next = u .next; left = n }
+with-left n u = record { sums = u .sums; values = u .values; eased = u .eased; next = u .next; left = n }
 
 pub pour-is : (k : Side) → IsSide k → IsPour (k .pour)
 pour-is k is = LL.owed S.the-type S′.the-laws k _ is .1 .0
@@ -97,23 +100,26 @@ module _ (u : Pour) (is : IsPour u) where
   pub sums-are : length (u .sums) ≡ 64
   sums-are = sym (length-map (u .sums) _) ∙ LL.owed U.the-type U′.the-laws u _ is .0 .1 .0 .1
 
+  pub values-are : length (u .values) ≡ 64
+  values-are = sym (length-map (u .values) _) ∙ LL.owed U.the-type U′.the-laws u _ is .1 .0 .1 .0 .1
+
   pub eased-fits : u .eased < 2 ^ 64
-  eased-fits = LL.owed U.the-type U′.the-laws u _ is .1 .0 .1
+  eased-fits = LL.owed U.the-type U′.the-laws u _ is .1 .1 .0 .1
 
   pub next-fits : u .next < 2 ^ 64
-  next-fits = LL.owed U.the-type U′.the-laws u _ is .1 .1 .0 .1
+  next-fits = LL.owed U.the-type U′.the-laws u _ is .1 .1 .1 .0 .1
 
   pub left-fits : u .left < 2 ^ 64
-  left-fits = LL.owed U.the-type U′.the-laws u _ is .1 .1 .1 .0 .1
+  left-fits = LL.owed U.the-type U′.the-laws u _ is .1 .1 .1 .1 .0 .1
 
   pub is-eased : (n : ℕ) → n < 2 ^ 64 → IsPour (with-eased n u)
-  is-eased n fits = LL.owes U.the-type U′.the-laws (with-eased n u) (LL.owed U.the-type U′.the-laws u _ is .0, ((refl, fits), LL.owed U.the-type U′.the-laws u _ is .1 .1))
+  is-eased n fits = LL.owes U.the-type U′.the-laws (with-eased n u) (LL.owed U.the-type U′.the-laws u _ is .0, (LL.owed U.the-type U′.the-laws u _ is .1 .0, ((refl, fits), LL.owed U.the-type U′.the-laws u _ is .1 .1 .1)))
 
   pub is-next : (n : ℕ) → n < 2 ^ 64 → IsPour (with-next n u)
-  is-next n fits = LL.owes U.the-type U′.the-laws (with-next n u) (LL.owed U.the-type U′.the-laws u _ is .0, (LL.owed U.the-type U′.the-laws u _ is .1 .0, ((refl, fits), LL.owed U.the-type U′.the-laws u _ is .1 .1 .1)))
+  is-next n fits = LL.owes U.the-type U′.the-laws (with-next n u) (LL.owed U.the-type U′.the-laws u _ is .0, (LL.owed U.the-type U′.the-laws u _ is .1 .0, (LL.owed U.the-type U′.the-laws u _ is .1 .1 .0, ((refl, fits), LL.owed U.the-type U′.the-laws u _ is .1 .1 .1 .1))))
 
   pub is-left : (n : ℕ) → n < 2 ^ 64 → IsPour (with-left n u)
-  is-left n fits = LL.owes U.the-type U′.the-laws (with-left n u) (LL.owed U.the-type U′.the-laws u _ is .0, (LL.owed U.the-type U′.the-laws u _ is .1 .0, (LL.owed U.the-type U′.the-laws u _ is .1 .1 .0, ((refl, fits), LL.owed U.the-type U′.the-laws u _ is .1 .1 .1 .1))))
+  is-left n fits = LL.owes U.the-type U′.the-laws (with-left n u) (LL.owed U.the-type U′.the-laws u _ is .0, (LL.owed U.the-type U′.the-laws u _ is .1 .0, (LL.owed U.the-type U′.the-laws u _ is .1 .1 .0, (LL.owed U.the-type U′.the-laws u _ is .1 .1 .1 .0, ((refl, fits), LL.owed U.the-type U′.the-laws u _ is .1 .1 .1 .1 .1)))))
 
 -- ---- in memory
 
@@ -133,14 +139,14 @@ module _ {M : Type 1} {𝓤 : URA M} {H : Heap 𝓤} {A : Atoms 𝓤} {K : Type 
       use2 W (‵ (partAt S.the-row fullShare k b o)) (part-in 𝓤 H A W S.the-row refl fullShare k b o (side .val k)) $ s)
 
   module _ {E : Env 𝓤 H} {c : ℕ} where
-    pub reads-eased : K → Held K W E (Cell b o k ∷ Γ) c (vptr b o) → Opd K W (Cell b o k ∷ Γ) E (copy (place c (deref S′.mir ∷ field 1 ∷ field 1 ∷ []))) (vint w64 (k .pour .eased))
-    reads-eased t r = load t (beyond t r (fld t {τ = pour .ty} {d = pour-at} refl (fld t {τ = tyInt w64} {d = eased-at} refl (stop t)))) (look-in t 0 (sub t 1 refl (sub t 1 refl (whole t))))
+    pub reads-eased : K → Held K W E (Cell b o k ∷ Γ) c (vptr b o) → Opd K W (Cell b o k ∷ Γ) E (copy (place c (deref S′.mir ∷ field 1 ∷ field 2 ∷ []))) (vint w64 (k .pour .eased))
+    reads-eased t r = load t (beyond t r (fld t {τ = pour .ty} {d = pour-at} refl (fld t {τ = tyInt w64} {d = eased-at} refl (stop t)))) (look-in t 0 (sub t 2 refl (sub t 1 refl (whole t))))
 
-    pub reads-next : K → Held K W E (Cell b o k ∷ Γ) c (vptr b o) → Opd K W (Cell b o k ∷ Γ) E (copy (place c (deref S′.mir ∷ field 1 ∷ field 2 ∷ []))) (vint w64 (k .pour .next))
-    reads-next t r = load t (beyond t r (fld t {τ = pour .ty} {d = pour-at} refl (fld t {τ = tyInt w64} {d = next-at} refl (stop t)))) (look-in t 0 (sub t 2 refl (sub t 1 refl (whole t))))
+    pub reads-next : K → Held K W E (Cell b o k ∷ Γ) c (vptr b o) → Opd K W (Cell b o k ∷ Γ) E (copy (place c (deref S′.mir ∷ field 1 ∷ field 3 ∷ []))) (vint w64 (k .pour .next))
+    reads-next t r = load t (beyond t r (fld t {τ = pour .ty} {d = pour-at} refl (fld t {τ = tyInt w64} {d = next-at} refl (stop t)))) (look-in t 0 (sub t 3 refl (sub t 1 refl (whole t))))
 
-    pub reads-left : K → Held K W E (Cell b o k ∷ Γ) c (vptr b o) → Opd K W (Cell b o k ∷ Γ) E (copy (place c (deref S′.mir ∷ field 1 ∷ field 3 ∷ []))) (vint w64 (k .pour .left))
-    reads-left t r = load t (beyond t r (fld t {τ = pour .ty} {d = pour-at} refl (fld t {τ = tyInt w64} {d = left-at} refl (stop t)))) (look-in t 0 (sub t 3 refl (sub t 1 refl (whole t))))
+    pub reads-left : K → Held K W E (Cell b o k ∷ Γ) c (vptr b o) → Opd K W (Cell b o k ∷ Γ) E (copy (place c (deref S′.mir ∷ field 1 ∷ field 4 ∷ []))) (vint w64 (k .pour .left))
+    reads-left t r = load t (beyond t r (fld t {τ = pour .ty} {d = pour-at} refl (fld t {τ = tyInt w64} {d = left-at} refl (stop t)))) (look-in t 0 (sub t 4 refl (sub t 1 refl (whole t))))
 
     module _ {Cs : Calls 𝓤 H} {Λ : Loops 𝓤 H} {Q : Post 𝓤 H} {x : Operand} {rest : Body} where
       pub stores-pour : K → (u : Pour) → IsPour u → Opd K W (Cell b o k ∷ Γ) E x (pour .val u) → Held K W E (Cell b o k ∷ Γ) c (vptr b o)
@@ -148,22 +154,22 @@ module _ {M : Type 1} {𝓤 : URA M} {H : Heap 𝓤} {A : Atoms 𝓤} {K : Type 
       stores-pour t u is y r = assigns t (of-opd t y) (beyond t r (fld t {τ = pour .ty} {d = pour-at} refl (stop t))) (store-in t 0 (sub t 1 {τ = pour .ty} {d = pour-at} refl (whole t)) (pour .typed 𝓤 H A W u _ is))
 
       pub stores-next : K → (n : ℕ) → n < 2 ^ 64 → Opd K W (Cell b o k ∷ Γ) E x (vint w64 n) → Held K W E (Cell b o k ∷ Γ) c (vptr b o)
-          → Step K W (Cell b o (with-pour (with-next n (k .pour)) k) ∷ Γ) (runs Cs Λ E rest Q) (Cell b o k ∷ Γ) (runs Cs Λ E (seq (assign (place c (deref S′.mir ∷ field 1 ∷ field 2 ∷ [])) (rvOpd x)) rest) Q)
+          → Step K W (Cell b o (with-pour (with-next n (k .pour)) k) ∷ Γ) (runs Cs Λ E rest Q) (Cell b o k ∷ Γ) (runs Cs Λ E (seq (assign (place c (deref S′.mir ∷ field 1 ∷ field 3 ∷ [])) (rvOpd x)) rest) Q)
       stores-next t n fits y r =
           assigns t (of-opd t y) (beyond t r (fld t {τ = pour .ty} {d = pour-at} refl (fld t {τ = tyInt w64} {d = next-at} refl (stop t))))
-          (store-in t 0 (sub t 2 {τ = tyInt w64} {d = next-at} refl (sub t 1 {τ = pour .ty} {d = pour-at} refl (whole t))) (tt, record { fits = fits }))
+          (store-in t 0 (sub t 3 {τ = tyInt w64} {d = next-at} refl (sub t 1 {τ = pour .ty} {d = pour-at} refl (whole t))) (tt, record { fits = fits }))
 
       pub stores-left : K → (n : ℕ) → n < 2 ^ 64 → Opd K W (Cell b o k ∷ Γ) E x (vint w64 n) → Held K W E (Cell b o k ∷ Γ) c (vptr b o)
-          → Step K W (Cell b o (with-pour (with-left n (k .pour)) k) ∷ Γ) (runs Cs Λ E rest Q) (Cell b o k ∷ Γ) (runs Cs Λ E (seq (assign (place c (deref S′.mir ∷ field 1 ∷ field 3 ∷ [])) (rvOpd x)) rest) Q)
+          → Step K W (Cell b o (with-pour (with-left n (k .pour)) k) ∷ Γ) (runs Cs Λ E rest Q) (Cell b o k ∷ Γ) (runs Cs Λ E (seq (assign (place c (deref S′.mir ∷ field 1 ∷ field 4 ∷ [])) (rvOpd x)) rest) Q)
       stores-left t n fits y r =
           assigns t (of-opd t y) (beyond t r (fld t {τ = pour .ty} {d = pour-at} refl (fld t {τ = tyInt w64} {d = left-at} refl (stop t))))
-          (store-in t 0 (sub t 3 {τ = tyInt w64} {d = left-at} refl (sub t 1 {τ = pour .ty} {d = pour-at} refl (whole t))) (tt, record { fits = fits }))
+          (store-in t 0 (sub t 4 {τ = tyInt w64} {d = left-at} refl (sub t 1 {τ = pour .ty} {d = pour-at} refl (whole t))) (tt, record { fits = fits }))
 
     pub stores-eased-last : {Cs : Calls 𝓤 H} {Λ : Loops 𝓤 H} {Q : Post 𝓤 H} {x : Operand} → K → (n : ℕ) → n < 2 ^ 64 → Opd K W (Cell b o k ∷ Γ) E x (vint w64 n) → Held K W E (Cell b o k ∷ Γ) c (vptr b o)
-        → Step K W (Cell b o (with-pour (with-eased n (k .pour)) k) ∷ Γ) (prop (post 𝓤 H Q next)) (Cell b o k ∷ Γ) (runs Cs Λ E (assign (place c (deref S′.mir ∷ field 1 ∷ field 1 ∷ [])) (rvOpd x)) Q)
+        → Step K W (Cell b o (with-pour (with-eased n (k .pour)) k) ∷ Γ) (prop (post 𝓤 H Q next)) (Cell b o k ∷ Γ) (runs Cs Λ E (assign (place c (deref S′.mir ∷ field 1 ∷ field 2 ∷ [])) (rvOpd x)) Q)
     stores-eased-last t n fits y r =
         assigns-last t (of-opd t y) (beyond t r (fld t {τ = pour .ty} {d = pour-at} refl (fld t {τ = tyInt w64} {d = eased-at} refl (stop t))))
-        (store-in t 0 (sub t 1 {τ = tyInt w64} {d = eased-at} refl (sub t 1 {τ = pour .ty} {d = pour-at} refl (whole t))) (tt, record { fits = fits }))
+        (store-in t 0 (sub t 2 {τ = tyInt w64} {d = eased-at} refl (sub t 1 {τ = pour .ty} {d = pour-at} refl (whole t))) (tt, record { fits = fits }))
 
 -- ---- a sum
 

@@ -1,6 +1,7 @@
--- `pours::poured`, called by a walk that has a side in memory: the side's sums are lent to it, with a shared memory, and come back as it left them. Assumes `Given`.
+-- `pours::poured`, called by a walk that has a side in memory: the side's sums and values are lent to it, with a shared memory, and come back as it left them. Assumes `Given`.
 use mathlib.Core.Path.{_≡_, refl, sym, ap, subst}
 use Prim.Native.Nat.{ℕ, _≤_}
+use native.Mathlib.Omega.{arith}
 use mathlib.Core.List.{List, [], _∷_}
 use lib.ListN.{length}
 use lib.Ieee.{Float}
@@ -23,8 +24,7 @@ use types.Run.{Opds}
 use denote.Memory.{partAt}
 use denote.Laws.{Is, shows}
 use denote.Ref.{RefT}
-use denote.Slice.{MutSlice, sliceVal, slice-vals}
-use denote.Builtin.{f32}
+use denote.Slice.{sliceVal, slice-vals}
 use denote.Steps.{only, owned, peeks, heard, nothing}
 use denote.Triple.Spec.{tripleOf}
 use denote.Triple.Statement.{Contract, Triple}
@@ -50,7 +50,7 @@ use Rattle.lent_channel.proofs.Holding.{voice, tick}
 use Rattle.plain_channel.specs.declared.Side.{Side}
 use Rattle.plain_channel.proofs.Hotting.{side, hot, beat, IsSide, IsHot}
 use Rattle.plain_channel.proofs.Pairing.{Sl, Tok}
-use Rattle.plain_channel.proofs.Summing.{with-sums, sums-at, sums-ref, Left, lends-sums, sums-back}
+use Rattle.plain_channel.proofs.Summing.{with-sums, sums-at, values-spot, list-ref, Left, Lent, lends-sums, sums-back}
 use Rattle.plain_channel.proofs.Side as S
 
 abbrev pub pouring : Datum
@@ -64,14 +64,23 @@ module _ (h : Hot) (v : Voice) (t : Tick) (n : ℕ) (κ : Lft) (q : Share) (m : 
   abbrev ys : List Float
   ys = k .pour .sums
 
+  abbrev vs : List Float
+  vs = k .pour .values
+
+  abbrev sums : GName → RefT (List Float)
+  sums γ = list-ref b (sums-at o) γ ys
+
+  abbrev values : GName → RefT (List Float)
+  values δ = list-ref b (values-spot o) δ vs
+
   abbrev pace : Beat
   pace = beatOf t
 
-  abbrev here : ℕ → Lfts 2
-  here α = (κ, (α ∷ [], tt))
+  abbrev here : (α β : ℕ) → Lfts 3
+  here α β = (κ, (α ∷ [], (β ∷ [], tt)))
 
-  abbrev args : GName → Hot × (Voice × (Tick × (Beat × (RefT (List ℕ) × (RefT (List Float) × (ℕ × Unit {0}))))))
-  args γ = (h, (v, (t, (pace, (m, (sums-ref b o γ ys, (n, tt)))))))
+  abbrev args : (γ δ : GName) → Hot × (Voice × (Tick × (Beat × (RefT (List ℕ) × (RefT (List Float) × (RefT (List Float) × (ℕ × Unit {0})))))))
+  args γ δ = (h, (v, (t, (pace, (m, (sums γ, (values δ, (n, tt))))))))
 
   -- what it asks
   pub record May : Type 0 where
@@ -80,57 +89,65 @@ module _ (h : Hot) (v : Voice) (t : Tick) (n : ℕ) (κ : Lft) (q : Share) (m : 
     pub tick-is : Is (tick .like) t (tick .val t ∷ [])
     pub beat-is : Is (beat .like) pace (beat .val pace ∷ [])
     pub count-is : Is (word w64 .like) n (vint w64 n ∷ [])
-    pub room : n ≤ length ys
+    pub few : n ≤ 64
     pub all : length ys ≡ 64
+    pub all-values : length vs ≡ 64
 
   module _ {M : Type 1} (𝓤 : URA M) (H : Heap 𝓤) (A : Atoms 𝓤) (mem : Memory → SProp 𝓤) (run : Routine → Fun 𝓤) where
-    abbrev about : ℕ → GName → Poured 𝓤 H A mem run .Ghost
-    about α γ = ((here α, (q, (fullShare, tt)), tt, args γ, (hot .val h ∷ [], (vv v ∷ [], (tick .val t ∷ [], (beat .val pace ∷ [], (slice-vals m, (slice-vals (sums-ref b o γ ys), (vint w64 n ∷ [], tt)))))))), tt)
+    abbrev about : (α β : ℕ) (γ δ : GName) → Poured 𝓤 H A mem run .Ghost
+    about α β γ δ =
+        ((here α β, (q, (fullShare, (fullShare, tt))), tt, args γ δ, (hot .val h ∷ [], (vv v ∷ [], (tick .val t ∷ [], (beat .val pace ∷ [], (slice-vals m, (slice-vals (sums γ), (slice-vals (values δ), (vint w64 n ∷ [], tt))))))))), tt)
 
-    abbrev Tokens : ℕ → Item 𝓤
-    Tokens α = ‵ (flft κ q) ⊛ Tok (α ∷ []) fullShare
+    abbrev Tokens : (α β : ℕ) → Item 𝓤
+    Tokens α β = ‵ (flft κ q) ⊛ ‵ (flft (α ∷ []) fullShare) ⊛ Tok (β ∷ []) fullShare
 
-    abbrev Sums : ℕ → GName → Item 𝓤
-    Sums α γ = ‵ (MutSlice (named 1) (α ∷ []) f32 .own (sums-ref b o γ ys) (slice-vals (sums-ref b o γ ys)))
+    abbrev Lists : (α β : ℕ) (γ δ : GName) → Item 𝓤
+    Lists α β γ δ = ‵ (Lent 𝓤 H A (named 1) (α ∷ []) b (sums-at o) γ ys) ⊛ ‵ (Lent 𝓤 H A (named 2) (β ∷ []) b (values-spot o) δ vs)
 
-    goes : (W : Given 𝓤 H A) → May → (α : ℕ) (γ : GName) → ent 𝓤 (⋆ 𝓤 H A (Tokens α ∷ ‵ (Sl κ m) ∷ Sums α γ ∷ [])) (Poured 𝓤 H A mem run .pre (about α γ))
-    goes W may α γ =
-        qed W (Tokens α ∷ ‵ (Sl κ m) ∷ Sums α γ ∷ []) ∵ says ! (refl, may .room) $ nothing ! $ owned ! (word w64 .like) (Is (word w64 .like)) (word w64 .makes 𝓤 H A W) n _ (may .count-is) $ fjoin ! $
-        move ! (3 ∷ 0 ∷ []) $ fjoin ! $ move ! (2 ∷ 0 ∷ []) $ fjoin ! $ owned ! (beat .like) (Is (beat .like)) (beat .makes 𝓤 H A W) pace _ (may .beat-is) $ fjoin ! $
+    goes : (W : Given 𝓤 H A) → May → (α β : ℕ) (γ δ : GName) → ent 𝓤 (⋆ 𝓤 H A (Tokens α β ∷ ‵ (Sl κ m) ∷ Lists α β γ δ ∷ [])) (Poured 𝓤 H A mem run .pre (about α β γ δ))
+    goes W may α β γ δ =
+        qed W (Tokens α β ∷ ‵ (Sl κ m) ∷ Lists α β γ δ ∷ []) ∵ says ! (refl, omega (arith, may .few, may .all), omega (arith, may .few, may .all-values)) $ move ! (2 ∷ []) $ split ! $
+        -- [the sums; the values; the tokens; the memory]
+        nothing ! $ owned ! (word w64 .like) (Is (word w64 .like)) (word w64 .makes 𝓤 H A W) n _ (may .count-is) $ fjoin ! $
+        move ! (2 ∷ 0 ∷ []) $ fjoin ! $ move ! (1 ∷ 0 ∷ []) $ fjoin ! $ move ! (2 ∷ 0 ∷ []) $ fjoin ! $ owned ! (beat .like) (Is (beat .like)) (beat .makes 𝓤 H A W) pace _ (may .beat-is) $ fjoin ! $
         owned ! (tick .like) (Is (tick .like)) (tick .makes 𝓤 H A W) t _ (may .tick-is) $ fjoin ! $ owned ! R.the-row (Is R.the-row) (voice .makes 𝓤 H A W) v _ (may .voice-is) $ fjoin ! $
         owned ! (hot .like) (Is (hot .like)) (hot .makes 𝓤 H A W) h _ (may .hot-is) $ fjoin ! $ move ! (1 ∷ 0 ∷ []) $ join ! $ done !
 
-    abbrev pub Before : List (Item 𝓤) → ℕ → GName → List (Item 𝓤)
-    Before Γ α γ = raw (Poured 𝓤 H A mem run .pre (about α γ)) ∷ Left 𝓤 H A (α ∷ []) k b o γ ∷ Γ
+    abbrev pub Before : List (Item 𝓤) → (α β : ℕ) (γ δ : GName) → List (Item 𝓤)
+    Before Γ α β γ δ = raw (Poured 𝓤 H A mem run .pre (about α β γ δ)) ∷ Left 𝓤 H A (α ∷ []) (β ∷ []) k b o γ δ ∷ Γ
 
   -- the call, and what goes on behind it
   module _ {M : Type 1} {𝓤 : URA M} {H : Heap 𝓤} {A : Atoms 𝓤} {K : Type 0} {W : Given 𝓤 H A} {Γ : List (Item 𝓤)} (mem : Memory → SProp 𝓤) (run : Routine → Fun 𝓤) (𝓣 : Tables 𝓤 H) {E : Env 𝓤 H} {p : Post 𝓤 H} {xs : List Operand} {d : Place} {rest : Body} where
     pub pours-at : K → Triple 𝓤 (𝓣 .C #poured) (Poured 𝓤 H A mem run) → May
-        → ((α : ℕ) (γ : GName) → Opds K W (Before 𝓤 H A mem run Γ α γ) E xs
-        (hot .val h ∷ vv v ∷ tick .val t ∷ beat .val pace ∷ sliceVal (m .ptr) (length (m .now)) ∷ sliceVal (b, sums-at o) (length ys) ∷ vint w64 n ∷ []))
-        → ((r : Pouring) (zs : List Float) → Pours h v t pace (m .now) n ys zs r → Is G.the-row r (pouring .val r ∷ []) → IsSide (with-sums zs k)
-        → Seq K W (‵ (partAt S.the-row fullShare (with-sums zs k) b o) ∷ Tok κ q ∷ Γ) (lands (𝓣 .C) (𝓣 .Λ) E d (pouring .val r) rest p))
+        → ((α β : ℕ) (γ δ : GName) → Opds K W (Before 𝓤 H A mem run Γ α β γ δ) E xs
+        (hot .val h ∷ vv v ∷ tick .val t ∷ beat .val pace ∷ sliceVal (m .ptr) (length (m .now)) ∷ sliceVal (b, sums-at o) (length ys) ∷ sliceVal (b, values-spot o) (length vs) ∷ vint w64 n ∷ []))
+        → ((r : Pouring) (zs us : List Float) → Pours h v t pace (m .now) n ys zs r → Is G.the-row r (pouring .val r ∷ []) → IsSide (with-sums zs us k)
+        → Seq K W (‵ (partAt S.the-row fullShare (with-sums zs us k) b o) ∷ Tok κ q ∷ Γ) (lands (𝓣 .C) (𝓣 .Λ) E d (pouring .val r) rest p))
         → Seq K W (‵ (partAt S.the-row fullShare k b o) ∷ ‵ (Sl κ m) ∷ Tok κ q ∷ Γ) (runs (𝓣 .C) (𝓣 .Λ) E (seq (call #poured xs d) rest) p)
     pours-at z met may os go =
-        lft-new z tt (λ α. move z (1 ∷ []) $
-        use1 W (later (some (λ (γ : GName). Sums 𝓤 H A mem run α γ ⊛ Left 𝓤 H A (α ∷ []) k b o γ))) (lends-sums 𝓤 H A W k b o (named 1) (α ∷ []) (may .all)) $ await z tt $ pick z (λ γ. split z $
-        -- [the sums; what is kept of the side; its token; the memory; its token]
-        move z (4 ∷ []) $ split z $ move z (4 ∷ 1 ∷ []) $ join z $ move z (1 ∷ 0 ∷ []) $ join z $ move z (0 ∷ 3 ∷ 1 ∷ []) $
-        use3 W (raw (Poured 𝓤 H A mem run .pre (about 𝓤 H A mem run α γ))) (goes 𝓤 H A mem run W may α γ) $
-        calls-at z (fmOf 𝓤 H (W .laws) 𝓣) (Poured 𝓤 H A mem run) met (about 𝓤 H A mem run α γ) (os α γ) (λ w.
-        use1 W (later (some (λ (r : Pouring). (Tokens 𝓤 H A mem run α ⊛ ‵ (G.the-row .own r (w ∷ []))) ⊛ raw (ensured 𝓤 H A poured.ended (poured.clauses 𝓤 H A mem run) (here α) (args γ) tt r)))) (id⊢ 𝓤 _) $ await z tt $ pick z (λ r.
+        lft-new z tt (λ α. lft-new z tt (λ β. move z (2 ∷ []) $
+        use1 W (later (some (λ (γ : GName). some (λ (δ : GName). ‵ (Lent 𝓤 H A (named 1) (α ∷ []) b (sums-at o) γ ys) ⊛ ‵ (Lent 𝓤 H A (named 2) (β ∷ []) b (values-spot o) δ vs) ⊛ Left 𝓤 H A (α ∷ []) (β ∷ []) k b o γ δ))))
+        (lends-sums 𝓤 H A W k b o (named 1) (named 2) (α ∷ []) (β ∷ []) (may .all) (may .all-values)) $ await z tt $ pick z (λ γ. pick z (λ δ. split z $ move z (1 ∷ []) $ split z $ move z (2 ∷ 0 ∷ []) $ join z $
+        -- [both lists; what is kept of the side; their tokens, the values' first; the memory; its token]
+        move z (5 ∷ []) $ split z $ move z (4 ∷ 1 ∷ []) $ join z $ move z (4 ∷ 0 ∷ []) $ join z $ move z (1 ∷ 0 ∷ []) $ join z $ move z (0 ∷ 3 ∷ 1 ∷ []) $
+        use3 W (raw (Poured 𝓤 H A mem run .pre (about 𝓤 H A mem run α β γ δ))) (goes 𝓤 H A mem run W may α β γ δ) $
+        calls-at z (fmOf 𝓤 H (W .laws) 𝓣) (Poured 𝓤 H A mem run) met (about 𝓤 H A mem run α β γ δ) (os α β γ δ) (λ w.
+        use1 W (later (some (λ (r : Pouring). (Tokens 𝓤 H A mem run α β ⊛ ‵ (G.the-row .own r (w ∷ []))) ⊛ raw (ensured 𝓤 H A poured.ended (poured.clauses 𝓤 H A mem run) (here α β) (args γ δ) tt r)))) (id⊢ 𝓤 _) $ await z tt $ pick z (λ r.
         split z $ move z (1 ∷ []) $
-        use1 W (some (λ (l : Lasts poured.ended (here α) (args γ)). ‵ (lasts poured.ended (here α) (args γ) l) ⊛ raw (fact 𝓤 (Pours h v t pace (m .now) n ys (l .1 .1 .1 .1 .1 .0) r)))) (id⊢ 𝓤 _) $ pick z (λ l.
+        use1 W (some (λ (l : Lasts poured.ended (here α β) (args γ δ)). ‵ (lasts poured.ended (here α β) (args γ δ) l) ⊛ raw (fact 𝓤 (Pours h v t pace (m .now) n ys (l .1 .1 .1 .1 .1 .0) r)))) (id⊢ 𝓤 _) $ pick z (λ l.
         let zs : List Float = l .1 .1 .1 .1 .1 .0 in
+        let us : List Float = l .1 .1 .1 .1 .1 .1 .0 in
         split z $ move z (1 ∷ []) $ heard z (Pours h v t pace (m .now) n ys zs r) (λ said.
-        fsplit z $ drop z $ fsplit z $ drop z $ fsplit z $ drop z $ fsplit z $ drop z $ fsplit z $ drop z $ fsplit z $ fsplit z $
-        -- [what the sums are at last; how many; the rest; the tokens and the answer; what is kept]
-        move z (3 ∷ []) $ split z $ move z (1 ∷ []) $ peeks z G.the-row (Is G.the-row) (shows 𝓤 H A G.the-row) r (w ∷ []) (λ is. drop z $
-        split z $ move z (1 ∷ []) $ split z $ lft-end z tt $ move z (0 ∷ 6 ∷ 3 ∷ []) $
-        use3 W (later (‵ (partAt S.the-row fullShare (with-sums zs k) b o))) (sums-back 𝓤 H A W k b o (α ∷ []) γ zs (may .all)) $ await z tt $
-        opened z fullShare S.the-row (Is S.the-row) (shows 𝓤 H A S.the-row) (λ u. side .val u ∷ []) (side .tells) (with-sums zs k) b o (λ iss.
-        use2 W (‵ (partAt S.the-row fullShare (with-sums zs k) b o)) (lies 𝓤 H A W S.the-row fullShare (with-sums zs k) (side .val (with-sums zs k) ∷ []) b o) $
-        -- [the side; nothing; the memory's token; how many; the rest]
-        move z (3 ∷ []) $ drop z $ move z (3 ∷ []) $ drop z $ move z (2 ∷ 1 ∷ []) $ join z $ move z (1 ∷ []) $
-        subst (λ (u : Val). Seq K W (‵ (partAt S.the-row fullShare (with-sums zs k) b o) ∷ Tok κ q ∷ Γ) (lands (𝓣 .C) (𝓣 .Λ) E d u rest p)) (sym (ap only (pouring .tells r _ is)))
-        (go r zs said (subst (Is G.the-row r) (pouring .tells r _ is) is) iss)))))))))
+        fsplit z $ drop z $ fsplit z $ drop z $ fsplit z $ drop z $ fsplit z $ drop z $ fsplit z $ drop z $ fsplit z $ fsplit z $ move z (1 ∷ []) $ drop z $ move z (1 ∷ []) $ fsplit z $ fsplit z $ move z (1 ∷ []) $ drop z $ move z (1 ∷ []) $ drop z $
+        -- [what the values are at last; what the sums are; the tokens and the answer; what is kept]
+        move z (2 ∷ []) $ split z $ move z (1 ∷ []) $ peeks z G.the-row (Is G.the-row) (shows 𝓤 H A G.the-row) r (w ∷ []) (λ is. drop z $
+        split z $ move z (1 ∷ []) $ split z $ lft-end z tt $ move z (1 ∷ []) $ split z $ lft-end z tt $
+        -- [the values' lifetime ended; nothing; the sums' ended; the memory's token; what the values are; what the sums are; what is kept]
+        move z (5 ∷ 4 ∷ []) $ join z $ move z (5 ∷ 0 ∷ []) $ join z $ move z (3 ∷ 1 ∷ 0 ∷ []) $
+        use3 W (later (‵ (partAt S.the-row fullShare (with-sums zs us k) b o))) (sums-back 𝓤 H A W k b o (α ∷ []) (β ∷ []) γ δ zs us (may .all) (may .all-values)) $ await z tt $
+        opened z fullShare S.the-row (Is S.the-row) (shows 𝓤 H A S.the-row) (λ u. side .val u ∷ []) (side .tells) (with-sums zs us k) b o (λ iss.
+        use2 W (‵ (partAt S.the-row fullShare (with-sums zs us k) b o)) (lies 𝓤 H A W S.the-row fullShare (with-sums zs us k) (side .val (with-sums zs us k) ∷ []) b o) $
+        -- [the side; nothing; the memory's token]
+        move z (2 ∷ 1 ∷ []) $ join z $ move z (1 ∷ []) $
+        subst (λ (u : Val). Seq K W (‵ (partAt S.the-row fullShare (with-sums zs us k) b o) ∷ Tok κ q ∷ Γ) (lands (𝓣 .C) (𝓣 .Λ) E d u rest p)) (sym (ap only (pouring .tells r _ is)))
+        (go r zs us said (subst (Is G.the-row r) (pouring .tells r _ is) is) iss)))))))))))

@@ -46,9 +46,10 @@ use voice::Tick;
 pub const STRETCH: usize = 64;
 
 // In a run the first `eased` voices are `left` samples ahead of their channel. What they add in these samples stands from
-// `next` on.
+// `next` on; `values` is room to work one voice out in.
 pub struct Pour {
     pub sums: [f32; STRETCH],
+    pub values: [f32; STRETCH],
     pub eased: usize,
     pub next: usize,
     pub left: usize,
@@ -60,6 +61,7 @@ impl Pour {
     {
         Self {
             sums: [0.0; STRETCH],
+            values: [0.0; STRETCH],
             eased: 0,
             next: 0,
             left: 0,
@@ -287,9 +289,6 @@ fn ease_next(
         (now (side .exit)) ⌝ }
 {
     let h = side.hots[i];
-    if !h.plain {
-        return false;
-    }
     let v = c.voices[i];
     let k = v.phrase;
     let phrase = c.head
@@ -306,6 +305,7 @@ fn ease_next(
         Beat::of(t),
         &data[room.from..room.to],
         &mut side.pour.sums,
+        &mut side.pour.values,
         n,
     );
     if r.eases {

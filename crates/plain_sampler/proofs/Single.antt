@@ -104,7 +104,7 @@ module _ (T C K D P Q : Datum) (Y : Sounding) (S : Seats T C) (F : Sides K D) (#
       seq (assign (place 15 []) (addrOf (place 1 (deref (T .ty) ∷ field 0 ∷ [])))) (
       seq (assign (place 16 []) (op2 offset (copy (place 15 [])) (copy (place 13 [])))) (
       seq (assign (place 17 []) (addrOf (place 16 (deref (C .ty) ∷ [])))) (
-      seq (assign (place 18 []) (op2 (mul unsigned) (copy (place 3 [])) (int w64 side-bytes))) (
+      seq (assign (place 18 []) (op2 (mul unsigned) (copy (place 3 [])) (intBig w64 side-bytes))) (
       seq (assign (place 19 []) (addrOf (place 2 (deref (K .ty) ∷ field 0 ∷ [])))) (
       seq (assign (place 20 []) (op2 offset (copy (place 19 [])) (copy (place 18 [])))) (
       seq (assign (place 21 []) (addrOf (place 20 (deref (D .ty) ∷ [])))) (
@@ -322,7 +322,7 @@ module _ (T C K D P Q : Datum) (Y : Sounding) (S : Seats T C) (F : Sides K D) (#
             qed W (At (Found [])) ∵ exec ! Cs Λ En pointing (atRet En Post) $
             puts ! (bin ! (its ! refl) (big ! (record { fits = lit< tt })) (record { fits = omega (arith, ready .0) })) (fills ! refl (tt, record { fits = omega (arith, ready .0) })) $ puts ! (addr ! (beyond ! (held ! refl) (fld ! (S .field₀) (stop !)))) (fills ! refl (tt, tt)) $
             puts-as ! (ap (vptr b) (sym (place-is channel-bytes (o + 0) j))) (bin ! (its ! refl) (its ! refl) tt) (fills ! refl (tt, tt)) $ puts ! (addr ! (beyond ! (held ! refl) (stop !))) (fills ! refl (tt, tt)) $
-            puts ! (bin ! (its ! refl) (lit ! tt) (record { fits = omega (arith, ready .0) })) (fills ! refl (tt, record { fits = omega (arith, ready .0) })) $ puts ! (addr ! (beyond ! (held ! refl) (fld ! (F .field₀) (stop !)))) (fills ! refl (tt, tt)) $
+            puts ! (bin ! (its ! refl) (big ! (record { fits = lit< tt })) (record { fits = omega (arith, ready .0) })) (fills ! refl (tt, record { fits = omega (arith, ready .0) })) $ puts ! (addr ! (beyond ! (held ! refl) (fld ! (F .field₀) (stop !)))) (fills ! refl (tt, tt)) $
             puts-as ! (ap (vptr b₃) (sym (place-is side-bytes (o₃ + 0) j))) (bin ! (its ! refl) (its ! refl) tt) (fills ! refl (tt, tt)) $ puts ! (addr ! (beyond ! (held ! refl) (stop !))) (fills ! refl (tt, tt)) $
             puts ! (addr ! (beyond-field ! refl refl refl (stop !))) (fills ! refl (tt, tt)) $
             puts ! (agg ! (and-then ! (its ! refl) (and-then ! (field-of ! refl refl) (no-more !)))) (fills ! refl (tt, (tt, (record { fits = room₂ .0 }, tt)))) $

@@ -118,7 +118,7 @@ module _ (T C K D P Q R : Datum) (Y : Sounding) (J : Answering (word w64) Q) (S 
       seq (assign (place 20 []) (addrOf (place 1 (deref (T .ty) ∷ field 0 ∷ [])))) (
       seq (assign (place 21 []) (op2 offset (copy (place 20 [])) (copy (place 19 [])))) (
       seq (assign (place 22 []) (addrOf (place 21 (deref (C .ty) ∷ [])))) (
-      seq (assign (place 23 []) (op2 (mul unsigned) (copy (place 12 [])) (int w64 side-bytes))) (
+      seq (assign (place 23 []) (op2 (mul unsigned) (copy (place 12 [])) (intBig w64 side-bytes))) (
       seq (assign (place 24 []) (addrOf (place 2 (deref (K .ty) ∷ field 0 ∷ [])))) (
       seq (assign (place 25 []) (op2 offset (copy (place 24 [])) (copy (place 23 [])))) (
       seq (assign (place 26 []) (addrOf (place 25 (deref (D .ty) ∷ [])))) (
@@ -435,7 +435,7 @@ module _ (T C K D P Q R : Datum) (Y : Sounding) (J : Answering (word w64) Q) (S 
               puts ! (bin ! (its ! refl) (big ! (record { fits = lit< tt })) (record { fits = seat-fits })) (fills ! refl (tt, record { fits = seat-fits })) $ puts ! (addr ! (beyond ! (held ! refl) (fld ! (S .field₀) (stop !)))) (fills ! refl (tt, tt)) $
               puts-as ! (ap (vptr b) (sym (place-is channel-bytes (o + 0) j))) (bin ! (its ! refl) (its ! refl) tt) (fills ! refl (tt, tt)) $ puts ! (addr ! (beyond ! (held ! refl) (stop !))) (fills ! refl (tt, tt)) $
               -- and its side
-              puts ! (bin ! (its ! refl) (lit ! tt) (record { fits = flank-fits })) (fills ! refl (tt, record { fits = flank-fits })) $ puts ! (addr ! (beyond ! (held ! refl) (fld ! (F .field₀) (stop !)))) (fills ! refl (tt, tt)) $
+              puts ! (bin ! (its ! refl) (big ! (record { fits = lit< tt })) (record { fits = flank-fits })) (fills ! refl (tt, record { fits = flank-fits })) $ puts ! (addr ! (beyond ! (held ! refl) (fld ! (F .field₀) (stop !)))) (fills ! refl (tt, tt)) $
               puts-as ! (ap (vptr b₃) (sym (place-is side-bytes (o₃ + 0) j))) (bin ! (its ! refl) (its ! refl) tt) (fills ! refl (tt, tt)) $ puts ! (addr ! (beyond ! (held ! refl) (stop !))) (fills ! refl (tt, tt)) $
               by ! (reads a-fits X go)
 

@@ -135,7 +135,7 @@ module _ (T C K D P Q R : Datum) (Y : Sounding) (J : Answering (word w64) Q) (S 
       seq (assign (place 28 []) (addrOf (place 1 (deref (T .ty) ∷ field 0 ∷ [])))) (
       seq (assign (place 29 []) (op2 offset (copy (place 28 [])) (copy (place 27 [])))) (
       seq (assign (place 30 []) (addrOf (place 29 (deref (C .ty) ∷ [])))) (
-      seq (assign (place 31 []) (op2 (mul unsigned) (copy (place 12 [])) (int w64 side-bytes))) (
+      seq (assign (place 31 []) (op2 (mul unsigned) (copy (place 12 [])) (intBig w64 side-bytes))) (
       seq (assign (place 32 []) (addrOf (place 2 (deref (K .ty) ∷ field 0 ∷ [])))) (
       seq (assign (place 33 []) (op2 offset (copy (place 32 [])) (copy (place 31 [])))) (
       seq (assign (place 34 []) (addrOf (place 33 (deref (D .ty) ∷ [])))) (
@@ -162,7 +162,7 @@ module _ (T C K D P Q R : Datum) (Y : Sounding) (J : Answering (word w64) Q) (S 
       seq (assign (place v₂ []) (addrOf (place v₁ (deref (D .ty) ∷ [])))) (
       seq (call #rest (copy (place v₂ []) ∷ []) (place 19 [])) (
       seq (assign (place v₃ []) (addrOf (place 2 (deref (K .ty) ∷ field 0 ∷ [])))) (
-      seq (assign (place v₄ []) (op2 offset (copy (place v₃ [])) (int w64 side-bytes))) (
+      seq (assign (place v₄ []) (op2 offset (copy (place v₃ [])) (intBig w64 side-bytes))) (
       seq (assign (place v₅ []) (addrOf (place v₄ (deref (D .ty) ∷ [])))) (
       seq (call #rest (copy (place v₅ []) ∷ []) (place 19 [])) (
       rest))))))))
@@ -481,7 +481,7 @@ module _ (T C K D P Q R : Datum) (Y : Sounding) (J : Answering (word w64) Q) (S 
               puts ! (bin ! (its ! refl) (big ! (record { fits = lit< tt })) (record { fits = seat-fits })) (fills ! refl (tt, record { fits = seat-fits })) $ puts ! (addr ! (beyond ! (held ! refl) (fld ! (S .field₀) (stop !)))) (fills ! refl (tt, tt)) $
               puts-as ! (ap (vptr b) (sym (place-is channel-bytes (o + 0) j))) (bin ! (its ! refl) (its ! refl) tt) (fills ! refl (tt, tt)) $ puts ! (addr ! (beyond ! (held ! refl) (stop !))) (fills ! refl (tt, tt)) $
               -- and its side
-              puts ! (bin ! (its ! refl) (lit ! tt) (record { fits = flank-fits })) (fills ! refl (tt, record { fits = flank-fits })) $ puts ! (addr ! (beyond ! (held ! refl) (fld ! (F .field₀) (stop !)))) (fills ! refl (tt, tt)) $
+              puts ! (bin ! (its ! refl) (big ! (record { fits = lit< tt })) (record { fits = flank-fits })) (fills ! refl (tt, record { fits = flank-fits })) $ puts ! (addr ! (beyond ! (held ! refl) (fld ! (F .field₀) (stop !)))) (fills ! refl (tt, tt)) $
               puts-as ! (ap (vptr b₃) (sym (place-is side-bytes (o₃ + 0) j))) (bin ! (its ! refl) (its ! refl) tt) (fills ! refl (tt, tt)) $ puts ! (addr ! (beyond ! (held ! refl) (stop !))) (fills ! refl (tt, tt)) $
               by ! (reads a-fits togo-fits X go)
 
@@ -509,7 +509,7 @@ module _ (T C K D P Q R : Datum) (Y : Sounding) (J : Answering (word w64) Q) (S 
             puts ! (no-less ! (its ! refl) (its ! refl) refl) (fills ! refl (tt, tt)) $ leaves-loop ! (its ! refl) $ exec ! Cs Λ En after (atRet En Post) $
             puts ! (addr ! (beyond ! (held ! refl) (fld ! (F .field₀) (stop !)))) (fills ! refl (tt, tt)) $ puts-as ! (ap (vptr b₃) (sym (place-is side-bytes (o₃ + 0) 0))) (bin ! (its ! refl) (lit ! tt) tt) (fills ! refl (tt, tt)) $ puts ! (addr ! (beyond ! (held ! refl) (stop !))) (fills ! refl (tt, tt)) $
             move ! (1 ∷ []) $ rests-at K D F (B .rests) h b₃ o₃ 0 ! 𝓣 known-rest (B .both s f l p m n u t io k h z) (omega arith) (λ ρ ζ. and-then ! (its ! refl) (no-more !)) (λ w typed. arrives ! refl (fills ! refl typed) $
-            puts ! (addr ! (beyond ! (held ! refl) (fld ! (F .field₀) (stop !)))) (fills ! refl (tt, tt)) $ puts-as ! (ap (vptr b₃) (sym (place-is side-bytes (o₃ + 0) 1))) (bin ! (its ! refl) (lit ! tt) tt) (fills ! refl (tt, tt)) $ puts ! (addr ! (beyond ! (held ! refl) (stop !))) (fills ! refl (tt, tt)) $
+            puts ! (addr ! (beyond ! (held ! refl) (fld ! (F .field₀) (stop !)))) (fills ! refl (tt, tt)) $ puts-as ! (ap (vptr b₃) (sym (place-is side-bytes (o₃ + 0) 1))) (bin ! (its ! refl) (big ! (record { fits = lit< tt })) tt) (fills ! refl (tt, tt)) $ puts ! (addr ! (beyond ! (held ! refl) (stop !))) (fills ! refl (tt, tt)) $
             rests-at K D F (B .rests) (F .changed h 0 (B .rests (F .side h 0))) b₃ o₃ 1 ! 𝓣 known-rest (F .keeps h 0 _ (B .both s f l p m n u t io k h z)) (omega arith) (λ ρ ζ. and-then ! (its ! refl) (no-more !)) (λ w′ typed′. arrives ! refl (refills ! refl typed′) $
             asks ! known-answer (answer, (u, tt)) (J .owed asked asked-val is-asked .1, ((refl, u-fits), tt)) (and-then ! (field-of ! refl refl) (and-then ! (its ! refl) (no-more !))) (fills ! refl) (λ is-done.
             move ! (2 ∷ 11 ∷ 12 ∷ 13 ∷ []) $ closes-slice ! tt f32 l io (B .entries s f l p m n u t io k h z) b₁ o₁ $ move ! (3 ∷ 10 ∷ 11 ∷ 12 ∷ []) $ close-ref ! tt (mem Kr) (still h) {b = b₃} {o = o₃} $ move ! (6 ∷ 9 ∷ 10 ∷ 11 ∷ []) $ close-ref ! tt (mem Tr) t {b = b} {o = o} $ gives ! refl $
@@ -537,7 +537,7 @@ module _ (T C K D P Q R : Datum) (Y : Sounding) (J : Answering (word w64) Q) (S 
             qed W Early ∵ exec ! Cs Λ En (resting 20 21 22 23 24 25 turning) (atRet En Post) $
             puts ! (addr ! (beyond ! (held ! refl) (fld ! (F .field₀) (stop !)))) (fills ! refl (tt, tt)) $ puts-as ! (ap (vptr b₃) (sym (place-is side-bytes (o₃ + 0) 0))) (bin ! (its ! refl) (lit ! tt) tt) (fills ! refl (tt, tt)) $ puts ! (addr ! (beyond ! (held ! refl) (stop !))) (fills ! refl (tt, tt)) $
             rests-at K D F (B .rests) f b₃ o₃ 0 ! 𝓣 known-rest both (omega arith) (λ ρ ζ. and-then ! (its ! refl) (no-more !)) (λ w typed. arrives ! refl (fills ! refl typed) $
-            puts ! (addr ! (beyond ! (held ! refl) (fld ! (F .field₀) (stop !)))) (fills ! refl (tt, tt)) $ puts-as ! (ap (vptr b₃) (sym (place-is side-bytes (o₃ + 0) 1))) (bin ! (its ! refl) (lit ! tt) tt) (fills ! refl (tt, tt)) $ puts ! (addr ! (beyond ! (held ! refl) (stop !))) (fills ! refl (tt, tt)) $
+            puts ! (addr ! (beyond ! (held ! refl) (fld ! (F .field₀) (stop !)))) (fills ! refl (tt, tt)) $ puts-as ! (ap (vptr b₃) (sym (place-is side-bytes (o₃ + 0) 1))) (bin ! (its ! refl) (big ! (record { fits = lit< tt })) tt) (fills ! refl (tt, tt)) $ puts ! (addr ! (beyond ! (held ! refl) (stop !))) (fills ! refl (tt, tt)) $
             rests-at K D F (B .rests) (F .changed f 0 (B .rests (F .side f 0))) b₃ o₃ 1 ! 𝓣 known-rest (F .keeps f 0 _ both) (omega arith) (λ ρ ζ. and-then ! (its ! refl) (no-more !)) (λ w′ typed′. arrives ! refl (refills ! refl typed′) $
             puts ! (of-opd ! (lit ! tt)) (fills ! refl (tt, record { fits = lit< tt })) $ puts ! (of-opd ! (lit ! tt)) (fills ! refl (tt, record { fits = lit< tt })) $
             move ! (1 ∷ 0 ∷ []) $ leaves-only ! En 12 refl $ by ! (loops two both)))

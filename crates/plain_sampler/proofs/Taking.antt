@@ -144,7 +144,7 @@ module _ (T C K D X : Datum) (S : Seats T C) (F : Sides K D) (N : Counting T C S
       seq (assign (place 20 []) (op2 offset (copy (place 19 [])) (intBig w64 channel-bytes))) (
       seq (assign (place 21 []) (addrOf (place 20 (deref (C .ty) ∷ [])))) (
       seq (assign (place 22 []) (addrOf (place 2 (deref (K .ty) ∷ field 0 ∷ [])))) (
-      seq (assign (place 23 []) (op2 offset (copy (place 22 [])) (int w64 side-bytes))) (
+      seq (assign (place 23 []) (op2 offset (copy (place 22 [])) (intBig w64 side-bytes))) (
       seq (assign (place 24 []) (addrOf (place 23 (deref (D .ty) ∷ [])))) (
       seq (call #take (copy (place 21 []) ∷ copy (place 24 []) ∷ copy (place 5 []) ∷ []) (place 12 [])) (
       seq (assign (place 0 []) (rvOpd (copy (place 6 [])))) (
@@ -270,7 +270,7 @@ module _ (T C K D X : Datum) (S : Seats T C) (F : Sides K D) (N : Counting T C S
         takes-second w typed =
             qed W (At t h (holds-now (vint w64 (voices s 0)) ∷ holds-now (vint w64 (voices s 1)) ∷ holds-now (vint w8 r) ∷ room ∷ room ∷ room ∷ room ∷ room ∷ holds-now w ∷ [])) ∵ exec ! Cs Λ En second (atRet En Post) $
             puts ! (addr ! (beyond ! (held ! refl) (fld ! (S .field₀) (stop !)))) (fills ! refl (tt, tt)) $ puts-as ! (ap (vptr b) (sym (place-is channel-bytes (o + 0) 1))) (bin ! (its ! refl) (big ! (record { fits = lit< tt })) tt) (fills ! refl (tt, tt)) $ puts ! (addr ! (beyond ! (held ! refl) (stop !))) (fills ! refl (tt, tt)) $
-            puts ! (addr ! (beyond ! (held ! refl) (fld ! (F .field₀) (stop !)))) (fills ! refl (tt, tt)) $ puts-as ! (ap (vptr b₃) (sym (place-is side-bytes (o₃ + 0) 1))) (bin ! (its ! refl) (lit ! tt) tt) (fills ! refl (tt, tt)) $ puts ! (addr ! (beyond ! (held ! refl) (stop !))) (fills ! refl (tt, tt)) $
+            puts ! (addr ! (beyond ! (held ! refl) (fld ! (F .field₀) (stop !)))) (fills ! refl (tt, tt)) $ puts-as ! (ap (vptr b₃) (sym (place-is side-bytes (o₃ + 0) 1))) (bin ! (its ! refl) (big ! (record { fits = lit< tt })) tt) (fills ! refl (tt, tt)) $ puts ! (addr ! (beyond ! (held ! refl) (stop !))) (fills ! refl (tt, tt)) $
             takes-at T C K D S F takes t h b o b₃ o₃ 1 (voices s 1) ! 𝓣 known-take still (F .keeps f 0 _ both) (omega arith) fits₁ (λ α ρ δ ζ. and-then ! (its ! refl) (and-then ! (its ! refl) (and-then ! (its ! refl) (no-more !)))) (λ w′ typed′. arrives ! refl (refills ! refl typed′) $
             puts ! (of-opd ! (its ! refl)) (fills ! refl (tt, record { fits = r-fits })) $ move ! (1 ∷ 5 ∷ 6 ∷ 7 ∷ []) $ close-ref ! tt (mem Kr) (takenOn s t 1 h) {b = b₃} {o = o₃} $ move ! (3 ∷ 4 ∷ 5 ∷ 6 ∷ []) $ close-ref ! tt (mem Tr) t {b = b} {o = o} $
             gives ! refl $ all-freed ! refl $ by ! (exits r t (takenOn s t 1 h) r-fits (said, same s f x r t said)))

@@ -1,19 +1,19 @@
--- A voice that eases glides turn by turn, and n turns come to what one look ahead tells: n turns in one. Assumes nothing.
---     sum-is                   a sum of whole numbers is one float, whatever the signs of zeros
---     glides-on                each turn glides
---     turns, judged, poured    the voice, its position and the sums after them
-use mathlib.Core.Path.{_≡_, refl, sym, ap, ap₂, _∙_, subst}
-use Prim.Native.Nat.{ℕ, zero, suc, _+_, _-_, _*_, _/_, _%_, _^_, _≤_, _<_, zero-le}
-use native.Mathlib.Nat.{add-zero, le-trans, mul-pos, mul-add-mod-self-right, mul-add-div-right}
+-- A plain voice that eases is steady, and what it sounds stands by whole numbers. Assumes nothing.
+--     sum-is                       a sum of whole numbers is one float, whatever the signs of zeros
+--     eases-steady, eases-lasts    it is steady
+--     played-on, sounds-on         how far it has played, and what it sounds
+--     judged                       the position after n turns
+--     place-on, moved-to           the same by a place and laps
+use mathlib.Core.Path.{_≡_, refl, sym, ap, ap₂, _∙_}
+use Prim.Native.Nat.{ℕ, zero, suc, _+_, _*_, _/_, _%_, _^_, _≤_, _<_}
+use native.Mathlib.Nat.{le-trans, mul-pos, mul-add-mod-self-right, mul-add-div-right}
 use native.Mathlib.Omega.{arith}
-use mathlib.Core.Bool.{Bool, true, false, not, _&&_, cond, true≢false}
-use mathlib.Core.List.{List, [], _∷_}
+use mathlib.Core.Bool.{Bool, true, false, _&&_, cond, true≢false}
+use mathlib.Core.List.{List}
 use lib.Dec.{T, lit≤}
 use lib.IntN.{pos}
-use lib.Ieee.{Float, nan, inf, fin, binary32, add, mul, eq, lt, le}
+use lib.Ieee.{Float, nan, inf, fin, binary32, add, eq, lt, le}
 use lib.Ieee.Fits.{and-l, and-r, add-fits, ofInt-fits}
-use lib.ListN as ListN
-use lib.Seq.{ext-getD}
 use lib.Pow.{pow-pos}
 use Rattle.binary32.specs.Leaves.{asFloat, asWhole, absOf, signOf}
 use Rattle.binary32.specs.Wholes.{Is}
@@ -31,15 +31,14 @@ use Rattle.clip.specs.Plain.{PlainClip, plainIndex}
 use Rattle.clip.proofs.Plain.{index-is, passes}
 use Rattle.voice.specs.declared.Voice.{Voice}
 use Rattle.voice.specs.declared.Tick.{Tick}
-use Rattle.voice.specs.Voices.{recordedValueOf, soundedAt, playedOutOf, shouldRemoveOf, turnOf}
-use Rattle.voice.specs.Gliding.{glidesOf, goesOnOf, quickAt}
-use Rattle.voice.proofs.Values.{value-off}
-use Rattle.voice.proofs.Gliding.{quickly-at}
+use Rattle.voice.specs.Voices.{turnOf}
 use Rattle.plain_voice.specs.declared.Hot.{Hot}
 use Rattle.plain_voice.specs.Hots.{cold, playsPlain, hotAfter, judgedOf}
 use Rattle.plain_voice.proofs.Hots.{so-plays}
-use Rattle.pours.specs.Eases.{Eases, termAt, heardOf, movedOf, Added}
-use Rattle.pours.specs.Pours.{later, turnsOf, GlidesOn, pouredOn, judgedOn}
+use Rattle.pours.specs.Eases.{Eases, termAt, movedOf}
+use Rattle.pours.specs.Pours.{judgedOn}
+use Rattle.pours.specs.Steady.{paceOf, Steady, playedOn, Lasts, soundAt}
+use Rattle.pours.proofs.Turns.{clip-stays, next-steady, next-lasts}
 
 -- ---- numbers
 pub sum-is : {x y : Float} (a b : ℕ) → Is x a → Is y b → a + b ≤ 2 ^ 24 → 1 ≤ a + b → add binary32 x y ≡ asFloat (a + b)
@@ -75,181 +74,65 @@ unfolding levelOf
 steady-level (Static x) a b h = refl
 steady-level (Linear c d x y) a b h = absurd (true≢false (sym h))
 
--- ---- one turn
-module _ (m : List ℕ) (c : Clip) (level : Float) (start length total : ℕ) where
-  -- the voice eases over n more, e samples after its clip's last change
-  pub record Going (t : Tick) (e p n : ℕ) (v : Voice) : Type 0 where
-    pub eases : Eases t start length total p n v
-    pub clip : v .clip2 ≡ c
-    pub at : elapsedAt c (t .now) ≡ e
-    pub loud : levelOf (v .volume) (t .now) ≡ level
+-- ---- as any steady voice
+module _ {t : Tick} {start length total p n : ℕ} {v : Voice} (E : Eases t start length total p n v) where
+  pub eases-steady : Steady t n v
+  eases-steady = record { own = E .own; unfinished = E .unfinished; sharp = E .sharp; same = E .same; keeps = λ k h. steady-keeps (v .volume) (t .now + k) (E .steady) }
 
-  abbrev pub termOn : ℕ → Float
-  termOn e = termAt m level (plainIndex start length total e)
+  speed-is : Is (paceOf t v) 1
+  unfolding sameAll
+  speed-is =
+      let u : Bool = eq (t .span .length) (v .clip2 .length) in
+      let s : Bool = eq (paceOf t v) (v .clip2 .speed) in
+      let w : Bool = eq (t .span .«data_length») (v .clip2 .«data_length») in
+      let k : Bool = sameMode (t .mode) (v .clip2 .mode) in
+      equal-is 1 (E .profile .speed) (lit≤ tt) (and-r u s (and-l (u && s) w (and-l (u && s && w) k (yes (E .same)))))
 
-  module _ {t : Tick} {e p n : ℕ} {v : Voice} (g : Going t e p (suc n) v) where
-    E : Eases t start length total p (suc n) v
-    E = g .eases
+  pub played-on : (k : ℕ) → k < n → playedOn (paceOf t v) (v .played) (suc k) ≡ asFloat (p + suc k)
+  unfolding playedOn
+  played-on zero h = sum-is p 1 (E .played) speed-is (omega (arith, E .few, h)) (omega arith)
+  played-on (suc k) h =
+      ap (λ (x : Float). add binary32 x (paceOf t v)) (played-on k (omega (arith, h)))
+      ∙ sum-is (p + suc k) 1 (float-is (p + suc k) (omega (arith, E .few, h))) speed-is (omega (arith, E .few, h)) (omega arith)
+      ∙ ap asFloat (omega arith)
 
-    at : elapsedAt (v .clip2) (t .now) ≡ e
-    at = ap (λ (z : Clip). elapsedAt z (t .now)) (g .clip) ∙ g .at
-
-    early : elapsedAt (v .clip2) (t .now) ≤ 2 ^ 24
-    early = omega (arith, E .early)
-
-    index : ℕ
-    index = plainIndex start length total (elapsedAt (v .clip2) (t .now))
-
-    index-at : index ≡ indexAt (v .clip2) (t .now)
-    unfolding index
-    index-at = sym (index-is (v .clip2) (t .now) start length total (E .profile) early)
-
-    speed-is : Is (mul binary32 (v .speed) (t .speed)) 1
-    unfolding sameAll
-    speed-is =
-        let u : Bool = eq (t .span .length) (v .clip2 .length) in
-        let s : Bool = eq (mul binary32 (v .speed) (t .speed)) (v .clip2 .speed) in
-        let w : Bool = eq (t .span .«data_length») (v .clip2 .«data_length») in
-        let k : Bool = sameMode (t .mode) (v .clip2 .mode) in
-        equal-is 1 (E .profile .speed) (lit≤ tt) (and-r u s (and-l (u && s) w (and-l (u && s && w) k (yes (E .same)))))
-
-    played-is : add binary32 (v .played) (mul binary32 (v .speed) (t .speed)) ≡ asFloat (p + 1)
-    played-is = sum-is p 1 (E .played) speed-is (omega (arith, E .few)) (omega arith)
-
-    w : Voice
-    w = soundedAt t v (v .clip2) index (termAt m (levelOf (v .volume) (t .now)) index)
-
-    not-out : playedOutOf t w ≡ false
-    unfolding playedOutOf w
-    not-out = go (t .once) refl
-      where
-        go : (once : Bool) → t .once ≡ once → (once && not (v .finished) && le (t .span .«whole_length») (absOf (add binary32 (v .played) (mul binary32 (v .speed) (t .speed))))) ≡ false
-        go false is = refl
-        go true is =
-            rw (E .unfinished, played-is)
-            (still-above (t .span .«whole_length») (p + 1) (p + suc n) (omega arith) (E .few) (E .lasts is))
-
-    stays : (x : Voice) → x .finished ≡ false → shouldRemoveOf t x ≡ false
-    unfolding shouldRemoveOf
-    stays x h = rw h
-
-    goes-on : quickAt t v index (termAt m (levelOf (v .volume) (t .now)) index) .glides ≡ true
-    unfolding quickAt goesOnOf w
-    goes-on = rw (not-out, stays v (E .unfinished), stays w (E .unfinished))
-
-    turned : (v .phrase ≡ t .phrase) × (glidesOf t m v ≡ true) × (quickAt t v index (termAt m (levelOf (v .volume) (t .now)) index) .voice ≡ turnOf t m v)
-    turned =
-        quickly-at t m v index (recordedValueOf m index) (E .same) index-at
-        (ap (recordedValueOf m) index-at ∙ sym (value-off t m (v .clip2) (E .sharp)))
-        (quickAt t v index (termAt m (levelOf (v .volume) (t .now)) index)) (keepsOf (v .volume) (t .now)) refl refl (E .own) (steady-keeps (v .volume) (t .now) (E .steady)) goes-on
-
-    pub glides : glidesOf t m v ≡ true
-    glides = turned .1
-
-    pub turn : turnOf t m v ≡ heardOf v (plainIndex start length total e) (termOn e) (v .«last_sample_value») (asFloat (p + 1))
-    unfolding quickAt heardOf index
-    turn =
-        sym (turned .2)
-        ∙ ap₂ (λ (i : ℕ) (l : Float). soundedAt t v (v .clip2) i (termAt m l i)) (ap (plainIndex start length total) at) (g .loud)
-        ∙ ap (λ (x : Float). heardOf v (plainIndex start length total e) (termOn e) (v .«last_sample_value») x) played-is
-
-    -- the voice after it
-    after : Voice
-    after = heardOf v (plainIndex start length total e) (termOn e) (v .«last_sample_value») (asFloat (p + 1))
-
-    after-going : Going (later 1 t) (e + 1) (p + 1) n after
-    unfolding after heardOf
-    after-going = record {
-      eases = record {
-        own = E .own;
-        unfinished = E .unfinished;
-        steady = E .steady;
-        same = E .same;
-        profile = E .profile;
-        inside = E .inside;
-        sharp = E .sharp;
-        begun = omega (arith, E .begun);
-        early = omega (arith, E .early, E .begun);
-        played = float-is (p + 1) (omega (arith, E .few));
-        few = omega (arith, E .few);
-        lasts = λ once. subst (λ (k : ℕ). T (lt (asFloat k) (t .span .«whole_length»))) (omega arith) (E .lasts once);
-      };
-      clip = g .clip;
-      at = omega (arith, g .at, subst (λ (z : Clip). z .since ≤ t .now) (g .clip) (E .begun));
-      loud = steady-level (v .volume) (t .now + 1) (t .now) (E .steady) ∙ g .loud;
-    }
-
-    pub next : Going (later 1 t) (e + 1) (p + 1) n (turnOf t m v)
-    unfolding after
-    next = subst (Going (later 1 t) (e + 1) (p + 1) n) (sym turn) after-going
-
-    pub heard-is : turnOf t m v .«last_sample_value» ≡ termOn e
-    unfolding heardOf
-    heard-is = ap (λ (x : Voice). x .«last_sample_value») turn
-
-    pub judged-once : (h : Hot) → h .plain ≡ true → judgedOf h (t .interpolates) (turnOf t m v .clip2) (t .now) ≡ hotAfter c (e + 1)
-    unfolding judgedOf
-    judged-once h plain =
-        let clip : turnOf t m v .clip2 ≡ c = next .clip in
-        let plays : playsPlain (t .interpolates) c (t .now) ≡ true =
-        so-plays (t .interpolates) c (t .now) (record {
-          sharp = E .sharp;
-          profile = passes c start length total (subst (λ (z : Clip). PlainClip z start length total) (g .clip) (E .profile)) (E .inside);
-          early = omega (arith, g .at, at, E .early);
-        }) in
-        ap (λ (z : Clip). judgedOf h (t .interpolates) z (t .now)) clip
-        ∙ ap₂ (λ (a b : Bool). cond a (cond b (hotAfter c (elapsedAt c (t .now) + 1)) cold) h) plain plays
-        ∙ ap (λ (k : ℕ). hotAfter c (k + 1)) (g .at)
-
-  -- ---- n turns in one
-  pub glides-on : (n : ℕ) {t : Tick} {e p : ℕ} {v : Voice} → Going t e p n v → GlidesOn t m n v
-  unfolding GlidesOn
-  glides-on zero g = tt
-  glides-on (suc n) g = (glides g, glides-on n (next g))
-
-  -- the value before the last of n + 1
-  unfoldable pub lastOn : Voice → ℕ → ℕ → Float
-  lastOn v e zero = v .«last_sample_value»
-  lastOn v e (suc n) = termOn (e + n)
-
-  pub turns : (n : ℕ) {t : Tick} {e p : ℕ} {v : Voice} → Going t e p (suc n) v
-      → turnsOf t m (suc n) v ≡ heardOf v (plainIndex start length total (e + n)) (termOn (e + n)) (lastOn v e n) (asFloat (p + suc n))
-  unfolding turnsOf lastOn heardOf after
-  turns zero {t} {e} {p} {v} g = turn g ∙ ap (λ (k : ℕ). heardOf v (plainIndex start length total k) (termOn k) (v .«last_sample_value») (asFloat (p + 1))) (sym (add-zero e))
-  turns (suc n) {t} {e} {p} {v} g =
-      turns n (next g)
-      ∙ ap (λ (x : Voice). heardOf x (plainIndex start length total (e + 1 + n)) (termOn (e + 1 + n)) (lastOn x (e + 1) n) (asFloat (p + 1 + suc n))) (turn g)
-      ∙ ap₂ (λ (k q : ℕ). heardOf v (plainIndex start length total k) (termOn k) (lastOn (after g) (e + 1) n) (asFloat q)) (omega arith) (omega arith)
-      ∙ ap (λ (x : Float). heardOf v (plainIndex start length total (e + suc n)) (termOn (e + suc n)) x (asFloat (p + suc (suc n)))) (before n)
+  pub eases-lasts : Lasts t n v
+  eases-lasts k h = go (t .once) refl
     where
-      before : (n : ℕ) → lastOn (after g) (e + 1) n ≡ termOn (e + n)
-      before zero = ap termOn (sym (add-zero e))
-      before (suc n) = ap termOn (omega arith)
+      go : (once : Bool) → t .once ≡ once → (once && le (t .span .«whole_length») (absOf (playedOn (paceOf t v) (v .played) (suc k)))) ≡ false
+      go false is = refl
+      go true is = rw (played-on k h) (still-above (t .span .«whole_length») (p + suc k) (p + n) (omega (arith, h)) (E .few) (E .lasts is))
 
-  pub judged : (n : ℕ) {t : Tick} {e p : ℕ} {v : Voice} (h : Hot) → h .plain ≡ true → Going t e p (suc n) v → judgedOn t m (suc n) v h ≡ hotAfter c (e + suc n)
+  -- its index by a whole number
+  pub index-on : (k : ℕ) → k < n → indexAt (v .clip2) (t .now + k) ≡ plainIndex start length total (elapsedAt (v .clip2) (t .now) + k)
+  index-on k h =
+      index-is (v .clip2) (t .now + k) start length total (E .profile) (omega (arith, E .early, h))
+      ∙ ap (plainIndex start length total) (omega (arith, E .begun))
+
+  pub sounds-on : (m : List ℕ) (level : Float) → level ≡ levelOf (v .volume) (t .now) → (k : ℕ) → k < n
+      → termAt m level (plainIndex start length total (elapsedAt (v .clip2) (t .now) + k)) ≡ soundAt m (v .clip2) (v .volume) (t .now + k)
+  sounds-on m level is k h = ap₂ (termAt m) (is ∙ steady-level (v .volume) (t .now) (t .now + k) (E .steady)) (sym (index-on k h))
+
+-- ---- the position of a plain voice
+module _ (m : List ℕ) {start length total : ℕ} where
+  judged-once : (t : Tick) (c : Clip) (w : Voice) (h : Hot) → PlainClip c start length total → start ≤ total → t .interpolates ≡ false → elapsedAt c (t .now) + 1 ≤ 2 ^ 24 → w .clip2 ≡ c → h .plain ≡ true
+      → judgedOf h (t .interpolates) (w .clip2) (t .now) ≡ hotAfter c (elapsedAt c (t .now) + 1)
+  unfolding judgedOf
+  judged-once t c w h profile inside sharp early clip plain =
+      let plays : playsPlain (t .interpolates) c (t .now) ≡ true =
+      so-plays (t .interpolates) c (t .now) (record { sharp = sharp; profile = passes c start length total profile inside; early = omega (arith, early) }) in
+      ap (λ (z : Clip). judgedOf h (t .interpolates) z (t .now)) clip
+      ∙ ap₂ (λ (a b : Bool). cond a (cond b (hotAfter c (elapsedAt c (t .now) + 1)) cold) h) plain plays
+
+  pub judged : (n : ℕ) {t : Tick} {v : Voice} (c : Clip) (h : Hot) → h .plain ≡ true → v .clip2 ≡ c → PlainClip c start length total → start ≤ total → c .since ≤ t .now → elapsedAt c (t .now) + suc n ≤ 2 ^ 24
+      → Steady t (suc n) v → Lasts t (suc n) v → judgedOn t m (suc n) v h ≡ hotAfter c (elapsedAt c (t .now) + suc n)
   unfolding judgedOn hotAfter
-  judged zero h plain g = judged-once g h plain
-  judged (suc n) {t} {e} {p} {v} h plain g =
-      let once = judged-once g h plain in
-      judged n (judgedOf h (t .interpolates) (turnOf t m v .clip2) (t .now)) (ap (λ (x : Hot). x .plain) once) (next g)
-      ∙ ap (hotAfter c) (omega arith)
-
-  pub poured : (n : ℕ) {t : Tick} {e p : ℕ} {v : Voice} → Going t e p n v → (term : ℕ → Float) → ((k : ℕ) → k < n → term k ≡ termOn (e + k))
-      → (before after : List Float) → n ≤ ListN.length before → Added term 0 n before after → after ≡ pouredOn t m n v before
-  unfolding pouredOn
-  poured zero g term is before after room a = ext-getD nan after before (a .size) (λ k h. a .high k zero-le)
-  poured (suc n) g term is [] after room a = absurd (omega (arith, room))
-  poured (suc n) g term is (x ∷ xs) [] room a = absurd (omega (arith, a .size))
-  poured (suc n) {t} {e} {p} {v} g term is (x ∷ xs) (y ∷ ys) room a =
-      ap₂ (λ (z : Float) (zs : List Float). z ∷ zs)
-      (a .inside 0 zero-le (omega arith) ∙ ap (add binary32 x) (is 0 (omega arith) ∙ ap termOn (add-zero e) ∙ sym (heard-is g)))
-      (poured n (next g) (λ (k : ℕ). term (suc k)) (λ k h. is (suc k) (omega (arith, h)) ∙ ap termOn (omega arith)) xs ys (omega (arith, room))
-      (record {
-        size = omega (arith, a .size);
-        inside = λ k low high. a .inside (suc k) zero-le (omega (arith, high));
-        low = λ k h. absurd (omega (arith, h));
-        high = λ k h. a .high (suc k) (omega (arith, h));
-      }))
+  judged zero {t} {v} c h plain clip profile inside begun early s l = judged-once t c (turnOf t m v) h profile inside (s .sharp) early (clip-stays m s l ∙ clip) plain
+  judged (suc n) {t} {v} c h plain clip profile inside begun early s l =
+      let stays : turnOf t m v .clip2 ≡ c = clip-stays m s l ∙ clip in
+      let once = judged-once t c (turnOf t m v) h profile inside (s .sharp) (omega (arith, early)) stays plain in
+      judged n c (judgedOf h (t .interpolates) (turnOf t m v .clip2) (t .now)) (ap (λ (x : Hot). x .plain) once) stays profile inside (omega (arith, begun)) (omega (arith, begun, early)) (next-steady m s l) (next-lasts m s l)
+      ∙ ap (hotAfter c) (omega (arith, begun))
 
 -- ---- the position, by a place and laps
 module _ (h : Hot) (e length : ℕ) (stands : h .lap * length + h .place ≡ e) where

@@ -1,4 +1,7 @@
 pub mod Added
+pub mod Filling
+pub mod Placing
 pub mod Straight
+pub mod Turns
 pub mod Easing
 pub mod Promised

@@ -1,33 +1,43 @@
 -- The tests of `eases` are enough, and what `poured` then does is what it promises. Assumes nothing.
 use mathlib.Core.Path.{_≡_, refl, sym, ap, ap₂, _∙_, subst}
-use Prim.Native.Nat.{ℕ, zero, suc, _+_, _-_, _^_, _≤_}
+use Prim.Native.Nat.{ℕ, zero, suc, _+_, _-_, _^_, _≤_, _<_}
 use native.Mathlib.Nat.{le-trans, mul-le-mul-left}
 use native.Mathlib.Omega.{arith}
 use mathlib.Core.Bool.{Bool, true, false, not, _&&_, _||_, true≢false}
 use mathlib.Core.List.{List}
 use lib.Dec.{T, leb, eqb, leb→le, eqb→eq, lit≤}
-use lib.Ieee.{Float, binary32, add, mul, lt}
+use lib.Ieee.{Float, nan, binary32, add, mul, lt}
 use lib.Ieee.Bits.{is-true}
 use lib.Ieee.Fits.{and-l, and-r}
 use lib.ListN as ListN
-use borrow.Author.Tests.{not-true}
+use lib.ListN.{getD}
+use borrow.Author.Tests.{not-true, lt-ltb, ltb-true}
 use Rattle.binary32.specs.Leaves.{asFloat, asWhole}
 use Rattle.binary32.specs.Wholes.{wholeIn}
 use Rattle.binary32.proofs.Truth.{yes}
+use Rattle.binary32.proofs.Floors.{floor-cast}
 use Rattle.binary32.proofs.Wholes.{float-is, cast-is, WholeIn, whole-in}
-use Rattle.volume.specs.Levels.{isStaticOf, levelOf}
+use Rattle.volume.specs.declared.Volume.{Volume}
+use Rattle.volume.specs.declared.Volume.the-variants.{Static, Linear}
+use Rattle.volume.specs.Levels.{isStaticOf, levelOf, keepsOf}
 use Rattle.clip.specs.declared.Clip.{Clip}
-use Rattle.clip.specs.Positions.{elapsedAt}
+use Rattle.clip.specs.Positions.{elapsedAt, indexAt, offsetAt}
+use Rattle.clip.specs.Updates.{sameAll}
 use Rattle.clip.specs.Plain.{plainIndex}
+use Rattle.clip.proofs.Offsets.{offset-fits}
 use Rattle.voice.specs.declared.Voice.{Voice}
 use Rattle.voice.specs.declared.Tick.{Tick}
+use Rattle.voice.specs.Voices.{recordedValueOf}
 use Rattle.plain_voice.specs.declared.Hot.{Hot}
 use Rattle.plain_voice.specs.declared.Beat.{Beat}
-use Rattle.plain_voice.specs.Hots.{beatOf, Agreeing}
+use Rattle.plain_voice.specs.Hots.{beatOf, Agrees, Agreeing}
 use Rattle.pours.specs.declared.Pouring.{Pouring}
+use Rattle.pours.specs.declared.Fetched.{Fetched}
 use Rattle.pours.specs.Eases.{Eases, EasesAt, termAt, LastButOne, heardOf, movedOf, Added}
-use Rattle.pours.specs.Pours.{Pours}
-use Rattle.pours.proofs.Easing.{sum-is, Going, termOn, lastOn, glides-on, turns, judged, poured, place-on, moved-to}
+use Rattle.pours.specs.Pours.{Pours, judgedOn}
+use Rattle.pours.specs.Steady.{paceOf, Steady, SteadyAt, playedOn, Lasts, soundAt, leveled, Offsets, Fetches, Gathers}
+use Rattle.pours.proofs.Turns.{lastOn, onOf, glides-on, turns, poured}
+use Rattle.pours.proofs.Easing.{sum-is, eases-steady, eases-lasts, played-on, index-on, sounds-on, judged, place-on, moved-to}
 
 -- ---- the tests
 module _ (h : Hot) (v : Voice) (t : Tick) (b : Beat) (room n : ℕ) (few : n ≤ 2 ^ 24) where
@@ -82,75 +92,142 @@ module _ (h : Hot) (v : Voice) (t : Tick) (b : Beat) (room n : ℕ) (few : n ≤
       last true on below k = k
       last false on below k = absurd (true≢false (sym on))
 
--- the position's laps and the samples to come are few
-pub laps-few : {h : Hot} {v : Voice} {t : Tick} {b : Beat} {room n : ℕ} → EasesAt h v t b room n → h .lap + n ≤ 2 ^ 24
-laps-few {h} {v} {t} {b} E = omega (arith, E .stands, E .eases .early, mul-le-mul-left (h .lap) (E .eases .profile .length-low))
+-- a level that goes on at a time does so before
+keeps-before : (v : Volume) (a b : ℕ) → a ≤ b → keepsOf v b ≡ true → keepsOf v a ≡ true
+unfolding keepsOf
+keeps-before (Static x) a b h k = refl
+keeps-before (Linear c d x y) a b h k = lt-ltb a d (omega (arith, h, ltb-true b d k))
 
--- ---- what is promised
-module _ (h : Hot) (v : Voice) (t : Tick) (b : Beat) (m : List ℕ) (before after : List Float) (level : Float) (level-is : level ≡ levelOf (v .volume) (t .now)) where
-  abbrev c : Clip
-  c = v .clip2
+pub steady-told : (v : Voice) (t : Tick) (n : ℕ) → 1 ≤ n → n ≤ 2 ^ 24 → t .now ≤ 2 ^ 62 → (keeps same : Bool) → keeps ≡ keepsOf (v .volume) (t .now + (n - 1)) → same ≡ sameAll (v .clip2) (t .span .length) (paceOf t v) (t .span .«data_length») (t .mode)
+    → (not (v .finished) && (eqb (v .phrase) (t .phrase) && (not (t .interpolates) && (keeps && same)))) ≡ true → SteadyAt t n v
+steady-told v t n some few early keeps same keeps-is same-is told =
+    let u : Bool = not (v .finished) in
+    let o : Bool = eqb (v .phrase) (t .phrase) in
+    let s : Bool = not (t .interpolates) in
+    let h₁ = and-r u _ (yes told) in
+    let h₂ = and-r o _ h₁ in
+    let h₃ = and-r s _ h₂ in
+    record {
+      steady = record {
+        own = eqb→eq (v .phrase) (t .phrase) (and-l o _ h₁);
+        unfinished = not-true (v .finished) (is-true u (and-l u _ (yes told)));
+        sharp = not-true (t .interpolates) (is-true s (and-l s _ h₂));
+        same = sym same-is ∙ is-true same (and-r keeps same h₃);
+        keeps = λ k below. keeps-before (v .volume) (t .now + k) (t .now + (n - 1)) (omega (arith, below)) (sym keeps-is ∙ is-true keeps (and-l keeps same h₃));
+      };
+      some = some;
+      few = few;
+      early = early;
+    }
 
-  abbrev e : ℕ
-  e = elapsedAt (v .clip2) (t .now)
+-- ---- the position of one that eases agrees
+pub agrees-so : {h : Hot} {v : Voice} {t : Tick} {b : Beat} {room n : ℕ} → EasesAt h v t b room n → Agrees h (v .clip2) t b (paceOf t v) (2 ^ 24 - n)
+agrees-so E =
+    let e = E .eases in
+    record { same = e .same; profile = e .profile; inside = e .inside; sharp = e .sharp; early = omega (arith, e .early); place = E .place; stands = E .stands }
 
-  abbrev p : ℕ
-  p = asWhole 64 (v .played)
+-- its laps and the samples to come are few
+pub laps-few : {h : Hot} {c : Clip} {t : Tick} {b : Beat} {speed : Float} {n : ℕ} → Agrees h c t b speed (2 ^ 24 - n) → n ≤ 2 ^ 24 → h .lap + n ≤ 2 ^ 24
+laps-few {h} a few = omega (arith, a .stands, a .early, few, mul-le-mul-left (h .lap) (a .profile .length-low))
 
-  abbrev start : ℕ
-  start = h .start
-
-  abbrev length : ℕ
-  length = b .length
-
-  abbrev total : ℕ
-  total = b .total
-
-  abbrev term : ℕ → Float
-  term k = termAt m level (plainIndex start length total (h .place + k))
-
-  pub promised : (n : ℕ) → EasesAt h v t b (ListN.length m) n → n ≤ ListN.length before → (index : ℕ) (value last : Float) (r : Pouring)
-      → index ≡ plainIndex start length total (h .place + (n - 1)) → value ≡ termAt m level index → LastButOne (v .«last_sample_value») term n last
-      → r .voice ≡ heardOf v index value last (add binary32 (v .played) (asFloat n)) → r .hot ≡ movedOf h n length → r .eases ≡ true → Added term 0 n before after → Pours h v t b m n before after r
+-- ---- what is promised of any steady voice
+module _ (h : Hot) (v : Voice) (t : Tick) (b : Beat) (m : List ℕ) (before after : List Float) where
+  pub steadily : (n : ℕ) → 1 ≤ n → Steady t n v → Lasts t n v → n ≤ ListN.length before → (term : ℕ → Float) → ((k : ℕ) → k < n → term k ≡ soundAt m (v .clip2) (v .volume) (t .now + k))
+      → (index : ℕ) (value last played : Float) (r : Pouring) → index ≡ indexAt (v .clip2) (t .now + (n - 1)) → value ≡ term (n - 1) → LastButOne (v .«last_sample_value») term n last
+      → played ≡ playedOn (paceOf t v) (v .played) n → r .voice ≡ heardOf v index value last played → r .hot ≡ judgedOn t m n v h → r .eases ≡ true → Added term 0 n before after → Pours h v t b m n before after r
   unfolding lastOn
-  promised zero E room index value last r index-is value-is last-is voice-is hot-is eased added = absurd (omega (arith, E .some))
-  promised (suc n) E room index value last r index-is value-is last-is voice-is hot-is eased added =
+  steadily zero some s l room term is index value last played r index-is value-is last-is played-is voice-is hot-is eased added = absurd (omega (arith, some))
+  steadily (suc n) some s l room term is index value last played r index-is value-is last-is played-is voice-is hot-is eased added =
       record {
-        own = λ g. eases .own;
-        unfinished = λ g. eases .unfinished;
-        glides = λ g. glides-on m c level start length total (suc n) going;
-        voice = λ g. voice-is ∙ heard ∙ sym (turns m c level start length total n going);
-        hot = λ g. hot-is ∙ moved-to h e length (E .stands) c length-is start-is (eases .profile .length-low) (suc n) ∙ sym (judged m c level start length total n h (E .plain) going);
-        sums = λ g. poured m c level start length total (suc n) going term (λ k below. ap (termAt m level) (on k)) before after room added;
+        own = λ g. s .own;
+        unfinished = λ g. s .unfinished;
+        glides = λ g. glides-on m (suc n) s l;
+        voice = λ g. voice-is ∙ heard ∙ sym (turns m n s l);
+        hot = λ g. hot-is;
+        sums = λ g. poured m (suc n) s l term is before after room added;
         else = λ g. absurd (true≢false (sym eased ∙ g));
       }
     where
-      eases : Eases t start length total p (suc n) v
+      at : index ≡ indexAt (v .clip2) (t .now + n)
+      at = index-is ∙ ap (λ (k : ℕ). indexAt (v .clip2) (t .now + k)) (omega arith)
+
+      sounded : value ≡ soundAt m (v .clip2) (v .volume) (t .now + n)
+      sounded = value-is ∙ ap term (omega arith) ∙ is n (omega arith)
+
+      last-on : (k : ℕ) → k ≤ n → LastButOne (v .«last_sample_value») term (suc k) last → last ≡ lastOn m t v k
+      last-on zero few l = l .first (omega arith)
+      last-on (suc k) few l = l .later (omega arith) ∙ ap term (omega arith) ∙ is k (omega (arith, few))
+
+      heard : heardOf v index value last played ≡ onOf m t n v
+      heard =
+          ap₂ (λ (i : ℕ) (x : Float). heardOf v i x last played) at sounded
+          ∙ ap₂ (heardOf v (indexAt (v .clip2) (t .now + n)) (soundAt m (v .clip2) (v .volume) (t .now + n))) (last-on n (omega arith) last-is) played-is
+
+-- the position after n turns, of a voice whose position agrees
+pub moves : (m : List ℕ) (h : Hot) (v : Voice) (t : Tick) (b : Beat) (n : ℕ) → h .plain ≡ true → 1 ≤ n → n ≤ 2 ^ 24 → v .clip2 .since ≤ t .now → Agrees h (v .clip2) t b (paceOf t v) (2 ^ 24 - n)
+    → Steady t n v → Lasts t n v → movedOf h n (b .length) ≡ judgedOn t m n v h
+moves m h v t b zero plain some few begun a s l = absurd (omega (arith, some))
+moves m h v t b (suc n) plain some few begun a s l =
+    let p = a .profile in
+    moved-to h (elapsedAt (v .clip2) (t .now)) (b .length) (a .stands) (v .clip2)
+    (cast-is (b .length) (le-trans (p .length-top) (lit≤ tt)) (p .length-is)) (cast-is (h .start) (le-trans (p .start-top) (lit≤ tt)) (p .start-is)) (p .length-low) (suc n)
+    ∙ sym (judged m n (v .clip2) h plain refl p (a .inside) begun (omega (arith, a .early, few)) s l)
+
+-- nothing is promised of one that doesn't ease but that its sums are left
+pub left : (h : Hot) (v : Voice) (t : Tick) (b : Beat) (m : List ℕ) (n : ℕ) (sums : List Float) → Pours h v t b m n sums sums (record { voice = v; hot = h; eases = false })
+left h v t b m n sums = record {
+  own = λ g. absurd (true≢false (sym g));
+  unfinished = λ g. absurd (true≢false (sym g));
+  glides = λ g. absurd (true≢false (sym g));
+  voice = λ g. absurd (true≢false (sym g));
+  hot = λ g. absurd (true≢false (sym g));
+  sums = λ g. absurd (true≢false (sym g));
+  else = λ g. refl;
+}
+
+-- ---- by what is gathered
+whole-index : (c : Clip) (now : ℕ) → asWhole 64 (offsetAt c now) ≡ indexAt c now
+unfolding indexAt
+whole-index c now = sym (floor-cast 64 (offsetAt c now) (offset-fits c now))
+
+module _ (m : List ℕ) (t : Tick) (n : ℕ) (v : Voice) where
+  pub gathered : (before after : List Float) (f : Fetched) → 1 ≤ n → Lasts t n v → Offsets (v .clip2) (t .now) n before → Fetches m (v .played) (paceOf t v) n before after f → Gathers m t n v after f
+  gathered before after f some lasts o F = record {
+    recorded = λ k h. F .values k h ∙ ap (recordedValueOf m) (at k h);
+    index = F .index (n - 1) (omega (arith, some)) ∙ at (n - 1) (omega (arith, some));
+    far = F .far;
+    lasts = lasts;
+  }
+    where
+      at : (k : ℕ) → k < n → asWhole 64 (getD before k nan) ≡ indexAt (v .clip2) (t .now + k)
+      at k h = ap (asWhole 64) (o k h .1) ∙ whole-index (v .clip2) (t .now + k)
+
+  pub sounds : (values : List Float) (g : Fetched) → Gathers m t n v values g → (k : ℕ) → k < n → leveled values (v .volume) (t .now) k ≡ soundAt m (v .clip2) (v .volume) (t .now + k)
+  sounds values g G k h = ap (λ (x : Float). mul binary32 x (levelOf (v .volume) (t .now + k))) (G .recorded k h)
+
+-- ---- and of one that eases by whole numbers
+module _ (h : Hot) (v : Voice) (t : Tick) (b : Beat) (m : List ℕ) (before after : List Float) (level : Float) (level-is : level ≡ levelOf (v .volume) (t .now)) where
+  abbrev term : ℕ → Float
+  term k = termAt m level (plainIndex (h .start) (b .length) (b .total) (h .place + k))
+
+  pub promised : (n : ℕ) → EasesAt h v t b (ListN.length m) n → n ≤ ListN.length before → (index : ℕ) (value last played : Float) (r : Pouring)
+      → index ≡ plainIndex (h .start) (b .length) (b .total) (h .place + (n - 1)) → value ≡ termAt m level index → LastButOne (v .«last_sample_value») term n last
+      → played ≡ add binary32 (v .played) (asFloat n) → r .voice ≡ heardOf v index value last played → r .hot ≡ movedOf h n (b .length) → r .eases ≡ true → Added term 0 n before after → Pours h v t b m n before after r
+  promised n E room index value last played r index-is value-is last-is played-is voice-is hot-is eased added =
+      steadily h v t b m before after n (E .some) (eases-steady eases) (eases-lasts eases) room term
+      (λ k below. ap (termAt m level) (on k) ∙ sounds-on eases m level level-is k below)
+      index value last played r
+      (index-is ∙ on (n - 1) ∙ sym (index-on eases (n - 1) (omega (arith, E .some))))
+      (value-is ∙ ap (termAt m level) index-is) last-is (played-is ∙ far n (E .some) eases) voice-is
+      (hot-is ∙ moves m h v t b n (E .plain) (E .some) (omega (arith, eases .few)) (eases .begun) (agrees-so E) (eases-steady eases) (eases-lasts eases))
+      eased added
+    where
+      eases : Eases t (h .start) (b .length) (b .total) (asWhole 64 (v .played)) n v
       eases = E .eases
 
-      going : Going m c level start length total t e p (suc n) v
-      going = record { eases = eases; clip = refl; at = refl; loud = sym level-is }
+      on : (k : ℕ) → plainIndex (h .start) (b .length) (b .total) (h .place + k) ≡ plainIndex (h .start) (b .length) (b .total) (elapsedAt (v .clip2) (t .now) + k)
+      on k = place-on h (elapsedAt (v .clip2) (t .now)) (b .length) (E .stands) (h .start) (b .total) k
 
-      length-is : asWhole 64 (c .length) ≡ length
-      length-is = cast-is length (le-trans (eases .profile .length-top) (lit≤ tt)) (eases .profile .length-is)
-
-      start-is : asWhole 64 (c .start) ≡ start
-      start-is = cast-is start (le-trans (eases .profile .start-top) (lit≤ tt)) (eases .profile .start-is)
-
-      on : (k : ℕ) → plainIndex start length total (h .place + k) ≡ plainIndex start length total (e + k)
-      on k = place-on h e length (E .stands) start total k
-
-      at : index ≡ plainIndex start length total (e + n)
-      at = index-is ∙ ap (λ (k : ℕ). plainIndex start length total (h .place + k)) (omega arith) ∙ on n
-
-      played : add binary32 (v .played) (asFloat (suc n)) ≡ asFloat (p + suc n)
-      played = sum-is p (suc n) (eases .played) (float-is (suc n) (omega (arith, eases .few))) (eases .few) (omega arith)
-
-      last-on : (k : ℕ) → LastButOne (v .«last_sample_value») term (suc k) last → last ≡ lastOn m c level start length total v e k
-      last-on zero l = l .first (omega arith)
-      last-on (suc k) l = l .later (omega arith) ∙ ap term (omega arith) ∙ ap (termAt m level) (on k)
-
-      heard : heardOf v index value last (add binary32 (v .played) (asFloat (suc n))) ≡ heardOf v (plainIndex start length total (e + n)) (termOn m c level start length total (e + n)) (lastOn m c level start length total v e n) (asFloat (p + suc n))
-      heard =
-          ap₂ (λ (i : ℕ) (x : Float). heardOf v i x last (add binary32 (v .played) (asFloat (suc n)))) at (value-is ∙ ap (termAt m level) at)
-          ∙ ap₂ (heardOf v (plainIndex start length total (e + n)) (termOn m c level start length total (e + n))) (last-on n last-is) played
+      far : (n : ℕ) → 1 ≤ n → Eases t (h .start) (b .length) (b .total) (asWhole 64 (v .played)) n v → add binary32 (v .played) (asFloat n) ≡ playedOn (paceOf t v) (v .played) n
+      far zero some e = absurd (omega (arith, some))
+      far (suc n) some e = sum-is (asWhole 64 (v .played)) (suc n) (e .played) (float-is (suc n) (omega (arith, e .few))) (e .few) (omega arith) ∙ sym (played-on e n (omega arith))

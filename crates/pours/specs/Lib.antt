@@ -1,2 +1,3 @@
 pub mod Pours
 pub mod Eases
+pub mod Steady

@@ -1,26 +1,64 @@
-// A plain voice's samples of a run in one go (request 9/12): while its level is steady and nothing ends it, each is a
-// recorded value times that level, and they are added to the sums of their frames.
+// A voice's samples of a run in one go (request 9/12): while nothing of it changes and nothing ends it, each is a recorded
+// value times its level, and they are added to the sums of their frames. A plain voice at a steady level goes straight on
+// through the recording; of any other the places are worked out first, and nothing is added where one isn't quickly told.
 ghost use mathlib.Core.Path.{_≡_};
-ghost use mathlib.Core.Bool.{true};
+ghost use mathlib.Core.Bool.{true, false, cond};
 ghost use Prim.Native.Nat.{ℕ, _+_, _-_, _%_, _^_, _≤_, _<_, min};
-ghost use lib.ListN.{length};
-ghost use lib.Ieee.{binary32, add};
-ghost use Rattle.binary32.specs.Leaves.{asFloat};
+ghost use lib.Dec.{T};
+ghost use lib.ListN.{length, getD};
+ghost use lib.Ieee.{nan, binary32, mul, rem, neg, lt, le};
+ghost use Rattle.binary32.specs.Leaves.{zero32, asFloat, asWhole, minOf, OrLess};
+ghost use Rattle.clip.specs.Positions.{raisedOf, loopedOf, foldedOf, bouncedOf, wrappedOf};
 ghost use Rattle.clip.specs.Plain.{plainIndex};
 ghost use Rattle.plain_voice.specs.Hots.{beatOf};
 ghost use Rattle.pours.specs.Eases.{EasesAt, termAt, LastButOne, heardOf, movedOf, Added};
 ghost use Rattle.pours.specs.Pours.{Pours};
+ghost use Rattle.pours.specs.Steady.{
+  SteadyAt,
+  PlaysBelow,
+  Lasts,
+  leveled,
+  rampBy,
+  travelBy,
+  PlacedOffset,
+  Low,
+  Lows,
+  Counted,
+  Offsets,
+  Fetches,
+  Gathers,
+  Stands,
+};
+use clip::Clip;
+use clip::Mode;
 use plain_voice::Beat;
 use plain_voice::Hot;
 use plain_voice::LAST_WHOLE;
 use voice::Tick;
 use voice::Voice;
+use volume::Volume;
+
+// The last time from which a run is worked out in one go: 2^62.
+const LATEST: usize = 0x4000_0000_0000_0000;
 
 // What pouring a voice gives: whether it eases; if so the voice and its position after all samples.
 pub struct Pouring {
     pub voice: Voice,
     pub hot: Hot,
     pub eases: bool,
+}
+
+// The position of a voice after some samples, where it is known.
+struct Stood {
+    hot: Hot,
+    known: bool,
+}
+
+// What fetching comes to, where it is told: the last index, and how far the voice has played.
+struct Fetched {
+    index: usize,
+    played: f32,
+    told: bool,
 }
 
 // ---- whether a voice eases
@@ -106,9 +144,9 @@ fn last_but_one(
     term_at(data, level, index_at(start, place + (n - 2), round, total))
 }
 
-// The voice after n samples, of which the last two were `last` and the one at that index.
-fn heard(v: Voice, index: usize, value: f32, last: f32, n: usize) -> Voice
-    ensures { λ r. ⌜ r ≡ heardOf v index value last (add binary32 (v .played) (asFloat n)) ⌝ }
+// The voice after some samples, of which the last two were `last` and the one at that index.
+fn heard(v: Voice, index: usize, value: f32, last: f32, played: f32) -> Voice
+    ensures { λ r. ⌜ r ≡ heardOf v index value last played ⌝ }
 {
     let clip2 = v.clip2;
     let volume = v.volume;
@@ -119,7 +157,7 @@ fn heard(v: Voice, index: usize, value: f32, last: f32, n: usize) -> Voice
         clip2,
         volume,
         loop_start_percent: v.loop_start_percent,
-        played: v.played + binary32::usize_to_f32(n),
+        played,
         last_sample_value: value,
         speed: v.speed,
         note,
@@ -190,26 +228,11 @@ fn pour_all(
     }
 }
 
-// Adds n samples of the voice to the sums, if it eases over them.
-pub fn poured(
-    h: Hot,
-    v: Voice,
-    t: Tick,
-    b: Beat,
-    data: &[u32],
-    sums: &mut [f32],
-    n: usize,
-) -> Pouring
-    requires { ⌜ (b ≡ beatOf t) × (n ≤ length (now «sums»)) ⌝ }
+// Adds n samples of a plain voice that eases over them to the sums.
+fn plainly(h: Hot, v: Voice, t: Tick, b: Beat, data: &[u32], sums: &mut [f32], n: usize) -> Pouring
+    requires { ⌜ EasesAt h v t b (length (now «data»)) n × (n ≤ length (now «sums»)) ⌝ }
     ensures { λ r. ⌜ Pours h v t b (now («data» .entry)) n (now («sums» .entry)) (now («sums» .exit)) r ⌝ }
 {
-    if !eases(h, v, t, b, data.len(), n) {
-        return Pouring {
-            voice: v,
-            hot: h,
-            eases: false,
-        };
-    }
     let start = h.start as usize;
     let place = h.place as usize;
     let round = b.length as usize;
@@ -228,10 +251,472 @@ pub fn poured(
     );
     let index = index_at(start, place + (n - 1), round, total);
     let value = term_at(data, level, index);
+    let played = v.played + binary32::usize_to_f32(n);
     pour_all(start, place, round, total, data, level, sums, n);
     Pouring {
-        voice: heard(v, index, value, last, n),
+        voice: heard(v, index, value, last, played),
         hot: moved(h, n, round),
         eases: true,
     }
+}
+
+// ---- any steady voice
+
+// Whether n turns change nothing but what it has sounded and how far it has played, but for play-once.
+fn steady(v: Voice, t: Tick, n: usize) -> bool
+    ensures { λ r. ⌜ (r ≡ true → SteadyAt t n v) ⌝ }
+{
+    if n < 1 {
+        return false;
+    }
+    if LAST_WHOLE < n {
+        return false;
+    }
+    if LATEST < t.now {
+        return false;
+    }
+    let volume = v.volume;
+    let clip2 = v.clip2;
+    let span = t.span;
+    let mode = t.mode;
+    !v.finished
+        & ((v.phrase == t.phrase)
+            & (!t.interpolates
+                & (volume.keeps(t.now + (n - 1))
+                    & clip2.same_all(span.length, v.speed * t.speed, span.data_length, mode))))
+}
+
+// The position after n turns of a steady voice: that of one that isn't plain stays.
+fn position_on(h: Hot, v: Voice, t: Tick, b: Beat, n: usize) -> Stood
+    requires { ⌜ (b ≡ beatOf t) × SteadyAt t n v ⌝ }
+    ensures { λ r. ⌜ Stands h t n v r ⌝ }
+{
+    if !h.plain {
+        return Stood {
+            hot: h,
+            known: true,
+        };
+    }
+    let clip2 = v.clip2;
+    if t.now < clip2.since {
+        return Stood {
+            hot: h,
+            known: false,
+        };
+    }
+    if !h.agrees(clip2, t, b, v.speed * t.speed, LAST_WHOLE - n) {
+        return Stood {
+            hot: h,
+            known: false,
+        };
+    }
+    Stood {
+        hot: moved(h, n, b.length as usize),
+        known: true,
+    }
+}
+
+// ---- where it is at each of n samples
+
+// A small count as a float: as signed, of which the machine makes floats more quickly.
+fn float_of(count: u32) -> f32
+    requires { ⌜ count ≤ 2 ^ 24 ⌝ }
+    ensures { λ r. ⌜ r ≡ asFloat count ⌝ }
+{
+    (count as i32) as f32
+}
+
+// The travel of a clip so many samples after its last change, the lead of a negative speed among them.
+fn travel(shift: f32, speed: f32, count: u32) -> f32
+    requires { ⌜ count ≤ 2 ^ 24 ⌝ }
+    ensures { λ r. ⌜ r ≡ travelBy shift speed count ⌝ }
+{
+    shift + float_of(count) * speed
+}
+
+fn size_of(x: f32) -> f32
+    ensures { λ r. ⌜ r ≡ cond (le zero32 x) x (neg x) ⌝ }
+{
+    if x >= 0.0 { x } else { -x }
+}
+
+fn raised(y: f32, length: f32) -> f32
+    ensures { λ r. ⌜ r ≡ raisedOf y length ⌝ }
+{
+    if y >= 0.0 { y } else { y + length }
+}
+
+// The place in a loop of a travel x whose size leaves y.
+fn turned(x: f32, y: f32, length: f32) -> f32
+    ensures { λ r. ⌜ r ≡ cond (le zero32 x) y (raisedOf (neg y) length) ⌝ }
+{
+    if x >= 0.0 { y } else { raised(-y, length) }
+}
+
+// The place in a loop of a travel, and that on a way there and back; a number below 0 where it isn't quickly worked out.
+fn looped(x: f32, length: f32) -> f32
+    ensures { λ r. ⌜ OrLess (loopedOf x length) r ⌝ }
+{
+    let y = binary32::rem_or_less(size_of(x), length);
+    if y >= 0.0 { turned(x, y, length) } else { y }
+}
+
+fn folded(y: f32, length: f32) -> f32
+    ensures { λ r. ⌜ r ≡ foldedOf y length ⌝ }
+{
+    if y < length {
+        y
+    } else {
+        binary32::max(2.0 * length - y - 1.0, 0.0)
+    }
+}
+
+fn bounced(x: f32, length: f32) -> f32
+    ensures { λ r. ⌜ OrLess (bouncedOf x length) r ⌝ }
+{
+    let y = binary32::rem_or_less(binary32::abs(x), 2.0 * length);
+    if y >= 0.0 { folded(y, length) } else { y }
+}
+
+fn wrapped(mode: Mode, x: f32, length: f32) -> f32
+    ensures { λ r. ⌜ OrLess (wrappedOf mode x length) r ⌝ }
+{
+    match mode {
+        Mode::Loop => looped(x, length),
+        Mode::PingPong => bounced(x, length),
+    }
+}
+
+// s % total, for an s from 0 to below twice the total; else a number below 0.
+fn once_round(s: f32, total: f32) -> f32
+    ensures { λ r. ⌜ OrLess (rem binary32 s total) r ⌝ }
+{
+    if s < total {
+        return s;
+    }
+    let t = s - total;
+    if t < total { t } else { -1.0 }
+}
+
+// The smaller of a place and the last.
+fn lower(y: f32, top: f32) -> f32
+    ensures { λ r. ⌜ (T (le zero32 y) → r ≡ minOf y top) ⌝ }
+{
+    if top < y { top } else { y }
+}
+
+// The offset of a place of at least 0; else a number below 0.
+fn offset_of(y: f32, start: f32, length: f32, total: f32) -> f32
+    ensures { λ r. ⌜ PlacedOffset y start length total r ⌝ }
+{
+    let t = once_round(start + lower(y, length - 1.0), total);
+    if y >= 0.0 { t } else { -1.0 }
+}
+
+fn is_low(x: f32) -> bool
+    ensures { λ r. ⌜ (r ≡ true → Low x) ⌝ }
+{
+    (x >= 0.0) & (x < 8388608.0)
+}
+
+// Puts the offsets of n samples into the list, from so many samples after the clip's last change on, its lead among them;
+// or says that one isn't quickly worked out.
+fn offsets_from(c: Clip, from: u32, values: &mut [f32], n: usize) -> bool
+    requires { ⌜ (from + n ≤ 2 ^ 24 + 1) × (n ≤ length (now «values»)) ⌝ }
+    ensures { λ r. ⌜ (length (now («values» .exit)) ≡ length (now («values» .entry))) × (r ≡ true → Counted c from n (now («values» .exit))) ⌝ }
+{
+    let mode = c.mode;
+    let mut told = true;
+    let mut k: usize = 0;
+    while k < n {
+        let y = wrapped(mode, travel(c.shift, c.speed, from + (k as u32)), c.length);
+        let offset = offset_of(y, c.start, c.length, c.data_length);
+        values[k] = offset;
+        told = told & is_low(offset);
+        k += 1;
+    }
+    told
+}
+
+// The same of a loop, where no travel is below 0.
+fn offsets_ahead(c: Clip, from: u32, values: &mut [f32], n: usize) -> bool
+    requires { ⌜ (c .mode ≡ Mode.Loop) × (from + n ≤ 2 ^ 24 + 1) × (n ≤ length (now «values»)) ⌝ }
+    ensures { λ r. ⌜ (length (now («values» .exit)) ≡ length (now («values» .entry))) × (r ≡ true → Counted c from n (now («values» .exit))) ⌝ }
+{
+    let mut told = true;
+    let mut k: usize = 0;
+    while k < n {
+        let x = travel(c.shift, c.speed, from + (k as u32));
+        let y = binary32::rem_or_less(x, c.length);
+        let offset = offset_of(y, c.start, c.length, c.data_length);
+        values[k] = offset;
+        told = told & is_low(offset);
+        k += 1;
+    }
+    told
+}
+
+// Either way: most loops are gone through ahead.
+fn offsets_by(c: Clip, from: u32, values: &mut [f32], n: usize) -> bool
+    requires { ⌜ (from + n ≤ 2 ^ 24 + 1) × (n ≤ length (now «values»)) ⌝ }
+    ensures { λ r. ⌜ (length (now («values» .exit)) ≡ length (now («values» .entry))) × (r ≡ true → Counted c from n (now («values» .exit))) ⌝ }
+{
+    let mode = c.mode;
+    if clip::same_mode(mode, Mode::Loop) & ((c.speed >= 0.0) & (c.shift >= 0.0)) {
+        return offsets_ahead(c, from, values, n);
+    }
+    offsets_from(c, from, values, n)
+}
+
+// How many samples a negative speed is ahead.
+fn lead(speed: f32) -> u32
+    ensures { λ r. ⌜ r ≡ cond (lt speed zero32) 1 0 ⌝ }
+{
+    if speed < 0.0 { 1 } else { 0 }
+}
+
+// The offsets of n samples from that time on, by counts, which are exact up to 2^24. Past that none is told: the clip's
+// own quick way, called from here too, would stand apart from the turns that have it compiled in.
+fn offsets(c: Clip, time: usize, values: &mut [f32], n: usize) -> bool
+    requires { ⌜ (time ≤ 2 ^ 62) × (n ≤ 2 ^ 24) × (n ≤ length (now «values»)) ⌝ }
+    ensures { λ r. ⌜ (length (now («values» .exit)) ≡ length (now («values» .entry))) × (r ≡ true → Offsets c time n (now («values» .exit))) ⌝ }
+{
+    if c.since <= time {
+        let elapsed = time - c.since;
+        if elapsed <= LAST_WHOLE - n {
+            return offsets_by(c, (elapsed as u32) + lead(c.speed), values, n);
+        }
+    }
+    false
+}
+
+// ---- what it sounds
+
+// Whether a sum of what is played reaches the whole length within n samples.
+fn ends(played: f32, by: f32, whole: f32, n: usize) -> bool
+    ensures { λ r. ⌜ (r ≡ false → PlaysBelow played by whole n) ⌝ }
+{
+    let mut sum = played;
+    let mut over = false;
+    let mut k: usize = 0;
+    while k < n {
+        sum = sum + by;
+        over = over | (whole <= binary32::abs(sum));
+        k += 1;
+    }
+    over
+}
+
+// Whether play-once, if it is so, goes on for n samples.
+fn lasts(v: Voice, t: Tick, n: usize) -> bool
+    ensures { λ r. ⌜ (r ≡ true → Lasts t n v) ⌝ }
+{
+    if t.once {
+        let span = t.span;
+        return !ends(v.played, v.speed * t.speed, span.whole_length, n);
+    }
+    true
+}
+
+// The whole part of an offset, as binary32 works out that of a low float: the sum with 2^28 in f64 has 24 digits of
+// fraction, in which none is rounded up to a whole number.
+fn whole_of(x: f32) -> usize
+    requires { ⌜ Low x ⌝ }
+    ensures { λ r. ⌜ r ≡ asWhole 64 x ⌝ }
+{
+    (f64::to_bits((x as f64) + 268435456.0) / 0x100_0000 % 0x1000_0000) as usize
+}
+
+// Puts what is recorded at each of n offsets in its place, and adds the speed as often.
+fn fetch(data: &[u32], played: f32, by: f32, values: &mut [f32], n: usize) -> Fetched
+    requires { ⌜ (n ≤ length (now «values»)) × Lows n (now «values») ⌝ }
+    ensures { λ r. ⌜ Fetches (now («data» .entry)) played by n (now («values» .entry)) (now («values» .exit)) r ⌝ }
+{
+    let mut index: usize = 0;
+    let mut sum = played;
+    let mut k: usize = 0;
+    while k < n {
+        index = whole_of(values[k]);
+        values[k] = voice::recorded(data, index);
+        sum = sum + by;
+        k += 1;
+    }
+    Fetched {
+        index,
+        played: sum,
+        told: true,
+    }
+}
+
+// Puts what is recorded at each of n samples of a steady voice into the list. It isn't told where play-once ends it, or
+// where an offset isn't quickly worked out.
+fn gather(v: Voice, t: Tick, data: &[u32], values: &mut [f32], n: usize) -> Fetched
+    requires { ⌜ SteadyAt t n v × (n ≤ length (now «values»)) ⌝ }
+    ensures { λ r. ⌜ (length (now («values» .exit)) ≡ length (now («values» .entry))) × (r .told ≡ true → Gathers (now («data» .entry)) t n v (now («values» .exit)) r) ⌝ }
+{
+    let otherwise = Fetched {
+        index: 0,
+        played: 0.0,
+        told: false,
+    };
+    if !lasts(v, t, n) {
+        return otherwise;
+    }
+    let clip2 = v.clip2;
+    let speed = v.speed * t.speed;
+    if !offsets(clip2, t.now, values, n) {
+        return otherwise;
+    }
+    fetch(data, v.played, speed, values, n)
+}
+
+// What the list's k-th value sounds at the volume's level then.
+fn value_at(values: &[f32], volume: Volume, time: usize, k: usize) -> f32
+    requires { ⌜ (time ≤ 2 ^ 62) × (k ≤ 2 ^ 24) × (k < length (now «values»)) ⌝ }
+    ensures { λ r. ⌜ r ≡ leveled (now («values» .entry)) volume time k ⌝ }
+{
+    values[k] * volume.level(time + k)
+}
+
+// Before the last of n: what it sounded before all of them, if there is but one.
+fn value_before(before: f32, values: &[f32], volume: Volume, time: usize, n: usize) -> f32
+    requires { ⌜ (time ≤ 2 ^ 62) × (n ≤ 2 ^ 24) × (n ≤ length (now «values»)) ⌝ }
+    ensures { λ r. ⌜ LastButOne before (leveled (now («values» .entry)) volume time) n r ⌝ }
+{
+    if n < 2 {
+        return before;
+    }
+    value_at(values, volume, time, n - 2)
+}
+
+// Adds n values at one level to the first n sums.
+fn add_all(values: &[f32], level: f32, sums: &mut [f32], n: usize)
+    requires { ⌜ (n ≤ length (now «values»)) × (n ≤ length (now «sums»)) ⌝ }
+    ensures { λ _. ⌜ Added (λ (k : ℕ). mul binary32 (getD (now («values» .entry)) k nan) level) 0 n (now («sums» .entry)) (now («sums» .exit)) ⌝ }
+{
+    let mut k: usize = 0;
+    while k < n {
+        sums[k] = sums[k] + values[k] * level;
+        k += 1;
+    }
+}
+
+// Adds n values at the volume's levels to the first n sums.
+fn add_levels(values: &[f32], volume: Volume, time: usize, sums: &mut [f32], n: usize)
+    requires { ⌜ (time ≤ 2 ^ 62) × (n ≤ 2 ^ 24) × (n ≤ length (now «values»)) × (n ≤ length (now «sums»)) ⌝ }
+    ensures { λ _. ⌜ Added (leveled (now («values» .entry)) volume time) 0 n (now («sums» .entry)) (now («sums» .exit)) ⌝ }
+{
+    let mut k: usize = 0;
+    while k < n {
+        sums[k] = sums[k] + values[k] * volume.level(time + k);
+        k += 1;
+    }
+}
+
+// The level of a ramp that rises from `low` by `rise` over so many samples.
+fn ramp_level(count: u32, over: f32, low: f32, rise: f32) -> f32
+    requires { ⌜ count ≤ 2 ^ 24 ⌝ }
+    ensures { λ r. ⌜ r ≡ rampBy over low rise count ⌝ }
+{
+    low + rise * binary32::min(binary32::max(float_of(count) / over, 0.0), 1.0)
+}
+
+// Adds n values at the levels of such a ramp to the first n sums.
+fn add_ramp(values: &[f32], from: u32, over: f32, low: f32, rise: f32, sums: &mut [f32], n: usize)
+    requires { ⌜ (from + n ≤ 2 ^ 24) × (n ≤ length (now «values»)) × (n ≤ length (now «sums»)) ⌝ }
+    ensures { λ _. ⌜ Added (λ (k : ℕ). mul binary32 (getD (now («values» .entry)) k nan) (rampBy over low rise (from + k))) 0 n (now («sums» .entry)) (now («sums» .exit)) ⌝ }
+{
+    let mut k: usize = 0;
+    while k < n {
+        sums[k] = sums[k] + values[k] * ramp_level(from + (k as u32), over, low, rise);
+        k += 1;
+    }
+}
+
+fn add_at(values: &[f32], volume: Volume, time: usize, sums: &mut [f32], n: usize)
+    requires { ⌜ (time ≤ 2 ^ 62) × (n ≤ 2 ^ 24) × (n ≤ length (now «values»)) × (n ≤ length (now «sums»)) ⌝ }
+    ensures { λ _. ⌜ Added (leveled (now («values» .entry)) volume time) 0 n (now («sums» .entry)) (now («sums» .exit)) ⌝ }
+{
+    match volume {
+        Volume::Static(level) => add_all(values, level, sums, n),
+        Volume::Linear {
+            time_start,
+            time_end,
+            value_start,
+            value_end,
+        } => {
+            if time_start <= time {
+                let elapsed = time - time_start;
+                if elapsed <= LAST_WHOLE - n {
+                    let over = binary32::usize_to_f32(volume::since(time_start, time_end));
+                    let rise = value_end - value_start;
+                    add_ramp(values, elapsed as u32, over, value_start, rise, sums, n);
+                    return;
+                }
+            }
+            add_levels(values, volume, time, sums, n);
+        }
+    }
+}
+
+// Adds n samples of any voice to the sums, if it is steady over them and each is quickly worked out.
+fn fully(
+    h: Hot,
+    v: Voice,
+    t: Tick,
+    b: Beat,
+    data: &[u32],
+    sums: &mut [f32],
+    values: &mut [f32],
+    n: usize,
+) -> Pouring
+    requires { ⌜ (b ≡ beatOf t) × (n ≤ length (now «sums»)) × (n ≤ length (now «values»)) ⌝ }
+    ensures { λ r. ⌜ Pours h v t b (now («data» .entry)) n (now («sums» .entry)) (now («sums» .exit)) r ⌝ }
+{
+    let otherwise = Pouring {
+        voice: v,
+        hot: h,
+        eases: false,
+    };
+    if !steady(v, t, n) {
+        return otherwise;
+    }
+    let s = position_on(h, v, t, b, n);
+    if !s.known {
+        return otherwise;
+    }
+    let hot = s.hot;
+    let g = gather(v, t, data, values, n);
+    if !g.told {
+        return otherwise;
+    }
+    let volume = v.volume;
+    let value = value_at(values, volume, t.now, n - 1);
+    let last = value_before(v.last_sample_value, values, volume, t.now, n);
+    add_at(values, volume, t.now, sums, n);
+    Pouring {
+        voice: heard(v, g.index, value, last, g.played),
+        hot,
+        eases: true,
+    }
+}
+
+// Adds n samples of the voice to the sums, if it eases over them. What is left in the list of values is not to be looked at.
+pub fn poured(
+    h: Hot,
+    v: Voice,
+    t: Tick,
+    b: Beat,
+    data: &[u32],
+    sums: &mut [f32],
+    values: &mut [f32],
+    n: usize,
+) -> Pouring
+    requires { ⌜ (b ≡ beatOf t) × (n ≤ length (now «sums»)) × (n ≤ length (now «values»)) ⌝ }
+    ensures { λ r. ⌜ Pours h v t b (now («data» .entry)) n (now («sums» .entry)) (now («sums» .exit)) r ⌝ }
+{
+    if eases(h, v, t, b, data.len(), n) {
+        return plainly(h, v, t, b, data, sums, n);
+    }
+    fully(h, v, t, b, data, sums, values, n)
 }

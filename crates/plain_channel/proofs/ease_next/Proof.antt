@@ -1,4 +1,4 @@
--- `ease_next` meets its contract: a walk of its MIR, by hand. The next voice and its position are copied, and its phrase is looked up (`Phrasing`). Where it is plain and its phrase isn't empty, the side's sums are lent to `poured`, with the phrase's part of the memory; where that says that the voice eases,
+-- `ease_next` meets its contract: a walk of its MIR, by hand. The next voice and its position are copied, and its phrase is looked up (`Phrasing`). Where its phrase isn't empty, the side's sums and values are lent to `poured`, with the phrase's part of the memory; where that says that the voice eases,
 -- voice and position are overwritten. Assumes nothing.
 use mathlib.Core.Path.{_≡_, refl, sym, ap, subst}
 use Prim.Native.Nat.{ℕ, _+_, _-_, _*_, _<_, _^_}
@@ -25,7 +25,7 @@ use contract.Monad.{Fun}
 use contract.Running.{givenOf, tables, tablesOf}
 use types.Kit.{Given, Item, ‵, _⊛_, some as any, later, ⋆, Post as After, post, runs, Go, Seq, anyQ, atRet, _$_, _∵_, !, qed, by, move, use1, use2, drop, split, join, pick, await}
 use types.Part.{agg}
-use types.Run.{store-raw, stop, fld, addr, lit, false-lit, of-opd, bin, un, and-then, no-more, first, branches, skips, assigns, enter, params1, pass0, exec}
+use types.Run.{store-raw, stop, fld, addr, lit, false-lit, of-opd, bin, and-then, no-more, first, branches, skips, assigns, enter, params1, pass0, exec}
 use denote.Memory.{partAt}
 use denote.Laws.{Is, shows}
 use denote.Ref.{RefT}
@@ -96,8 +96,8 @@ use Rattle.lent_channel.proofs.Parts.{startOf, start-is, partOf, shares-part}
 use Rattle.plain_channel.specs.declared.Side.{Side}
 use Rattle.plain_channel.specs.Ahead.{tickIn, heldIn, Eases}
 use Rattle.plain_channel.proofs.Hotting.{side, hot, beat, hot-bytes, IsSide, IsHot, hot-at, with-hot, hots-are, points-hot, copies-hot, stores-hot-last}
-use Rattle.plain_channel.proofs.Filling.{pour, pour-at, pour-is, sums-are}
-use Rattle.plain_channel.proofs.Summing.{with-sums, sums-at}
+use Rattle.plain_channel.proofs.Filling.{pour, pour-at, pour-is, sums-are, values-are}
+use Rattle.plain_channel.proofs.Summing.{with-sums, sums-at, values-spot}
 use Rattle.plain_channel.proofs.Phrasing.{LooksUp, so-places, so-rooms, entry-fits, tickBy, tick-is, partIn, part-within, part-long, from-fits, part-fits}
 use Rattle.plain_channel.proofs.Poured.{pouring, Poured, pours-at}
 use Rattle.plain_channel.proofs.Nexts.{eases-none, eases-one}
@@ -110,7 +110,7 @@ use Rattle.plain_channel.proofs.ease_next.Code as code
 
 -- the part of the code where a voice doesn't ease, and the part where it eases
 abbrev refusing : Code
-refusing = then-part (after 6 (code.function .body))
+refusing = then-part (after 20 (code.function .body))
 
 abbrev easing-part : Code
 easing-part = then-part (after 38 (code.function .body))
@@ -200,6 +200,9 @@ module _ {M : Type 1} (𝓤 : URA M) (H : Heap 𝓤) (A : Atoms 𝓤) (W : Given
   abbrev ys : List Float
   ys = l .pour .sums
 
+  abbrev vs : List Float
+  vs = l .pour .values
+
   size : length ms * 4 < 2 ^ 63
   size = fine .1 .1 .1 .1 .0 .0 .1 .1
 
@@ -249,6 +252,9 @@ module _ {M : Type 1} (𝓤 : URA M) (H : Heap 𝓤) (A : Atoms 𝓤) (W : Given
     all-sums : length ys ≡ 64
     all-sums = sums-are (l .pour) (pour-is l isy)
 
+    all-values : length vs ≡ 64
+    all-values = values-are (l .pour) (pour-is l isy)
+
     inside : i < length (c .voices)
     inside = omega (arith, may .1, all)
 
@@ -262,7 +268,7 @@ module _ {M : Type 1} (𝓤 : URA M) (H : Heap 𝓤) (A : Atoms 𝓤) (W : Given
     refuses : {p : After 𝓤 H} → post 𝓤 H p returnsᴼ ≡ atReturn 𝓤 H En Ends returnsᴼ → Seq (Go {0}) W (Now []) (runs (𝓣 .C) (𝓣 .Λ) En refusing p)
     refuses e =
         puts ! (of-opd ! (false-lit !)) (fills ! refl (tt, tt)) $ move ! (5 ∷ []) $ drop ! $ closes easing-next κs q q₁ q₂ x y a ! tt c l $ gives-within ! Ends e refl $
-        all-freed ! refl $ by ! (exits easing-next κs q q₁ q₂ x y a 𝓤 H A W false c l refl (eases-none (a .1 .1 .0) ms i n c l ys refl))
+        all-freed ! refl $ by ! (exits easing-next κs q q₁ q₂ x y a 𝓤 H A W false c l refl (eases-none (a .1 .1 .0) ms i n c l ys vs refl))
 
     module _ (ish : IsHot h) (isv : Is R.the-row v (vv v ∷ [])) (isph : Is F.the-row ph (phrase .val ph ∷ [])) (full : eqb (ph .length) 0 ≡ false) where
       isk : k < 2 ^ 8
@@ -270,9 +276,9 @@ module _ {M : Type 1} (𝓤 : URA M) (H : Heap 𝓤) (A : Atoms 𝓤) (W : Given
 
       module _ (ist : Is (tick .like) t (tick .val t ∷ [])) where
         -- it was poured, or not
-        module _ (r : Pouring) (zs : List Float) (said : Pours h v t (beatOf t) m′ n ys zs r) (isr : Is G.the-row r (pouring .val r ∷ [])) where
+        module _ (r : Pouring) (zs us : List Float) (said : Pours h v t (beatOf t) m′ n ys zs r) (isr : Is G.the-row r (pouring .val r ∷ [])) where
           abbrev l₁ : Side
-          l₁ = with-sums zs l
+          l₁ = with-sums zs us l
 
           abbrev c₂ : Channel
           c₂ = withVoices (set (c .voices) i (r .voice)) (c .count) c
@@ -292,10 +298,10 @@ module _ {M : Type 1} (𝓤 : URA M) (H : Heap 𝓤) (A : Atoms 𝓤) (W : Given
           full-so = subst (λ (u : Voice). eqb (phraseAt c (u .phrase) .length) 0 ≡ false) (sym same-voice) full
 
           eased-so : r .eases ≡ true → Eases p ms i n c l (r .eases) c₂ l₂
-          eased-so e = subst (λ (u : Bool). Eases p ms i n c l u c₂ l₂) (sym e) (eases-one p ms i n c l all (may .1) (may .0 .may) (omega (arith, may .0 .few, all-sums)) (beatOf t) zs r full-so said-so e)
+          eased-so e = subst (λ (u : Bool). Eases p ms i n c l u c₂ l₂) (sym e) (eases-one p ms i n c l all (may .1) (may .0 .may) (omega (arith, may .0 .few, all-sums)) (beatOf t) zs us r full-so said-so e)
 
           refused-so : r .eases ≡ false → Eases p ms i n c l (r .eases) c l₁
-          refused-so e = subst (λ (u : Bool). Eases p ms i n c l u c l₁) (sym e) (eases-none p ms i n c l zs (said .else e))
+          refused-so e = subst (λ (u : Bool). Eases p ms i n c l u c l₁) (sym e) (eases-none p ms i n c l zs us (said .else e))
 
           ends : (d : Channel) (e : Side) → Eases p ms i n c l (r .eases) d e → ent 𝓤 (⋆ 𝓤 H A (Then d e Given-so)) (Wp 𝓤 H (𝓣 .C) (𝓣 .Λ) En (after 39 (code.function .body)) (atReturn 𝓤 H En Ends))
           ends d e so =
@@ -329,7 +335,7 @@ module _ {M : Type 1} (𝓤 : URA M) (H : Heap 𝓤) (A : Atoms 𝓤) (W : Given
         Ready = Now (read
             (some (phrase .val ph) ∷ some (tick .val t) ∷ some (room .val rm) ∷ empty ∷ some (vint w64 (length m′)) ∷ empty ∷ empty ∷ empty ∷ empty ∷ empty ∷ empty ∷ empty ∷ empty
             ∷ some (vint w64 (rm .from * 4)) ∷ empty ∷ empty ∷ empty ∷ empty ∷ some (beat .val (beatOf t)) ∷ some (vptr (x₂ .ptr .0) start) ∷ some (vptr (x₂ .ptr .0) start) ∷ some (sliceVal (x₂ .ptr .0, start) (length m′))
-            ∷ some (vptr b₁ (sums-at o₁)) ∷ some (sliceVal (b₁, sums-at o₁) (length ys)) ∷ []))
+            ∷ some (vptr b₁ (sums-at o₁)) ∷ some (sliceVal (b₁, sums-at o₁) (length ys)) ∷ some (vptr b₁ (values-spot o₁)) ∷ some (sliceVal (b₁, values-spot o₁) (length vs)) ∷ []))
 
         -- where its room and its beat are known
         abbrev Roomed : List (Item 𝓤)
@@ -347,14 +353,14 @@ module _ {M : Type 1} (𝓤 : URA M) (H : Heap 𝓤) (A : Atoms 𝓤) (W : Given
               use2 W (later (any (λ (δ : GName). ‵ (Sl κ₂ (part δ)) ⊛ ‵ (flft κ₂ q₂)))) (shares-part 𝓤 H A W κ₂ q₂ (x₂ .ptr .0) (x₂ .ptr .1) (x₂ .name) ms (rm .from) (rm .to - rm .from)) $ await ! tt $
               pick ! (λ δ. split ! $ move ! (1 ∷ 2 ∷ []) $ join ! $ move ! (3 ∷ 1 ∷ 0 ∷ []) $
               pours-at h v t n κ₂ q₂ (part δ) l b₁ o₁ at-mem run 𝓣 ! (known .pours)
-              (record { hot-is = ish; voice-is = isv; tick-is = ist; beat-is = isb; count-is = fine .1 .0; room = omega (arith, may .0 .few, all-sums); all = all-sums })
-              (λ α γ. and-then ! (its ! refl) (and-then ! (its ! refl) (and-then ! (its ! refl) (and-then ! (its ! refl) (and-then ! (its ! refl) (and-then ! (its ! refl) (and-then ! (its ! refl) (no-more !)))))))) (λ r zs said isr iss.
-              arrives ! refl (fills ! refl (pouring .typed 𝓤 H A W r _ isr)) $ move ! (2 ∷ 0 ∷ 3 ∷ 4 ∷ 1 ∷ []) $ leaves-only ! En 15 refl $ by ! (chooses r zs said isr)))
+              (record { hot-is = ish; voice-is = isv; tick-is = ist; beat-is = isb; count-is = fine .1 .0; few = may .0 .few; all = all-sums; all-values = all-values })
+              (λ α β γ δ. and-then ! (its ! refl) (and-then ! (its ! refl) (and-then ! (its ! refl) (and-then ! (its ! refl) (and-then ! (its ! refl) (and-then ! (its ! refl) (and-then ! (its ! refl) (and-then ! (its ! refl) (no-more !))))))))) (λ r zs us said isr iss.
+              arrives ! refl (fills ! refl (pouring .typed 𝓤 H A W r _ isr)) $ move ! (2 ∷ 0 ∷ 3 ∷ 4 ∷ 1 ∷ []) $ leaves-only ! En 15 refl $ by ! (chooses r zs us said isr)))
 
-          -- its part of the memory, and the side's sums
-          parts-on : ent 𝓤 (⋆ 𝓤 H A Roomed) (Wp 𝓤 H (𝓣 .C) (𝓣 .Λ) En (after 29 (code.function .body)) (atReturn 𝓤 H En Ends))
+          -- its part of the memory, and the side's sums and values
+          parts-on : ent 𝓤 (⋆ 𝓤 H A Roomed) (Wp 𝓤 H (𝓣 .C) (𝓣 .Λ) En (after 27 (code.function .body)) (atReturn 𝓤 H En Ends))
           parts-on =
-              qed W Roomed ∵ exec ! (𝓣 .C) (𝓣 .Λ) En (after 29 (code.function .body)) (atRet En Ends) $
+              qed W Roomed ∵ exec ! (𝓣 .C) (𝓣 .Λ) En (after 27 (code.function .body)) (atRet En Ends) $
               puts ! (bin ! (field-of ! refl refl) (lit ! tt) (record { fits = from-fits ph ms size })) (fills ! refl (tt, record { fits = from-fits ph ms size })) $
               puts-as ! (ap (vptr (x₂ .ptr .0)) (sym (start-is (x₂ .ptr .1) (rm .from) ms (le-trans (part-within ph ms .0) (part-within ph ms .1))))) (bin ! (field-of ! refl refl) (its ! refl) tt) (fills ! refl (tt, tt)) $
               puts-as ! (ap (vint w64) (sym (part-long ph ms))) (bin ! (field-of ! refl refl) (field-of ! refl refl) (part-within ph ms .0)) (fills ! refl (tt, record { fits = part-fits ph ms size })) $
@@ -362,11 +368,13 @@ module _ {M : Type 1} (𝓤 : URA M) (H : Heap 𝓤) (A : Atoms 𝓤) (W : Given
               puts ! (agg ! (and-then ! (its ! refl) (and-then ! (its ! refl) (no-more !)))) (fills ! refl (tt, (tt, (record { fits = part-fits ph ms size }, tt)))) $
               puts ! (addr ! (beyond ! (held ! refl) (fld ! {τ = pour .ty} {d = pour-at} refl (fld ! refl (stop !))))) (fills ! refl (tt, tt)) $
               puts-as ! (ap (sliceVal (b₁, sums-at o₁)) (sym all-sums)) (agg ! (and-then ! (its ! refl) (and-then ! (lit ! tt) (no-more !)))) (fills ! refl (tt, (tt, (record { fits = omega (arith, all-sums) }, tt)))) $
+              puts ! (addr ! (beyond ! (held ! refl) (fld ! {τ = pour .ty} {d = pour-at} refl (fld ! refl (stop !))))) (fills ! refl (tt, tt)) $
+              puts-as ! (ap (sliceVal (b₁, values-spot o₁)) (sym all-values)) (agg ! (and-then ! (its ! refl) (and-then ! (lit ! tt) (no-more !)))) (fills ! refl (tt, (tt, (record { fits = omega (arith, all-values) }, tt)))) $
               by ! pours-on
 
-        rooms-on : ent 𝓤 (⋆ 𝓤 H A Ticked) (Wp 𝓤 H (𝓣 .C) (𝓣 .Λ) En (after 26 (code.function .body)) (atReturn 𝓤 H En Ends))
+        rooms-on : ent 𝓤 (⋆ 𝓤 H A Ticked) (Wp 𝓤 H (𝓣 .C) (𝓣 .Λ) En (after 24 (code.function .body)) (atReturn 𝓤 H En Ends))
         rooms-on =
-            qed W Ticked ∵ exec ! (𝓣 .C) (𝓣 .Λ) En (after 26 (code.function .body)) (atRet En Ends) $
+            qed W Ticked ∵ exec ! (𝓣 .C) (𝓣 .Λ) En (after 24 (code.function .body)) (atRet En Ends) $
             puts ! (of-opd ! (field-of ! refl refl)) (fills ! refl (tt, record { fits = fine .1 .1 .1 .1 .0 .0 .1 .0 })) $
             asks ! (known .looks .rooms) (ph, (length ms, tt)) (isph, ((refl, fine .1 .1 .1 .1 .0 .0 .1 .0), tt)) (and-then ! (its ! refl) (and-then ! (its ! refl) (no-more !))) (fills ! refl) (λ _.
             leaves-only ! En 14 refl $ asks ! (known .beats) (t, tt) (ist, tt) (and-then ! (its ! refl) (no-more !)) (fills ! refl) (λ isb. by ! (parts-on isb)))
@@ -374,27 +382,27 @@ module _ {M : Type 1} (𝓤 : URA M) (H : Heap 𝓤) (A : Atoms 𝓤) (W : Given
       -- once it is known what the phrase's voices share
       abbrev Shared : List (Item 𝓤)
       Shared = Now (read
-          (some (phrase .val ph) ∷ empty ∷ empty ∷ empty ∷ empty ∷ empty ∷ empty ∷ empty ∷ empty ∷ empty ∷ empty ∷ empty ∷ some (ev (c .head)) ∷ empty ∷ empty ∷ empty ∷ empty ∷ some (moment .val (momentFor c k)) ∷ []))
+          (some (phrase .val ph) ∷ empty ∷ empty ∷ empty ∷ empty ∷ empty ∷ empty ∷ empty ∷ empty ∷ empty ∷ empty ∷ some (ev (c .head)) ∷ empty ∷ empty ∷ empty ∷ empty ∷ empty ∷ some (moment .val (momentFor c k)) ∷ []))
 
-      ticks-on : Is (moment .like) (momentFor c k) (moment .val (momentFor c k) ∷ []) → ent 𝓤 (⋆ 𝓤 H A Shared) (Wp 𝓤 H (𝓣 .C) (𝓣 .Λ) En (after 25 (code.function .body)) (atReturn 𝓤 H En Ends))
+      ticks-on : Is (moment .like) (momentFor c k) (moment .val (momentFor c k) ∷ []) → ent 𝓤 (⋆ 𝓤 H A Shared) (Wp 𝓤 H (𝓣 .C) (𝓣 .Λ) En (after 23 (code.function .body)) (atReturn 𝓤 H En Ends))
       ticks-on ism =
-          qed W Shared ∵ exec ! (𝓣 .C) (𝓣 .Λ) En (after 25 (code.function .body)) (atRet En Ends) $
+          qed W Shared ∵ exec ! (𝓣 .C) (𝓣 .Λ) En (after 23 (code.function .body)) (atRet En Ends) $
           asks ! (known .looks .ticks) (p, (m, (momentFor c k, tt))) (fine .1 .1 .0, (fine .1 .1 .1 .0, (ism, tt))) (and-then ! (its ! refl) (and-then ! (its ! refl) (and-then ! (its ! refl) (no-more !)))) (fills ! refl) (λ ist.
           leaves-only ! En 13 refl $ by ! (rooms-on ist))
 
       -- once the head is read
       abbrev Headed : List (Item 𝓤)
-      Headed = Now (read (some (phrase .val ph) ∷ empty ∷ empty ∷ empty ∷ empty ∷ empty ∷ empty ∷ empty ∷ empty ∷ empty ∷ empty ∷ empty ∷ some (ev (c .head)) ∷ []))
+      Headed = Now (read (some (phrase .val ph) ∷ empty ∷ empty ∷ empty ∷ empty ∷ empty ∷ empty ∷ empty ∷ empty ∷ empty ∷ empty ∷ some (ev (c .head)) ∷ []))
 
-      moments-on : ent 𝓤 (⋆ 𝓤 H A Headed) (Wp 𝓤 H (𝓣 .C) (𝓣 .Λ) En (after 24 (code.function .body)) (atReturn 𝓤 H En Ends))
+      moments-on : ent 𝓤 (⋆ 𝓤 H A Headed) (Wp 𝓤 H (𝓣 .C) (𝓣 .Λ) En (after 22 (code.function .body)) (atReturn 𝓤 H En Ends))
       moments-on =
-          qed W Headed ∵ exec ! (𝓣 .C) (𝓣 .Λ) En (after 24 (code.function .body)) (atRet En Ends) $
+          qed W Headed ∵ exec ! (𝓣 .C) (𝓣 .Λ) En (after 22 (code.function .body)) (atRet En Ends) $
           asks ! (known .looks .moments) (c .head, (k, (ph .length, tt))) (head-is c isx, ((refl, isk), (LL.owed F.the-type F′.the-laws ph _ isph .1 .0, tt)))
           (and-then ! (its ! refl) (and-then ! (its ! refl) (and-then ! (field-of ! refl refl) (no-more !)))) (fills ! refl) (λ ism. by ! (ticks-on ism))
 
-      heads-on : ent 𝓤 (⋆ 𝓤 H A Phrased) (Wp 𝓤 H (𝓣 .C) (𝓣 .Λ) En (after 23 (code.function .body)) (atReturn 𝓤 H En Ends))
+      heads-on : ent 𝓤 (⋆ 𝓤 H A Phrased) (Wp 𝓤 H (𝓣 .C) (𝓣 .Λ) En (after 21 (code.function .body)) (atReturn 𝓤 H En Ends))
       heads-on =
-          qed W Phrased ∵ exec ! (𝓣 .C) (𝓣 .Λ) En (after 23 (code.function .body)) (atRet En Ends) $
+          qed W Phrased ∵ exec ! (𝓣 .C) (𝓣 .Λ) En (after 21 (code.function .body)) (atRet En Ends) $
           opened ! fullShare C.the-row (Is C.the-row) (shows 𝓤 H A C.the-row) (LL.vals C.the-type C′.the-laws) (LL.tells C.the-type C′.the-laws) c b o (λ _.
           use1 W (‵ (fat fullShare C′.mir b o (cv c))) (W .laws .raw-at fullShare C′.mir b o (cv c)) $
           puts ! (of-opd ! (reads-head b o c ! (held ! refl))) (fills ! refl (headed .typed 𝓤 H A W (c .head) _ (head-is c isx))) $
@@ -402,9 +410,9 @@ module _ {M : Type 1} (𝓤 : URA M) (H : Heap 𝓤) (A : Atoms 𝓤) (W : Given
 
     -- once its position and it are read
     module _ (ish : IsHot h) (isv : Is R.the-row v (vv v ∷ [])) where
-      tests : Is F.the-row ph (phrase .val ph ∷ []) → ent 𝓤 (⋆ 𝓤 H A Phrased) (Wp 𝓤 H (𝓣 .C) (𝓣 .Λ) En (after 21 (code.function .body)) (atReturn 𝓤 H En Ends))
+      tests : Is F.the-row ph (phrase .val ph ∷ []) → ent 𝓤 (⋆ 𝓤 H A Phrased) (Wp 𝓤 H (𝓣 .C) (𝓣 .Λ) En (after 19 (code.function .body)) (atReturn 𝓤 H En Ends))
       tests isph =
-          qed W Phrased ∵ exec ! (𝓣 .C) (𝓣 .Λ) En (after 21 (code.function .body)) (atRet En Ends) $
+          qed W Phrased ∵ exec ! (𝓣 .C) (𝓣 .Λ) En (after 19 (code.function .body)) (atRet En Ends) $
           puts ! (bin ! (field-of ! refl refl) (lit ! tt) tt) (fills ! refl (tt, tt)) $ first ! $ branches ! (its ! refl)
           -- its phrase is empty
           (λ _. leaves-only ! En 8 refl $ refuses refl)
@@ -416,32 +424,32 @@ module _ {M : Type 1} (𝓤 : URA M) (H : Heap 𝓤) (A : Atoms 𝓤) (W : Given
 
       abbrev entering : List (Option Val) → List (Option Val)
       entering vs = looking
-          (some (vint w64 j) ∷ empty ∷ empty ∷ empty ∷ some (vbool (c .several)) ∷ empty ∷ empty ∷ empty ∷ some (ev (c .head)) ∷ some (vint w64 (j * phrase-bytes)) ∷ some (vptr b (o + table-at)) ∷ some (vptr b (entry-spot o j)) ∷ vs)
+          (some (vint w64 j) ∷ empty ∷ empty ∷ empty ∷ empty ∷ empty ∷ empty ∷ some (ev (c .head)) ∷ some (vbool (c .several)) ∷ some (vint w64 (j * phrase-bytes)) ∷ some (vptr b (o + table-at)) ∷ some (vptr b (entry-spot o j)) ∷ vs)
 
       abbrev Entered : List (Item 𝓤)
       Entered = Now (entering [])
 
-      phrases-on : ent 𝓤 (⋆ 𝓤 H A Entered) (Wp 𝓤 H (𝓣 .C) (𝓣 .Λ) En (after 19 (code.function .body)) (atReturn 𝓤 H En Ends))
+      phrases-on : ent 𝓤 (⋆ 𝓤 H A Entered) (Wp 𝓤 H (𝓣 .C) (𝓣 .Λ) En (after 17 (code.function .body)) (atReturn 𝓤 H En Ends))
       phrases-on =
-          qed W Entered ∵ exec ! (𝓣 .C) (𝓣 .Λ) En (after 19 (code.function .body)) (atRet En Ends) $
+          qed W Entered ∵ exec ! (𝓣 .C) (𝓣 .Λ) En (after 17 (code.function .body)) (atRet En Ends) $
           copies-entry j b o fullShare c ! {Γ = Beside (entering [])} {Γ′ = Beside (entering (some (phrase .val en) ∷ []))} (omega (arith, entries-are c isx)) (held ! refl) (fills ! refl) (λ isen.
           asks ! (known .looks .phrases) (c .head, (k, (c .several, (en, tt)))) (head-is c isx, ((refl, phrase-fits v isv), (refl, (isen, tt))))
           (and-then ! (its ! refl) (and-then ! (its ! refl) (and-then ! (its ! refl) (and-then ! (its ! refl) (no-more !))))) (fills ! refl) (λ isph.
           leaves-only ! En 12 refl $ by ! (tests isph)))
 
       abbrev Looked : List (Item 𝓤)
-      Looked = Now (looking (empty ∷ empty ∷ empty ∷ empty ∷ some (vbool (c .several)) ∷ empty ∷ empty ∷ empty ∷ some (ev (c .head)) ∷ []))
+      Looked = Now (looking (empty ∷ empty ∷ empty ∷ empty ∷ empty ∷ empty ∷ empty ∷ some (ev (c .head)) ∷ some (vbool (c .several)) ∷ []))
 
-      entries-on : ent 𝓤 (⋆ 𝓤 H A Looked) (Wp 𝓤 H (𝓣 .C) (𝓣 .Λ) En (after 15 (code.function .body)) (atReturn 𝓤 H En Ends))
+      entries-on : ent 𝓤 (⋆ 𝓤 H A Looked) (Wp 𝓤 H (𝓣 .C) (𝓣 .Λ) En (after 13 (code.function .body)) (atReturn 𝓤 H En Ends))
       entries-on =
-          qed W Looked ∵ exec ! (𝓣 .C) (𝓣 .Λ) En (after 15 (code.function .body)) (atRet En Ends) $
+          qed W Looked ∵ exec ! (𝓣 .C) (𝓣 .Λ) En (after 13 (code.function .body)) (atRet En Ends) $
           asks ! (known .looks .placing) (k, tt) ((refl, phrase-fits v isv), tt) (and-then ! (its ! refl) (no-more !)) (fills ! refl) (λ _.
           points-entry j b o ! (entry-fits k) (its ! refl) (fills ! refl (tt, record { fits = entry-fits k })) (held ! refl) (fills ! refl (tt, tt)) (held ! refl) (held ! refl) (fills ! refl (tt, tt)) $
           by ! phrases-on)
 
-      reads-on : ent 𝓤 (⋆ 𝓤 H A (Now (read []))) (Wp 𝓤 H (𝓣 .C) (𝓣 .Λ) En (after 13 (code.function .body)) (atReturn 𝓤 H En Ends))
+      reads-on : ent 𝓤 (⋆ 𝓤 H A (Now (read []))) (Wp 𝓤 H (𝓣 .C) (𝓣 .Λ) En (after 11 (code.function .body)) (atReturn 𝓤 H En Ends))
       reads-on =
-          qed W (Now (read [])) ∵ exec ! (𝓣 .C) (𝓣 .Λ) En (after 13 (code.function .body)) (atRet En Ends) $
+          qed W (Now (read [])) ∵ exec ! (𝓣 .C) (𝓣 .Λ) En (after 11 (code.function .body)) (atRet En Ends) $
           opened ! fullShare C.the-row (Is C.the-row) (shows 𝓤 H A C.the-row) (LL.vals C.the-type C′.the-laws) (LL.tells C.the-type C′.the-laws) c b o (λ _.
           use1 W (‵ (fat fullShare C′.mir b o (cv c))) (W .laws .raw-at fullShare C′.mir b o (cv c)) $
           puts ! (of-opd ! (reads-head b o c ! (held ! refl))) (fills ! refl (headed .typed 𝓤 H A W (c .head) _ (head-is c isx))) $
@@ -449,9 +457,9 @@ module _ {M : Type 1} (𝓤 : URA M) (H : Heap 𝓤) (A : Atoms 𝓤) (W : Given
           use2 W (‵ (partAt C.the-row fullShare c b o)) (part-in 𝓤 H A W C.the-row refl fullShare c b o (cv c)) $ by ! entries-on)
 
     -- it is read
-    voices-on : IsHot h → ent 𝓤 (⋆ 𝓤 H A (Now (some (hot .val h) ∷ []))) (Wp 𝓤 H (𝓣 .C) (𝓣 .Λ) En (after 7 (code.function .body)) (atReturn 𝓤 H En Ends))
+    voices-on : IsHot h → ent 𝓤 (⋆ 𝓤 H A (Now (some (hot .val h) ∷ []))) (Wp 𝓤 H (𝓣 .C) (𝓣 .Λ) En (after 5 (code.function .body)) (atReturn 𝓤 H En Ends))
     voices-on ish =
-        qed W (Now (some (hot .val h) ∷ [])) ∵ exec ! (𝓣 .C) (𝓣 .Λ) En (after 7 (code.function .body)) (atRet En Ends) $
+        qed W (Now (some (hot .val h) ∷ [])) ∵ exec ! (𝓣 .C) (𝓣 .Λ) En (after 5 (code.function .body)) (atRet En Ends) $
         points i b o ! place-fits (its ! refl) (fills ! refl (tt, record { fits = place-fits })) (held ! refl) (fills ! refl (tt, tt)) (held ! refl) (held ! refl) (fills ! refl (tt, tt)) $
         copies-voice i b o fullShare c ! inside (held ! refl) (fills ! refl) (λ isv. puts ! (of-opd ! (its ! refl)) (fills ! refl (voice .typed 𝓤 H A W v _ isv)) $
         puts ! (of-opd ! (field-of ! refl refl)) (fills ! refl (tt, record { fits = phrase-fits v isv })) $ leaves-only ! En 11 refl $ by ! (reads-on ish isv))
@@ -462,11 +470,7 @@ module _ {M : Type 1} (𝓤 : URA M) (H : Heap 𝓤) (A : Atoms 𝓤) (W : Given
         -- its position is read
         points-hot i b₁ o₁ ! hot-fits (its ! refl) (fills ! refl (tt, record { fits = hot-fits })) (held ! refl) (fills ! refl (tt, tt)) (held ! refl) (held ! refl) (fills ! refl (tt, tt)) $ move ! (1 ∷ []) $
         copies-hot i b₁ o₁ l fullShare ! beside-inside (held ! refl) (fills ! refl) (λ ish. puts ! (of-opd ! (its ! refl)) (fills ! refl (hot .typed 𝓤 H A W h _ ish)) $
-        puts ! (un ! (field-of ! refl refl) tt) (fills ! refl (tt, tt)) $ move ! (1 ∷ []) $
-        first ! $ branches ! (its ! refl)
-        -- it isn't plain
-        (λ _. leaves-only ! En 8 refl $ refuses refl)
-        (λ _. skips ! $ leaves-only ! En 9 refl $ by ! (voices-on ish)))
+        move ! (1 ∷ []) $ leaves-only ! En 9 refl $ by ! (voices-on ish))
 
   abbrev given-vals : List Val
   given-vals = vptr b o ∷ vptr b₁ o₁ ∷ vint w64 i ∷ vint w64 n ∷ params .val p ∷ measure .val m ∷ sliceVal (x₂ .ptr) (length ms) ∷ []

@@ -1,0 +1,87 @@
+-- `add_at` meets its contract: a steady level is the same at each time, and a ramp's goes by how many samples there were. Assumes nothing.
+use mathlib.Core.Path.{sym, ap, _∙_, subst}
+use Prim.Native.Nat.{_+_}
+use lib.Ieee.{nan, binary32, mul}
+use lib.ListN.{getD}
+use Rattle.binary32.specs.Leaves.{asFloat}
+use Rattle.volume.specs.declared.Volume.{Volume}
+use Rattle.pours.specs.Eases.{Added}
+use Rattle.pours.specs.Steady.{leveled}
+use Rattle.pours.proofs.Added.{restated}
+use Rattle.pours.proofs.Placing.{steady-by, level-by}
+use borrow.Author.Needs.{needs}
+use Rattle.pours.proofs.add_at.Statement.{statement}
+use Rattle.pours.proofs.add_at.Tie as tie
+
+enum-known-volume : tie.Need-enum-known-volume
+enum-known-volume c = search needs
+
+add-all-requires : tie.Need-add-all-requires
+add-all-requires c κs = search needs
+
+enum-known-volume-2 : tie.Need-enum-known-volume-2
+enum-known-volume-2 c = search needs
+
+sub-if2 : tie.Need-sub-if2
+sub-if2 c = search needs
+
+since-requires : tie.Need-since-requires
+since-requires c κs = search needs
+
+usize-to-f32-requires : tie.Need-usize-to-f32-requires
+usize-to-f32-requires c κs = search needs
+
+cast-add-ramp : tie.Need-cast-add-ramp
+cast-add-ramp c = search needs
+
+add-ramp-requires : tie.Need-add-ramp-requires
+add-ramp-requires c κs = search needs
+
+same-length : tie.Need-same-length
+same-length c = search needs
+
+returns : tie.Need-returns
+returns c =
+    let a = c .before .before .before .before .before .before .before .before .before .before .before .before .before .args in
+    restated (c .before .before .add-ramp .ensures) (leveled (a .values .now) (a .volume) (a .time))
+    (λ k low high. ap (mul binary32 (getD (a .values .now) k nan)) (level-by (a .volume) _ _ _ _ _ (a .time) k (c .before .before .before .before .before .before .before .before .before .volume2 .given .1) (c .before .before .before .before .usize-to-f32 .ensures ∙ ap asFloat (c .before .before .before .before .before .since .ensures)) (c .before .before .before .before .before .before .before .if1 .taken)))
+
+add-levels-requires : tie.Need-add-levels-requires
+add-levels-requires c κs = search needs
+
+same-length-2 : tie.Need-same-length-2
+same-length-2 c = search needs
+
+returns-2 : tie.Need-returns-2
+returns-2 c =
+    let a = c .before .before .before .before .before .before .before .before .before .args in
+    restated (c .before .before .add-all .ensures) (leveled (a .values .now) (a .volume) (a .time))
+    (λ k low high. ap (mul binary32 (getD (a .values .now) k nan)) (steady-by (a .volume) _ (a .time + k) (c .before .before .before .before .before .volume .given .1)))
+
+same-length-3 : tie.Need-same-length-3
+same-length-3 c = search needs
+
+returns-3 : tie.Need-returns-3
+returns-3 c =
+    let a = c .before .before .before .before .before .before .before .before .before .before .args in
+    subst (λ (z : Volume). Added (leveled (a .values .now) z (a .time)) 0 (a .n) (a .sums .now) (c .before .before .add-levels .last .1 .1 .1 .0)) (sym (c .before .before .before .before .before .before .volume2 .given .1)) (c .before .before .add-levels .ensures)
+
+pub add-at-spec : {M : Type 1} → statement M
+add-at-spec =
+    tie.close
+    (tie.spec
+    enum-known-volume
+    add-all-requires
+    enum-known-volume-2
+    sub-if2
+    since-requires
+    usize-to-f32-requires
+    cast-add-ramp
+    add-ramp-requires
+    same-length
+    returns
+    add-levels-requires
+    same-length-2
+    returns-2
+    same-length-3
+    returns-3)

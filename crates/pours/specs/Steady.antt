@@ -1,0 +1,127 @@
+-- When any voice is steady over n samples, plain or not, and what it then sounds (request 9/12, for runs). Definitions
+-- only. Assumes nothing.
+use mathlib.Core.Path.{_≡_}
+use Prim.Native.Nat.{ℕ, zero, suc, _+_, _-_, _^_, _≤_, _<_}
+use mathlib.Core.Bool.{true, false, _&&_}
+use mathlib.Core.List.{List}
+use lib.Dec.{T}
+use lib.Ieee.{Float, nan, binary32, add, mul, div, rem, lt, le, ofBits}
+use lib.ListN.{length, getD}
+use Rattle.binary32.specs.Leaves.{zero32, one32, asFloat, asWhole, minOf, maxOf, absOf}
+use Rattle.volume.specs.declared.Volume.{Volume}
+use Rattle.volume.specs.Levels.{levelOf, keepsOf}
+use Rattle.clip.specs.declared.Clip.{Clip}
+use Rattle.clip.specs.Positions.{clampedOf, placedOf, clipToDataOf, indexAt, offsetAt}
+use Rattle.clip.specs.Updates.{sameAll}
+use Rattle.voice.specs.declared.Voice.{Voice}
+use Rattle.voice.specs.declared.Tick.{Tick}
+use Rattle.voice.specs.Voices.{recordedValueOf}
+use Rattle.plain_voice.specs.declared.Hot.{Hot}
+use Rattle.pours.specs.declared.Fetched.{Fetched}
+use Rattle.pours.specs.declared.Stood.{Stood}
+use Rattle.pours.specs.Eases.{termAt}
+use Rattle.pours.specs.Pours.{judgedOn}
+
+-- ---- when it is steady
+
+-- the product of speeds, by which it moves and plays
+abbrev pub paceOf : Tick → Voice → Float
+paceOf t v = mul binary32 (v .speed) (t .speed)
+
+-- one of the tick's phrase and unfinished, whose clip stays as it is, and whose level is steady or still on its way
+pub record Steady (t : Tick) (n : ℕ) (v : Voice) : Type 0 where
+  pub own : v .phrase ≡ t .phrase
+  pub unfinished : v .finished ≡ false
+  pub sharp : t .interpolates ≡ false
+  pub same : sameAll (v .clip2) (t .span .length) (paceOf t v) (t .span .«data_length») (t .mode) ≡ true
+  pub keeps : (k : ℕ) → k < n → keepsOf (v .volume) (t .now + k) ≡ true
+
+-- how far it has played k samples on
+unfoldable pub playedOn : Float → Float → ℕ → Float
+playedOn by played zero = played
+playedOn by played (suc k) = add binary32 (playedOn by played k) by
+
+-- none of the next n sums reaches the whole length
+abbrev pub PlaysBelow : Float → Float → Float → ℕ → Type 0
+PlaysBelow played by whole n = (k : ℕ) → k < n → le whole (absOf (playedOn by played (suc k))) ≡ false
+
+-- play-once, if it is so, doesn't end it
+abbrev pub Lasts : Tick → ℕ → Voice → Type 0
+Lasts t n v =
+    (k : ℕ) → k < n
+    → (t .once && le (t .span .«whole_length») (absOf (playedOn (paceOf t v) (v .played) (suc k)))) ≡ false
+
+-- What the test says: it is steady, over some samples whose times are counted.
+pub record SteadyAt (t : Tick) (n : ℕ) (v : Voice) : Type 0 where
+  pub steady : Steady t n v
+  pub some : 1 ≤ n
+  pub few : n ≤ 2 ^ 24
+  pub early : t .now ≤ 2 ^ 62
+
+-- ---- what it sounds
+
+-- at a time, by its clip and level
+abbrev pub soundAt : List ℕ → Clip → Volume → ℕ → Float
+soundAt m c volume now = termAt m (levelOf volume now) (indexAt c now)
+
+-- a list's k-th value at the volume's level k samples on
+abbrev pub leveled : List Float → Volume → ℕ → ℕ → Float
+leveled values volume now k = mul binary32 (getD values k nan) (levelOf volume (now + k))
+
+-- the level of a ramp that rises so far over so many samples
+abbrev pub rampBy : Float → Float → Float → ℕ → Float
+rampBy over low rise count =
+    add binary32 low (mul binary32 rise (minOf (maxOf (div binary32 (asFloat count) over) zero32) one32))
+
+-- ---- where it is
+
+-- x = shift + count * speed
+abbrev pub travelBy : Float → Float → ℕ → Float
+travelBy shift speed count = add binary32 shift (mul binary32 (asFloat count) speed)
+
+-- r is below 0, or NaN; or y isn't, and r is the offset of that place
+abbrev pub PlacedOffset : Float → Float → Float → Float → Float → Type 0
+PlacedOffset y start length total r =
+    T (le zero32 r) → T (le zero32 y) × (r ≡ rem binary32 (add binary32 start (clampedOf y length)) total)
+
+-- from 0 to below 2^23, as offsets are
+abbrev pub Low : Float → Type 0
+Low x = T (le zero32 x) × T (lt x (ofBits binary32 1258291200))
+
+abbrev pub Lows : ℕ → List Float → Type 0
+Lows n values = (k : ℕ) → k < n → Low (getD values k nan)
+
+-- the offsets of n samples stand in the list, by how many there were since the clip's last change
+abbrev pub Counted : Clip → ℕ → ℕ → List Float → Type 0
+Counted c from n values =
+    (k : ℕ) → k < n
+    → Low (getD values k nan)
+    × (getD values k nan ≡ clipToDataOf c (placedOf (c .mode) (travelBy (c .shift) (c .speed) (from + k)) (c .length)))
+
+-- by the time
+abbrev pub Offsets : Clip → ℕ → ℕ → List Float → Type 0
+Offsets c now n values =
+    (k : ℕ) → k < n → Low (getD values k nan) × (getD values k nan ≡ offsetAt c (now + k))
+
+-- What fetching promises: what is recorded at the whole part of each of n offsets stands in its place, the index is that
+-- of the last, and so often the pace was added to what was played.
+pub record Fetches (m : List ℕ) (played by : Float) (n : ℕ) (before after : List Float) (r : Fetched) : Type 0 where
+  pub size : length after ≡ length before
+  pub values : (k : ℕ) → k < n → getD after k nan ≡ recordedValueOf m (asWhole 64 (getD before k nan))
+  pub index : (k : ℕ) → n ≡ suc k → r .index ≡ asWhole 64 (getD before k nan)
+  pub far : r .played ≡ playedOn by played n
+
+-- What gathering promises: what is recorded at each of n samples stands in the list, and the rest is what it is after
+-- them, of which none ends the voice.
+pub record Gathers (m : List ℕ) (t : Tick) (n : ℕ) (v : Voice) (values : List Float) (r : Fetched) : Type 0 where
+  pub recorded : (k : ℕ) → k < n → getD values k nan ≡ recordedValueOf m (indexAt (v .clip2) (t .now + k))
+  pub index : r .index ≡ indexAt (v .clip2) (t .now + (n - 1))
+  pub far : r .played ≡ playedOn (paceOf t v) (v .played) n
+  pub lasts : Lasts t n v
+
+-- ---- its position
+
+-- r denies it; or its position is that after n steady turns
+abbrev pub Stands : Hot → Tick → ℕ → Voice → Stood → Type 0
+Stands h t n v r =
+    r .known ≡ true → (m : List ℕ) → Steady t n v → Lasts t n v → r .hot ≡ judgedOn t m n v h
