@@ -21,8 +21,6 @@ use Rattle.lent_sampler.proofs.Running as G
 use Rattle.lent_sampler.proofs.Running.Laws as G′
 use Rattle.lent_sampler.proofs.Sampled as Y
 use Rattle.lent_sampler.proofs.Sampled.Laws as Y′
-use Rattle.lent_sampler.proofs.Sampling as Z
-use Rattle.lent_sampler.proofs.Sampling.Laws as Z′
 use Rattle.channel.proofs.Against as Ag
 use Rattle.channel.proofs.Against.Laws as Ag′
 use Rattle.channel.proofs.Change as X
@@ -124,19 +122,6 @@ readAnswer = record {
 
 abbrev pub sampled : Datum
 sampled = struct Y.the-type Y′.the-laws Y′.the-plain
-
-abbrev pub sampling : Answering sampler sampled
-sampling = record {
-  like = Z.the-row;
-  name = Z.struct .name;
-  record-of = λ r. r .sampler;
-  answer-of = λ r. r .sampled;
-  make = λ s y. record { sampler = s; sampled = y };
-  eta = λ r. refl;
-  tells = λ r v is. ap only (LL.tells Z.the-type Z′.the-laws r _ is);
-  owed = λ r v is. (LL.owed Z.the-type Z′.the-laws r _ is .0, LL.owed Z.the-type Z′.the-laws r _ is .1 .0);
-  typed = λ 𝓤 H A W r v is. LL.lawful Z.the-type Z′.the-laws 𝓤 H A W .typed r _ is .0;
-}
 
 abbrev pub ran : Datum
 ran = struct R.the-type R′.the-laws R′.the-plain

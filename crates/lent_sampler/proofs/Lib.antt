@@ -8,8 +8,11 @@ pub mod Turned
 pub mod RunTurns
 pub mod RunTurned
 pub mod Asked
+pub mod Sampling
 pub mod Stepping
 pub mod Loops
+pub mod Single
+pub mod Singles
 pub mod Changing
 pub mod Seeing
 pub mod Sight

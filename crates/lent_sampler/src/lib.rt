@@ -25,6 +25,7 @@ ghost use Rattle.sampler.specs.Samplers.{
 ghost use Rattle.sampler.specs.Samplers.{processSampleOf as sampleOf};
 ghost use Rattle.sampler.specs.Refusals.{changeRows, changeNumber, sampleNumber, frameRows, frameNumber, runDone};
 ghost use Rattle.channel.specs.Channels.{processSampleOf, memoryOf};
+ghost use Rattle.binary32.specs.Leaves.{zero32};
 ghost use Prim.Native.Nat.{_+_, _*_, _-_, _%_, _^_, _≤_, _<_};
 ghost use mathlib.Core.Bool.{cond};
 ghost use mathlib.Core.List.{[], _∷_, _++_};
@@ -362,55 +363,6 @@ pub fn gather(s: &mut Sampler, memory: &mut [u32]) -> u8
     r.number
 }
 
-// What a sample of one channel answers: its output, the number of document 01, and how many voices moved up as others
-// left.
-pub struct Sampled {
-    pub output: f32,
-    pub number: u8,
-    pub moved: u8,
-}
-
-struct Sampling {
-    sampler: Sampler,
-    sampled: Sampled,
-}
-
-fn sample_of(s: Sampler, channel: usize, input: f32, params: Params, memory: &mut [u32]) -> Sampling
-    ensures { λ r. ⌜ record {
-      sampler = r .sampler;
-      output = r .sampled .output;
-      number = r .sampled .number;
-      moved = r .sampled .moved;
-    } ≡ sampleOf s channel input params (now (memory .entry)) ⌝ }
-    ensures { λ r. ⌜ now (memory .exit) ≡ sampleMemory s channel input params (now (memory .entry)) ⌝ }
-{
-    let r = s.process_sample(channel, input, params, memory);
-    let sampler = r.sampler;
-    let sampled = Sampled {
-        output: r.output,
-        number: r.number,
-        moved: r.moved,
-    };
-    Sampling { sampler, sampled }
-}
-
-// A sample of one channel.
-pub fn process_sample(
-    s: &mut Sampler,
-    channel: usize,
-    input: f32,
-    params: Params,
-    memory: &mut [u32],
-) -> Sampled
-    ensures { λ r. ⌜ (record { sampler = now (s .exit); output = r .output; number = r .number; moved = r .moved }
-        ≡ sampleOf (now (s .entry)) channel input params (now (memory .entry)))
-        × (now (memory .exit) ≡ sampleMemory (now (s .entry)) channel input params (now (memory .entry))) ⌝ }
-{
-    let r = sample_of(*s, channel, input, params, memory);
-    *s = r.sampler;
-    r.sampled
-}
-
 pub fn get_frames_processed(s: &Sampler, channel: usize) -> Counted
     ensures { λ r. ⌜ r ≡ getFramesProcessedOf (now (s .entry)) channel ⌝ }
 {
@@ -721,6 +673,58 @@ fn part_sample(
 {
     let heard = lent_channel::with_sample(c, params, input, &mut memory[start..end]);
     at_volume(params, heard)
+}
+
+// What a sample of one channel answers: its output, the number of document 01, and how many voices moved up as others
+// left.
+pub struct Sampled {
+    pub output: f32,
+    pub number: u8,
+    pub moved: u8,
+}
+
+// That it is refused, or what is heard.
+pub fn refused(number: u8) -> Sampled
+    ensures { λ r. ⌜ r ≡ record { output = zero32; number = number; moved = 0 } ⌝ }
+{
+    Sampled {
+        output: 0.0,
+        number,
+        moved: 0,
+    }
+}
+
+pub fn answered(heard: Heard) -> Sampled
+    ensures { λ r. ⌜ r ≡ record { output = heard .output; number = 0; moved = heard .moved } ⌝ }
+{
+    Sampled {
+        output: heard.output,
+        number: 0,
+        moved: heard.moved,
+    }
+}
+
+// A sample of one channel.
+pub fn process_sample(
+    s: &mut Sampler,
+    channel: usize,
+    input: f32,
+    params: Params,
+    memory: &mut [u32],
+) -> Sampled
+    ensures { λ r. ⌜ (record { sampler = now (s .exit); output = r .output; number = r .number; moved = r .moved }
+        ≡ sampleOf (now (s .entry)) channel input params (now (memory .entry)))
+        × (now (memory .exit) ≡ sampleMemory (now (s .entry)) channel input params (now (memory .entry))) ⌝ }
+{
+    let number = sample_asked(s, channel, params, memory.len());
+    if number != 0 {
+        return refused(number);
+    }
+    let capacity = s.capacity;
+    let start = sampler::part_start(channel, capacity);
+    let end = start + capacity;
+    let heard = part_sample(&mut s.channels[channel], params, input, memory, start, end);
+    answered(heard)
 }
 
 // What a frame answers: its number, and how many voices of its channels moved up.

@@ -1,8 +1,8 @@
 -- `refused` meets its contract. Assumes nothing.
 use mathlib.Core.Path.{refl}
 use lib.Ieee.{ofBits}
-use Rattle.plain_sampler.proofs.refused.Statement.{statement}
-use Rattle.plain_sampler.proofs.refused.Tie as tie
+use Rattle.lent_sampler.proofs.refused.Statement.{statement}
+use Rattle.lent_sampler.proofs.refused.Tie as tie
 
 returns : tie.Need-returns
 unfolding ofBits
