@@ -457,7 +457,7 @@ pub fn get_waveform_summary(
         ≡ getWaveformSummaryOf (now (s .entry)) columns (length (now (list .entry))) (now (memory .entry)))
         × (now (list .exit) ≡ waveformAfter (now (s .entry)) columns (now (list .entry)) (now (memory .entry))) ⌝ }
 {
-    questions::get_waveform_summary(*s, columns, list, memory)
+    questions::waveform_in(look(s), columns, list, memory)
 }
 
 // Writes the recordings of all channels as a WAVE file to the front of `out`, and answers how many bytes it has.
@@ -465,7 +465,7 @@ pub fn write_wave(s: &Sampler, rate: u32, memory: &[u32], out: &mut [u8]) -> Cou
     ensures { λ r. ⌜ (r ≡ writeWaveOf (now (s .entry)) (length (now (out .entry))) (length (now (memory .entry))))
         × (now (out .exit) ≡ waveAfter (now (s .entry)) rate (now (memory .entry)) (now (out .entry))) ⌝ }
 {
-    recordings::write_wave(*s, rate, memory, out)
+    recordings::write_in(look(s), rate, memory, out)
 }
 
 // Replaces the recording of each channel by a WAVE file's.

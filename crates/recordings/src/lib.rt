@@ -2,16 +2,11 @@
 // takes every value of its arguments, and equals a definition in specs/. On a refusal the record and what is lent with
 // it hold what they held.
 ghost use mathlib.Core.Path.{_≡_};
-ghost use mathlib.Core.Bool.{true, not};
-ghost use lib.Dec.{eqb};
+ghost use mathlib.Core.Bool.{true};
 ghost use lib.ListN.{length};
-ghost use Rattle.walks.specs.Walks.{any};
-ghost use Rattle.channel.specs.declared.Channel.{Channel};
-ghost use Rattle.sampler.specs.Refusals.{present, goodSampler};
+ghost use Rattle.sampler.specs.Refusals.{goodSampler};
+ghost use Rattle.questions.specs.Sights.{soundIn};
 ghost use Rattle.recordings.specs.Waves.{
-  startsIn,
-  layoutIn,
-  writeNumber,
   writeWaveOf,
   waveAfter,
   badFile,
@@ -21,8 +16,18 @@ ghost use Rattle.recordings.specs.Waves.{
   beginningsIn,
   readMemory,
 };
+ghost use Rattle.recordings.specs.Sights.{
+  startsSeen,
+  layoutSeen,
+  recordsSeen,
+  differSeen,
+  writeNumberSeen,
+  writeSeen,
+  waveLeft,
+};
 use channel::Ask;
 use questions::Counted;
+use questions::Seen;
 use sampler::Sampler;
 use sampler::first_of;
 use wave::Judged;
@@ -67,74 +72,79 @@ fn beginnings(s: Sampler) -> Starts
 }
 
 // Where the second channel's recording begins in the memory. One that isn't in use may have any start.
-fn second_start(s: Sampler) -> usize
-    requires { ⌜ goodSampler s ≡ true ⌝ }
-    ensures { λ r. ⌜ r ≡ startsIn s .second ⌝ }
+fn second_start(t: Seen) -> usize
+    requires { ⌜ soundIn t ≡ true ⌝ }
+    ensures { λ r. ⌜ r ≡ startsSeen t .second ⌝ }
 {
-    if s.count == 2 {
-        let c = s.channels[1];
-        let head = c.head;
-        return s.capacity + head.start;
+    if t.count == 2 {
+        let head = t.second;
+        return t.capacity + head.start;
     }
     0
 }
 
 // Where the recordings stand in the memory; they are as long as channel 0's.
-fn layout(s: Sampler) -> Layout
-    requires { ⌜ goodSampler s ≡ true ⌝ }
-    ensures { λ r. ⌜ r ≡ layoutIn s ⌝ }
+fn layout(t: Seen) -> Layout
+    requires { ⌜ soundIn t ≡ true ⌝ }
+    ensures { λ r. ⌜ r ≡ layoutSeen t ⌝ }
 {
-    let c = s.channels[0];
-    let head = c.head;
+    let head = t.first;
     Layout {
-        channels: s.count,
+        channels: t.count,
         samples: head.data_len,
         starts: Starts {
             first: head.start,
-            second: second_start(s),
+            second: second_start(t),
         },
     }
 }
 
-// Whether one of the channels in use has another length.
-fn lengths_differ(s: Sampler, samples: usize) -> bool
-    ensures { λ r. ⌜ r ≡ any (λ (c : Channel). not (eqb (c .head .«data_len») samples)) (present s) ⌝ }
+// Whether a channel in use records, and whether one has another length than channel 0.
+fn any_recording(t: Seen) -> bool
+    ensures { λ r. ⌜ r ≡ recordsSeen t ⌝ }
 {
-    let n = sampler::places(s.count);
-    let mut j = 0;
-    while j < n {
-        let c = s.channels[j];
-        let head = c.head;
-        if head.data_len != samples {
-            return true;
-        }
-        j += 1;
-    }
-    false
+    let head = t.first;
+    let other = t.second;
+    head.is_recording() | ((t.count == 2) & other.is_recording())
 }
 
-fn write_number(s: Sampler, room: usize, size: usize) -> u8
-    ensures { λ r. ⌜ r ≡ writeNumber s room size ⌝ }
+fn lengths_differ(t: Seen) -> bool
+    ensures { λ r. ⌜ r ≡ differSeen t ⌝ }
 {
-    if !s.good_with(size) {
+    let head = t.first;
+    let other = t.second;
+    (t.count == 2) & (other.data_len != head.data_len)
+}
+
+fn write_number(t: Seen, room: usize, size: usize) -> u8
+    ensures { λ r. ⌜ r ≡ writeNumberSeen t room size ⌝ }
+{
+    if !questions::good_in(t, size) {
         return 9;
     }
-    let l = layout(s);
+    let l = layout(t);
     let short = first_of(room < 58 + 4 * (l.channels * l.samples), 8, 0);
-    let differ = first_of(lengths_differ(s, l.samples), 16, short);
-    first_of(s.any_recording(), 15, differ)
+    let differ = first_of(lengths_differ(t), 16, short);
+    first_of(any_recording(t), 15, differ)
 }
 
 // Writes the recordings of all channels as a file to the front of `out`, and answers how many bytes it has.
+pub fn write_in(t: Seen, rate: u32, memory: &[u32], out: &mut [u8]) -> Counted
+    ensures { λ r. ⌜ r ≡ writeSeen t (length (now (out .entry))) (length (now (memory .entry))) ⌝ }
+    ensures { λ r. ⌜ now (out .exit) ≡ waveLeft t rate (now (memory .entry)) (now (out .entry)) ⌝ }
+{
+    let number = write_number(t, out.len(), memory.len());
+    if number != 0 {
+        return Counted::Refused(number);
+    }
+    Counted::Done(wave::write(rate, layout(t), memory, out))
+}
+
 pub fn write_wave(s: Sampler, rate: u32, memory: &[u32], out: &mut [u8]) -> Counted
     ensures { λ r. ⌜ r ≡ writeWaveOf s (length (now (out .entry))) (length (now (memory .entry))) ⌝ }
     ensures { λ r. ⌜ now (out .exit) ≡ waveAfter s rate (now (memory .entry)) (now (out .entry)) ⌝ }
 {
-    let number = write_number(s, out.len(), memory.len());
-    if number != 0 {
-        return Counted::Refused(number);
-    }
-    Counted::Done(wave::write(rate, layout(s), memory, out))
+    write_in(questions::look(s), rate, memory, out)
 }
 
 // What a file holds; of a bad one nothing.
