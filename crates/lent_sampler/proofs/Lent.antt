@@ -15,6 +15,8 @@ use Rattle.lent_sampler.proofs.Readings as M
 use Rattle.lent_sampler.proofs.Readings.Laws as M′
 use Rattle.lent_sampler.proofs.Framing as F
 use Rattle.lent_sampler.proofs.Framing.Laws as F′
+use Rattle.lent_sampler.proofs.Listing as J
+use Rattle.lent_sampler.proofs.Listing.Laws as J′
 use Rattle.lent_sampler.proofs.FrameDone as D
 use Rattle.lent_sampler.proofs.FrameDone.Laws as D′
 use Rattle.lent_sampler.proofs.Running as G
@@ -149,6 +151,10 @@ frame-asking = record {
   owed = λ r v is. (LL.owed F.the-type F′.the-laws r _ is .0, LL.owed F.the-type F′.the-laws r _ is .1 .0);
   typed = λ 𝓤 H A W r v is. LL.lawful F.the-type F′.the-laws 𝓤 H A W .typed r _ is .0;
 }
+
+-- what is asked before a list is written
+abbrev pub listing : Datum
+listing = struct J.the-type J′.the-laws J′.the-plain
 
 abbrev pub run-asked : Datum
 run-asked = struct G.the-type G′.the-laws G′.the-plain

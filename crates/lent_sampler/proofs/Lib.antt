@@ -1,8 +1,10 @@
 pub mod Lent
 pub mod Numbers
+pub mod Lists
 pub mod Bytes
 pub mod Seats
 pub mod Judging
+pub mod Seated
 pub mod Numbering
 pub mod Turned
 pub mod RunTurns
@@ -16,4 +18,5 @@ pub mod Singles
 pub mod Changing
 pub mod Seeing
 pub mod Sight
+pub mod Asking
 pub mod Glancing

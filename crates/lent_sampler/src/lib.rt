@@ -27,10 +27,11 @@ ghost use Rattle.sampler.specs.Refusals.{changeRows, changeNumber, sampleNumber
 ghost use Rattle.channel.specs.Channels.{processSampleOf, memoryOf};
 ghost use Rattle.binary32.specs.Leaves.{zero32};
 ghost use Prim.Native.Nat.{_+_, _*_, _-_, _%_, _^_, _≤_, _<_};
-ghost use mathlib.Core.Bool.{cond};
+ghost use mathlib.Core.Bool.{true, cond};
 ghost use mathlib.Core.List.{[], _∷_, _++_};
 ghost use lib.Dec.{eqb};
 ghost use lib.ListN.{length, getD, take, drop};
+ghost use Rattle.common_types.specs.Notes.{intoU64Of};
 ghost use Rattle.questions.specs.Questions.{
   getFramesProcessedOf,
   getDataLenOf,
@@ -67,6 +68,16 @@ ghost use Rattle.lent_sampler.specs.Numbers.{
   runSeat,
 };
 ghost use Rattle.lent_sampler.specs.Hearing.{atVolume};
+ghost use Rattle.lent_sampler.specs.Lists.{
+  seatOf,
+  seated,
+  spotOf,
+  voiceIn,
+  unlisted,
+  countIn,
+  listingBy,
+  answeredOf,
+};
 use channel::Against;
 use channel::Change;
 use channel::Channel;
@@ -89,6 +100,7 @@ use sampler::FrameAsked;
 use sampler::Ran;
 use sampler::RunAsked;
 use sampler::Sampler;
+use voice::Voice;
 
 // Of two answers, the first n: whether all hold, and whether one does.
 fn all_of(n: usize, first: bool, second: bool) -> bool
@@ -394,11 +406,140 @@ pub fn print_error_info(s: &Sampler, channel: usize, text: &mut [u8]) -> Counted
     questions::error_in(look(s), channel, text)
 }
 
+// Of the two channels the asked one.
+fn seat(channel: usize) -> usize
+    ensures { λ r. ⌜ r ≡ seatOf channel ⌝ }
+{
+    if channel == 1 { 1 } else { 0 }
+}
+
+fn spot(i: usize) -> usize
+    ensures { λ r. ⌜ r ≡ spotOf i ⌝ }
+{
+    if i < 32 { i } else { 0 }
+}
+
+// The voice at that place: it alone is copied.
+fn voice_of(c: &Channel, i: usize) -> Voice
+    ensures { λ r. ⌜ r ≡ voiceIn i (now (c .entry)) ⌝ }
+{
+    let k = spot(i);
+    c.voices[k]
+}
+
+fn voice_at(s: &Sampler, channel: usize, i: usize) -> Voice
+    ensures { λ r. ⌜ r ≡ voiceIn i (seated (now (s .entry)) channel) ⌝ }
+{
+    let j = seat(channel);
+    voice_of(&s.channels[j], i)
+}
+
+// How many voices are listed so far, with one more: at most 32, far from where a word wraps.
+fn listed_next(n: usize, v: Voice, all: bool) -> usize
+    ensures { λ r. ⌜ r ≡ cond (unlisted all v) n ((n + 1) % 2 ^ 64) ⌝ }
+{
+    if all | !v.finished {
+        std::num::wrapping_add_usize(n, 1)
+    } else {
+        n
+    }
+}
+
+// How many voices are listed: all, or those that aren't finished.
+fn count_of(c: &Channel, all: bool) -> usize
+    ensures { λ r. ⌜ r ≡ countIn all (now (c .entry)) ⌝ }
+{
+    let n = channel::places(c.count);
+    let mut k: usize = 0;
+    let mut i: usize = 0;
+    while i < n {
+        k = listed_next(k, c.voices[i], all);
+        i = i + 1;
+    }
+    k
+}
+
+fn count_at(s: &Sampler, channel: usize, all: bool) -> usize
+    ensures { λ r. ⌜ r ≡ countIn all (seated (now (s .entry)) channel) ⌝ }
+{
+    let j = seat(channel);
+    count_of(&s.channels[j], all)
+}
+
+// What is asked before a list is written: how many voices are looked at, how many entries it has, and its number.
+struct Listing {
+    turns: usize,
+    count: usize,
+    number: u8,
+}
+
+fn listing_of(
+    t: Seen,
+    channel: usize,
+    beyond: bool,
+    turns: usize,
+    count: usize,
+    room: usize,
+) -> Listing
+    ensures { λ r. ⌜ r ≡ listingBy t channel beyond turns count room ⌝ }
+{
+    let short = sampler::first_of(room < count, 8, 0);
+    let outside = sampler::first_of(beyond, 4, short);
+    let absent = sampler::first_of(!(channel < t.count), 1, outside);
+    let number = sampler::first_of(!t.good, 9, absent);
+    Listing {
+        turns: steps(number, turns),
+        count,
+        number,
+    }
+}
+
+// What is asked of a list of voices, or of those that aren't finished, with no channel copied.
+fn list_asked(s: &Sampler, channel: usize, beyond: bool, all: bool, room: usize) -> Listing
+    ensures { λ r. ⌜ r ≡ listingBy (seenOf (now (s .entry))) channel beyond
+        (countIn true (seated (now (s .entry)) channel)) (countIn all (seated (now (s .entry)) channel)) room ⌝ }
+{
+    let t = look(s);
+    let turns = count_at(s, channel, true);
+    let count = count_at(s, channel, all);
+    listing_of(t, channel, beyond, turns, count, room)
+}
+
+fn listed(a: Listing) -> Counted
+    ensures { λ r. ⌜ r ≡ answeredOf a ⌝ }
+{
+    if a.number == 0 {
+        Counted::Done(a.count)
+    } else {
+        Counted::Refused(a.number)
+    }
+}
+
+fn packed(v: Voice) -> u64
+    ensures { λ r. ⌜ r ≡ intoU64Of (v .note) ⌝ }
+{
+    let note = v.note;
+    note.into_u64()
+}
+
+// Writes the notes of the unfinished voices to the front of the list.
 pub fn iter_active_notes(s: &Sampler, channel: usize, notes: &mut [u64]) -> Counted
     ensures { λ r. ⌜ (r ≡ iterActiveNotesOf (now (s .entry)) channel (length (now (notes .entry))))
         × (now (notes .exit) ≡ activeNotesAfter (now (s .entry)) channel (now (notes .entry))) ⌝ }
 {
-    questions::iter_active_notes(*s, channel, notes)
+    let asked = list_asked(s, channel, false, false, notes.len());
+    let n = asked.turns;
+    let mut k: usize = 0;
+    let mut i: usize = 0;
+    while i < n {
+        let v = voice_at(s, channel, i);
+        if !v.finished {
+            notes[k] = packed(v);
+        }
+        k = listed_next(k, v, false);
+        i = i + 1;
+    }
+    listed(asked)
 }
 
 fn info_at(v: VoiceInfos, i: usize) -> VoiceInfo
