@@ -194,9 +194,14 @@ fn way(elapsed: usize, speed: f32) -> f32
     }
 }
 
+// Soon after a change of the clip x lies below twice the length, where the remainder takes no more than a difference.
 fn looped(x: f32, length: f32) -> f32
     ensures { λ r. ⌜ r ≡ loopedOf x length ⌝ }
 {
+    let t = quick_rem(x, length);
+    if t >= 0.0 {
+        return t;
+    }
     raised(x % length, length)
 }
 

@@ -14,8 +14,12 @@ ghost use Rattle.lent_changes.specs.Changes.{
   remadeOf,
   passedOf,
   openedOf,
-  handledIf,
   asideOf,
+  nonePasses,
+  passingIf,
+  passingOf,
+  alteredOf,
+  handledBy,
   endedOf,
 };
 use channel::Change;
@@ -199,28 +203,55 @@ fn opened(change: Change, head: Head) -> Voice
     }
 }
 
-fn handled(on: bool, head: Head, params: Params, unfinished: bool) -> Head
-    ensures { λ r. ⌜ r ≡ handledIf on head params unfinished ⌝ }
+// What pass-through does at a change: whether a ramp of it begins, to which state, and over how many samples.
+pub struct Passing {
+    pub begins: bool,
+    pub on: bool,
+    pub samples: usize,
+}
+
+fn none_passes() -> Passing
+    ensures { λ r. ⌜ r ≡ nonePasses ⌝ }
 {
-    if on {
-        return head.handle_passthru(params, unfinished);
+    Passing {
+        begins: false,
+        on: false,
+        samples: 0,
     }
-    head
 }
 
-// The head at the end. Pass-through follows a start on a recording, and a stop that found its voice.
-fn ended(p: Pass, change: Change, head: Head, aside: Aside) -> Head
-    ensures { λ r. ⌜ r ≡ endedOf p change head aside ⌝ }
+// A ramp begins if it is asked for, and pass-through is not yet as wanted.
+fn passing_if(asked: bool, head: Head, params: Params, unfinished: bool) -> Passing
+    ensures { λ r. ⌜ r ≡ passingIf asked head params unfinished ⌝ }
 {
-    ending(p, change, head, aside).copied()
+    let on = channel::passes(params, unfinished);
+    Passing {
+        begins: asked & !(on == head.passthru_on),
+        on,
+        samples: channel::ramp_samples(params, on),
+    }
 }
 
-fn ending(p: Pass, change: Change, head: Head, aside: Aside) -> Head
-    ensures { λ r. ⌜ r ≡ endedOf p change head aside ⌝ }
+// Pass-through follows a start on a recording, and a stop that found its voice.
+fn passing_of(p: Pass, change: Change, head: Head) -> Passing
+    ensures { λ r. ⌜ r ≡ passingOf p change head ⌝ }
 {
     match change {
-        Change::Start { params, .. } => handled(head.data_len != 0, head, params, p.unfinished),
-        Change::Stop { params, .. } => handled(p.found, head, params, p.unfinished),
+        Change::Start { params, .. } => passing_if(head.data_len != 0, head, params, p.unfinished),
+        Change::Stop { params, .. } => passing_if(p.found, head, params, p.unfinished),
+        Change::Speed { .. } => none_passes(),
+        Change::Head(_) => none_passes(),
+        Change::Reset => none_passes(),
+    }
+}
+
+// The head at the end, but for pass-through.
+fn altered(change: Change, head: Head, aside: Aside) -> Head
+    ensures { λ r. ⌜ r ≡ alteredOf change head aside ⌝ }
+{
+    match change {
+        Change::Start { .. } => head,
+        Change::Stop { .. } => head,
         Change::Speed { .. } => head,
         Change::Head(change) => head.changed(
             change,
@@ -228,6 +259,30 @@ fn ending(p: Pass, change: Change, head: Head, aside: Aside) -> Head
         ),
         Change::Reset => Head::new(0.0, head.interpolates),
     }
+}
+
+fn handled(q: Passing, head: Head) -> Head
+    ensures { λ r. ⌜ r ≡ handledBy q head ⌝ }
+{
+    if q.begins {
+        return head.ramped(q.on, q.samples);
+    }
+    head
+}
+
+// The head at the end.
+fn ended(p: Pass, change: Change, head: Head, aside: Aside) -> Head
+    ensures { λ r. ⌜ r ≡ endedOf p change head aside ⌝ }
+{
+    ending(p, change, head, aside).copied()
+}
+
+// Pass-through is handled in one place: a start and a stop that did so each in theirs would take stack.
+fn ending(p: Pass, change: Change, head: Head, aside: Aside) -> Head
+    ensures { λ r. ⌜ r ≡ endedOf p change head aside ⌝ }
+{
+    let q = passing_of(p, change, head);
+    handled(q, altered(change, head, aside))
 }
 
 // What is read of the table before a change: the entry of the number that it names, whether it counts, and how far the
