@@ -471,7 +471,7 @@ impl Head {
     {
         if behind <= self.start {
             return Room {
-                from: phrases::smaller(self.start, size),
+                from: walks::smaller(self.start, size),
                 to: size,
             };
         }

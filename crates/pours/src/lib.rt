@@ -3,7 +3,7 @@
 // through the recording; of any other the places are worked out first, and nothing is added where one isn't quickly told.
 ghost use mathlib.Core.Path.{_≡_};
 ghost use mathlib.Core.Bool.{true, false, cond};
-ghost use Prim.Native.Nat.{ℕ, _+_, _-_, _%_, _^_, _≤_, _<_, min};
+ghost use Prim.Native.Nat.{ℕ, _+_, _-_, _%_, _^_, _≤_, _<_};
 ghost use lib.Dec.{T};
 ghost use lib.ListN.{length, getD};
 ghost use lib.Ieee.{nan, binary32, mul, rem, neg, lt, le};
@@ -37,6 +37,7 @@ use plain_voice::LAST_WHOLE;
 use voice::Tick;
 use voice::Voice;
 use volume::Volume;
+use walks::smaller;
 
 // The last time from which a run is worked out in one go: 2^62.
 const LATEST: usize = 0x4000_0000_0000_0000;
@@ -101,12 +102,6 @@ fn rest(x: usize, by: usize) -> usize
     }
     let y = x - by;
     if y < by { y } else { y % by }
-}
-
-fn smaller(a: usize, b: usize) -> usize
-    ensures { λ r. ⌜ r ≡ min a b ⌝ }
-{
-    if a < b { a } else { b }
 }
 
 // The sample that sounds at a place that may lie beyond the loop's end.

@@ -33,6 +33,7 @@ use crate::events::step_at;
 use crate::faults::Fault;
 use crate::faults::Reason;
 use crate::fields::four_at;
+use walks::smaller;
 
 // How many starts and stops a song has.
 pub enum Count {
@@ -91,12 +92,6 @@ fn closed(verdict: Verdict, count: usize) -> Count
     }
 }
 
-fn lesser(a: usize, b: usize) -> usize
-    ensures { λ r. ⌜ r ≡ min a b ⌝ }
-{
-    if a < b { a } else { b }
-}
-
 // The events of a track chunk that ends at `full`, from a place on.
 fn events(file: &[u8], rate: u32, division: u32, full: usize, at: usize, list: &mut [u64]) -> Count
     requires { ⌜ (rate ≤ 192000) × (0 < division) × (division < 2 ^ 15) ⌝ }
@@ -109,7 +104,7 @@ fn events(file: &[u8], rate: u32, division: u32, full: usize, at: usize, list: &
         rate: rate as u64,
         unit: (division as u64) * 1_000_000,
     };
-    let end = lesser(full, file.len());
+    let end = smaller(full, file.len());
     let mut place = at;
     let mut running: u8 = 0;
     let mut tempo: u32 = 500_000;

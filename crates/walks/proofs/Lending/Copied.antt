@@ -20,7 +20,7 @@ use denote.Steps.{looks, shuts, peeks}
 use denote.Struct.Steps.{spelt}
 use Rattle.walks.proofs.Steps.Data.{Datum, row}
 use Rattle.walks.proofs.Steps.Data.{copy as twice}
-use Rattle.walks.proofs.Lending.Arguments.{no-local, from-at, finds}
+use Rattle.walks.proofs.Steps.Locals.{no-local, from-at, finds}
 
 module _ {M : Type 1} {𝓤 : URA M} {H : Heap 𝓤} {A : Atoms 𝓤} {K : Type 0} {W : Given 𝓤 H A} {Γ : List (Item 𝓤)} {C : Calls 𝓤 H} {Λ : Loops 𝓤 H} {E : Env 𝓤 H} {q : Post 𝓤 H} where
   pub copies-out : K → (T : Datum) {κ : Lft} {s : Share} (h : T .like .Denot) (b o : ℕ) {τ : Ty} {i l₁ l : ℕ} {rest : Body} → getD E 1 no-local ≡ (τ, l₁) → getD E i no-local ≡ (T .ty, l)

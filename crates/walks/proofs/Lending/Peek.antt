@@ -16,7 +16,7 @@ use ghost.Atoms.{Atoms, sem}
 use contract.Monad.{fact}
 use contract.Lifetimes.{Lfts, Shares, toks}
 use types.Kit.{Given, ‵, raw, some, later, _⊛_, ⋆, _$_, _∵_, !, qed, by, move, keep, drop, use1, use2, split, join, pick, rewrite, fsplit, fsplit3, fjoin, suffices, frame, await, done}
-use types.Run.{look, init, forget, stop, from, load, and-then, land, returns, enter, alloc1, alloc0, params1, pass1, free1, free0}
+use types.Run.{and-then, enter, alloc1, alloc0, params1, free0}
 use sound.WpLaws.{FmC, fmOf, WpFn-mono}
 use denote.RattleType.{RattleType, owns}
 use denote.Memory.{pointee}
@@ -34,8 +34,9 @@ use denote.Triple.Clauses.{Ended, Clauses, Lasts, ensured, lasts, closing}
 use denote.Triple.Walked.{says, Stays, stay-dropped, fitsOf, hasOf, walkOf, goes-silent, ends-at, walked, walk-meets}
 use denote.Exit.{yes}
 use Rattle.walks.proofs.Steps.Data.{Datum, row}
+use Rattle.walks.proofs.Steps.Locals.{fills, its-at, lifted, arrives, gives, lifts, lays, fetches, passed, freed}
 use Rattle.walks.proofs.Lending.Copied.{copies-out}
-use Rattle.walks.proofs.Lending.Arguments.{Arg, inner, outer, In, Out, Left, Saying, Sound, Blocks, Again, handed, left, locals, again, past, lends, operands, env, env-again, behind, stands, stands-again, spells-out, each, each-out, machine-out, tell-all, are-sound, same-owned, stays, last, left-last, lets-go, ends, allocates, allocates-again, passes-all, lends-all, reads-all, frees-all, frees-again, finds}
+use Rattle.walks.proofs.Lending.Arguments.{Arg, inner, outer, In, Out, Left, Saying, Sound, Blocks, Again, handed, left, locals, again, past, lends, operands, env, env-again, behind, stands, stands-again, spells-out, each, each-out, machine-out, tell-all, are-sound, same-owned, stays, last, left-last, lets-go, ends, allocates, allocates-again, passes-all, lends-all, reads-all, frees-all, frees-again}
 
 module _ (T Q : Datum) (m : ℕ) (As : List (Arg m)) (k : Name) (S : Saying As (T .like .Denot) (Q .like .Denot)) where
   abbrev Tr : RattleType
@@ -129,18 +130,20 @@ module _ (T Q : Datum) (m : ℕ) (As : List (Arg m)) (k : Name) (S : Saying As (
       walk : ent 𝓤 (onEntry 𝓤 H A (ended .signature) κs qs a vals) (WpFn 𝓤 H C Λ function (vptr b o ∷ machine-out As κs xs) Post)
       walk =
           qed W ((‵ (flft (κs .0) (qs .0)) ⊛ raw tokens) ∷ ‵ (owns (ShrRef (named 0) (κs .0) Tr ∷ typesAt (outer As) κs) a vals) ∷ []) ∵ enter ! C Λ function (vptr b o ∷ machine-out As κs xs) _ $
-          alloc1 ! (λ l₀. alloc1 ! (λ l₁. allocates ! As (λ bs. alloc1 ! (λ l₂. allocates-again ! As (λ ts. alloc0 ! $ params1 ! $
-          pass1 ! (init ! 4 refl (tt, tt)) $ move ! (3 ∷ []) $ passes-all ! As κs xs bs (rear l₂ ts) sd $
-          move ! (9 ∷ []) $ fsplit ! $ fsplit3 ! $ drop ! $ move ! (11 ∷ []) $ split ! $ move ! (3 ∷ 0 ∷ 7 ∷ 9 ∷ []) $ copies-out ! T h b o refl (behind As bs (rear l₂ ts) 0) (λ is.
-          move ! (7 ∷ 8 ∷ []) $ lends-all ! As (κs .1) v bs ts (locally l₀ l₁ bs l₂ ts) 2 on (stands As bs (Q .ty, l₀) (first, l₁) (rear l₂ ts)) (stands-again As bs ts (Q .ty, l₀) (first, l₁) ((T .ty, l₂) ∷ []) []) sd _ $
-          move ! (6 ∷ 8 ∷ []) $ use2 W (raw (G 𝓤 H A .pre to-g)) (goes is) $
-          calls-at ! fm (G 𝓤 H A) known to-g (and-then ! (load ! (finds ! (behind As bs (rear l₂ ts) 0)) (look ! 5 refl)) (reads-all ! As (κs .1) v bs ts (locally l₀ l₁ bs l₂ ts) 2 on (stands As bs (Q .ty, l₀) (first, l₁) (rear l₂ ts)) (stands-again As bs ts (Q .ty, l₀) (first, l₁) ((T .ty, l₂) ∷ []) []))) (λ w.
+          alloc1 ! (λ l₀. alloc1 ! (λ l₁. allocates ! As (λ bs. alloc1 ! (λ l₂. allocates-again ! As (λ ts. alloc0 ! $ params1 ! $ fetches ! 0 $
+          passed ! 1 refl (tt, tt) $ lifts ! 2 $ passes-all ! As κs xs bs (rear l₂ ts) sd $ lays ! 2 $
+          -- [the record's token; the tokens; what is shared; what else is owned]
+          move ! (1 ∷ []) $ fsplit ! $ fsplit3 ! $ drop ! $ drop ! $ move ! (2 ∷ []) $ split ! $
+          lifts ! 1 $ lifts ! 3 $ move ! (4 ∷ 2 ∷ 0 ∷ 1 ∷ []) $ copies-out ! T h b o refl (behind As bs (rear l₂ ts) 0) (λ is. move ! (2 ∷ 3 ∷ []) $ lays ! 3 $ lays ! 1 $
+          lifts ! 4 $ lifts ! 2 $ lends-all ! As (κs .1) v bs ts (locally l₀ l₁ bs l₂ ts) 2 on (stands As bs (Q .ty, l₀) (first, l₁) (rear l₂ ts)) (stands-again As bs ts (Q .ty, l₀) (first, l₁) ((T .ty, l₂) ∷ []) []) sd _ $ lays ! 2 $ lays ! 4 $
+          move ! (2 ∷ 3 ∷ []) $ use2 W (raw (G 𝓤 H A .pre to-g)) (goes is) $
+          calls-at ! fm (G 𝓤 H A) known to-g (and-then ! (its-at ! 3 (behind As bs (rear l₂ ts) 0) refl) (lifted ! 4 (lifted ! 2 (reads-all ! As (κs .1) v bs ts (locally l₀ l₁ bs l₂ ts) 2 on (stands As bs (Q .ty, l₀) (first, l₁) (rear l₂ ts)) (stands-again As bs ts (Q .ty, l₀) (first, l₁) ((T .ty, l₂) ∷ []) []))))) (λ w.
           use1 W (later (some (λ (r : Q .like .Denot). (raw tokens ⊛ ‵ (Q .like .own r (w ∷ []))) ⊛ raw (ensured 𝓤 H A g-ended (g-clauses 𝓤) (κs .1) (h, v) tt r)))) (id⊢ 𝓤 _) $ await ! tt $ pick ! (λ r. split ! $ move ! (1 ∷ []) $
           use1 W (some (λ (zs : Lasts g-ended (κs .1) (h, v)). ‵ (lasts g-ended (κs .1) (h, v) zs) ⊛ raw (S .clause 𝓤 (κs .1) h v r (at-end (zs .1))))) (id⊢ 𝓤 _) $ pick ! (λ zs. split ! $ move ! (1 ∷ []) $
           use1 W (raw (fact 𝓤 (S .Says (κs .1) h v r (at-end (zs .1))))) (S .tells 𝓤 (κs .1) h v r (at-end (zs .1))) $ heard ! (S .Says (κs .1) h v r (at-end (zs .1))) (λ e.
           fsplit ! $ drop ! $ ends ! As κs xs (zs .1) (each-out As κs xs) (λ fit. move ! (1 ∷ []) $ split ! $ move ! (1 ∷ []) $ peeks ! (row Q) (Is (row Q)) (shows 𝓤 H A (row Q)) r (w ∷ []) (λ isr.
-          land ! (from ! (stop !)) (init ! 12 refl (Q .typed 𝓤 H A W r w isr)) $ returns ! (look ! 12 refl) $ forget ! 12 refl $ forget ! 8 refl $ forget ! 7 refl $
-          move ! (12 ∷ 13 ∷ []) $ free1 ! $ move ! (8 ∷ 11 ∷ []) $ free1 ! $ move ! (3 ∷ []) $ frees-all ! As (κs .1) bs v $ move ! (6 ∷ 8 ∷ []) $ free1 ! $ move ! (3 ∷ []) $ frees-again ! As (κs .1) ts v $ free0 ! $
+          arrives ! refl (fills ! refl (Q .typed 𝓤 H A W r w isr)) $ gives ! refl $
+          freed ! 2 refl $ fetches ! 0 $ frees-all ! As (κs .1) bs v $ freed ! 1 refl $ fetches ! 0 $ frees-again ! As (κs .1) ts v $ free0 ! $
           keep ! (3 ∷ 1 ∷ 2 ∷ 0 ∷ []) $ by ! (exits (zs .1) r w fit e)))))))))))))
 
   pub peek : {M : Type 1} (𝓤 : URA M) (H : Heap 𝓤) (A : Atoms 𝓤) (W : Given 𝓤 H A) (𝓣 : Tables 𝓤 H) → Triple 𝓤 (𝓣 .C k) (G 𝓤 H A)
