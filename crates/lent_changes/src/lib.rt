@@ -1,9 +1,12 @@
-// A change other than a sample, made of a lent channel in place. One loop serves a stop, a note's speed and a start that
-// finds no place; a new voice, the count and the head are stored once, after it.
+// A change other than a sample, and a gather, made of a lent channel in place. One loop serves a stop, a note's speed and
+// a start that finds no place; a new voice, the count and the head are stored once, after it.
 ghost use mathlib.Core.Path.{_≡_};
-ghost use Prim.Native.Nat.{_<_};
+ghost use Prim.Native.Nat.{_-_, _<_, _≤_};
 ghost use mathlib.Core.Bool.{not, _&&_, _||_};
-ghost use Rattle.channel.specs.Channels.{changedOf};
+ghost use mathlib.Core.List.{_++_};
+ghost use lib.ListN.{length, take, drop};
+ghost use Rattle.phrases.specs.Gathering.{gatheringOf};
+ghost use Rattle.channel.specs.Channels.{changedOf, gatheredIn, gatheredMemory};
 ghost use Rattle.lent_changes.specs.Changes.{
   askingOf,
   behindOf,
@@ -22,6 +25,7 @@ ghost use Rattle.lent_changes.specs.Changes.{
   handledBy,
   endedOf,
 };
+ghost use Rattle.lent_changes.specs.Laying.{phrasesBy, laidOf};
 use channel::Change;
 use channel::Channel;
 use channel::Head;
@@ -338,4 +342,70 @@ pub fn change(c: &mut Channel, change: Change)
     c.table[e.place] = e.phrase;
     c.several = e.several;
     c.head = ended(p, change, c.head, aside);
+}
+
+// Where the phrases of a channel stand: the table, and the head, which has the chosen one's place.
+pub struct Laid {
+    pub table: [Phrase; 8],
+    pub head: Head,
+}
+
+// All eight phrases, by their numbers.
+fn all_of(table: [Phrase; 8], several: bool, head: Head) -> [Phrase; 8]
+    ensures { λ r. ⌜ r ≡ phrasesBy table several head ⌝ }
+{
+    let others = phrases::others(table, several, head.chosen);
+    phrases::with(others, head.chosen, head.recording())
+}
+
+// Table and head, the phrases being where they stand in `all`.
+fn laid_of(table: [Phrase; 8], several: bool, head: Head, all: [Phrase; 8]) -> Laid
+    ensures { λ r. ⌜ r ≡ laidOf table several head all ⌝ }
+{
+    let own = all[channel::place_of(head.chosen)];
+    let mut after = head;
+    after.start = own.start;
+    if several {
+        Laid {
+            table: all,
+            head: after,
+        }
+    } else {
+        Laid { table, head: after }
+    }
+}
+
+// The phrases moved down in the part of the memory from `start` to `end`.
+fn gathered(
+    table: [Phrase; 8],
+    several: bool,
+    head: Head,
+    memory: &mut [u32],
+    start: usize,
+    end: usize,
+) -> Laid
+    requires { ⌜ (start ≤ end) × (end ≤ length (now memory)) ⌝ }
+    ensures { λ r. ⌜ (r ≡ laidOf table several head (gatheringOf (phrasesBy table several head)
+        (take (end - start) (drop start (now (memory .entry)))) .phrases))
+        × (now (memory .exit) ≡ take start (now (memory .entry)) ++ (gatheringOf (phrasesBy table several head)
+        (take (end - start) (drop start (now (memory .entry)))) .memory
+        ++ drop (end - start) (drop start (now (memory .entry))))) ⌝ }
+{
+    let all = all_of(table, several, head);
+    let moved = phrases::gather(all, &mut memory[start..end]);
+    laid_of(table, several, head, moved)
+}
+
+// Moves the phrases of a lent channel down in its part of the memory, with no channel copied.
+pub fn gather(c: &mut Channel, memory: &mut [u32], start: usize, end: usize)
+    requires { ⌜ (start ≤ end) × (end ≤ length (now memory)) ⌝ }
+    ensures { λ r. ⌜ (now (c .exit)
+        ≡ gatheredIn (now (c .entry)) (take (end - start) (drop start (now (memory .entry)))))
+        × (now (memory .exit) ≡ take start (now (memory .entry)) ++ (gatheredMemory (now (c .entry))
+        (take (end - start) (drop start (now (memory .entry))))
+        ++ drop (end - start) (drop start (now (memory .entry))))) ⌝ }
+{
+    let l = gathered(c.table, c.several, c.head, memory, start, end);
+    c.table = l.table;
+    c.head = l.head;
 }

@@ -7,8 +7,6 @@ use denote.Steps.{only}
 use denote.Struct.Laws as LL
 use Rattle.sampler.proofs.Sampler as T
 use Rattle.sampler.proofs.Sampler.Laws as T′
-use Rattle.sampler.proofs.Answer as S
-use Rattle.sampler.proofs.Answer.Laws as S′
 use Rattle.sampler.proofs.Ran as R
 use Rattle.sampler.proofs.Ran.Laws as R′
 use Rattle.lent_sampler.proofs.Readings as M
@@ -92,19 +90,6 @@ infos = struct L.the-type L′.the-laws L′.the-plain
 
 abbrev pub summary : Datum
 summary = struct Q.the-type Q′.the-laws Q′.the-plain
-
-abbrev pub answer : Answering sampler (word w8)
-answer = record {
-  like = S.the-row;
-  name = S.struct .name;
-  record-of = λ r. r .sampler;
-  answer-of = λ r. r .number;
-  make = λ s y. record { sampler = s; number = y };
-  eta = λ r. refl;
-  tells = λ r v is. ap only (LL.tells S.the-type S′.the-laws r _ is);
-  owed = λ r v is. (LL.owed S.the-type S′.the-laws r _ is .0, LL.owed S.the-type S′.the-laws r _ is .1 .0);
-  typed = λ 𝓤 H A W r v is. LL.lawful S.the-type S′.the-laws 𝓤 H A W .typed r _ is .0;
-}
 
 abbrev pub waveRead : Datum
 waveRead = struct W.the-type W′.the-laws W′.the-plain

@@ -16,6 +16,7 @@ pub mod Loops
 pub mod Single
 pub mod Singles
 pub mod Changing
+pub mod Gathering
 pub mod Seeing
 pub mod Sight
 pub mod Asking

@@ -1,6 +1,6 @@
 // The sampler's calls on one record that its host lends, with the definitions of the calls by value in their contracts.
-// A frame is played where the record stands, and a change is made there. The other calls hand a copy of it to the call
-// by value. What takes a record, a channel or a list of records lent is proved by hand.
+// A frame, a run or a sample is played where the record stands, and a change or a gather is made there. The other calls
+// hand a copy of it to the call by value. What takes a record, a channel or a list of records lent is proved by hand.
 ghost use mathlib.Core.Path.{_≡_};
 ghost use Rattle.sampler.specs.Samplers.{
   startPlayingOf,
@@ -23,7 +23,15 @@ ghost use Rattle.sampler.specs.Samplers.{
   runAnswer,
 };
 ghost use Rattle.sampler.specs.Samplers.{processSampleOf as sampleOf};
-ghost use Rattle.sampler.specs.Refusals.{changeRows, changeNumber, sampleNumber, frameRows, frameNumber, runDone};
+ghost use Rattle.sampler.specs.Refusals.{
+  changeRows,
+  changeNumber,
+  gatherNumber,
+  sampleNumber,
+  frameRows,
+  frameNumber,
+  runDone,
+};
 ghost use Rattle.channel.specs.Channels.{processSampleOf, memoryOf};
 ghost use Rattle.binary32.specs.Leaves.{zero32};
 ghost use Prim.Native.Nat.{_+_, _*_, _-_, _%_, _^_, _≤_, _<_};
@@ -57,6 +65,7 @@ ghost use Rattle.lent_sampler.specs.Numbers.{
   goodWithBy,
   askedBy,
   askingOf,
+  gatherRows,
   timeIn,
   sampleRows,
   frameAskedBy,
@@ -365,14 +374,41 @@ pub fn reset(s: &mut Sampler) -> u8
     change(s, all_reset())
 }
 
+// The number of a gather, from what is read of the record.
+fn gather_rows(t: Seen, size: usize) -> u8
+    ensures { λ r. ⌜ r ≡ gatherRows t size ⌝ }
+{
+    let one = t.first;
+    let other = t.second;
+    let recording = any_of(t.count, one.is_recording(), other.is_recording());
+    let busy = sampler::first_of(recording, 21, 0);
+    let whole = t.good & sampler::enough(t.count, t.capacity, size);
+    sampler::first_of(!whole, 9, busy)
+}
+
+// The number of a gather, with no channel copied.
+fn gather_asked(s: &Sampler, size: usize) -> u8
+    ensures { λ r. ⌜ r ≡ gatherNumber (now (s .entry)) size ⌝ }
+{
+    gather_rows(look(s), size)
+}
+
 // Moves the phrases of each channel down, so that all free room of its part is behind them.
 pub fn gather(s: &mut Sampler, memory: &mut [u32]) -> u8
     ensures { λ r. ⌜ (record { sampler = now (s .exit); number = r } ≡ gatherOf (now (s .entry)) (now (memory .entry)))
         × (now (memory .exit) ≡ gatherMemory (now (s .entry)) (now (memory .entry))) ⌝ }
 {
-    let r = s.gather(memory);
-    *s = r.sampler;
-    r.number
+    let number = gather_asked(s, memory.len());
+    let n = steps(number, sampler::places(s.count));
+    let capacity = s.capacity;
+    let mut j: usize = 0;
+    while j < n {
+        let start = sampler::part_start(j, capacity);
+        let end = start + capacity;
+        lent_changes::gather(&mut s.channels[j], memory, start, end);
+        j = j + 1;
+    }
+    number
 }
 
 pub fn get_frames_processed(s: &Sampler, channel: usize) -> Counted
