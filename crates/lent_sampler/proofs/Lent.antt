@@ -37,8 +37,6 @@ use Rattle.questions.proofs.OffsetAnswer as O
 use Rattle.questions.proofs.OffsetAnswer.Laws as O′
 use Rattle.questions.proofs.VoiceInfo as I
 use Rattle.questions.proofs.VoiceInfo.Laws as I′
-use Rattle.questions.proofs.VoiceInfos as L
-use Rattle.questions.proofs.VoiceInfos.Laws as L′
 use Rattle.questions.proofs.WaveformSummary as Q
 use Rattle.questions.proofs.WaveformSummary.Laws as Q′
 use Rattle.recordings.proofs.WaveRead as W
@@ -84,9 +82,6 @@ offset = enum O.the-type O′.the-laws O′.the-plain tt
 
 abbrev pub info : Datum
 info = struct I.the-type I′.the-laws I′.the-plain
-
-abbrev pub infos : Datum
-infos = struct L.the-type L′.the-laws L′.the-plain
 
 abbrev pub summary : Datum
 summary = struct Q.the-type Q′.the-laws Q′.the-plain

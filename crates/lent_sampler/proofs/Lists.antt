@@ -1,17 +1,22 @@
 -- The lists of a lent record: which channel and voice is read, how many voices are listed, what a turn adds to the list, and that all of it is what the question answers. Assumes nothing.
-use mathlib.Core.Path.{_≡_, refl, sym, ap, _∙_}
+use mathlib.Core.Path.{_≡_, refl, sym, ap, ap₂, _∙_}
 use mathlib.Core.Bool.{Bool, true, false, not, _||_, cond, true≢false}
 use mathlib.Core.List.{List, [], _∷_, _++_, map}
-use Prim.Native.Nat.{ℕ, zero, suc, _+_, _-_, _%_, _^_, _≤_, _<_, min}
+use Prim.Native.Nat.{ℕ, zero, suc, _+_, _%_, _^_, _≤_, _<_}
 use native.Mathlib.Nat.{mod-eq-of-lt}
 use native.Mathlib.Omega.{arith}
 use lib.Dec.{eqb, ltb}
-use lib.ListN.{length, getD, take, drop, set, length-append, length-drop, length-map, length-take}
+use lib.ListN.{length, getD, take, drop, set, length-append, length-drop, length-map, length-take, List·getD-map}
+use lib.Seq.{take-length, take-append-seam, getD-take}
 use borrow.Author.Tests.{ltb-true, ltb-false}
+use Rattle.binary32.specs.Leaves.{asFloat}
 use Rattle.walks.specs.Walks.{without}
 use Rattle.walks.proofs.Tests.{one-more}
 use Rattle.walks.proofs.Lists.Each.{fewer}
+use Rattle.walks.proofs.Lists.Stored.{fronted, fronted-next, fronted-length}
 use Rattle.common_types.specs.Notes.{intoU64Of}
+use Rattle.common_types.specs.declared.Params.{Params}
+use Rattle.common_types.specs.Settings.{beyondLimits, loopLengthOf}
 use Rattle.voice.specs.declared.Voice.{Voice}
 use Rattle.voice.specs.Voices.{blankVoice}
 use Rattle.channel.specs.declared.Channel.{Channel}
@@ -19,11 +24,14 @@ use Rattle.channel.specs.Channels.{live}
 use Rattle.sampler.specs.declared.Sampler.{Sampler}
 use Rattle.sampler.specs.Refusals.{channelAt, row, goodSampler}
 use Rattle.sampler.proofs.Rows.{good-sizes, sizes-count}
-use Rattle.questions.specs.Questions.{answered, inFront, notesOf, listNumberBy, listCountedBy, listAfterBy, listNumber, listCounted, listAfter, iterActiveNotesOf, activeNotesAfter}
-use Rattle.questions.specs.Sights.{seenOf}
+use Rattle.sampler.proofs.Channels.{few-voices}
+use Rattle.questions.specs.Questions.{answered, inFront, notesOf, listNumberBy, listCountedBy, listAfterBy, listNumber, listCounted, listAfter, iterActiveNotesOf, activeNotesAfter, noInfos, infosWith, voiceInfoOf, figuresOf, voiceInfosOf, infoNumber, getVoiceInfoOf}
+use Rattle.questions.specs.Lists.{countedOf, listedOf, voiceInfoCounted, voiceInfoAfter}
+use Rattle.questions.specs.declared.VoiceInfo.{VoiceInfo}
+use Rattle.questions.specs.declared.VoiceInfos.{VoiceInfos}
 use Rattle.questions.specs.declared.Counted.{Counted}
 use Rattle.questions.specs.declared.Counted.the-variants as counted
-use Rattle.lent_sampler.specs.Lists.{seatOf, seated, spotOf, voiceIn, unlisted, countOf, countIn, listRows, listingBy, answeredOf}
+use Rattle.lent_sampler.specs.Lists.{seatOf, seated, spotOf, voiceIn, unlisted, countOf, countIn, listRows, lengthIn, infoIn}
 
 -- ---- which channel and voice is read
 pub seat-two : (j : ℕ) → seatOf j < 2
@@ -34,7 +42,7 @@ seat-two j = go (eqb j 1)
     go true = omega arith
     go false = omega arith
 
-seat-is : (j : ℕ) → j < 2 → seatOf j ≡ j
+pub seat-is : (j : ℕ) → j < 2 → seatOf j ≡ j
 unfolding seatOf
 seat-is zero h = refl
 seat-is (suc zero) h = refl
@@ -271,3 +279,117 @@ module _ (s : Sampler) (j : ℕ) where
   notes-listed lent =
       ap (λ (n : ℕ). listAfterBy (notesOf (live (seated s j))) lent n) (same-rows (goodSampler s) (ltb j (s .count)) (seated s j) (length lent))
       ∙ shown s j (λ good there c. listAfterBy (notesOf (live c)) lent (listNumberBy (not good) (not there) (notesOf (live c)) (length lent))) (λ b c d. refl) (λ c d. refl)
+
+-- ---- the figures of the voices, which go by channel a
+module _ (p : Params) (a : Channel) where
+  abbrev figures : Channel → List VoiceInfo
+  figures c = map (figuresOf p a c) (live c)
+
+  -- the list with those of the first i voices in its front
+  abbrev pub figured-upto : Channel → List VoiceInfo → ℕ → List VoiceInfo
+  figured-upto c lent i = fronted (figures c) lent i
+
+  module _ (c : Channel) (lent : List VoiceInfo) (i : ℕ) where
+    pub figured-next : i < length (live c) → length (live c) ≤ length lent → set (figured-upto c lent i) i (figuresOf p a c (getD (c .voices) i blankVoice)) ≡ figured-upto c lent (i + 1)
+    figured-next lt room =
+        ap (set (figured-upto c lent i) i) (sym (List·getD-map (figuresOf p a c) (live c) i blankVoice ∙ ap (figuresOf p a c) (getD-take (c .count) (c .voices) i blankVoice (omega (arith, lt, length-take (c .count) (c .voices))))))
+        ∙ fronted-next (figures c) lent i (figuresOf p a c blankVoice) (omega (arith, lt, length-map (live c) (figuresOf p a c))) (omega (arith, lt, room))
+        ∙ ap (figured-upto c lent) (sym (one-more i))
+
+    pub figured-length : i ≤ length (live c) → length (live c) ≤ length lent → length (figured-upto c lent i) ≡ length lent
+    figured-length le room = fronted-length (figures c) lent i (omega (arith, le, length-map (live c) (figuresOf p a c))) (omega (arith, le, room))
+
+  -- the rows of the figures of a channel for which there is so much room
+  abbrev pub infoRows : Bool → Bool → Channel → ℕ → ℕ
+  infoRows good there c room = listRows (not good) (not there) (beyondLimits p) (countIn true c) room
+
+  -- while voices are looked at there is one more, and all have room
+  pub infos-room : (good there : Bool) (c : Channel) (room i : ℕ) → i < cond (eqb (infoRows good there c room) 0) (countIn true c) 0 → (i < length (live c)) × (length (live c) ≤ room)
+  infos-room false there c room i h = absurd (omega (arith, h))
+  infos-room true false c room i h = absurd (omega (arith, h))
+  infos-room true true c room i h = go (beyondLimits p) (ltb room (countIn true c)) refl h
+    where
+      go : (beyond b : Bool) → ltb room (countIn true c) ≡ b → i < cond (eqb (row beyond 4 (row b 8 0)) 0) (countIn true c) 0 → (i < length (live c)) × (length (live c) ≤ room)
+      go true b e k = absurd (omega (arith, k))
+      go false true e k = absurd (omega (arith, k))
+      go false false e k = (omega (arith, k, count-all (live c)), omega (arith, count-all (live c), ltb-false room (countIn true c) e))
+
+  -- so the list stays as long as it is
+  pub infos-long : (good there : Bool) (c : Channel) (lent : List VoiceInfo)
+      → length (figured-upto c lent (cond (eqb (infoRows good there c (length lent)) 0) (countIn true c) 0)) ≡ length lent
+  infos-long good there c lent = go _ (infos-room good there c (length lent))
+    where
+      go : (n : ℕ) → ((i : ℕ) → i < n → (i < length (live c)) × (length (live c) ≤ length lent)) → length (figured-upto c lent n) ≡ length lent
+      go zero fit = refl
+      go (suc m) fit = let two = fit m (omega arith) in figured-length c lent (suc m) (omega (arith, two .0)) (two .1)
+
+  -- what is answered with that number, and the list then: as it is written, and as it is to be
+  abbrev answer : ℕ → Channel → VoiceInfos
+  answer number c = answered (voiceInfosOf p a c) (infosWith noInfos 0) number
+
+  abbrev written : List VoiceInfo → ℕ → Channel → Counted × List VoiceInfo
+  written lent number c = (answered (counted.Done (countIn true c)) counted.Refused number, figured-upto c lent (cond (eqb number 0) (countIn true c) 0))
+
+  abbrev to-be : List VoiceInfo → ℕ → Channel → Counted × List VoiceInfo
+  to-be lent number c = (countedOf (answer number c), listedOf (answer number c) lent)
+
+  module _ (c : Channel) (lent : List VoiceInfo) (full : length (live c) ≡ c .count) where
+    many : length (figures c) ≡ c .count
+    many = length-map (live c) (figuresOf p a c) ∙ full
+
+    front-so : figured-upto c lent (countIn true c) ≡ inFront (take (c .count) (inFront (figures c) noInfos)) lent
+    front-so =
+        ap (figured-upto c lent) (count-all (live c) ∙ sym (length-map (live c) (figuresOf p a c)))
+        ∙ ap (λ (ys : List VoiceInfo). ys ++ drop (length (figures c)) lent) (take-length (figures c))
+        ∙ sym (ap (λ (ys : List VoiceInfo). inFront ys lent) (ap (λ (k : ℕ). take k (inFront (figures c) noInfos)) (sym many) ∙ take-append-seam (figures c) (drop (length (figures c)) noInfos)))
+
+    written-so : (m : ℕ) → written lent m c ≡ to-be lent m c
+    unfolding answered countedOf listedOf voiceInfosOf
+    written-so m = go (eqb m 0) refl
+      where
+        go : (b : Bool) → eqb m 0 ≡ b
+            → _≡_ {A = Counted × List VoiceInfo} (cond b (counted.Done (countIn true c)) (counted.Refused m), figured-upto c lent (cond b (countIn true c) 0))
+            (countedOf (cond b (voiceInfosOf p a c) (infosWith noInfos 0 m)), listedOf (cond b (voiceInfosOf p a c) (infosWith noInfos 0 m)) lent)
+        go true e = ap₂ (λ (r : Counted) (ys : List VoiceInfo). (r, ys)) (ap counted.Done (count-all (live c) ∙ full)) front-so
+        go false e = ap (λ (r : Counted). (r, lent)) (sym (ap (λ (b : Bool). cond b (counted.Done 0) (counted.Refused m)) e))
+
+module _ (s : Sampler) (j : ℕ) (p : Params) (lent : List VoiceInfo) (all : length (seated s j .voices) ≡ 32) where
+  abbrev first : Channel
+  first = channelAt s 0
+
+  infos-so : written p first lent (infoRows p first (goodSampler s) (ltb j (s .count)) (seated s j) (length lent)) (seated s j)
+      ≡ to-be p first lent (row (not (goodSampler s)) 9 (row (not (ltb j (s .count))) 1 (row (beyondLimits p) 4 (row (ltb (length lent) (channelAt s j .count)) 8 0)))) (channelAt s j)
+  unfolding answered countedOf listedOf
+  infos-so = go (goodSampler s) (ltb j (s .count)) refl refl
+    where
+      go : (good there : Bool) → goodSampler s ≡ good → ltb j (s .count) ≡ there
+          → written p first lent (infoRows p first good there (seated s j) (length lent)) (seated s j)
+          ≡ to-be p first lent (row (not good) 9 (row (not there) 1 (row (beyondLimits p) 4 (row (ltb (length lent) (channelAt s j .count)) 8 0)))) (channelAt s j)
+      go false there g e = refl
+      go true false g e = refl
+      go true true g e =
+          let low : j < s .count = ltb-true j (s .count) e in
+          let is : seatOf j ≡ j = seat-is j (omega (arith, low, sizes-count _ _ (good-sizes s g))) in
+          let same : seated s j ≡ channelAt s j = ap (channelAt s) is in
+          let long : length (channelAt s j .voices) ≡ 32 = ap (λ (c : Channel). length (c .voices)) (sym same) ∙ all in
+          let full : length (live (channelAt s j)) ≡ channelAt s j .count = omega (arith, length-take (channelAt s j .count) (channelAt s j .voices), long, few-voices s j g low) in
+          let rows : ℕ → ℕ = λ n. row (beyondLimits p) 4 (row (ltb (length lent) n) 8 0) in
+          ap (λ (c : Channel). written p first lent (rows (countIn true c)) c) same
+          ∙ ap (λ (n : ℕ). written p first lent (rows n) (channelAt s j)) (count-all (live (channelAt s j)) ∙ full)
+          ∙ written-so p first (channelAt s j) lent full (rows (channelAt s j .count))
+
+  pub infos-counted : answered (counted.Done (countIn true (seated s j))) counted.Refused (infoRows p first (goodSampler s) (ltb j (s .count)) (seated s j) (length lent)) ≡ voiceInfoCounted s j p lent
+  unfolding getVoiceInfoOf infoNumber
+  infos-counted = ap (λ (r : Counted × List VoiceInfo). r .0) infos-so
+
+  pub infos-listed : figured-upto p first (seated s j) lent (cond (eqb (infoRows p first (goodSampler s) (ltb j (s .count)) (seated s j) (length lent)) 0) (countIn true (seated s j)) 0) ≡ voiceInfoAfter s j p lent
+  unfolding getVoiceInfoOf infoNumber
+  infos-listed = ap (λ (r : Counted × List VoiceInfo). r .1) infos-so
+
+-- the figures of a voice, from the lengths of its phrase
+pub info-so : (p : Params) (i : ℕ) (s : Sampler) (j : ℕ) (v : Voice) → v ≡ voiceIn i (seated s j)
+    → voiceInfoOf (loopLengthOf p (lengthIn (v .phrase) (seated s 0))) (asFloat (lengthIn (v .phrase) (seated s j))) v ≡ infoIn p i s j
+unfolding figuresOf
+info-so p i s j v e =
+    ap (λ (k : ℕ). voiceInfoOf (loopLengthOf p (lengthIn (v .phrase) (channelAt s k))) (asFloat (lengthIn (v .phrase) (seated s j))) v) (seat-is 0 (omega arith))
+    ∙ ap (figuresOf p (channelAt s 0) (seated s j)) e

@@ -9,11 +9,13 @@ use Rattle.walks.specs.Walks.{without}
 use Rattle.voice.specs.declared.Voice.{Voice}
 use Rattle.voice.specs.Voices.{blankVoice}
 use Rattle.channel.specs.declared.Channel.{Channel}
-use Rattle.channel.specs.Channels.{live}
+use Rattle.channel.specs.Channels.{live, phraseAt}
 use Rattle.sampler.specs.declared.Sampler.{Sampler}
 use Rattle.sampler.specs.Refusals.{channelAt, row}
-use Rattle.questions.specs.Questions.{answered}
+use Rattle.common_types.specs.declared.Params.{Params}
+use Rattle.questions.specs.Questions.{answered, figuresOf}
 use Rattle.questions.specs.declared.Seen.{Seen}
+use Rattle.questions.specs.declared.VoiceInfo.{VoiceInfo}
 use Rattle.questions.specs.declared.Counted.{Counted}
 use Rattle.questions.specs.declared.Counted.the-variants as counted
 use Rattle.lent_sampler.specs.declared.Listing.{Listing}
@@ -56,3 +58,11 @@ listingBy t j beyond turns n room =
 
 abbrev pub answeredOf : Listing → Counted
 answeredOf a = answered (counted.Done (a .count)) counted.Refused (a .number)
+
+-- how long the phrase of that number is
+abbrev pub lengthIn : ℕ → Channel → ℕ
+lengthIn k c = phraseAt c k .length
+
+-- the figures of voice i of a channel
+abbrev pub infoIn : Params → ℕ → Sampler → ℕ → VoiceInfo
+infoIn p i s j = figuresOf p (channelAt s 0) (seated s j) (voiceIn i (seated s j))

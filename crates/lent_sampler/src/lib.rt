@@ -1,6 +1,6 @@
 // The sampler's calls on one record that its host lends, with the definitions of the calls by value in their contracts.
-// A frame, a run or a sample is played where the record stands, and a change or a gather is made there. The other calls
-// hand a copy of it to the call by value. What takes a record, a channel or a list of records lent is proved by hand.
+// Each is done where the record stands: a frame, a run or a sample is played there, a change, a gather or a read made, a
+// question answered, and no channel is copied. What takes a record, a channel or a list of records lent is proved by hand.
 ghost use mathlib.Core.Path.{_≡_};
 ghost use Rattle.sampler.specs.Samplers.{
   startPlayingOf,
@@ -39,7 +39,9 @@ ghost use mathlib.Core.Bool.{true, cond};
 ghost use mathlib.Core.List.{[], _∷_, _++_};
 ghost use lib.Dec.{eqb};
 ghost use lib.ListN.{length, getD, take, drop};
+ghost use Rattle.binary32.specs.Leaves.{asFloat};
 ghost use Rattle.common_types.specs.Notes.{intoU64Of};
+ghost use Rattle.common_types.specs.Settings.{loopLengthOf};
 ghost use Rattle.questions.specs.Questions.{
   getFramesProcessedOf,
   getDataLenOf,
@@ -49,12 +51,12 @@ ghost use Rattle.questions.specs.Questions.{
   errorTextAfter,
   iterActiveNotesOf,
   activeNotesAfter,
-  noInfo,
+  voiceInfoOf,
 };
 ghost use Rattle.questions.specs.Sights.{seenOf};
 ghost use Rattle.questions.specs.Waveforms.{getWaveformSummaryOf, waveformAfter};
 ghost use Rattle.recordings.specs.Waves.{writeWaveOf, waveAfter, readWaveOf, readMemory};
-ghost use Rattle.questions.specs.Lists.{countedOf, listedOf, voiceInfoCounted, voiceInfoAfter};
+ghost use Rattle.questions.specs.Lists.{voiceInfoCounted, voiceInfoAfter};
 ghost use Rattle.lent_channel.specs.Turns.{heardOf};
 ghost use Rattle.lent_sampler.specs.Numbers.{
   allOf,
@@ -86,6 +88,8 @@ ghost use Rattle.lent_sampler.specs.Lists.{
   countIn,
   listingBy,
   answeredOf,
+  lengthIn,
+  infoIn,
 };
 use channel::Against;
 use channel::Change;
@@ -101,7 +105,6 @@ use questions::OffsetAnswer;
 use questions::Seen;
 use questions::Told;
 use questions::VoiceInfo;
-use questions::VoiceInfos;
 use questions::WaveformSummary;
 use recordings::WaveRead;
 use sampler::Asked;
@@ -578,35 +581,37 @@ pub fn iter_active_notes(s: &Sampler, channel: usize, notes: &mut [u64]) -> Coun
     listed(asked)
 }
 
-fn info_at(v: VoiceInfos, i: usize) -> VoiceInfo
-    requires { ⌜ i < 32 ⌝ }
-    ensures { λ r. ⌜ r ≡ getD (v .infos) i noInfo ⌝ }
+// How long the phrase of that number is.
+fn length_of(c: &Channel, k: u8) -> usize
+    ensures { λ r. ⌜ r ≡ lengthIn k (now (c .entry)) ⌝ }
 {
-    v.infos[i]
+    let phrase = c.head
+        .phrase_by(k, c.several, c.table[channel::place_of(k)]);
+    phrase.length
 }
 
-fn counted(v: VoiceInfos) -> Counted
-    ensures { λ r. ⌜ r ≡ countedOf v ⌝ }
+fn length_at(s: &Sampler, channel: usize, k: u8) -> usize
+    ensures { λ r. ⌜ r ≡ lengthIn k (seated (now (s .entry)) channel) ⌝ }
 {
-    if v.number == 0 {
-        Counted::Done(v.count)
-    } else {
-        Counted::Refused(v.number)
-    }
+    let j = seat(channel);
+    length_of(&s.channels[j], k)
 }
 
-// Writes the infos to the front of the list.
-fn fill(list: &mut [VoiceInfo], v: VoiceInfos) -> Counted
-    requires { ⌜ (v .count ≤ length (now list)) × (v .count ≤ 32) ⌝ }
-    ensures { λ r. ⌜ (r ≡ countedOf v) × (now (list .exit) ≡ listedOf v (now (list .entry))) ⌝ }
+fn info_of(v: Voice, params: Params, whole: usize, own: usize) -> VoiceInfo
+    ensures { λ r. ⌜ r ≡ voiceInfoOf (loopLengthOf params whole) (asFloat own) v ⌝ }
 {
-    let n = v.count;
-    let mut i = 0;
-    while i < n {
-        list[i] = info_at(v, i);
-        i += 1;
-    }
-    counted(v)
+    let length = params.loop_length(whole);
+    questions::voice_info(v, length, binary32::usize_to_f32(own))
+}
+
+// The figures of a voice, by its phrase; the loop length by channel 0's phrase of that number.
+fn info_at(s: &Sampler, channel: usize, params: Params, i: usize) -> VoiceInfo
+    ensures { λ r. ⌜ r ≡ infoIn params i (now (s .entry)) channel ⌝ }
+{
+    let v = voice_at(s, channel, i);
+    let whole = length_at(s, 0, v.phrase);
+    let own = length_at(s, channel, v.phrase);
+    info_of(v, params, whole, own)
 }
 
 // Writes the figures of each voice to the front of the list.
@@ -619,8 +624,15 @@ pub fn get_voice_info(
     ensures { λ r. ⌜ (r ≡ voiceInfoCounted (now (s .entry)) channel params (now (list .entry)))
         × (now (list .exit) ≡ voiceInfoAfter (now (s .entry)) channel params (now (list .entry))) ⌝ }
 {
-    let v = questions::get_voice_info(*s, channel, params, list.len());
-    fill(list, v)
+    let beyond = params.beyond_limits();
+    let asked = list_asked(s, channel, beyond, true, list.len());
+    let n = asked.turns;
+    let mut i: usize = 0;
+    while i < n {
+        list[i] = info_at(s, channel, params, i);
+        i = i + 1;
+    }
+    listed(asked)
 }
 
 // Writes a value for each column of channel 0's recording to the front of the list.

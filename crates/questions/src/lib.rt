@@ -330,7 +330,7 @@ pub fn iter_active_notes(s: Sampler, channel: usize, notes: &mut [u64]) -> Count
     Counted::Done(count)
 }
 
-fn voice_info(v: Voice, length: f32, data_length: f32) -> VoiceInfo
+pub fn voice_info(v: Voice, length: f32, data_length: f32) -> VoiceInfo
     ensures { λ r. ⌜ r ≡ voiceInfoOf length «data_length» v ⌝ }
 {
     VoiceInfo {

@@ -1,7 +1,7 @@
 -- `iter_active_notes` meets its contract: a walk of its MIR, by hand. The record is shared: it goes to a question each turn, which copies one voice of it. The borrow of the list is open through the loop, and the note of a voice that isn't finished is stored in its place.
 -- Assumes nothing.
 use mathlib.Core.Path.{_≡_, refl, sym, _∙_, ap, subst}
-use Prim.Native.Nat.{ℕ, suc, _+_, _*_, _≤_, _<_, _^_}
+use Prim.Native.Nat.{ℕ, _+_, _*_, _≤_, _<_, _^_}
 use native.Mathlib.Omega.{arith}
 use mathlib.Core.Bool.{true, false, not}
 use mathlib.Core.Option.{none as room, some}
