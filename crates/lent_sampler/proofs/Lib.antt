@@ -14,3 +14,6 @@ pub mod Changing
 pub mod Seeing
 pub mod Sight
 pub mod Glancing
+pub mod Surveys
+pub mod Surveying
+pub mod Settling
