@@ -41,8 +41,6 @@ use Rattle.questions.proofs.WaveformSummary as Q
 use Rattle.questions.proofs.WaveformSummary.Laws as Q′
 use Rattle.recordings.proofs.WaveRead as W
 use Rattle.recordings.proofs.WaveRead.Laws as W′
-use Rattle.recordings.proofs.ReadAnswer as K
-use Rattle.recordings.proofs.ReadAnswer.Laws as K′
 use Rattle.lent_channel.proofs.Asking as A
 use Rattle.lent_channel.proofs.Asking.Laws as A′
 use Rattle.lent_channel.proofs.Heard as Up
@@ -88,19 +86,6 @@ summary = struct Q.the-type Q′.the-laws Q′.the-plain
 
 abbrev pub waveRead : Datum
 waveRead = struct W.the-type W′.the-laws W′.the-plain
-
-abbrev pub readAnswer : Answering sampler waveRead
-readAnswer = record {
-  like = K.the-row;
-  name = K.struct .name;
-  record-of = λ r. r .sampler;
-  answer-of = λ r. r .read;
-  make = λ s y. record { sampler = s; read = y };
-  eta = λ r. refl;
-  tells = λ r v is. ap only (LL.tells K.the-type K′.the-laws r _ is);
-  owed = λ r v is. (LL.owed K.the-type K′.the-laws r _ is .0, LL.owed K.the-type K′.the-laws r _ is .1 .0);
-  typed = λ 𝓤 H A W r v is. LL.lawful K.the-type K′.the-laws 𝓤 H A W .typed r _ is .0;
-}
 
 abbrev pub sampled : Datum
 sampled = struct Y.the-type Y′.the-laws Y′.the-plain

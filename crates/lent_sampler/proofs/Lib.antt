@@ -21,3 +21,6 @@ pub mod Seeing
 pub mod Sight
 pub mod Asking
 pub mod Glancing
+pub mod Surveys
+pub mod Surveying
+pub mod Settling

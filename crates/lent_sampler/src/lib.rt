@@ -56,6 +56,8 @@ ghost use Rattle.questions.specs.Questions.{
 ghost use Rattle.questions.specs.Sights.{seenOf};
 ghost use Rattle.questions.specs.Waveforms.{getWaveformSummaryOf, waveformAfter};
 ghost use Rattle.recordings.specs.Waves.{writeWaveOf, waveAfter, readWaveOf, readMemory};
+ghost use Rattle.recordings.specs.Sights.{surveyOf};
+ghost use Rattle.lent_sampler.specs.Loads.{loadOf};
 ghost use Rattle.questions.specs.Lists.{voiceInfoCounted, voiceInfoAfter};
 ghost use Rattle.lent_channel.specs.Turns.{heardOf};
 ghost use Rattle.lent_sampler.specs.Numbers.{
@@ -100,12 +102,15 @@ use common_types::Note;
 use common_types::Params;
 use lent_channel::Asking;
 use lent_channel::Heard;
+use phrases::Beside;
 use questions::Counted;
 use questions::OffsetAnswer;
 use questions::Seen;
 use questions::Told;
 use questions::VoiceInfo;
 use questions::WaveformSummary;
+use recordings::Loading;
+use recordings::Surveyed;
 use recordings::WaveRead;
 use sampler::Asked;
 use sampler::FrameAsked;
@@ -657,15 +662,60 @@ pub fn write_wave(s: &Sampler, rate: u32, memory: &[u32], out: &mut [u8]) -> Cou
     recordings::write_in(look(s), rate, memory, out)
 }
 
+fn surveyed(seen: Seen, first: Beside, second: Beside) -> Surveyed
+    ensures { λ r. ⌜ r ≡ record { seen = seen; first = first; second = second } ⌝ }
+{
+    Surveyed {
+        seen,
+        first,
+        second,
+    }
+}
+
+// What a read asks of a record, with no channel copied.
+fn survey(s: &Sampler) -> Surveyed
+    ensures { λ r. ⌜ r ≡ surveyOf (now (s .entry)) ⌝ }
+{
+    let seen = look(s);
+    let capacity = s.capacity;
+    let first = lent_channel::beside(&s.channels[0], capacity);
+    let second = lent_channel::beside(&s.channels[1], capacity);
+    surveyed(seen, first, second)
+}
+
+// The change that a read makes. Where it is refused that is one which every record refuses, so that a read is one shape.
+fn load_of(r: Loading) -> Change
+    ensures { λ c. ⌜ c ≡ loadOf r ⌝ }
+{
+    let read = r.read;
+    if read.number == 0 {
+        return Change::Head(HeadChange::Load(r.samples));
+    }
+    Change::Head(HeadChange::Choose(8))
+}
+
+fn answer_of(r: Loading) -> WaveRead
+    ensures { λ w. ⌜ w ≡ r .read ⌝ }
+{
+    r.read
+}
+
+fn settle(s: &mut Sampler, r: Loading) -> u8
+    ensures { λ n. ⌜ record { sampler = now (s .exit); number = n } ≡ changeOf (now (s .entry)) (loadOf r) ⌝ }
+{
+    change(s, load_of(r))
+}
+
 // Replaces the recording of each channel by a WAVE file's.
 pub fn read_wave(s: &mut Sampler, file: &[u8], memory: &mut [u32]) -> WaveRead
     ensures { λ r. ⌜ (record { sampler = now (s .exit); read = r }
         ≡ readWaveOf (now (s .entry)) (now (file .entry)) (length (now (memory .entry))))
         × (now (memory .exit) ≡ readMemory (now (s .entry)) (now (file .entry)) (now (memory .entry))) ⌝ }
 {
-    let r = recordings::read_wave(*s, file, memory);
-    *s = r.sampler;
-    r.read
+    let t = survey(s);
+    let r = recordings::read_in(t, file, memory);
+    settle(s, r);
+    answer_of(r)
 }
 
 // How many of n turns are taken: a call that is refused takes none. A frame's are its entries, a change's its channels.

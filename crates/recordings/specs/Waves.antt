@@ -86,12 +86,16 @@ heldIn Refused = record { rate = 0; channels = 0; samples = 0; first = 0 }
 
 -- "16 for .. another channel count"; request 11/12: "18 means more than it may hold without moving another", on one of the
 -- channels in use
+abbrev pub readRows : Bool → Bool → Judged → ℕ → Bool → ℕ
+readRows good recording j count short =
+    row (not good) 9
+    (row recording 15
+    (row (badFile j) 17 (row (not (eqb (heldIn j .channels) count)) 16 (row short 18 0))))
+
 unfoldable pub readNumber : Sampler → Judged → ℕ → ℕ
 readNumber s j size =
     let a = againstAny (Samples (heldIn j .samples)) s in
-    row (not (goodWith s size)) 9
-    (row (a .blocked) 15
-    (row (badFile j) 17 (row (not (eqb (heldIn j .channels) (s .count))) 16 (row (a .short) 18 0))))
+    readRows (goodWith s size) (a .blocked) j (s .count) (a .short)
 
 -- the record: each channel's recording is as long as the file's. The answer has the rate, 0 where it is refused
 unfoldable pub readWaveOf : Sampler → List ℕ → ℕ → ReadAnswer

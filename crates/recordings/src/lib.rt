@@ -1,6 +1,6 @@
-// Recordings out and in as WAVE files, by value: the sampler's two calls of request 10/12, with their refusals. Each
-// takes every value of its arguments, and equals a definition in specs/. On a refusal the record and what is lent with
-// it hold what they held.
+// Recordings out and in as WAVE files: the sampler's two calls of request 10/12, with their refusals, by value and by
+// what is seen of a record. Each takes every value of its arguments, and equals a definition in specs/. On a refusal the
+// record and what is lent with it hold what they held.
 ghost use mathlib.Core.Path.{_≡_};
 ghost use mathlib.Core.Bool.{true};
 ghost use lib.ListN.{length};
@@ -11,6 +11,7 @@ ghost use Rattle.recordings.specs.Waves.{
   waveAfter,
   badFile,
   heldIn,
+  readRows,
   readNumber,
   readWaveOf,
   beginningsIn,
@@ -24,8 +25,14 @@ ghost use Rattle.recordings.specs.Sights.{
   writeNumberSeen,
   writeSeen,
   waveLeft,
+  shortSeen,
+  readNumberSeen,
+  beginningsSeen,
+  loadingSeen,
+  memoryLeft,
 };
 use channel::Ask;
+use phrases::Beside;
 use questions::Counted;
 use questions::Seen;
 use sampler::Sampler;
@@ -39,6 +46,19 @@ use wave::Wave;
 pub struct WaveRead {
     pub rate: u32,
     pub number: u8,
+}
+
+// What a read asks of a record: what is seen of it, and what each channel's other phrases say to its recording.
+pub struct Surveyed {
+    pub seen: Seen,
+    pub first: Beside,
+    pub second: Beside,
+}
+
+// What a read answers, and how many samples the file has for each channel.
+pub struct Loading {
+    pub read: WaveRead,
+    pub samples: usize,
 }
 
 // What a read leaves, and what it answers.
@@ -171,16 +191,25 @@ fn bad_file(judged: Judged) -> bool
     }
 }
 
+// The rows of a read, by what stands against it.
+fn read_rows(good: bool, recording: bool, judged: Judged, count: usize, short: bool) -> u8
+    ensures { λ r. ⌜ r ≡ readRows good recording judged count short ⌝ }
+{
+    let w = held(judged);
+    let long = first_of(short, 18, 0);
+    let other = first_of(w.channels != count, 16, long);
+    let bad = first_of(bad_file(judged), 17, other);
+    let recorded = first_of(recording, 15, bad);
+    first_of(!good, 9, recorded)
+}
+
 fn read_number(s: Sampler, judged: Judged, size: usize) -> u8
     ensures { λ r. ⌜ r ≡ readNumber s judged size ⌝ }
 {
     let w = held(judged);
     let against = s.against(Ask::Samples(w.samples));
-    let long = first_of(against.short, 18, 0);
-    let other = first_of(w.channels != s.count, 16, long);
-    let bad = first_of(bad_file(judged), 17, other);
-    let recording = first_of(against.blocked, 15, bad);
-    first_of(!s.good_with(size), 9, recording)
+    let good = s.good_with(size);
+    read_rows(good, against.blocked, judged, s.count, against.short)
 }
 
 // Replaces the recording of each channel by the file's.
@@ -205,5 +234,78 @@ pub fn read_wave(s: Sampler, file: &[u8], memory: &mut [u32]) -> ReadAnswer
             rate: w.rate,
             number: 0,
         },
+    }
+}
+
+// Whether one of the channels in use may not hold so many samples.
+fn too_many(t: Surveyed, samples: usize) -> bool
+    ensures { λ r. ⌜ r ≡ shortSeen samples t ⌝ }
+{
+    let seen = t.seen;
+    let ask = Ask::Samples(samples);
+    let one = channel::held_against(ask, seen.first, 0, false, t.first, seen.capacity);
+    let two = channel::held_against(ask, seen.second, 0, false, t.second, seen.capacity);
+    one.short | ((seen.count == 2) & two.short)
+}
+
+fn number_in(t: Surveyed, judged: Judged, size: usize) -> u8
+    ensures { λ r. ⌜ r ≡ readNumberSeen t judged size ⌝ }
+{
+    let w = held(judged);
+    let seen = t.seen;
+    let good = questions::good_in(seen, size);
+    let recording = any_recording(seen);
+    let short = too_many(t, w.samples);
+    read_rows(good, recording, judged, seen.count, short)
+}
+
+// Where what is read for the second channel begins in the memory. What is seen of a good record doesn't wrap.
+fn second_in(t: Surveyed) -> usize
+    ensures { λ r. ⌜ r ≡ beginningsSeen t .second ⌝ }
+{
+    let seen = t.seen;
+    if seen.count == 2 {
+        let head = seen.second;
+        let other = t.second;
+        return std::num::wrapping_add_usize(seen.capacity, head.begins(other.behind));
+    }
+    0
+}
+
+fn beginnings_in(t: Surveyed) -> Starts
+    ensures { λ r. ⌜ r ≡ beginningsSeen t ⌝ }
+{
+    let seen = t.seen;
+    let head = seen.first;
+    let one = t.first;
+    Starts {
+        first: head.begins(one.behind),
+        second: second_in(t),
+    }
+}
+
+// Loads the file's words into the memory, where it isn't refused: all of a read but what it does to the record.
+pub fn read_in(t: Surveyed, file: &[u8], memory: &mut [u32]) -> Loading
+    ensures { λ r. ⌜ r ≡ loadingSeen t (now (file .entry)) (length (now (memory .entry))) ⌝ }
+    ensures { λ r. ⌜ now (memory .exit) ≡ memoryLeft t (now (file .entry)) (now (memory .entry)) ⌝ }
+{
+    let judged = wave::judge(file);
+    let w = held(judged);
+    let number = number_in(t, judged, memory.len());
+    if number != 0 {
+        let refused = WaveRead { rate: 0, number };
+        return Loading {
+            read: refused,
+            samples: w.samples,
+        };
+    }
+    wave::load(file, beginnings_in(t), memory);
+    let read = WaveRead {
+        rate: w.rate,
+        number: 0,
+    };
+    Loading {
+        read,
+        samples: w.samples,
     }
 }
