@@ -5,18 +5,18 @@ ghost use Prim.Native.Nat.{_<_};
 ghost use mathlib.Core.Bool.{not, _&&_, _||_};
 ghost use Rattle.channel.specs.Channels.{changedOf};
 ghost use Rattle.lent_changes.specs.Changes.{
-  askingOf,
-  behindOf,
+  asksVoices,
+  storesBehind,
   startPass,
   goingOf,
   passOf,
   hitsOf,
   remadeOf,
   passedOf,
-  openedOf,
+  startedVoice,
   handledIf,
   asideOf,
-  endedOf,
+  headEnded,
 };
 use channel::Change;
 use channel::Channel;
@@ -45,7 +45,7 @@ pub struct Pass {
 
 // Voices are asked, and none is changed: a stop that has its voice.
 fn asking(turns: usize, count: usize, head: Head) -> Pass
-    ensures { λ r. ⌜ r ≡ askingOf turns count head ⌝ }
+    ensures { λ r. ⌜ r ≡ asksVoices turns count head ⌝ }
 {
     let note = Note::default();
     Pass {
@@ -65,7 +65,7 @@ fn asking(turns: usize, count: usize, head: Head) -> Pass
 // One voice more is stored behind the others.
 fn behind(count: usize, head: Head) -> Pass
     requires { ⌜ count < 32 ⌝ }
-    ensures { λ r. ⌜ r ≡ behindOf count head ⌝ }
+    ensures { λ r. ⌜ r ≡ storesBehind count head ⌝ }
 {
     let note = Note::default();
     Pass {
@@ -183,7 +183,7 @@ fn passed(p: Pass, v: Voice, hit: bool) -> Pass
 
 // The voice that a start stores.
 fn opened(change: Change, head: Head) -> Voice
-    ensures { λ r. ⌜ r ≡ openedOf change head ⌝ }
+    ensures { λ r. ⌜ r ≡ startedVoice change head ⌝ }
 {
     match change {
         Change::Start {
@@ -210,13 +210,13 @@ fn handled(on: bool, head: Head, params: Params, unfinished: bool) -> Head
 
 // The head at the end. Pass-through follows a start on a recording, and a stop that found its voice.
 fn ended(p: Pass, change: Change, head: Head, aside: Aside) -> Head
-    ensures { λ r. ⌜ r ≡ endedOf p change head aside ⌝ }
+    ensures { λ r. ⌜ r ≡ headEnded p change head aside ⌝ }
 {
     ending(p, change, head, aside).copied()
 }
 
 fn ending(p: Pass, change: Change, head: Head, aside: Aside) -> Head
-    ensures { λ r. ⌜ r ≡ endedOf p change head aside ⌝ }
+    ensures { λ r. ⌜ r ≡ headEnded p change head aside ⌝ }
 {
     match change {
         Change::Start { params, .. } => handled(head.data_len != 0, head, params, p.unfinished),

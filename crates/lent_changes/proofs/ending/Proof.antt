@@ -1,7 +1,7 @@
 -- `ending` meets its contract, by its cases. Assumes nothing.
 use borrow.Author.Needs.{needs}
 use lib.Ieee.{ofBits}
-use Rattle.lent_changes.specs.Changes.{endedOf}
+use Rattle.lent_changes.specs.Changes.{headEnded}
 use Rattle.lent_changes.proofs.ending.Statement.{statement}
 use Rattle.lent_changes.proofs.ending.Tie as tie
 
@@ -36,23 +36,23 @@ new-requires : tie.Need-new-requires
 new-requires c κs = search needs
 
 returns : tie.Need-returns
-unfolding endedOf
+unfolding headEnded
 returns c = simp (c .handled .ensures, c .before .before .before .change .given .1)
 
 returns-2 : tie.Need-returns-2
-unfolding endedOf
+unfolding headEnded
 returns-2 c = simp (c .handled2 .ensures, c .before .before .change2 .given .1)
 
 returns-3 : tie.Need-returns-3
-unfolding endedOf
+unfolding headEnded
 returns-3 c = simp (c .enum-told .given .1)
 
 returns-4 : tie.Need-returns-4
-unfolding endedOf
+unfolding headEnded
 returns-4 c = simp (c .changed .ensures, c .before .finds .ensures, c .before .before .before .change3 .given .1)
 
 returns-5 : tie.Need-returns-5
-unfolding endedOf ofBits
+unfolding headEnded ofBits
 returns-5 c = simp (c .new .ensures, c .before .enum-told2 .given .1)
 
 pub ending-spec : {M : Type 1} → statement M
