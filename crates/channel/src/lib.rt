@@ -46,7 +46,7 @@ ghost use Rattle.channel.specs.Tables.{
   foundBy,
   entryKept,
   headEntry,
-  entryOf,
+  entryStored,
   headAsks,
   asksOf,
   leavingOf,
@@ -676,7 +676,7 @@ fn head_entry(change: HeadChange, head: Head, several: bool, entry: Phrase) -> E
 
 // What a change stores in the table, where `entry` is the one of the number that it names.
 pub fn entry_of(change: Change, head: Head, several: bool, entry: Phrase) -> Entry
-    ensures { λ r. ⌜ r ≡ entryOf change head several entry ⌝ }
+    ensures { λ r. ⌜ r ≡ entryStored change head several entry ⌝ }
     ensures { λ r. ⌜ r .place < 8 ⌝ }
 {
     match change {

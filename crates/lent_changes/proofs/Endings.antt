@@ -12,7 +12,7 @@ use Rattle.channel.specs.declared.Change.the-variants as change
 use Rattle.channel.specs.Heads.{passesOf, withPassthru, rampOf, passthruOf}
 use Rattle.lent_changes.specs.declared.Pass.{Pass}
 use Rattle.lent_changes.specs.declared.Aside.{Aside}
-use Rattle.lent_changes.specs.Changes.{passingIf, passingOf, alteredOf, handledBy, handledIf, endedOf}
+use Rattle.lent_changes.specs.Changes.{passingIf, passingOf, alteredOf, handledBy, handledIf, headEnded}
 
 -- pass-through where it may follow
 passed-if : (asked : Bool) (h : Head) (q : Params) (unfinished : Bool) → handledBy (passingIf asked h q unfinished) h ≡ handledIf asked h q unfinished
@@ -28,8 +28,8 @@ passed-if asked h q unfinished = go asked (passesOf q unfinished) (h .«passthru
     go true false true = refl
     go true false false = refl
 
-pub ended-by : (p : Pass) (d : Change) (h : Head) (a : Aside) → handledBy (passingOf p d h) (alteredOf d h a) ≡ endedOf p d h a
-unfolding handledBy passingOf alteredOf endedOf
+pub ended-by : (p : Pass) (d : Change) (h : Head) (a : Aside) → handledBy (passingOf p d h) (alteredOf d h a) ≡ headEnded p d h a
+unfolding handledBy passingOf alteredOf headEnded
 ended-by p (change.Start q position note velocity) h a = passed-if (not (eqb (h .«data_len») 0)) h q (p .unfinished)
 ended-by p (change.Stop q note) h a = passed-if (p .found) h q (p .unfinished)
 ended-by p (change.Speed note speed) h a = refl

@@ -8,22 +8,22 @@ ghost use lib.ListN.{length, take, drop};
 ghost use Rattle.phrases.specs.Gathering.{gatheringOf};
 ghost use Rattle.channel.specs.Channels.{changedOf, gatheredIn, gatheredMemory};
 ghost use Rattle.lent_changes.specs.Changes.{
-  askingOf,
-  behindOf,
+  asksVoices,
+  storesBehind,
   startPass,
   goingOf,
   passOf,
   hitsOf,
   remadeOf,
   passedOf,
-  openedOf,
+  startedVoice,
   asideOf,
   nonePasses,
   passingIf,
   passingOf,
   alteredOf,
   handledBy,
-  endedOf,
+  headEnded,
 };
 ghost use Rattle.lent_changes.specs.Laying.{phrasesBy, laidOf};
 use channel::Change;
@@ -53,7 +53,7 @@ pub struct Pass {
 
 // Voices are asked, and none is changed: a stop that has its voice.
 fn asking(turns: usize, count: usize, head: Head) -> Pass
-    ensures { λ r. ⌜ r ≡ askingOf turns count head ⌝ }
+    ensures { λ r. ⌜ r ≡ asksVoices turns count head ⌝ }
 {
     let note = Note::default();
     Pass {
@@ -73,7 +73,7 @@ fn asking(turns: usize, count: usize, head: Head) -> Pass
 // One voice more is stored behind the others.
 fn behind(count: usize, head: Head) -> Pass
     requires { ⌜ count < 32 ⌝ }
-    ensures { λ r. ⌜ r ≡ behindOf count head ⌝ }
+    ensures { λ r. ⌜ r ≡ storesBehind count head ⌝ }
 {
     let note = Note::default();
     Pass {
@@ -191,7 +191,7 @@ fn passed(p: Pass, v: Voice, hit: bool) -> Pass
 
 // The voice that a start stores.
 fn opened(change: Change, head: Head) -> Voice
-    ensures { λ r. ⌜ r ≡ openedOf change head ⌝ }
+    ensures { λ r. ⌜ r ≡ startedVoice change head ⌝ }
 {
     match change {
         Change::Start {
@@ -276,14 +276,14 @@ fn handled(q: Passing, head: Head) -> Head
 
 // The head at the end.
 fn ended(p: Pass, change: Change, head: Head, aside: Aside) -> Head
-    ensures { λ r. ⌜ r ≡ endedOf p change head aside ⌝ }
+    ensures { λ r. ⌜ r ≡ headEnded p change head aside ⌝ }
 {
     ending(p, change, head, aside).copied()
 }
 
 // Pass-through is handled in one place: a start and a stop that did so each in theirs would take stack.
 fn ending(p: Pass, change: Change, head: Head, aside: Aside) -> Head
-    ensures { λ r. ⌜ r ≡ endedOf p change head aside ⌝ }
+    ensures { λ r. ⌜ r ≡ headEnded p change head aside ⌝ }
 {
     let q = passing_of(p, change, head);
     handled(q, altered(change, head, aside))

@@ -26,7 +26,7 @@ use Rattle.clip.specs.declared.Mode.{Mode}
 use Rattle.clip.specs.declared.Mode.the-variants.{Loop}
 use Rattle.clip.specs.Positions.{elapsedAt, leadOf, travelAt, raisedOf, loopedOf, wrappedOf, clampedOf, placedOf, clipOffsetAt, clipToDataOf, offsetAt}
 use Rattle.clip.proofs.Quick.{looped-ahead, lead-added}
-use Rattle.pours.specs.Steady.{travelBy, PlacedOffset, Low, Counted, rampBy}
+use Rattle.pours.specs.Steady.{travelBy, PlacedOffset, Low, CountedOffsets, rampBy}
 use Rattle.pours.proofs.Filling.{filled}
 
 pub looped-either : (x length y : Float) → T (le zero32 y) → y ≡ rem binary32 (cond (le zero32 x) x (neg x)) length → cond (le zero32 x) y (raisedOf (neg y) length) ≡ loopedOf x length
@@ -55,7 +55,7 @@ placed-told c x y r wrapped placed told =
 
 -- one more that is told
 pub counted-next : (c : Clip) (from k : ℕ) (values : List Float) (x y r : Float) → k < length values → x ≡ travelBy (c .shift) (c .speed) (from + k) → OrLess (wrappedOf (c .mode) x (c .length)) y
-    → PlacedOffset y (c .start) (c .length) (c .«data_length») r → Low r → Counted c from k values → Counted c from (k + 1) (set values k r)
+    → PlacedOffset y (c .start) (c .length) (c .«data_length») r → Low r → CountedOffsets c from k values → CountedOffsets c from (k + 1) (set values k r)
 counted-next c from k values x y r room at wrapped placed low =
     let here = placed-told c x y r wrapped placed (low .0) ∙ ap (λ (z : Float). clipToDataOf c (placedOf (c .mode) z (c .length))) at in
     filled (λ (j : ℕ) (z : Float). Low z × (z ≡ clipToDataOf c (placedOf (c .mode) (travelBy (c .shift) (c .speed) (from + j)) (c .length)))) k values r room (low, here)

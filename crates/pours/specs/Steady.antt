@@ -92,8 +92,8 @@ abbrev pub Lows : ℕ → List Float → Type 0
 Lows n values = (k : ℕ) → k < n → Low (getD values k nan)
 
 -- the offsets of n samples stand in the list, by how many there were since the clip's last change
-abbrev pub Counted : Clip → ℕ → ℕ → List Float → Type 0
-Counted c from n values =
+abbrev pub CountedOffsets : Clip → ℕ → ℕ → List Float → Type 0
+CountedOffsets c from n values =
     (k : ℕ) → k < n
     → Low (getD values k nan)
     × (getD values k nan ≡ clipToDataOf c (placedOf (c .mode) (travelBy (c .shift) (c .speed) (from + k)) (c .length)))
@@ -122,6 +122,6 @@ pub record Gathers (m : List ℕ) (t : Tick) (n : ℕ) (v : Voice) (values : Lis
 -- ---- its position
 
 -- r denies it; or its position is that after n steady turns
-abbrev pub Stands : Hot → Tick → ℕ → Voice → Stood → Type 0
-Stands h t n v r =
+abbrev pub StoodOn : Hot → Tick → ℕ → Voice → Stood → Type 0
+StoodOn h t n v r =
     r .known ≡ true → (m : List ℕ) → Steady t n v → Lasts t n v → r .hot ≡ judgedOn t m n v h

@@ -11,7 +11,7 @@ ghost use Rattle.binary32.specs.Leaves.{zero32, asFloat, asWhole, minOf, OrLess
 ghost use Rattle.clip.specs.Positions.{raisedOf, loopedOf, foldedOf, bouncedOf, wrappedOf};
 ghost use Rattle.clip.specs.Plain.{plainIndex};
 ghost use Rattle.plain_voice.specs.Hots.{beatOf};
-ghost use Rattle.pours.specs.Eases.{EasesAt, termAt, LastButOne, heardOf, movedOf, Added};
+ghost use Rattle.pours.specs.Eases.{EasesAt, termAt, LastButOne, lastHeard, movedOn, Added};
 ghost use Rattle.pours.specs.Pours.{Pours};
 ghost use Rattle.pours.specs.Steady.{
   SteadyAt,
@@ -23,11 +23,11 @@ ghost use Rattle.pours.specs.Steady.{
   PlacedOffset,
   Low,
   Lows,
-  Counted,
+  CountedOffsets,
   Offsets,
   Fetches,
   Gathers,
-  Stands,
+  StoodOn,
 };
 use clip::Clip;
 use clip::Mode;
@@ -141,7 +141,7 @@ fn last_but_one(
 
 // The voice after some samples, of which the last two were `last` and the one at that index.
 fn heard(v: Voice, index: usize, value: f32, last: f32, played: f32) -> Voice
-    ensures { λ r. ⌜ r ≡ heardOf v index value last played ⌝ }
+    ensures { λ r. ⌜ r ≡ lastHeard v index value last played ⌝ }
 {
     let clip2 = v.clip2;
     let volume = v.volume;
@@ -165,7 +165,7 @@ fn heard(v: Voice, index: usize, value: f32, last: f32, played: f32) -> Voice
 // The position n samples on.
 fn moved(h: Hot, n: usize, round: usize) -> Hot
     requires { ⌜ (h .place < round) × (round ≤ 2 ^ 22) × (h .lap + n ≤ 2 ^ 24) ⌝ }
-    ensures { λ r. ⌜ r ≡ movedOf h n round ⌝ }
+    ensures { λ r. ⌜ r ≡ movedOn h n round ⌝ }
 {
     let s = (h.place as usize) + n;
     if s < round {
@@ -284,7 +284,7 @@ fn steady(v: Voice, t: Tick, n: usize) -> bool
 // The position after n turns of a steady voice: that of one that isn't plain stays.
 fn position_on(h: Hot, v: Voice, t: Tick, b: Beat, n: usize) -> Stood
     requires { ⌜ (b ≡ beatOf t) × SteadyAt t n v ⌝ }
-    ensures { λ r. ⌜ Stands h t n v r ⌝ }
+    ensures { λ r. ⌜ StoodOn h t n v r ⌝ }
 {
     if !h.plain {
         return Stood {
@@ -418,7 +418,7 @@ fn is_low(x: f32) -> bool
 // or says that one isn't quickly worked out.
 fn offsets_from(c: Clip, from: u32, values: &mut [f32], n: usize) -> bool
     requires { ⌜ (from + n ≤ 2 ^ 24 + 1) × (n ≤ length (now «values»)) ⌝ }
-    ensures { λ r. ⌜ (length (now («values» .exit)) ≡ length (now («values» .entry))) × (r ≡ true → Counted c from n (now («values» .exit))) ⌝ }
+    ensures { λ r. ⌜ (length (now («values» .exit)) ≡ length (now («values» .entry))) × (r ≡ true → CountedOffsets c from n (now («values» .exit))) ⌝ }
 {
     let mode = c.mode;
     let mut told = true;
@@ -436,7 +436,7 @@ fn offsets_from(c: Clip, from: u32, values: &mut [f32], n: usize) -> bool
 // The same of a loop, where no travel is below 0.
 fn offsets_ahead(c: Clip, from: u32, values: &mut [f32], n: usize) -> bool
     requires { ⌜ (c .mode ≡ Mode.Loop) × (from + n ≤ 2 ^ 24 + 1) × (n ≤ length (now «values»)) ⌝ }
-    ensures { λ r. ⌜ (length (now («values» .exit)) ≡ length (now («values» .entry))) × (r ≡ true → Counted c from n (now («values» .exit))) ⌝ }
+    ensures { λ r. ⌜ (length (now («values» .exit)) ≡ length (now («values» .entry))) × (r ≡ true → CountedOffsets c from n (now («values» .exit))) ⌝ }
 {
     let mut told = true;
     let mut k: usize = 0;
@@ -454,7 +454,7 @@ fn offsets_ahead(c: Clip, from: u32, values: &mut [f32], n: usize) -> bool
 // Either way: most loops are gone through ahead.
 fn offsets_by(c: Clip, from: u32, values: &mut [f32], n: usize) -> bool
     requires { ⌜ (from + n ≤ 2 ^ 24 + 1) × (n ≤ length (now «values»)) ⌝ }
-    ensures { λ r. ⌜ (length (now («values» .exit)) ≡ length (now («values» .entry))) × (r ≡ true → Counted c from n (now («values» .exit))) ⌝ }
+    ensures { λ r. ⌜ (length (now («values» .exit)) ≡ length (now («values» .entry))) × (r ≡ true → CountedOffsets c from n (now («values» .exit))) ⌝ }
 {
     let mode = c.mode;
     if clip::same_mode(mode, Mode::Loop) & ((c.speed >= 0.0) & (c.shift >= 0.0)) {

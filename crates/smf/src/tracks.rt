@@ -7,15 +7,15 @@ ghost use lib.Seq.{sets};
 ghost use Rattle.smf.specs.Files.{chunkEvents, trackOf, eventsOf};
 ghost use Rattle.smf.specs.Times.{firstTempo};
 ghost use Rattle.smf.specs.Cues.{
-  entriesOf,
+  eventEntries,
   tempoAfter,
-  lateOf,
+  tooLate,
   songFrom,
   songOf,
   countOf,
-  closedOf,
+  countClosed,
   numbersOf,
-  Written,
+  WrittenList,
 };
 use crate::chunks::Found;
 use crate::chunks::Opening;
@@ -52,7 +52,7 @@ fn tempo_after(tempo: u32, event: Event) -> u32
 }
 
 fn late(frame: u64, event: Event) -> bool
-    ensures { λ r. ⌜ r ≡ lateOf frame event ⌝ }
+    ensures { λ r. ⌜ r ≡ tooLate frame event ⌝ }
 {
     match event {
         Event::Note(_) => LAST_FRAME < frame,
@@ -64,9 +64,9 @@ fn late(frame: u64, event: Event) -> bool
 // What an event adds to a list of `count` entries, written where there is room.
 fn put(list: &mut [u64], count: usize, frame: u64, event: Event) -> usize
     requires { ⌜ count < 2 ^ 63 ⌝ }
-    ensures { λ r. ⌜ r ≡ count + length (entriesOf frame event) ⌝ }
+    ensures { λ r. ⌜ r ≡ count + length (eventEntries frame event) ⌝ }
     ensures { λ r. ⌜ (2 * r ≤ length (now (list .entry))
-        → now (list .exit) ≡ sets (now (list .entry)) (2 * count) (numbersOf (entriesOf frame event))) ⌝ }
+        → now (list .exit) ≡ sets (now (list .entry)) (2 * count) (numbersOf (eventEntries frame event))) ⌝ }
 {
     match event {
         Event::Note(key) => {
@@ -84,7 +84,7 @@ fn put(list: &mut [u64], count: usize, frame: u64, event: Event) -> usize
 }
 
 fn closed(verdict: Verdict, count: usize) -> Count
-    ensures { λ r. ⌜ r ≡ closedOf verdict count ⌝ }
+    ensures { λ r. ⌜ r ≡ countClosed verdict count ⌝ }
 {
     match verdict {
         Verdict::Good => Count::Done(count),
@@ -97,7 +97,7 @@ fn events(file: &[u8], rate: u32, division: u32, full: usize, at: usize, list: &
     requires { ⌜ (rate ≤ 192000) × (0 < division) × (division < 2 ^ 15) ⌝ }
     requires { ⌜ (0 < at) × (at ≤ min full (length (now file))) ⌝ }
     ensures { λ r. ⌜ r ≡ countOf (songFrom rate division firstTempo 0 (chunkEvents (now (file .entry)) full at)) ⌝ }
-    ensures { λ r. ⌜ Written (now (list .entry)) (now (list .exit))
+    ensures { λ r. ⌜ WrittenList (now (list .entry)) (now (list .exit))
         (songFrom rate division firstTempo 0 (chunkEvents (now (file .entry)) full at) .entries) ⌝ }
 {
     let tune = Tune {
@@ -142,7 +142,7 @@ fn track(file: &[u8], rate: u32, division: u32, at: usize, list: &mut [u64]) -> 
     requires { ⌜ (rate ≤ 192000) × (0 < division) × (division < 2 ^ 15) ⌝ }
     requires { ⌜ at ≤ length (now file) ⌝ }
     ensures { λ r. ⌜ r ≡ countOf (songFrom rate division firstTempo 0 (trackOf (now (file .entry)) at)) ⌝ }
-    ensures { λ r. ⌜ Written (now (list .entry)) (now (list .exit))
+    ensures { λ r. ⌜ WrittenList (now (list .entry)) (now (list .exit))
         (songFrom rate division firstTempo 0 (trackOf (now (file .entry)) at) .entries) ⌝ }
 {
     let all = file.len();
@@ -159,7 +159,7 @@ fn track(file: &[u8], rate: u32, division: u32, at: usize, list: &mut [u64]) -> 
 fn tracks(file: &[u8], rate: u32, division: u32, at: usize, list: &mut [u64]) -> Count
     requires { ⌜ (rate ≤ 192000) × (0 < division) × (division < 2 ^ 15) ⌝ }
     ensures { λ r. ⌜ r ≡ countOf (songFrom rate division firstTempo 0 (eventsOf (now (file .entry)) at)) ⌝ }
-    ensures { λ r. ⌜ Written (now (list .entry)) (now (list .exit))
+    ensures { λ r. ⌜ WrittenList (now (list .entry)) (now (list .exit))
         (songFrom rate division firstTempo 0 (eventsOf (now (file .entry)) at) .entries) ⌝ }
 {
     match track_at(file, at) {
@@ -175,7 +175,7 @@ fn tracks(file: &[u8], rate: u32, division: u32, at: usize, list: &mut [u64]) ->
 pub fn song(file: &[u8], rate: u32, list: &mut [u64]) -> Count
     requires { ⌜ rate ≤ 192000 ⌝ }
     ensures { λ r. ⌜ r ≡ countOf (songOf rate (now (file .entry))) ⌝ }
-    ensures { λ r. ⌜ Written (now (list .entry)) (now (list .exit)) (songOf rate (now (file .entry)) .entries) ⌝ }
+    ensures { λ r. ⌜ WrittenList (now (list .entry)) (now (list .exit)) (songOf rate (now (file .entry)) .entries) ⌝ }
 {
     match header(file) {
         Opening::Broken(fault) => Count::Broken(fault),

@@ -60,7 +60,7 @@ use Rattle.channel.specs.declared.Head.{Head}
 use Rattle.channel.specs.declared.Change.{Change}
 use Rattle.channel.specs.declared.Channel.{Channel}
 use Rattle.channel.specs.declared.Entry.{Entry}
-use Rattle.channel.specs.Tables.{placeOf, namesOf, entryOf, storedBy}
+use Rattle.channel.specs.Tables.{placeOf, namesOf, entryStored, storedBy}
 use Rattle.channel.specs.Channels.{withHead, withVoices, besideIn, changedOf}
 use Rattle.channel.proofs.Slots.{none}
 use Rattle.channel.proofs.Entries.{entry-below}
@@ -84,7 +84,7 @@ use Rattle.channel.proofs.Change.Laws as X′
 use Rattle.channel.proofs.Channel as C
 use Rattle.channel.proofs.Channel.Laws as C′
 use Rattle.lent_changes.specs.declared.Pass.{Pass}
-use Rattle.lent_changes.specs.Changes.{passOf, hitsOf, remadeOf, passedOf, openedOf, asideOf, endedOf}
+use Rattle.lent_changes.specs.Changes.{passOf, hitsOf, remadeOf, passedOf, startedVoice, asideOf, headEnded}
 use Rattle.lent_channel.proofs.Bytes.{voice-bytes, phrase-bytes, table-at, count-at, head-at, several-at}
 use Rattle.walks.proofs.Steps.Data.{Datum, struct, enum, word, truth}
 use Rattle.lent_channel.proofs.Places.{cv, vv, ev, entry-spot, withTable, places-are, entries-are, with-head, sets-voice, sets-entry}
@@ -165,14 +165,14 @@ record Known {M : Type 1} (𝓤 : URA M) (H : Heap 𝓤) (A : Atoms 𝓤) (𝓣 
   hits : Says 𝓤 H A 𝓣 #hits (record { takes = passing ∷ voice ∷ []; gives = truth; says = λ a. hitsOf (a .0) (a .1 .0) })
   remakes : Says 𝓤 H A 𝓣 #remade (record { takes = passing ∷ voice ∷ []; gives = voice; says = λ a. remadeOf (a .0) (a .1 .0) })
   passes : Says 𝓤 H A 𝓣 #passed (record { takes = passing ∷ voice ∷ truth ∷ []; gives = passing; says = λ a. passedOf (a .0) (a .1 .0) (a .1 .1 .0) })
-  opens : Says 𝓤 H A 𝓣 #opened (record { takes = changing ∷ headed ∷ []; gives = voice; says = λ a. openedOf (a .0) (a .1 .0) })
+  opens : Says 𝓤 H A 𝓣 #opened (record { takes = changing ∷ headed ∷ []; gives = voice; says = λ a. startedVoice (a .0) (a .1 .0) })
   names : Says 𝓤 H A 𝓣 #names (record { takes = changing ∷ []; gives = word w8; says = λ a. namesOf (a .0) })
   places : Says 𝓤 H A 𝓣 #place (record { takes = word w8 ∷ []; gives = word w64; says = λ a. placeOf (a .0) })
   besides : Triple 𝓤 (𝓣 .C #beside) (asking channel (word w64) beside besideIn 𝓤 H A)
   asides : Says 𝓤 H A 𝓣 #aside (record { takes = phrase ∷ truth ∷ beside ∷ []; gives = asided; says = λ a. asideOf (a .0) (a .1 .0) (a .1 .1 .0) })
-  enters : Says 𝓤 H A 𝓣 #entry (record { takes = changing ∷ headed ∷ truth ∷ phrase ∷ []; gives = entering; says = λ a. entryOf (a .0) (a .1 .0) (a .1 .1 .0) (a .1 .1 .1 .0) })
+  enters : Says 𝓤 H A 𝓣 #entry (record { takes = changing ∷ headed ∷ truth ∷ phrase ∷ []; gives = entering; says = λ a. entryStored (a .0) (a .1 .0) (a .1 .1 .0) (a .1 .1 .1 .0) })
   nones : Says 𝓤 H A 𝓣 #none (record { takes = []; gives = phrasing; says = λ _. noPhrases })
-  ends : Says 𝓤 H A 𝓣 #ended (record { takes = passing ∷ changing ∷ headed ∷ asided ∷ []; gives = headed; says = λ a. endedOf (a .0) (a .1 .0) (a .1 .1 .0) (a .1 .1 .1 .0) })
+  ends : Says 𝓤 H A 𝓣 #ended (record { takes = passing ∷ changing ∷ headed ∷ asided ∷ []; gives = headed; says = λ a. headEnded (a .0) (a .1 .0) (a .1 .1 .0) (a .1 .1 .1 .0) })
 
 -- where a turn begins: the next voice's place, the voices now, and what is known of those gone through
 record State : Type 0 where
@@ -360,7 +360,7 @@ module _ {M : Type 1} (𝓤 : URA M) (H : Heap 𝓤) (A : Atoms 𝓤) (W : Given
       count-fits = LL.owed S.the-type S′.the-laws (s .p) _ (g .is) .1 .0 .1
 
       abbrev t : Head
-      t = endedOf (s .p) x (h .head) (aside x h)
+      t = headEnded (s .p) x (h .head) (aside x h)
 
       abbrev e : Entry
       e = entry x h
@@ -515,16 +515,16 @@ module _ {M : Type 1} (𝓤 : URA M) (H : Heap 𝓤) (A : Atoms 𝓤) (W : Given
             use2 W (‵ (partAt C.the-row fullShare (counted l′) b o)) (part-in 𝓤 H A W C.the-row refl fullShare (counted l′) b o (cv (counted l′))) $ by ! reads-on)
 
       -- with the new voice, where there is one, and the table emptied, where it is
-      ended-so : (z : Bool) → s .p .fresh ≡ z → (y : Bool) → e .clears ≡ y → closed (cond z (set (s .voices) (h .count) (openedOf x (h .head))) (s .voices)) (cond y noPhrases (h .table)) ≡ changedOf x h
+      ended-so : (z : Bool) → s .p .fresh ≡ z → (y : Bool) → e .clears ≡ y → closed (cond z (set (s .voices) (h .count) (startedVoice x (h .head))) (s .voices)) (cond y noPhrases (h .table)) ≡ changedOf x h
       unfolding storedBy
       ended-so z f y c =
-          sym (ap (λ (z : Bool). closed (cond z (set (s .voices) (h .count) (openedOf x (h .head))) (s .voices)) (cond y noPhrases (h .table))) f)
-          ∙ sym (ap (λ (y : Bool). closed (cond (s .p .fresh) (set (s .voices) (h .count) (openedOf x (h .head))) (s .voices)) (cond y noPhrases (h .table))) c)
+          sym (ap (λ (z : Bool). closed (cond z (set (s .voices) (h .count) (startedVoice x (h .head))) (s .voices)) (cond y noPhrases (h .table))) f)
+          ∙ sym (ap (λ (y : Bool). closed (cond (s .p .fresh) (set (s .voices) (h .count) (startedVoice x (h .head))) (s .voices)) (cond y noPhrases (h .table))) c)
           ∙ ends-there (g .walk) (omega (arith, g .left)) ∙ whole-change x h all eight
 
       -- a new voice is stored
       abbrev u : Voice
-      u = openedOf x (h .head)
+      u = startedVoice x (h .head)
 
       abbrev After : Out → SProp 𝓤
       After = afterSeq 𝓤 H (Wp 𝓤 H Cs Λ En (after 2 code.Mir.t-7) (atReturn 𝓤 H En Post)) (atReturn 𝓤 H En Post)
@@ -635,7 +635,7 @@ change-spec 𝓤 H 𝓜 𝓖 𝓡 =
       besides = cited 𝓤 H _ 𝓜 𝓡 code.env #beside beside-def.routine code.calls-lent-channel·beside (beside-thm.met 𝓤 H 𝓜 𝓖 𝓡);
       asides = record { met = cited 𝓤 H _ 𝓜 𝓡 code.env #aside aside-def.routine code.calls-lent-changes·aside-of (aside-thm.met 𝓤 H 𝓜 𝓖 𝓡) };
       enters = record {
-        met = first-of entering-of.ended (λ κs a r. r ≡ entryOf (a .0) (a .1 .0) (a .1 .1 .0) (a .1 .1 .1 .0)) (λ κs a r. r .place < 8) 𝓤 H (𝓖 .A) (givenOf 𝓤 H 𝓜 𝓖) (tablesOf 𝓤 H 𝓜 (tables 𝓤 H 𝓜 𝓡 code.env)) #entry
+        met = first-of entering-of.ended (λ κs a r. r ≡ entryStored (a .0) (a .1 .0) (a .1 .1 .0) (a .1 .1 .1 .0)) (λ κs a r. r .place < 8) 𝓤 H (𝓖 .A) (givenOf 𝓤 H 𝓜 𝓖) (tablesOf 𝓤 H 𝓜 (tables 𝓤 H 𝓜 𝓡 code.env)) #entry
             (cited 𝓤 H _ 𝓜 𝓡 code.env #entry entry-def.routine code.calls-channel·entry-of (entry-thm.met 𝓤 H 𝓜 𝓖 𝓡));
       };
       nones = record { met = cited 𝓤 H _ 𝓜 𝓡 code.env #none none-def.routine code.calls-phrases·none (none-thm.met 𝓤 H 𝓜 𝓖 𝓡) };

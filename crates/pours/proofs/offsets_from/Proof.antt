@@ -8,13 +8,13 @@ use lib.Ieee.Fits.{and-l, and-r}
 use lib.ListN.{length, length-set}
 use borrow.Author.Needs.{needs}
 use Rattle.binary32.proofs.Truth.{yes}
-use Rattle.pours.specs.Steady.{Counted}
+use Rattle.pours.specs.Steady.{CountedOffsets}
 use Rattle.pours.proofs.Placing.{counted-next}
 use Rattle.pours.proofs.offsets_from.Statement.{statement}
 use Rattle.pours.proofs.offsets_from.Tie as tie
 
 abbrev Inv-loop : tie.InvT-loop
-Inv-loop c from values₀ n mode told₀ k₀ values told k = (k ≤ n) × (length values ≡ length values₀) × (told ≡ true → Counted c from k values)
+Inv-loop c from values₀ n mode told₀ k₀ values told k = (k ≤ n) × (length values ≡ length values₀) × (told ≡ true → CountedOffsets c from k values)
 
 abbrev μ-loop : tie.MeasureT-loop
 μ-loop c from values₀ n mode told₀ k₀ values told k = n - k

@@ -6,9 +6,9 @@ use native.Mathlib.Nat.{mul-zero}
 use native.Mathlib.Omega.{arith}
 use lib.ListN.{length}
 use Rattle.smf.specs.Events.{stepAt}
-use Rattle.smf.specs.Files.{behindOf, chunkEvents}
+use Rattle.smf.specs.Files.{behindTrack, chunkEvents}
 use Rattle.smf.specs.Times.{firstTempo, unitOf, clockAt}
-use Rattle.smf.specs.Cues.{closedOf, songFrom}
+use Rattle.smf.specs.Cues.{countClosed, songFrom}
 use Rattle.smf.specs.declared.clock.Clock.{Clock}
 use Rattle.smf.specs.declared.chunks.Verdict.{Verdict}
 use Rattle.smf.proofs.Inside.{step-ends}
@@ -44,7 +44,7 @@ same-length : tie.Need-same-length Inv-loop μ-loop
 same-length c = (c .before .before .before .before .loop .inv) .kept
 
 returns : tie.Need-returns Inv-loop μ-loop
-unfolding closedOf
+unfolding countClosed
 returns c = broken _ _ _ _ (c .before .before .before .before .loop .inv) _ (ap (λ (n : ℕ). stepAt (c .before .before .before .before .before .before .before .before .args .file .now) n (c .before .before .before .before .loop .running) (c .before .before .before .before .loop .place)) (sym (c .before .before .before .before .before .smaller .ensures)) ∙ sym (c .before .before .before .step-at .ensures) ∙ c .before .fault .given .1)
 
 enum-known-next : tie.Need-enum-known-next Inv-loop μ-loop
@@ -61,7 +61,7 @@ same-length-2 c = (c .before .before .before .before .before .before .loop .inv)
 
 returns-2 : tie.Need-returns-2 Inv-loop μ-loop
 returns-2 c = let over = ended _ _ _ _ (c .before .before .before .before .before .before .loop .inv) _ (ap (λ (n : ℕ). stepAt (c .before .before .before .before .before .before .before .before .before .before .args .file .now) n (c .before .before .before .before .before .before .loop .running) (c .before .before .before .before .before .before .loop .place)) (sym (c .before .before .before .before .before .before .before .smaller .ensures)) ∙ sym (c .before .before .before .before .before .step-at .ensures) ∙ c .before .before .before .next .given .1) in
-    (c .closed .ensures ∙ ap (λ (v : Verdict). closedOf v (c .before .before .before .before .before .before .loop .count)) (c .before .behind .ensures) ∙ over .0, over .1)
+    (c .closed .ensures ∙ ap (λ (v : Verdict). countClosed v (c .before .before .before .before .before .before .loop .count)) (c .before .behind .ensures) ∙ over .0, over .1)
 
 enum-known-delta : tie.Need-enum-known-delta Inv-loop μ-loop
 enum-known-delta c = search needs
@@ -79,7 +79,7 @@ same-length-3 : tie.Need-same-length-3 Inv-loop μ-loop
 same-length-3 c = (c .before .before .before .before .before .before .before .loop .inv) .kept
 
 returns-3 : tie.Need-returns-3 Inv-loop μ-loop
-unfolding closedOf
+unfolding countClosed
 returns-3 c = late _ _ _ _ (c .before .before .before .before .before .before .before .loop .inv) _ _ _ _ (ap (λ (n : ℕ). stepAt (c .before .before .before .before .before .before .before .before .before .before .before .args .file .now) n (c .before .before .before .before .before .before .before .loop .running) (c .before .before .before .before .before .before .before .loop .place)) (sym (c .before .before .before .before .before .before .before .before .smaller .ensures)) ∙ sym (c .before .before .before .before .before .before .step-at .ensures) ∙ c .before .before .before .before .delta .given .1) _ (c .before .before .later .ensures _ ((c .before .before .before .before .before .before .before .loop .inv) .time)) (sym (c .before .late .ensures) ∙ c .if1 .taken)
 
 put-requires : tie.Need-put-requires Inv-loop μ-loop
