@@ -36,7 +36,7 @@ may-apart h n may = let parts = both (not (isRecordingOf (h .recorder))) (leb (h
 
 module _ (p : Params) (m : List ℕ) (i n : ℕ) (c : Channel) (k : Side) where
   -- it isn't: the sums are what they were
-  pub eases-none : (zs us : List Float) → zs ≡ k .pour .sums → Eases p m i n c k false c (with-sums zs us k)
+  pub eases-none : (zs : List Float) (us : List ℕ) → zs ≡ k .pour .sums → Eases p m i n c k false c (with-sums zs us k)
   eases-none zs us same = record {
     ahead = λ d hs ahead. subst (λ (l : List Float). Ahead p m i n l d hs c (k .hots)) (sym same) ahead;
     head = refl;
@@ -48,7 +48,7 @@ module _ (p : Params) (m : List ℕ) (i n : ℕ) (c : Channel) (k : Side) where
   v = getD (c .voices) i blankVoice
 
   -- it is, of whatever channel the others are ahead
-  module _ (voices : length (c .voices) ≡ 32) (below : i < min (c .count) 32) (may : mayEase (c .head) n ≡ true) (room : n ≤ length (k .pour .sums)) (b : Beat) (zs us : List Float) (r : Pouring)
+  module _ (voices : length (c .voices) ≡ 32) (below : i < min (c .count) 32) (may : mayEase (c .head) n ≡ true) (room : n ≤ length (k .pour .sums)) (b : Beat) (zs : List Float) (us : List ℕ) (r : Pouring)
       (full : eqb (phraseAt c (v .phrase) .length) 0 ≡ false) (pours : Pours (hot-at k i) v (tickIn p c v) b (recordingHeld m c v) n (k .pour .sums) zs r) (eases : r .eases ≡ true) where
     module _ (d : Channel) (hs : List Hot) (ahead : Ahead p m i n (k .pour .sums) d hs c (k .hots)) where
       abbrev w : Voice

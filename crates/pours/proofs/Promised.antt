@@ -6,13 +6,13 @@ use native.Mathlib.Omega.{arith}
 use mathlib.Core.Bool.{Bool, true, false, not, _&&_, _||_, true≢false}
 use mathlib.Core.List.{List}
 use lib.Dec.{T, leb, eqb, leb→le, eqb→eq, lit≤}
-use lib.Ieee.{Float, nan, binary32, add, mul, lt}
+use lib.Ieee.{Float, binary32, add, mul, lt}
 use lib.Ieee.Bits.{is-true}
 use lib.Ieee.Fits.{and-l, and-r}
 use lib.ListN as ListN
 use lib.ListN.{getD}
 use borrow.Author.Tests.{not-true, lt-ltb, ltb-true}
-use Rattle.binary32.specs.Leaves.{asFloat, asWhole}
+use Rattle.binary32.specs.Leaves.{asFloat, asWhole, floatOf}
 use Rattle.binary32.specs.Wholes.{wholeIn}
 use Rattle.binary32.proofs.Truth.{yes}
 use Rattle.binary32.proofs.Floors.{floor-cast}
@@ -27,7 +27,6 @@ use Rattle.clip.specs.Plain.{plainIndex}
 use Rattle.clip.proofs.Offsets.{offset-fits}
 use Rattle.voice.specs.declared.Voice.{Voice}
 use Rattle.voice.specs.declared.Tick.{Tick}
-use Rattle.voice.specs.Voices.{recordedValueOf}
 use Rattle.plain_voice.specs.declared.Hot.{Hot}
 use Rattle.plain_voice.specs.declared.Beat.{Beat}
 use Rattle.plain_voice.specs.Hots.{beatOf, Agrees, Agreeing}
@@ -35,7 +34,7 @@ use Rattle.pours.specs.declared.Pouring.{Pouring}
 use Rattle.pours.specs.declared.Fetched.{Fetched}
 use Rattle.pours.specs.Eases.{EasesVoice, EasesAt, termAt, LastButOne, lastHeard, movedOn, Added}
 use Rattle.pours.specs.Pours.{Pours, judgedOn}
-use Rattle.pours.specs.Steady.{paceOf, Steady, SteadyAt, playedOn, Lasts, soundAt, leveled, Offsets, Fetches, Gathers}
+use Rattle.pours.specs.Steady.{paceOf, Steady, SteadyAt, playedOn, Lasts, soundAt, leveled, Places, Fetches, Gathers}
 use Rattle.pours.proofs.Turns.{lastOn, onOf, glides-on, turns, poured}
 use Rattle.pours.proofs.Easing.{sum-is, eases-steady, eases-lasts, played-on, index-on, sounds-on, judged, place-on, moved-to}
 
@@ -191,19 +190,19 @@ unfolding indexAt
 whole-index c now = sym (floor-cast 64 (offsetAt c now) (offset-fits c now))
 
 module _ (m : List ℕ) (t : Tick) (n : ℕ) (v : Voice) where
-  pub gathered : (before after : List Float) (f : Fetched) → 1 ≤ n → Lasts t n v → Offsets (v .clip2) (t .now) n before → Fetches m (v .played) (paceOf t v) n before after f → Gathers m t n v after f
+  pub gathered : (before after : List ℕ) (f : Fetched) → 1 ≤ n → Lasts t n v → Places (v .clip2) (t .now) n before → Fetches m (v .played) (paceOf t v) n before after f → Gathers m t n v after f
   gathered before after f some lasts o F = record {
-    recorded = λ k h. F .values k h ∙ ap (recordedValueOf m) (at k h);
+    recorded = λ k h. F .values k h ∙ ap (λ (i : ℕ). getD m i 0) (at k h);
     index = F .index (n - 1) (omega (arith, some)) ∙ at (n - 1) (omega (arith, some));
     far = F .far;
     lasts = lasts;
   }
     where
-      at : (k : ℕ) → k < n → asWhole 64 (getD before k nan) ≡ indexAt (v .clip2) (t .now + k)
-      at k h = ap (asWhole 64) (o k h .1) ∙ whole-index (v .clip2) (t .now + k)
+      at : (k : ℕ) → k < n → getD before k 0 ≡ indexAt (v .clip2) (t .now + k)
+      at k h = o k h ∙ whole-index (v .clip2) (t .now + k)
 
-  pub sounds : (values : List Float) (g : Fetched) → Gathers m t n v values g → (k : ℕ) → k < n → leveled values (v .volume) (t .now) k ≡ soundAt m (v .clip2) (v .volume) (t .now + k)
-  sounds values g G k h = ap (λ (x : Float). mul binary32 x (levelOf (v .volume) (t .now + k))) (G .recorded k h)
+  pub sounds : (values : List ℕ) (g : Fetched) → Gathers m t n v values g → (k : ℕ) → k < n → leveled values (v .volume) (t .now) k ≡ soundAt m (v .clip2) (v .volume) (t .now + k)
+  sounds values g G k h = ap (λ (x : ℕ). mul binary32 (floatOf x) (levelOf (v .volume) (t .now + k))) (G .recorded k h)
 
 -- ---- and of one that eases by whole numbers
 module _ (h : Hot) (v : Voice) (t : Tick) (b : Beat) (m : List ℕ) (before after : List Float) (level : Float) (level-is : level ≡ levelOf (v .volume) (t .now)) where

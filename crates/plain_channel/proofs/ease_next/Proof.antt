@@ -200,7 +200,7 @@ module _ {M : Type 1} (𝓤 : URA M) (H : Heap 𝓤) (A : Atoms 𝓤) (W : Given
   abbrev ys : List Float
   ys = l .pour .sums
 
-  abbrev vs : List Float
+  abbrev vs : List ℕ
   vs = l .pour .values
 
   size : length ms * 4 < 2 ^ 63
@@ -276,7 +276,7 @@ module _ {M : Type 1} (𝓤 : URA M) (H : Heap 𝓤) (A : Atoms 𝓤) (W : Given
 
       module _ (ist : Is (tick .like) t (tick .val t ∷ [])) where
         -- it was poured, or not
-        module _ (r : Pouring) (zs us : List Float) (said : Pours h v t (beatOf t) m′ n ys zs r) (isr : Is G.the-row r (pouring .val r ∷ [])) where
+        module _ (r : Pouring) (zs : List Float) (us : List ℕ) (said : Pours h v t (beatOf t) m′ n ys zs r) (isr : Is G.the-row r (pouring .val r ∷ [])) where
           abbrev l₁ : Side
           l₁ = with-sums zs us l
 

@@ -1,23 +1,26 @@
--- `offsets_ahead` meets its contract. The invariant: so many offsets stand, if each was told. The measure is how many are left. Assumes nothing.
-use mathlib.Core.Path.{_≡_, refl, _∙_}
+-- `places_from` meets its contract. The invariant: so many samples stand, if each was told. The measure is how many are left. Assumes nothing.
+use mathlib.Core.Path.{_≡_, refl, sym, ap, _∙_, subst}
 use Prim.Native.Nat.{_-_, _≤_, _<_, zero-le}
 use native.Mathlib.Omega.{arith}
-use mathlib.Core.Bool.{Bool, true}
+use mathlib.Core.Bool.{Bool, true, not}
+use lib.Dec.{T}
+use lib.Ieee.{Float, lt, le, isNan, ofBits}
 use lib.Ieee.Bits.{is-true}
 use lib.Ieee.Fits.{and-l, and-r}
 use lib.ListN.{length, length-set}
 use borrow.Author.Needs.{needs}
+use Rattle.binary32.specs.Leaves.{zero32}
 use Rattle.binary32.proofs.Truth.{yes}
-use Rattle.pours.specs.Steady.{CountedOffsets}
-use Rattle.pours.proofs.Placing.{counted-next, looped-on}
-use Rattle.pours.proofs.offsets_ahead.Statement.{statement}
-use Rattle.pours.proofs.offsets_ahead.Tie as tie
+use Rattle.pours.specs.Steady.{CountedPlaces}
+use Rattle.pours.proofs.Placing.{counted-next}
+use Rattle.pours.proofs.places_from.Statement.{statement}
+use Rattle.pours.proofs.places_from.Tie as tie
 
 abbrev Inv-loop : tie.InvT-loop
-Inv-loop c from values₀ n told₀ k₀ values told k = (k ≤ n) × (length values ≡ length values₀) × (told ≡ true → CountedOffsets c from k values)
+Inv-loop c from values₀ n mode told₀ k₀ values told k = (k ≤ n) × (length values ≡ length values₀) × (told ≡ true → CountedPlaces c from k values)
 
 abbrev μ-loop : tie.MeasureT-loop
-μ-loop c from values₀ n told₀ k₀ values told k = n - k
+μ-loop c from values₀ n mode told₀ k₀ values told k = n - k
 
 loop-holds : tie.Need-loop-holds Inv-loop μ-loop
 loop-holds c = (zero-le, refl, λ told k h. absurd (omega (arith, h)))
@@ -31,20 +34,17 @@ add-travel c = search needs
 travel-requires : tie.Need-travel-requires Inv-loop μ-loop
 travel-requires c κs = search needs
 
-rem-or-less-requires : tie.Need-rem-or-less-requires Inv-loop μ-loop
-rem-or-less-requires c κs = search needs
+wrapped-requires : tie.Need-wrapped-requires Inv-loop μ-loop
+wrapped-requires c κs = search needs
 
-offset-of-requires : tie.Need-offset-of-requires Inv-loop μ-loop
-offset-of-requires c κs = search needs
+spot-at-requires : tie.Need-spot-at-requires Inv-loop μ-loop
+spot-at-requires c κs = search needs
 
 mul-values : tie.Need-mul-values Inv-loop μ-loop
 mul-values c = search needs
 
 slice-write-values : tie.Need-slice-write-values Inv-loop μ-loop
 slice-write-values c = search needs
-
-is-low-requires : tie.Need-is-low-requires Inv-loop μ-loop
-is-low-requires c κs = search needs
 
 add-k : tie.Need-add-k Inv-loop μ-loop
 add-k c = search needs
@@ -53,18 +53,21 @@ loop-less : tie.Need-loop-less Inv-loop μ-loop
 loop-less c = search needs
 
 loop-again : tie.Need-loop-again Inv-loop μ-loop
+unfolding ofBits
 loop-again c =
     let s = c .before .before .before .before .before .before .before in
     let a = s .args in
     let l = c .before .before .before .before .before .loop in
-    let r = c .before .offset-of .result in
-    let low : Bool = c .is-low .result in
+    let place = c .before .before .wrapped in
+    let spot = c .before .spot-at in
     let below : l .k < a .n = c .before .before .before .before .loop-test .taken in (
       omega (arith, below),
-      length-set (l .values) (l .k) r ∙ l .inv .1,
+      length-set (l .values) (l .k) (spot .result .index) ∙ l .inv .1,
       λ told.
-          counted-next (a .c) (a .from) (l .k) (l .values) _ _ r (omega (arith, below, s .pre .2, l .inv .1)) (c .before .before .before .travel .ensures) (looped-on (a .c) _ _ (s .pre .0) (c .before .before .rem-or-less .ensures)) (c .before .offset-of .ensures)
-          (c .is-low .ensures (is-true low (and-r (l .told) low (yes told)))) (l .inv .2 (is-true (l .told) (and-l (l .told) low (yes told)))),
+          let h = and-r (l .told) _ (yes told) in
+          let S = spot .ensures (is-true _ (and-r (le zero32 (place .result)) _ h)) in
+          counted-next (a .c) (a .from) (l .k) (l .values) _ (place .result) (spot .result .index) (omega (arith, below, s .pre .1, l .inv .1)) (c .before .before .before .travel .ensures) (place .ensures (and-l (le zero32 (place .result)) _ h)) (S .1)
+          (l .inv .2 (is-true (l .told) (and-l (l .told) _ (yes told)))),
     )
 
 same-length : tie.Need-same-length Inv-loop μ-loop
@@ -75,8 +78,8 @@ returns c =
     let l = c .before .loop in
     (l .inv .1, λ told k h. l .inv .2 told k (omega (arith, h, c .loop-test .left)))
 
-pub offsets-ahead-spec : {M : Type 1} → statement M
-offsets-ahead-spec =
+pub places-from-spec : {M : Type 1} → statement M
+places-from-spec =
     tie.close
     (tie.spec
     Inv-loop
@@ -85,11 +88,10 @@ offsets-ahead-spec =
     cast-travel
     add-travel
     travel-requires
-    rem-or-less-requires
-    offset-of-requires
+    wrapped-requires
+    spot-at-requires
     mul-values
     slice-write-values
-    is-low-requires
     add-k
     loop-less
     loop-again
