@@ -44,6 +44,7 @@ fn begun(scenario: &Scenario, p: &Params) -> Sampler {
         c.interpolates = scenario.smooth;
     }
     (0..scenario.voices).for_each(|i| start(&mut s, i, p));
+    (0..scenario.voices).filter(|&i| scenario.bends(i)).for_each(|i| s.set_note_speed(note_of(i), 0.7));
     (0..scenario.voices).filter(|&i| scenario.stops(i)).for_each(|i| s.stop_playing(note_of(i), p));
     s
 }
@@ -92,7 +93,7 @@ fn play(scenario: &Scenario, s: &mut Sampler, p: &Params) -> u64 {
             on_beat(s, scenario, k, p);
         }
         let at = k as usize;
-        let now = if k % 2 == 0 { p } else { &other };
+        let now = if k / scenario.run % 2 == 0 { p } else { &other };
         sum = with_outputs(sum, process(s, [inputs[at % 256], inputs[(at + 7) % 256]], now));
     }
     sum

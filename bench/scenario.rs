@@ -44,7 +44,7 @@ pub struct Scenario {
     pub records: bool,
     /// The recording isn't stopped before the first turn: each frame makes it longer.
     pub grows: bool,
-    /// Every second frame is played under other parameters: length, speed and mode.
+    /// Every second frame, or run, is played under other parameters: length, speed and mode.
     pub changes: bool,
     /// Every 1,024 frames 16 keys are let go at once; 512 frames later they are started again.
     pub leaves: bool,
@@ -59,6 +59,9 @@ pub struct Scenario {
     pub phrases: u32,
     /// How many voices in turn are started on one phrase before the next is chosen.
     pub stretch: u32,
+    /// From this voice on, each that is so many after the one before has note speed 0.7; 0 voices after: none has.
+    pub bent_from: u32,
+    pub bent_each: u32,
 }
 
 const ONCE: u8 = 0;
@@ -88,6 +91,8 @@ const BASE: Scenario = Scenario {
     smooth: false,
     phrases: 1,
     stretch: 1,
+    bent_from: 0,
+    bent_each: 0,
 };
 
 /// One frame of 32 voices, over and over.
@@ -115,6 +120,9 @@ pub const SCENARIOS: &[Scenario] = &[
     Scenario { name: "plain: 32 voices, runs of 64", voices: 32, frames: 20_000, run: 64, ..WHOLE },
     Scenario { name: "plain: 32 voices, attack running, runs of 64", voices: 32, frames: 20_000, run: 64, ramp: LONGEST_RAMP, ..WHOLE },
     Scenario { name: "plain: 32 voices, eight phrases, runs of 64", voices: 32, frames: 20_000, run: 64, phrases: 8, stretch: 4, ratio: 0.25, ..WHOLE },
+    Scenario { name: "half plain: 16 plain, then 16 not, runs of 64", voices: 32, frames: 20_000, run: 64, bent_from: 16, bent_each: 1, ..WHOLE },
+    Scenario { name: "half plain: each second of 32, runs of 64", voices: 32, frames: 20_000, run: 64, bent_each: 2, ..WHOLE },
+    Scenario { name: "plain: 32 voices, 16 leave and come back, runs of 64", voices: 32, leaves: true, frames: 20_480, run: 64, ..WHOLE },
     Scenario { name: "no voices", voices: 0, frames: 500_000, ..BASE },
     Scenario { name: "1 voice, loop", voices: 1, frames: 200_000, ..BASE },
     Scenario { name: "1 voice, ping-pong", voices: 1, mode: PING_PONG, frames: 200_000, ..BASE },
@@ -141,10 +149,18 @@ pub const SCENARIOS: &[Scenario] = &[
     Scenario { name: "1 voice, loop, runs of 64", voices: 1, frames: 200_000, run: 64, ..BASE },
     Scenario { name: "8 voices, loop, runs of 64", run: 64, ..BASE },
     Scenario { name: "32 voices, loop, runs of 64", voices: 32, frames: 20_000, run: 64, ..BASE },
+    Scenario { name: "32 voices, loop, speed 1, runs of 64", voices: 32, speed: 1.0, frames: 20_000, run: 64, ..BASE },
+    Scenario { name: "32 voices, loop, speed 0.7, runs of 64", voices: 32, speed: 0.7, frames: 20_000, run: 64, ..BASE },
+    Scenario { name: "32 voices, loop, speed -0.5, runs of 64", voices: 32, speed: 0.5, reverse: -1.0, frames: 20_000, run: 64, ..BASE },
     Scenario { name: "32 voices, ping-pong, runs of 64", voices: 32, mode: PING_PONG, frames: 20_000, run: 64, ..BASE },
     Scenario { name: "32 voices, reverse speed, runs of 64", voices: 32, reverse: -1.0, frames: 20_000, run: 64, ..BASE },
     Scenario { name: "32 voices, attack running, runs of 64", voices: 32, ramp: LONGEST_RAMP, frames: 20_000, run: 64, ..BASE },
     Scenario { name: "8 voices, play-once, runs of 64", mode: ONCE, speed: 0.05, ratio: 1.0, run: 64, ..BASE },
+    Scenario { name: "32 voices, decay running, runs of 64", voices: 32, ramp: LONGEST_RAMP, stopped: 1, frames: 20_000, run: 64, ..BASE },
+    Scenario { name: "32 voices, 16 leave and come back, runs of 64", voices: 32, leaves: true, frames: 20_480, run: 64, ..BASE },
+    Scenario { name: "8 voices, parameters change each run, runs of 64", changes: true, run: 64, ..BASE },
+    Scenario { name: "32 voices, parameters change each run, runs of 64", voices: 32, changes: true, frames: 20_000, run: 64, ..BASE },
+    Scenario { name: "32 voices, recording, runs of 64", voices: 32, records: true, frames: 20_480, run: 64, ..BASE },
     Scenario { name: "1 voice, loop, ten million frames", voices: 1, frames: 10_000_000, ..BASE },
     Scenario { name: "call: start", act: Act::Start, ..CALL },
     Scenario { name: "call: stop", act: Act::Stop, ..CALL },
@@ -191,6 +207,10 @@ impl Scenario {
         self.stopped > 0 && voice % self.stopped == 0
     }
 
+    pub fn bends(&self, voice: u32) -> bool {
+        self.bent_each > 0 && voice >= self.bent_from && (voice - self.bent_from) % self.bent_each == 0
+    }
+
     fn settings(&self) -> Record {
         Record::new(1)
             .with_u8(params::KIND, 4)
@@ -208,7 +228,7 @@ impl Scenario {
             .with_u32(params::REVERSE, self.reverse.to_bits())
     }
 
-    /// The parameters of every second frame.
+    /// The parameters of every second frame or run.
     fn other_settings(&self) -> Record {
         if !self.changes {
             return self.settings();
@@ -227,7 +247,7 @@ impl Scenario {
         params::params(&self.other_settings())
     }
 
-    /// The parameters, those of every second frame and the plan, as bench/port.rt.txt reads them.
+    /// The parameters, those of every second frame or run and the plan, as bench/port.rt.txt reads them.
     pub fn bytes(&self) -> Vec<u8> {
         let plan = Record::new(0)
             .with_u32(0, self.frames)
@@ -242,7 +262,9 @@ impl Scenario {
             .with_u32(44, self.act as u32)
             .with_u32(48, self.smooth.into())
             .with_u32(52, self.phrases)
-            .with_u32(56, self.stretch);
+            .with_u32(28, self.bent_from)
+            .with_u32(56, self.stretch)
+            .with_u32(60, self.bent_each);
         [self.settings().0, self.other_settings().0, plan.0].concat()
     }
 }

@@ -131,7 +131,7 @@ int vusatica_frame(vusatica_sampler *s, float *frame, size_t entries, const vusa
 int vusatica_frames(vusatica_sampler *s, float *run, size_t entries, const vusatica_params *params, uint32_t *memory,
                     size_t samples, size_t *frames);
 
-/* A sample of one channel. It copies the record: a frame is quicker. 9 1 4 6. */
+/* A sample of one channel. 9 1 4 6. */
 int vusatica_sample(vusatica_sampler *s, size_t channel, float input, const vusatica_params *params, uint32_t *memory,
                     size_t samples, float *output, int *moved);
 

@@ -19,7 +19,7 @@ use Rattle.phrases.specs.Phrases.{noPhrase, noPhrases, emptyFrom}
 use Rattle.voice.specs.declared.Voice.{Voice}
 use Rattle.voice.specs.Voices.{finishOf, freshOf, blankVoice}
 use Rattle.channel.specs.Heads.{recordingIn, momentOf}
-use Rattle.channel.specs.Tables.{placeOf, withRecording, staysChosen, tableAfter, severalAfter, headNames, namesOf, entryKept, headEntry, entryOf, storedBy}
+use Rattle.channel.specs.Tables.{placeOf, withRecording, staysChosen, tableAfter, severalAfter, headNames, namesOf, entryKept, headEntry, entryStored, storedBy}
 use Rattle.channel.specs.Channels.{withHead, withVoices, headChangedIn, handledOf, pushedOf, startPlayingOf, findOf, finishedAtOf, stopPlayingOf, setNoteSpeedOf, resetOf, changedOf}
 use Rattle.channel.specs.declared.Head.{Head}
 use Rattle.channel.specs.declared.Channel.{Channel}
@@ -50,8 +50,8 @@ head-entry-below (Choose k) h several entry =
     cond-split (λ (e : Entry). e .place < 8) (staysChosen k h) (entryKept several (placeOf k) entry) (put h several) (λ t. placed-below k) (λ t. placed-below (h .chosen))
 head-entry-below (Delete k) h several entry = placed-below k
 
-pub entry-below : (x : Change) (h : Head) (several : Bool) (entry : Phrase) → entryOf x h several entry .place < 8
-unfolding entryOf
+pub entry-below : (x : Change) (h : Head) (several : Bool) (entry : Phrase) → entryStored x h several entry .place < 8
+unfolding entryStored
 entry-below (change.Start p position note velocity) h several entry = omega arith
 entry-below (change.Stop p note) h several entry = omega arith
 entry-below (change.Speed note speed) h several entry = omega arith
@@ -144,16 +144,16 @@ module _ {A : Type 0} (f : Channel → A) (heads : (h : Head) (c : Channel) → 
 -- ---- any change
 module _ (c : Channel) where
   pub stored : (x : Change) → length (c .table) ≡ 8
-      → storedBy (entryOf x (c .head) (c .several) (getD (c .table) (placeOf (namesOf x)) noPhrase)) (c .table) ≡ changedOf x c .table
-  unfolding entryOf namesOf changedOf headChangedIn resetOf
+      → storedBy (entryStored x (c .head) (c .several) (getD (c .table) (placeOf (namesOf x)) noPhrase)) (c .table) ≡ changedOf x c .table
+  unfolding entryStored namesOf changedOf headChangedIn resetOf
   stored (change.Start p position note velocity) eight = kept (c .several) 0 (c .table) ∙ sym (start-holds (λ (d : Channel). d .table) (λ h d. refl) (λ vs n d. refl) p position note velocity c)
   stored (change.Stop p note) eight = kept (c .several) 0 (c .table) ∙ sym (stop-holds (λ (d : Channel). d .table) (λ h d. refl) (λ vs n d. refl) p note c)
   stored (change.Speed note speed) eight = kept (c .several) 0 (c .table) ∙ sym (speed-holds (λ (d : Channel). d .table) (λ h d. refl) (λ vs n d. refl) note speed c)
   stored (change.Head d) eight = head-stored d (c .head) (c .several) (c .table) eight
   stored change.Reset eight = kept false 0 (c .table)
 
-  pub several-stored : (x : Change) (entry : Phrase) → entryOf x (c .head) (c .several) entry .several ≡ changedOf x c .several
-  unfolding entryOf changedOf headChangedIn resetOf
+  pub several-stored : (x : Change) (entry : Phrase) → entryStored x (c .head) (c .several) entry .several ≡ changedOf x c .several
+  unfolding entryStored changedOf headChangedIn resetOf
   several-stored (change.Start p position note velocity) entry = sym (start-holds (λ (d : Channel). d .several) (λ h d. refl) (λ vs n d. refl) p position note velocity c)
   several-stored (change.Stop p note) entry = sym (stop-holds (λ (d : Channel). d .several) (λ h d. refl) (λ vs n d. refl) p note c)
   several-stored (change.Speed note speed) entry = sym (speed-holds (λ (d : Channel). d .several) (λ h d. refl) (λ vs n d. refl) note speed c)

@@ -105,12 +105,12 @@ headEntry (Choose k) h several entry =
 headEntry (Delete k) h several entry =
     entryKept several (placeOf k) (cond (leb 8 k) entry (emptyFrom (entry .start)))
 
-unfoldable pub entryOf : Change → Head → Bool → Phrase → Entry
-entryOf (change.Start p position note velocity) h several entry = entryKept several 0 entry
-entryOf (change.Stop p note) h several entry = entryKept several 0 entry
-entryOf (change.Speed note speed) h several entry = entryKept several 0 entry
-entryOf (change.Head d) h several entry = headEntry d h several entry
-entryOf change.Reset h several entry = entryKept false 0 entry
+unfoldable pub entryStored : Change → Head → Bool → Phrase → Entry
+entryStored (change.Start p position note velocity) h several entry = entryKept several 0 entry
+entryStored (change.Stop p note) h several entry = entryKept several 0 entry
+entryStored (change.Speed note speed) h several entry = entryKept several 0 entry
+entryStored (change.Head d) h several entry = headEntry d h several entry
+entryStored change.Reset h several entry = entryKept false 0 entry
 
 -- the table with it
 unfoldable pub storedBy : Entry → List Phrase → List Phrase

@@ -9,6 +9,7 @@ ghost use mathlib.Core.Bool.{cond};
 ghost use lib.Dec.{ltb};
 ghost use lib.ListN.{length};
 ghost use Rattle.binary32.specs.Leaves.{bitsOf, zero32, one32};
+ghost use Rattle.volume.specs.Levels.{towardOf};
 ghost use Rattle.recorder.specs.Recording.{recordedOf, dataAfter, isRecordingOf};
 ghost use Rattle.voice.specs.Voices.{shouldRemoveOf};
 ghost use Rattle.channel.specs.Heads.{
@@ -45,7 +46,7 @@ ghost use Rattle.channel.specs.Tables.{
   foundBy,
   entryKept,
   headEntry,
-  entryOf,
+  entryStored,
   headAsks,
   asksOf,
   leavingOf,
@@ -348,6 +349,15 @@ impl Head {
         self.with_passthru(wanted, ramp(volume, self.now, params, wanted))
     }
 
+    // A ramp of pass-through to that state begins, over so many samples.
+    pub fn ramped(self, on: bool, samples: usize) -> Self
+        ensures { λ r. ⌜ r
+            ≡ withPassthru on (towardOf (self .«passthru_volume») (self .now) samples (cond on one32 zero32)) self ⌝ }
+    {
+        let volume = self.passthru_volume;
+        self.with_passthru(on, volume.toward(self.now, samples, full(on)))
+    }
+
     // The end of a sample: the level's step, the change of state, and the clock.
     pub fn closed(self, params: Params, unfinished: bool) -> Self
         ensures { λ r. ⌜ r ≡ closedOf params unfinished self ⌝ }
@@ -461,7 +471,7 @@ impl Head {
     {
         if behind <= self.start {
             return Room {
-                from: phrases::smaller(self.start, size),
+                from: walks::smaller(self.start, size),
                 to: size,
             };
         }
@@ -666,7 +676,7 @@ fn head_entry(change: HeadChange, head: Head, several: bool, entry: Phrase) -> E
 
 // What a change stores in the table, where `entry` is the one of the number that it names.
 pub fn entry_of(change: Change, head: Head, several: bool, entry: Phrase) -> Entry
-    ensures { λ r. ⌜ r ≡ entryOf change head several entry ⌝ }
+    ensures { λ r. ⌜ r ≡ entryStored change head several entry ⌝ }
     ensures { λ r. ⌜ r .place < 8 ⌝ }
 {
     match change {
@@ -713,11 +723,25 @@ pub fn passes(params: Params, unfinished: bool) -> bool
 fn ramp(volume: Volume, now: usize, params: Params, wanted: bool) -> Volume
     ensures { λ r. ⌜ r ≡ rampOf volume now params wanted ⌝ }
 {
-    if wanted {
-        volume.toward(now, params.attack_samples, 1.0)
+    volume.toward(now, ramp_samples(params, wanted), full(wanted))
+}
+
+// How many samples a ramp of pass-through to that state takes.
+pub fn ramp_samples(params: Params, on: bool) -> usize
+    ensures { λ r. ⌜ r ≡ cond on (params .«attack_samples») (params .«decay_samples») ⌝ }
+{
+    if on {
+        params.attack_samples
     } else {
-        volume.toward(now, params.decay_samples, 0.0)
+        params.decay_samples
     }
+}
+
+// The level of pass-through in that state.
+fn full(on: bool) -> f32
+    ensures { λ r. ⌜ r ≡ cond on one32 zero32 ⌝ }
+{
+    if on { 1.0 } else { 0.0 }
 }
 
 // Whether the phrases of a table lie within the capacity, and no two have a sample in common.
@@ -731,12 +755,6 @@ pub fn good_table(head: Head, several: bool, table: [Phrase; 8], capacity: usize
         phrases::with(table, head.chosen, head.recording()),
         capacity,
     )
-}
-
-fn first_level(params: InitParams) -> f32
-    ensures { λ r. ⌜ r ≡ cond (params .«auto_passthru») one32 zero32 ⌝ }
-{
-    if params.auto_passthru { 1.0 } else { 0.0 }
 }
 
 pub fn next_time(now: usize) -> usize
@@ -788,7 +806,7 @@ impl Channel {
             voices: [blank; 32],
             table: phrases::none(),
             count: 0,
-            head: Head::new(first_level(params), false),
+            head: Head::new(full(params.auto_passthru), false),
             several: false,
         }
     }

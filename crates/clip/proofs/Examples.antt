@@ -11,7 +11,7 @@ use lib.IntN.{negsuc}
 use lib.Ieee.{Float, nan, fin, binary32, neg, ofInt, add, sub, mul, rem, lt, le, eq, isNan, toUnsigned}
 use Rattle.binary32.specs.Leaves.{zero32, one32, asFloat, signOf, floorOf, minOf, maxOf}
 use Rattle.binary32.specs.Wholes.{wholeIn}
-use Rattle.clip.specs.Positions.{leadOf, travelAt, loopedOf, roundTripOf, mirroredOf, bouncedOf, wrappedOf, placedOf, clipOffsetAt, clipToDataOf, offsetAt, positionOf, sumOf, positionAt, indexAt, aheadOf, nextAt}
+use Rattle.clip.specs.Positions.{leadOf, travelAt, loopedOf, roundTripOf, mirroredOf, bouncedOf, wrappedOf, placedOf, clipOffsetAt, clipToDataOf, offsetAt, positionOf, sumOf, positionAt, indexAt, oneFurther, nextAt}
 use Rattle.clip.specs.Updates.{madeOf, atSpeed, atLength, sameAll}
 use Rattle.clip.specs.Plain.{plainIndex, isPlain, plainAt}
 use Rattle.clip.specs.Quick.{noIndex, QuickIndex, QuickFraction, QuickNext}
@@ -22,7 +22,7 @@ use Rattle.clip.specs.declared.Clip.{Clip}
 
 -- whatever an index computes by
 unfoldable computing : Unit {0}
-unfolding nextAt aheadOf sumOf positionOf indexAt offsetAt clipToDataOf clipOffsetAt placedOf wrappedOf loopedOf bouncedOf roundTripOf mirroredOf travelAt leadOf madeOf floorOf minOf maxOf ofInt neg add sub mul rem lt le eq isNan toUnsigned wholeIn isPlain plainAt
+unfolding nextAt oneFurther sumOf positionOf indexAt offsetAt clipToDataOf clipOffsetAt placedOf wrappedOf loopedOf bouncedOf roundTripOf mirroredOf travelAt leadOf madeOf floorOf minOf maxOf ofInt neg add sub mul rem lt le eq isNan toUnsigned wholeIn isPlain plainAt
 computing = tt
 
 -- a clip of since 0, at speed 1

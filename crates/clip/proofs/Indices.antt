@@ -13,7 +13,7 @@ use Rattle.binary32.proofs.Units.{zero-units}
 use Rattle.binary32.proofs.Between.{whole-below}
 use Rattle.binary32.proofs.Floors.{floor-cast}
 use Rattle.binary32.proofs.Parts.{cast-units, rest-sign, rest-low, rest-high, parts-sum, parts-equal}
-use Rattle.clip.specs.Positions.{travelAt, placedOf, clipOffsetAt, clipToDataOf, offsetAt, indexOf, positionOf, sumOf, positionAt, indexAt, aheadOf, nextAt}
+use Rattle.clip.specs.Positions.{travelAt, placedOf, clipOffsetAt, clipToDataOf, offsetAt, indexOf, positionOf, sumOf, positionAt, indexAt, oneFurther, nextAt}
 use Rattle.clip.specs.Bounds.{Sound, Inside, Within, AddsUp}
 use Rattle.clip.specs.declared.Clip.{Clip}
 use Rattle.clip.proofs.Lengths.{good-parts, length-units, float-units}
@@ -45,14 +45,14 @@ module _ (c : Clip) (now n : ℕ) (h : Sound c) (e : c .«data_length» ≡ asFl
   unfolding indexAt offsetAt
   index-below = place-below (clipOffsetAt c now) (clip-offset-fits c now) (clip-offset-inside c now h)
 
-  ahead-fits : (x speed : Float) → T (fits binary32 (aheadOf x speed))
-  unfolding aheadOf
+  ahead-fits : (x speed : Float) → T (fits binary32 (oneFurther x speed))
+  unfolding oneFurther
   ahead-fits x speed = cond-fits binary32 (lt speed zero32) (sub binary32 x one32) (add binary32 x one32) (sub-fits binary32 x one32) (add-fits binary32 x one32)
 
   pub next-below : nextAt c now < n
   unfolding nextAt
   next-below =
-      let x = aheadOf (travelAt c now) (c .speed) in
+      let x = oneFurther (travelAt c now) (c .speed) in
       let t = ahead-fits (travelAt c now) (c .speed) in
       place-below (placedOf (c .mode) x (c .length)) (placed-fits (c .mode) x (c .length) t) (rules-inside c h x t)
 

@@ -4,19 +4,19 @@ use Prim.Native.Nat.{ℕ, _-_}
 use native.Mathlib.Omega.{arith}
 use lib.Ieee.{Float, ofInt}
 use Rattle.binary32.specs.Leaves.{zero32, asFloat}
-use Rattle.clip.specs.Positions.{standingOf, Stands}
+use Rattle.clip.specs.Positions.{standingOf, StandsNow}
 use Rattle.clip.specs.Updates.{resumed}
 use Rattle.clip.specs.declared.Clip.{Clip}
 use Rattle.clip.specs.declared.Standing.{Standing}
 
 -- a record that stands is that of its clip and time
-pub standing-is : (s : Standing) → Stands s → s ≡ standingOf (s .clip) (s .now)
+pub standing-is : (s : Standing) → StandsNow s → s ≡ standingOf (s .clip) (s .now)
 unfolding standingOf
 standing-is s h = ap (λ (e : Float). record { clip = s .clip; now = s .now; elapsed = e }) h
 
-pub standing-stands : (s : Standing) (c : Clip) (now : ℕ) → s ≡ standingOf c now → Stands s
+pub standing-stands : (s : Standing) (c : Clip) (now : ℕ) → s ≡ standingOf c now → StandsNow s
 unfolding standingOf
-standing-stands s c now e = subst Stands (sym e) refl
+standing-stands s c now e = subst StandsNow (sym e) refl
 
 -- no sample has gone since a change at that time
 none-gone : (now : ℕ) → zero32 ≡ asFloat (now - now)

@@ -93,13 +93,13 @@ indexAt c now = indexOf (offsetAt c now)
 -- ---- the next sample (request 7/12)
 
 -- "x with 1 added (taken off for negative speed)": -0 and NaN are not negative
-unfoldable pub aheadOf : Float → Float → Float
-aheadOf x speed = cond (lt speed zero32) (sub binary32 x one32) (add binary32 x one32)
+unfoldable pub oneFurther : Float → Float → Float
+oneFurther x speed = cond (lt speed zero32) (sub binary32 x one32) (add binary32 x one32)
 
 -- "put through the same loop or ping-pong rule, clamp, offset and floor"
 unfoldable pub nextAt : Clip → ℕ → ℕ
 nextAt c now =
-    indexOf (clipToDataOf c (placedOf (c .mode) (aheadOf (travelAt c now) (c .speed)) (c .length)))
+    indexOf (clipToDataOf c (placedOf (c .mode) (oneFurther (travelAt c now) (c .speed)) (c .length)))
 
 -- ---- a clip at a time, as the code carries it
 
@@ -108,13 +108,13 @@ unfoldable pub standingOf : Clip → ℕ → Standing
 standingOf c now = record { clip = c; now = now; elapsed = asFloat (elapsedAt c now) }
 
 -- its float is that
-abbrev pub Stands : Standing → Type 0
-Stands s = s .elapsed ≡ asFloat (elapsedAt (s .clip) (s .now))
+abbrev pub StandsNow : Standing → Type 0
+StandsNow s = s .elapsed ≡ asFloat (elapsedAt (s .clip) (s .now))
 
 -- the next index where it is asked for, else the index
-abbrev pub besideOf : Clip → ℕ → Bool → ℕ
-besideOf c now smooth = cond smooth (nextAt c now) (indexAt c now)
+abbrev pub nextIfSmooth : Clip → ℕ → Bool → ℕ
+nextIfSmooth c now smooth = cond smooth (nextAt c now) (indexAt c now)
 
 -- with its position
 unfoldable pub soundingOf : Clip → ℕ → Bool → Sounding
-soundingOf c now smooth = record { clip = c; position = positionAt c now; next = besideOf c now smooth }
+soundingOf c now smooth = record { clip = c; position = positionAt c now; next = nextIfSmooth c now smooth }

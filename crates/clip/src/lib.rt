@@ -29,10 +29,10 @@ ghost use Rattle.clip.specs.Positions.{
   sumOf,
   positionAt,
   indexAt,
-  aheadOf,
+  oneFurther,
   nextAt,
   standingOf,
-  Stands,
+  StandsNow,
   soundingOf,
 };
 ghost use Rattle.clip.specs.Updates.{
@@ -166,7 +166,7 @@ fn lead(speed: f32) -> f32
 
 // One sample on from x, the way the clip moves.
 fn ahead(x: f32, speed: f32) -> f32
-    ensures { λ r. ⌜ r ≡ aheadOf x speed ⌝ }
+    ensures { λ r. ⌜ r ≡ oneFurther x speed ⌝ }
 {
     if speed < 0.0 { x - 1.0 } else { x + 1.0 }
 }
@@ -194,9 +194,14 @@ fn way(elapsed: usize, speed: f32) -> f32
     }
 }
 
+// Soon after a change of the clip x lies below twice the length, where the remainder takes no more than a difference.
 fn looped(x: f32, length: f32) -> f32
     ensures { λ r. ⌜ r ≡ loopedOf x length ⌝ }
 {
+    let t = quick_rem(x, length);
+    if t >= 0.0 {
+        return t;
+    }
     raised(x % length, length)
 }
 
@@ -779,7 +784,7 @@ impl Clip {
 
 impl Standing {
     fn travel(self) -> f32
-        requires { ⌜ Stands self ⌝ }
+        requires { ⌜ StandsNow self ⌝ }
         ensures { λ r. ⌜ r ≡ travelAt (self .clip) (self .now) ⌝ }
     {
         let clip = self.clip;
@@ -787,7 +792,7 @@ impl Standing {
     }
 
     fn place(self) -> f32
-        requires { ⌜ Stands self ⌝ }
+        requires { ⌜ StandsNow self ⌝ }
         ensures { λ r. ⌜ r ≡ clipOffsetAt (self .clip) (self .now) ⌝ }
     {
         let clip = self.clip;
@@ -796,7 +801,7 @@ impl Standing {
     }
 
     fn offset(self) -> f32
-        requires { ⌜ Stands self ⌝ }
+        requires { ⌜ StandsNow self ⌝ }
         ensures { λ r. ⌜ r ≡ offsetAt (self .clip) (self .now) ⌝ }
     {
         let clip = self.clip;
@@ -804,14 +809,14 @@ impl Standing {
     }
 
     fn position(self) -> Position
-        requires { ⌜ Stands self ⌝ }
+        requires { ⌜ StandsNow self ⌝ }
         ensures { λ r. ⌜ r ≡ positionAt (self .clip) (self .now) ⌝ }
     {
         Position::of(self.offset())
     }
 
     fn next(self) -> usize
-        requires { ⌜ Stands self ⌝ }
+        requires { ⌜ StandsNow self ⌝ }
         ensures { λ r. ⌜ r ≡ nextAt (self .clip) (self .now) ⌝ }
     {
         let clip = self.clip;
@@ -822,14 +827,14 @@ impl Standing {
 
     // The next index where it is asked for, else the one given.
     fn beside(self, index: usize, smooth: bool) -> usize
-        requires { ⌜ Stands self ⌝ }
+        requires { ⌜ StandsNow self ⌝ }
         ensures { λ r. ⌜ r ≡ cond smooth (nextAt (self .clip) (self .now)) index ⌝ }
     {
         if smooth { self.next() } else { index }
     }
 
     fn reversing(self) -> bool
-        requires { ⌜ Stands self ⌝ }
+        requires { ⌜ StandsNow self ⌝ }
         ensures { λ r. ⌜ r ≡ reversingAt (self .clip) (self .now) ⌝ }
     {
         let clip = self.clip;
@@ -841,7 +846,7 @@ impl Standing {
     }
 
     fn shift_for(self, found: Found) -> f32
-        requires { ⌜ Stands self ⌝ }
+        requires { ⌜ StandsNow self ⌝ }
         ensures { λ r. ⌜ r ≡ shiftFor (self .clip) found (self .now) ⌝ }
     {
         let clip = self.clip;
@@ -857,7 +862,7 @@ impl Standing {
 
     // The clip has its field set, and still its old shift and `since`.
     fn settled(self, offset: f32) -> Standing
-        requires { ⌜ Stands self ⌝ }
+        requires { ⌜ StandsNow self ⌝ }
         ensures { λ r. ⌜ r ≡ standingOf (settledOf (self .clip) offset (self .now)) (self .now) ⌝ }
     {
         let mut clip = self.clip;
@@ -872,7 +877,7 @@ impl Standing {
     }
 
     fn paced(self, speed: f32) -> Standing
-        requires { ⌜ Stands self ⌝ }
+        requires { ⌜ StandsNow self ⌝ }
         ensures { λ r. ⌜ r ≡ standingOf (withSpeed (self .clip) (self .now) speed) (self .now) ⌝ }
     {
         let mut clip = self.clip;
@@ -889,7 +894,7 @@ impl Standing {
     }
 
     fn turned(self, mode: Mode) -> Standing
-        requires { ⌜ Stands self ⌝ }
+        requires { ⌜ StandsNow self ⌝ }
         ensures { λ r. ⌜ r ≡ standingOf (withMode (self .clip) (self .now) mode) (self .now) ⌝ }
     {
         let old = self.clip;
@@ -915,7 +920,7 @@ impl Standing {
     }
 
     fn sized(self, length: f32) -> Standing
-        requires { ⌜ Stands self ⌝ }
+        requires { ⌜ StandsNow self ⌝ }
         ensures { λ r. ⌜ r ≡ standingOf (withLength (self .clip) (self .now) length) (self .now) ⌝ }
     {
         let mut clip = self.clip;
@@ -932,7 +937,7 @@ impl Standing {
     }
 
     fn cut(self, data_length: f32) -> Standing
-        requires { ⌜ Stands self ⌝ }
+        requires { ⌜ StandsNow self ⌝ }
         ensures { λ r. ⌜ r ≡ standingOf (withDataLength (self .clip) (self .now) «data_length») (self .now) ⌝ }
     {
         let mut clip = self.clip;

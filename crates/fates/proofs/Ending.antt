@@ -15,7 +15,7 @@ use Rattle.common_types.specs.declared.NoteOffBehaviour.the-variants as off
 use Rattle.common_types.specs.declared.Note.{Note}
 use Rattle.volume.specs.declared.Volume.{Volume}
 use Rattle.volume.specs.declared.Volume.the-variants.{Static, Linear}
-use Rattle.volume.specs.Levels.{isStaticAndMuteOf, levelOf, laterOf, towardOf, steppedOf}
+use Rattle.volume.specs.Levels.{isStaticAndMuteOf, levelOf, timeAfter, towardOf, steppedOf}
 use Rattle.volume.proofs.Ends.{stepped-static, stepped-before, stepped-end, faded}
 use Rattle.voice.specs.declared.Voice.{Voice}
 use Rattle.voice.specs.declared.Tick.{Tick}
@@ -44,7 +44,7 @@ toward-fades : (v : Volume) (r d : ℕ) → Fades r d (towardOf v r d zero32)
 unfolding towardOf
 toward-fades v r d = go (eqb d 0)
   where
-    go : (b : Bool) → Fades r d (cond b (Static zero32) (Linear r (laterOf r d) (levelOf v r) zero32))
+    go : (b : Bool) → Fades r d (cond b (Static zero32) (Linear r (timeAfter r d) (levelOf v r) zero32))
     go true = zero-mute
     go false = (omega arith, zero-mute)
 

@@ -19,7 +19,7 @@ use Rattle.channel.specs.declared.Found.{Found}
 use Rattle.channel.specs.declared.Found.the-variants.{At, Nothing}
 use Rattle.channel.specs.Channels.{sameNote, unfinishedOf, wantedOf, findOf, takenOf}
 use Rattle.fates.specs.Engine.{turnedOf, leavesOf, momentAt, heldAt}
-use Rattle.fates.specs.Events.{Event, idle, changes, gathers, sounds, act, emptyAt, tickAt, Sampled, decayOf, lastOf, beforeLast}
+use Rattle.fates.specs.Events.{Event, idle, changes, gathers, sounds, act, emptyAt, tickAt, SampledIn, decayOf, lastOf, beforeLast}
 use Rattle.fates.specs.Places.{Housed, voiceAt, Place, at, gone, fateOf, follow, findsAt, becomes, stops, outOf, playsOut, finishes, onward, followAll}
 use Rattle.fates.proofs.Own.{sampled-kept, own-turn, own-leaves, becomes-phrase}
 use Rattle.fates.proofs.Housing.{housed}
@@ -127,7 +127,7 @@ unfolding followAll
 gone-now e c n h = rw h
 
 fading : (r d : ℕ) (e : Event) (es : List Event) (c : Channel) → Housed c → (n : ℕ) (v : Voice) → voiceAt c n ≡ some v → Ending r d v
-    → (p : Params) → Sampled (lastOf e es) (beforeLast e es c) p v → r + max d (p .«decay_samples») ≤ beforeLast e es c .head .now → followAll (e ∷ es) c n ≡ gone
+    → (p : Params) → SampledIn (lastOf e es) (beforeLast e es c) p v → r + max d (p .«decay_samples») ≤ beforeLast e es c .head .now → followAll (e ∷ es) c n ≡ gone
 unfolding beforeLast
 fading r d e [] c h n v s w p q l =
     gone-now e c n
@@ -138,7 +138,7 @@ fading r d e (e' ∷ es) c h n v s w p q l =
 
 pub goes : (e : Event) (es : List Event) (c : Channel) → Housed c → (n : ℕ) (v : Voice) → voiceAt c n ≡ some v
     → finishes e c n ≡ true
-    → (p : Params) → Sampled (lastOf e es) (beforeLast e es c) p v
+    → (p : Params) → SampledIn (lastOf e es) (beforeLast e es c) p v
     → c .head .now + max (decayOf e) (p .«decay_samples») ≤ beforeLast e es c .head .now
     → followAll (e ∷ es) c n ≡ gone
 unfolding beforeLast decayOf playsOut stops

@@ -22,7 +22,7 @@ use Rattle.channel.specs.declared.Change.the-variants as change
 use Rattle.channel.specs.Channels.{live, sameNote, findOf, spedOf, tidiedOf, heardOf, playedOf, addedOf, resting, turningAt, turningOf, phraseAt, momentFor, takenOf, memoryOf}
 use Rattle.channel.proofs.Samples.{memory-kept}
 use Rattle.fates.specs.Engine.{passesOver, turnedOf, leavesOf, turnsBy, momentAt, heldAt, turnsIn, stepOf}
-use Rattle.fates.specs.Events.{Event, idle, changes, gathers, sounds, lengthAt, emptyAt, tickAt, Sampled}
+use Rattle.fates.specs.Events.{Event, idle, changes, gathers, sounds, lengthAt, emptyAt, tickAt, SampledIn}
 use Rattle.fates.specs.Places.{findsAt, becomes}
 use Rattle.fates.specs.Sounding.{termOf}
 use Rattle.walks.proofs.Tests.{either}
@@ -39,7 +39,7 @@ held-kept x m c v w e = ap (λ (k : ℕ). storedIn (phraseAt (takenOf m c) k) (m
 pub finds-kept : (m : List ℕ) (c : Channel) (v w : Voice) → w .phrase ≡ v .phrase → emptyAt m c v ≡ false → emptyAt m c w ≡ false
 finds-kept m c v w k e = ap (λ (at : Moment). eqb (at .«data_len») 0) (moment-kept m c v w k) ∙ e
 
-pub sampled-kept : {e : Event} {c : Channel} {p : Params} (v w : Voice) → w .phrase ≡ v .phrase → Sampled e c p v → Sampled e c p w
+pub sampled-kept : {e : Event} {c : Channel} {p : Params} (v w : Voice) → w .phrase ≡ v .phrase → SampledIn e c p v → SampledIn e c p w
 sampled-kept {e} {c} {p} v w k s = record { input = s .input; memory = s .memory; sample = s .sample; finds = finds-kept (s .memory) c v w k (s .finds) }
 
 -- ---- it is its own phrase that a voice goes by

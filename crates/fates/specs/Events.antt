@@ -64,7 +64,7 @@ abbrev pub tickAt : Params → List ℕ → Channel → Voice → Tick
 tickAt p m c v = tickOf p (momentAt m c v)
 
 -- the event is a sample with these parameters, and the voice v finds its recording not empty
-pub record Sampled (e : Event) (c : Channel) (p : Params) (v : Voice) : Type 0 where
+pub record SampledIn (e : Event) (c : Channel) (p : Params) (v : Voice) : Type 0 where
   pub input : Float
   pub memory : List ℕ
   pub sample : e ≡ sounds p input memory

@@ -15,7 +15,7 @@ use Rattle.questions.specs.declared.OffsetAnswer.{OffsetAnswer}
 use Rattle.questions.specs.declared.OffsetAnswer.the-variants as offset
 use Rattle.smf.specs.declared.Counted.{Counted as SongCounted}
 use Rattle.smf.specs.declared.Counted.the-variants as song
-use Rattle.smf.specs.Cues.{numberOf}
+use Rattle.smf.specs.Cues.{cuesNumber}
 use Rattle.listing.specs.Records.{loopLengthOf, loopModeOf, noteOffOf}
 use Rattle.host.specs.declared.settings.Settings.{Settings}
 use Rattle.host.specs.declared.settings.Made.{Made}
@@ -82,4 +82,4 @@ entriesIn (song.Faulty why) = 0
 entriesIn (song.Short n) = n
 
 abbrev pub entriesBy : SongCounted → Count
-entriesBy c = record { count = entriesIn c; number = numberOf c }
+entriesBy c = record { count = entriesIn c; number = cuesNumber c }

@@ -1,1 +1,3 @@
+pub mod Endings
 pub mod Passes
+pub mod Phrasing

@@ -30,12 +30,12 @@ use Rattle.channel.specs.declared.Entry.{Entry}
 use Rattle.channel.specs.declared.Found.{Found}
 use Rattle.channel.specs.declared.Found.the-variants.{At, Nothing}
 use Rattle.channel.specs.Heads.{momentOf}
-use Rattle.channel.specs.Tables.{placeOf, namesOf, entryOf, storedBy}
+use Rattle.channel.specs.Tables.{placeOf, namesOf, entryStored, storedBy}
 use Rattle.channel.specs.Channels.{withVoices, besideIn, unfinishedOf, sameNote, wantedOf, spedOf, anyUnfinishedOf, handledOf, pushedOf, startPlayingOf, findOf, finishedAtOf, stopPlayingOf, setNoteSpeedOf, headChangedIn, resetOf, changedOf}
 use Rattle.channel.proofs.Entries.{stored, several-stored}
 use Rattle.lent_changes.specs.declared.Pass.{Pass}
 use Rattle.lent_changes.specs.declared.Aside.{Aside}
-use Rattle.lent_changes.specs.Changes.{askingOf, behindOf, goingOf, startPass, passOf, hitsOf, remadeOf, passedOf, openedOf, handledIf, asideOf, endedOf}
+use Rattle.lent_changes.specs.Changes.{asksVoices, storesBehind, goingOf, startPass, passOf, hitsOf, remadeOf, passedOf, startedVoice, handledIf, asideOf, headEnded}
 
 -- ---- what becomes of the voices gone through, and what is known afterwards
 abbrev pub outsOf : Pass → List Voice → List Voice
@@ -55,7 +55,7 @@ module _ (x : Change) (h : Channel) where
   aside = asideOf named (h .several) (besideIn 0 h)
 
   abbrev pub entry : Entry
-  entry = entryOf x (h .head) (h .several) named
+  entry = entryStored x (h .head) (h .several) named
 
   abbrev stored-in : Channel
   stored-in = record { voices = h .voices; table = storedBy entry (h .table); count = h .count; head = h .head; several = entry .several }
@@ -63,7 +63,7 @@ module _ (x : Change) (h : Channel) where
   -- the channel after the loop: the new voice, the count and the head; its table is c's
   abbrev finalIn : Channel → Pass → List Voice → Channel
   finalIn c p l =
-      record { voices = cond (p .fresh) (set l (h .count) (openedOf x (h .head))) l; table = c .table; count = p .count; head = endedOf p x (h .head) aside; several = c .several }
+      record { voices = cond (p .fresh) (set l (h .count) (startedVoice x (h .head))) l; table = c .table; count = p .count; head = headEnded p x (h .head) aside; several = c .several }
 
   abbrev restIn : Channel → Pass → List Voice → ℕ → List Voice → Channel
   restIn c p l i vs = finalIn c (lastOf p vs) (sets l i (outsOf p vs))
@@ -113,10 +113,10 @@ few : (count : ℕ) → min count 32 ≤ 32
 few count = omega arith
 
 pub few-turns : (x : Change) (h : Channel) → passOf x (h .head) (h .count) .turns ≤ 32
-unfolding passOf startPass askingOf behindOf goingOf
+unfolding passOf startPass asksVoices storesBehind goingOf
 few-turns (change.Start q position note velocity) h = go (eqb (h .head .«data_len») 0) (leb 32 (h .count))
   where
-    go : (a b : Bool) → cond a (askingOf 0 (h .count) (h .head)) (cond b (askingOf 32 (h .count) (h .head)) (behindOf (h .count) (h .head))) .turns ≤ 32
+    go : (a b : Bool) → cond a (asksVoices 0 (h .count) (h .head)) (cond b (asksVoices 32 (h .count) (h .head)) (storesBehind (h .count) (h .head))) .turns ≤ 32
     go true b = omega arith
     go false true = omega arith
     go false false = omega arith
@@ -127,10 +127,10 @@ few-turns change.Reset h = omega arith
 
 -- a new voice has a place
 pub fresh-room : (x : Change) (h : Channel) → passOf x (h .head) (h .count) .fresh ≡ true → h .count < 32
-unfolding passOf startPass askingOf behindOf goingOf
+unfolding passOf startPass asksVoices storesBehind goingOf
 fresh-room (change.Start q position note velocity) h y = go (eqb (h .head .«data_len») 0) (leb 32 (h .count)) refl y
   where
-    go : (a b : Bool) → leb 32 (h .count) ≡ b → cond a (askingOf 0 (h .count) (h .head)) (cond b (askingOf 32 (h .count) (h .head)) (behindOf (h .count) (h .head))) .fresh ≡ true → h .count < 32
+    go : (a b : Bool) → leb 32 (h .count) ≡ b → cond a (asksVoices 0 (h .count) (h .head)) (cond b (asksVoices 32 (h .count) (h .head)) (storesBehind (h .count) (h .head))) .fresh ≡ true → h .count < 32
     go true b e y = absurd (true≢false (sym y))
     go false true e y = absurd (true≢false (sym y))
     go false false e y = leb-false 32 (h .count) e
@@ -243,7 +243,7 @@ module _ (h : Channel) (all : length (h .voices) ≡ 32) where
     made fresh count found unfinished k = record { voices = cond fresh (set k (h .count) blankVoice) k; table = h .table; count = count; head = handledIf found (h .head) q unfinished; several = h .several }
 
     stop-comes : Comes n (h .count) (h .head .now) (q .«decay_samples») zero32 note false 0 false vs → restIn (change.Stop q note) h h (p false false) l 0 vs ≡ finishedAtOf q h (findOf note h)
-    unfolding finishedAtOf handledOf anyUnfinishedOf handledIf endedOf openedOf
+    unfolding finishedAtOf handledOf anyUnfinishedOf handledIf headEnded startedVoice
     stop-comes (none-wanted s outs f g k) =
         let r = lastOf (p false false) vs in
         ap (λ (b : List Voice). made (r .fresh) (r .count) (r .found) (r .unfinished) (sets l 0 b)) outs
@@ -285,7 +285,7 @@ module _ (h : Channel) (all : length (h .voices) ≡ 32) where
     with-speed fresh count k = record { voices = cond fresh (set k (h .count) blankVoice) k; table = h .table; count = count; head = h .head; several = h .several }
 
     speed-comes : restIn (change.Speed note speed) h h (sped false false) l 0 (take n l) ≡ setNoteSpeedOf note speed h
-    unfolding setNoteSpeedOf endedOf openedOf
+    unfolding setNoteSpeedOf headEnded startedVoice
     speed-comes =
         let r = lastOf (sped false false) (take n l) in
         ap (λ (b : Bool). with-speed b (r .count) (sets l 0 (outsOf (sped false false) (take n l)))) (kept-sped false false (take n l) .0)
@@ -301,7 +301,7 @@ module _ (h : Channel) (all : length (h .voices) ≡ 32) where
     new = freshOf q position note velocity (momentOf (h .head))
 
     abbrev pass : Bool → Bool → Pass
-    pass a b = cond a (askingOf 0 (h .count) (h .head)) (cond b (askingOf 32 (h .count) (h .head)) (behindOf (h .count) (h .head)))
+    pass a b = cond a (asksVoices 0 (h .count) (h .head)) (cond b (asksVoices 32 (h .count) (h .head)) (storesBehind (h .count) (h .head)))
 
     abbrev from : Pass → Channel
     from p = restIn x h h p l 0 (take (p .turns) l)
@@ -327,13 +327,13 @@ module _ (h : Channel) (all : length (h .voices) ≡ 32) where
         or-true false = refl
 
     start-comes : (a b : Bool) → eqb (h .head .«data_len») 0 ≡ a → leb 32 (h .count) ≡ b → from (pass a b) ≡ starts a (ltb (h .count) 32)
-    unfolding askingOf behindOf handledOf handledIf endedOf openedOf anyUnfinishedOf freshOf
+    unfolding asksVoices storesBehind handledOf handledIf headEnded startedVoice anyUnfinishedOf freshOf
     start-comes true b e d = ap (λ (c : Bool). heads l (h .count) c false) e
     start-comes false true e d =
         let over : 32 ≤ h .count = leb-true 32 (h .count) d in
-        let p = stop 32 (h .count) (h .head .now) 0 zero32 (askingOf 32 (h .count) (h .head) .note) false in
-        ap (λ (r : Pass). finalIn x h h r (sets l 0 (outsOf (p true false) (take 32 l)))) (last-found 32 (h .count) (h .head .now) 0 zero32 (askingOf 32 (h .count) (h .head) .note) false false (take 32 l))
-        ∙ ap (λ (k : List Voice). heads (sets l 0 k) (h .count) (eqb (h .head .«data_len») 0) (any unfinishedOf (take 32 l))) (outs-found 32 (h .count) (h .head .now) 0 zero32 (askingOf 32 (h .count) (h .head) .note) false false (take 32 l))
+        let p = stop 32 (h .count) (h .head .now) 0 zero32 (asksVoices 32 (h .count) (h .head) .note) false in
+        ap (λ (r : Pass). finalIn x h h r (sets l 0 (outsOf (p true false) (take 32 l)))) (last-found 32 (h .count) (h .head .now) 0 zero32 (asksVoices 32 (h .count) (h .head) .note) false false (take 32 l))
+        ∙ ap (λ (k : List Voice). heads (sets l 0 k) (h .count) (eqb (h .head .«data_len») 0) (any unfinishedOf (take 32 l))) (outs-found 32 (h .count) (h .head .now) 0 zero32 (asksVoices 32 (h .count) (h .head) .note) false false (take 32 l))
         ∙ ap (λ (k : List Voice). heads k (h .count) (eqb (h .head .«data_len») 0) (any unfinishedOf (take 32 l))) (fronts l l 32 (omega (arith, all)) refl refl)
         ∙ ap (λ (c : Bool). heads l (h .count) c (any unfinishedOf (take 32 l))) e
         ∙ ap (λ (k : List Voice). heads l (h .count) false (any unfinishedOf k)) (take-all 32 l (le-of-eq all) ∙ sym (take-all (h .count) l (omega (arith, all, over))))
@@ -347,7 +347,7 @@ module _ (h : Channel) (all : length (h .voices) ≡ 32) where
 -- the walk gives what the change is
 pub whole-change : (x : Change) (h : Channel) → length (h .voices) ≡ 32 → length (h .table) ≡ 8
     → restOf x h (passOf x (h .head) (h .count)) (h .voices) 0 (take (passOf x (h .head) (h .count) .turns) (h .voices)) ≡ changedOf x h
-unfolding changedOf passOf startPass askingOf goingOf startPlayingOf pushedOf stopPlayingOf headChangedIn resetOf endedOf openedOf namesOf
+unfolding changedOf passOf startPass asksVoices goingOf startPlayingOf pushedOf stopPlayingOf headChangedIn resetOf headEnded startedVoice namesOf
 whole-change (change.Start q position note velocity) h all eight =
     with-own (change.Start q position note velocity) h eight (start-comes h all q position note velocity (eqb (h .head .«data_len») 0) (leb 32 (h .count)) refl refl)
 whole-change (change.Stop q note) h all eight =

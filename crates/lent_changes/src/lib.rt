@@ -1,23 +1,31 @@
-// A change other than a sample, made of a lent channel in place. One loop serves a stop, a note's speed and a start that
-// finds no place; a new voice, the count and the head are stored once, after it.
+// A change other than a sample, and a gather, made of a lent channel in place. One loop serves a stop, a note's speed and
+// a start that finds no place; a new voice, the count and the head are stored once, after it.
 ghost use mathlib.Core.Path.{_≡_};
-ghost use Prim.Native.Nat.{_<_};
+ghost use Prim.Native.Nat.{_-_, _<_, _≤_};
 ghost use mathlib.Core.Bool.{not, _&&_, _||_};
-ghost use Rattle.channel.specs.Channels.{changedOf};
+ghost use mathlib.Core.List.{_++_};
+ghost use lib.ListN.{length, take, drop};
+ghost use Rattle.phrases.specs.Gathering.{gatheringOf};
+ghost use Rattle.channel.specs.Channels.{changedOf, gatheredIn, gatheredMemory};
 ghost use Rattle.lent_changes.specs.Changes.{
-  askingOf,
-  behindOf,
+  asksVoices,
+  storesBehind,
   startPass,
   goingOf,
   passOf,
   hitsOf,
   remadeOf,
   passedOf,
-  openedOf,
-  handledIf,
+  startedVoice,
   asideOf,
-  endedOf,
+  nonePasses,
+  passingIf,
+  passingOf,
+  alteredOf,
+  handledBy,
+  headEnded,
 };
+ghost use Rattle.lent_changes.specs.Laying.{phrasesBy, laidOf};
 use channel::Change;
 use channel::Channel;
 use channel::Head;
@@ -45,7 +53,7 @@ pub struct Pass {
 
 // Voices are asked, and none is changed: a stop that has its voice.
 fn asking(turns: usize, count: usize, head: Head) -> Pass
-    ensures { λ r. ⌜ r ≡ askingOf turns count head ⌝ }
+    ensures { λ r. ⌜ r ≡ asksVoices turns count head ⌝ }
 {
     let note = Note::default();
     Pass {
@@ -65,7 +73,7 @@ fn asking(turns: usize, count: usize, head: Head) -> Pass
 // One voice more is stored behind the others.
 fn behind(count: usize, head: Head) -> Pass
     requires { ⌜ count < 32 ⌝ }
-    ensures { λ r. ⌜ r ≡ behindOf count head ⌝ }
+    ensures { λ r. ⌜ r ≡ storesBehind count head ⌝ }
 {
     let note = Note::default();
     Pass {
@@ -183,7 +191,7 @@ fn passed(p: Pass, v: Voice, hit: bool) -> Pass
 
 // The voice that a start stores.
 fn opened(change: Change, head: Head) -> Voice
-    ensures { λ r. ⌜ r ≡ openedOf change head ⌝ }
+    ensures { λ r. ⌜ r ≡ startedVoice change head ⌝ }
 {
     match change {
         Change::Start {
@@ -199,28 +207,55 @@ fn opened(change: Change, head: Head) -> Voice
     }
 }
 
-fn handled(on: bool, head: Head, params: Params, unfinished: bool) -> Head
-    ensures { λ r. ⌜ r ≡ handledIf on head params unfinished ⌝ }
+// What pass-through does at a change: whether a ramp of it begins, to which state, and over how many samples.
+pub struct Passing {
+    pub begins: bool,
+    pub on: bool,
+    pub samples: usize,
+}
+
+fn none_passes() -> Passing
+    ensures { λ r. ⌜ r ≡ nonePasses ⌝ }
 {
-    if on {
-        return head.handle_passthru(params, unfinished);
+    Passing {
+        begins: false,
+        on: false,
+        samples: 0,
     }
-    head
 }
 
-// The head at the end. Pass-through follows a start on a recording, and a stop that found its voice.
-fn ended(p: Pass, change: Change, head: Head, aside: Aside) -> Head
-    ensures { λ r. ⌜ r ≡ endedOf p change head aside ⌝ }
+// A ramp begins if it is asked for, and pass-through is not yet as wanted.
+fn passing_if(asked: bool, head: Head, params: Params, unfinished: bool) -> Passing
+    ensures { λ r. ⌜ r ≡ passingIf asked head params unfinished ⌝ }
 {
-    ending(p, change, head, aside).copied()
+    let on = channel::passes(params, unfinished);
+    Passing {
+        begins: asked & !(on == head.passthru_on),
+        on,
+        samples: channel::ramp_samples(params, on),
+    }
 }
 
-fn ending(p: Pass, change: Change, head: Head, aside: Aside) -> Head
-    ensures { λ r. ⌜ r ≡ endedOf p change head aside ⌝ }
+// Pass-through follows a start on a recording, and a stop that found its voice.
+fn passing_of(p: Pass, change: Change, head: Head) -> Passing
+    ensures { λ r. ⌜ r ≡ passingOf p change head ⌝ }
 {
     match change {
-        Change::Start { params, .. } => handled(head.data_len != 0, head, params, p.unfinished),
-        Change::Stop { params, .. } => handled(p.found, head, params, p.unfinished),
+        Change::Start { params, .. } => passing_if(head.data_len != 0, head, params, p.unfinished),
+        Change::Stop { params, .. } => passing_if(p.found, head, params, p.unfinished),
+        Change::Speed { .. } => none_passes(),
+        Change::Head(_) => none_passes(),
+        Change::Reset => none_passes(),
+    }
+}
+
+// The head at the end, but for pass-through.
+fn altered(change: Change, head: Head, aside: Aside) -> Head
+    ensures { λ r. ⌜ r ≡ alteredOf change head aside ⌝ }
+{
+    match change {
+        Change::Start { .. } => head,
+        Change::Stop { .. } => head,
         Change::Speed { .. } => head,
         Change::Head(change) => head.changed(
             change,
@@ -228,6 +263,30 @@ fn ending(p: Pass, change: Change, head: Head, aside: Aside) -> Head
         ),
         Change::Reset => Head::new(0.0, head.interpolates),
     }
+}
+
+fn handled(q: Passing, head: Head) -> Head
+    ensures { λ r. ⌜ r ≡ handledBy q head ⌝ }
+{
+    if q.begins {
+        return head.ramped(q.on, q.samples);
+    }
+    head
+}
+
+// The head at the end.
+fn ended(p: Pass, change: Change, head: Head, aside: Aside) -> Head
+    ensures { λ r. ⌜ r ≡ headEnded p change head aside ⌝ }
+{
+    ending(p, change, head, aside).copied()
+}
+
+// Pass-through is handled in one place: a start and a stop that did so each in theirs would take stack.
+fn ending(p: Pass, change: Change, head: Head, aside: Aside) -> Head
+    ensures { λ r. ⌜ r ≡ headEnded p change head aside ⌝ }
+{
+    let q = passing_of(p, change, head);
+    handled(q, altered(change, head, aside))
 }
 
 // What is read of the table before a change: the entry of the number that it names, whether it counts, and how far the
@@ -283,4 +342,70 @@ pub fn change(c: &mut Channel, change: Change)
     c.table[e.place] = e.phrase;
     c.several = e.several;
     c.head = ended(p, change, c.head, aside);
+}
+
+// Where the phrases of a channel stand: the table, and the head, which has the chosen one's place.
+pub struct Laid {
+    pub table: [Phrase; 8],
+    pub head: Head,
+}
+
+// All eight phrases, by their numbers.
+fn all_of(table: [Phrase; 8], several: bool, head: Head) -> [Phrase; 8]
+    ensures { λ r. ⌜ r ≡ phrasesBy table several head ⌝ }
+{
+    let others = phrases::others(table, several, head.chosen);
+    phrases::with(others, head.chosen, head.recording())
+}
+
+// Table and head, the phrases being where they stand in `all`.
+fn laid_of(table: [Phrase; 8], several: bool, head: Head, all: [Phrase; 8]) -> Laid
+    ensures { λ r. ⌜ r ≡ laidOf table several head all ⌝ }
+{
+    let own = all[channel::place_of(head.chosen)];
+    let mut after = head;
+    after.start = own.start;
+    if several {
+        Laid {
+            table: all,
+            head: after,
+        }
+    } else {
+        Laid { table, head: after }
+    }
+}
+
+// The phrases moved down in the part of the memory from `start` to `end`.
+fn gathered(
+    table: [Phrase; 8],
+    several: bool,
+    head: Head,
+    memory: &mut [u32],
+    start: usize,
+    end: usize,
+) -> Laid
+    requires { ⌜ (start ≤ end) × (end ≤ length (now memory)) ⌝ }
+    ensures { λ r. ⌜ (r ≡ laidOf table several head (gatheringOf (phrasesBy table several head)
+        (take (end - start) (drop start (now (memory .entry)))) .phrases))
+        × (now (memory .exit) ≡ take start (now (memory .entry)) ++ (gatheringOf (phrasesBy table several head)
+        (take (end - start) (drop start (now (memory .entry)))) .memory
+        ++ drop (end - start) (drop start (now (memory .entry))))) ⌝ }
+{
+    let all = all_of(table, several, head);
+    let moved = phrases::gather(all, &mut memory[start..end]);
+    laid_of(table, several, head, moved)
+}
+
+// Moves the phrases of a lent channel down in its part of the memory, with no channel copied.
+pub fn gather(c: &mut Channel, memory: &mut [u32], start: usize, end: usize)
+    requires { ⌜ (start ≤ end) × (end ≤ length (now memory)) ⌝ }
+    ensures { λ r. ⌜ (now (c .exit)
+        ≡ gatheredIn (now (c .entry)) (take (end - start) (drop start (now (memory .entry)))))
+        × (now (memory .exit) ≡ take start (now (memory .entry)) ++ (gatheredMemory (now (c .entry))
+        (take (end - start) (drop start (now (memory .entry))))
+        ++ drop (end - start) (drop start (now (memory .entry))))) ⌝ }
+{
+    let l = gathered(c.table, c.several, c.head, memory, start, end);
+    c.table = l.table;
+    c.head = l.head;
 }

@@ -1,6 +1,7 @@
--- Two calls that the walk of a frame makes, each as one step: what is asked before it, and what each entry adds to what is gathered.
+-- Calls that the walks of a frame and of a sample make, each as one step: what is asked before a frame, what each of its entries adds to what is gathered, and what a sample by itself answers.
 --     Asks, asks-at            what `#asked` ensures; its call: the record is shared with it, for a lifetime that is made for the call
 --     Gathers, gathers-at      what `#gather` ensures; its call, of a byte and of what a sample gave
+--     Answers, answers-at      what `#answered` ensures; its call, of what a sample gave
 -- Assumes `Given`.
 use mathlib.Core.Path.{_≡_, refl, sym, _∙_, ap, subst}
 use Prim.Native.Nat.{ℕ, _<_, _^_}
@@ -130,3 +131,37 @@ module _ (Y : Sounding) (gathers : ℕ → Y .like .Denot → ℕ) where
         use1 W (later (some (λ (d : ℕ). (‵ ftrue ⊛ ‵ (u8 .own d (w ∷ []))) ⊛ raw (ensured 𝓤 H A gather-ended (gather-clauses 𝓤) tt (u, (y, tt)) tt d)))) (id⊢ 𝓤 _) $ await z tt $ pick z (λ d.
         split z $ move z (1 ∷ []) $ use1 W (raw (fact 𝓤 (d ≡ gathers u y))) (gather-of 𝓤 H A d) $ heard z (d ≡ gathers u y) (λ e. split z $ drop z $ peeks z u8 (Is u8) (shows 𝓤 H A u8) d (w ∷ []) (λ is. drop z $
         subst (λ (x : Val). Seq N W Δ (lands (𝓣 .C) (𝓣 .Λ) E l x rest q)) (sym (ap only (is .0) ∙ ap (vint w8) e)) (go (subst (λ (x : ℕ). x < 2 ^ 8) e (is .1)))))))
+
+-- ---- what is answered
+module _ (Q : Datum) (Y : Sounding) (answers : Y .like .Denot → Q .like .Denot) where
+  abbrev answer-ended : Ended
+  answer-ended = record { signature = record { lifetimes = 0; outlives = []; params = plain (λ _. sounding-row Y) ∷ []; result = plain (λ _. row Q) }; kept = (yes, tt) }
+
+  abbrev answer-clauses : {M : Type 1} (𝓤 : URA M) → Clauses 𝓤 answer-ended
+  answer-clauses 𝓤 κs a = record { ghost = Unit {0}; requires = λ _. emp 𝓤; ensures = λ _ r e. fact 𝓤 (r ≡ answers (a .0)) }
+
+  abbrev pub Answers : {M : Type 1} (𝓤 : URA M) (H : Heap 𝓤) (A : Atoms 𝓤) → Contract 𝓤
+  Answers 𝓤 H A = tripleOf 𝓤 H A (answer-ended .signature) (closing 𝓤 H A answer-ended (answer-clauses 𝓤))
+
+  module _ (y : Y .like .Denot) (v : Val) where
+    module _ {M : Type 1} (𝓤 : URA M) (H : Heap 𝓤) (A : Atoms 𝓤) where
+      abbrev to-answer : Answers 𝓤 H A .Ghost
+      to-answer = ((tt, tt, tt, (y, tt), (v ∷ [], tt)), tt)
+
+      goes-answer : Given 𝓤 H A → ent 𝓤 (sem 𝓤 H A (Y .like .own y (v ∷ []))) (Answers 𝓤 H A .pre to-answer)
+      goes-answer W = qed W (‵ (Y .like .own y (v ∷ [])) ∷ []) ∵ nothing ! $ move ! (1 ∷ 0 ∷ []) $ fjoin ! $ nothing ! $ join ! $ nothing ! $ move ! (1 ∷ 0 ∷ []) $ join ! $ done !
+
+      answer-of : (r : Q .like .Denot) → ent 𝓤 (ensured 𝓤 H A answer-ended (answer-clauses 𝓤) tt (y, tt) tt r) (fact 𝓤 (r ≡ answers y))
+      answer-of r = exE 𝓤 _ (λ ws. snd∗ 𝓤 (sem 𝓤 H A (lasts answer-ended tt (y, tt) ws)) (fact 𝓤 (r ≡ answers y)))
+
+    -- where the sample gave what it had to
+    pub answers-at : {M : Type 1} {𝓤 : URA M} {H : Heap 𝓤} {A : Atoms 𝓤} {N : Type 0} {W : Given 𝓤 H A} → N → (𝓣 : Tables 𝓤 H) {E : Env 𝓤 H} {q : After 𝓤 H} {g : Name} {xs : List Operand} {l : Place} {rest : Body} {Δ : List (Item 𝓤)}
+        → Triple 𝓤 (𝓣 .C g) (Answers 𝓤 H A) → (gave : Y .like .Denot) → y ≡ gave → Opds N W (raw (Answers 𝓤 H A .pre (to-answer 𝓤 H A)) ∷ Δ) E xs (v ∷ [])
+        → (Is (Q .like) (answers gave) (Q .val (answers gave) ∷ []) → Seq N W Δ (lands (𝓣 .C) (𝓣 .Λ) E l (Q .val (answers gave)) rest q))
+        → Seq N W (‵ (Y .like .own y (v ∷ [])) ∷ Δ) (runs (𝓣 .C) (𝓣 .Λ) E (seq (call g xs l) rest) q)
+    answers-at {𝓤 = 𝓤} {H} {A} {N} {W} z 𝓣 {E} {q} {l = l} {rest} {Δ} known gave given os go =
+        use1 W (raw (Answers 𝓤 H A .pre (to-answer 𝓤 H A))) (goes-answer 𝓤 H A W) $ calls-at z (fmOf 𝓤 H (W .laws) 𝓣) (Answers 𝓤 H A) known (to-answer 𝓤 H A) os (λ w.
+        use1 W (later (some (λ (r : Q .like .Denot). (‵ ftrue ⊛ ‵ (Q .like .own r (w ∷ []))) ⊛ raw (ensured 𝓤 H A answer-ended (answer-clauses 𝓤) tt (y, tt) tt r)))) (id⊢ 𝓤 _) $ await z tt $ pick z (λ r.
+        split z $ move z (1 ∷ []) $ use1 W (raw (fact 𝓤 (r ≡ answers y))) (answer-of 𝓤 H A r) $ heard z (r ≡ answers y) (λ e. split z $ drop z $ peeks z (row Q) (Is (row Q)) (shows 𝓤 H A (row Q)) r (w ∷ []) (λ is. drop z $
+        let same : r ≡ answers gave = e ∙ ap answers given in
+        subst (λ (u : Val). Seq N W Δ (lands (𝓣 .C) (𝓣 .Λ) E l u rest q)) (sym (ap only (Q .tells r _ is) ∙ ap (Q .val) same)) (go (subst (λ (x : Q .like .Denot). Is (Q .like) x (Q .val x ∷ [])) same (subst (Is (Q .like) r) (Q .tells r _ is) is)))))))

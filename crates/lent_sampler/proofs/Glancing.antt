@@ -1,7 +1,7 @@
 -- One walk for every question `fn f(s: &T, x₀, .., xₙ) -> Q { g(look(s), x₀, .., xₙ) }`, whatever its arguments, values and lent slices, where `look` copies no more of the record than g asks for. Over the data of `walks`.
 --     look has    ensures λ r. r ≡ see (now (s .entry))
 --     g has       ensures λ r. what `Saying` says of what is seen, of x₀ .. xₙ and r, and of the slices at exit
---     f has       ensures λ r. what that comes to of the record (`so`)
+--     f has       ensures λ r. what that comes to of the record, which is one of its type (`so`)
 --     glance      f meets its contract, from look's and g's
 -- Assumes `Given`.
 use mathlib.Core.Path.{refl, subst}
@@ -17,8 +17,8 @@ use prog.Wp.{Heap, WpFn, Tables}
 use ghost.Atoms.{Atoms, sem}
 use contract.Monad.{fact}
 use contract.Lifetimes.{Lfts, Shares, toks}
-use types.Kit.{Given, ‵, raw, some, later, _⊛_, ⋆, _$_, _∵_, !, qed, by, move, keep, drop, use1, use2, split, join, pick, rewrite, fsplit, fjoin, suffices, frame, await, done}
-use types.Run.{look, init, forget, stop, from, load, and-then, no-more, land, returns, enter, alloc1, alloc0, params1, pass1, free1, free0}
+use types.Kit.{Given, ‵, raw, some, later, _⊛_, ⋆, _$_, _∵_, !, qed, by, move, keep, drop, use1, use2, split, join, pick, rewrite, fsplit, fsplit3, fjoin, fjoin3, suffices, frame, await, done}
+use types.Run.{and-then, no-more, enter, alloc1, alloc0, params1, free0}
 use sound.WpLaws.{fmOf, WpFn-mono}
 use denote.RattleType.{RattleType, owns}
 use denote.Memory.{pointee}
@@ -26,7 +26,7 @@ use denote.Laws.{Is, shows}
 use denote.Builtin.{RefOf}
 use denote.Ref.{RefT, ShrRef, now, ptr-vals, shr-tells}
 use denote.Signature.{plain, typesAt}
-use denote.Steps.{owned, peeks, heard, nothing}
+use denote.Steps.{looks, shuts, owned, peeks, heard, nothing}
 use denote.Triple.End.{Fins, outs, all}
 use denote.Triple.Entry.{Args, Vals, onEntry}
 use denote.Triple.Spec.{Meets, tripleOf}
@@ -36,12 +36,14 @@ use denote.Triple.Clauses.{Ended, Clauses, Lasts, ensured, lasts, closing}
 use denote.Triple.Walked.{says, Stays, stay-dropped, fitsOf, hasOf, walkOf, goes-silent, ends-at, walked, walk-meets}
 use denote.Exit.{yes}
 use Rattle.walks.proofs.Steps.Data.{Datum, row}
+use Rattle.walks.proofs.Steps.Data.{copy as twice}
+use Rattle.walks.proofs.Steps.Locals.{its, fills, its-at, fills-at, lifted, arrives, gives, lifts, lays, fetches, passed, freed}
 use Rattle.lent_channel.proofs.Views.{Viewer, viewing, views}
-use Rattle.walks.proofs.Lending.Arguments.{Arg, inner, outer, In, Out, Left, Saying, Sound, Blocks, Again, handed, left, locals, again, past, lends, operands, env, env-again, behind, stands, stands-again, spells-out, each, each-out, machine-out, tell-all, are-sound, same-owned, stays, last, left-last, lets-go, ends, allocates, allocates-again, passes-all, lends-all, reads-all, frees-all, frees-again, finds}
+use Rattle.walks.proofs.Lending.Arguments.{Arg, inner, outer, In, Out, Left, Saying, Sound, Blocks, Again, handed, left, locals, again, past, lends, operands, env, env-again, behind, stands, stands-again, spells-out, each, each-out, machine-out, tell-all, are-sound, same-owned, stays, last, left-last, lets-go, ends, allocates, allocates-again, passes-all, lends-all, reads-all, frees-all, frees-again}
 
 module _ (T X Q : Datum) (see : T .like .Denot → X .like .Denot) (m : ℕ) (As : List (Arg m)) (#look k : Name) (S : Saying As (X .like .Denot) (Q .like .Denot))
     (Ends : (κs : Lfts m) → T .like .Denot → In As κs → Q .like .Denot → Left As κs → Type 0)
-    (so : (κs : Lfts m) (h : T .like .Denot) (v : In As κs) (r : Q .like .Denot) (e : Left As κs) → S .Says κs (see h) v r e → Ends κs h v r e) where
+    (so : (κs : Lfts m) (h : T .like .Denot) → Is (T .like) h (T .val h ∷ []) → (v : In As κs) (r : Q .like .Denot) (e : Left As κs) → S .Says κs (see h) v r e → Ends κs h v r e) where
   abbrev Tr : RattleType
   Tr = row T
 
@@ -142,22 +144,23 @@ module _ (T X Q : Datum) (see : T .like .Denot → X .like .Denot) (m : ℕ) (As
       walk : ent 𝓤 (onEntry 𝓤 H A (ended .signature) κs qs a vals) (WpFn 𝓤 H (𝓣 .C) (𝓣 .Λ) function (vptr b o ∷ machine-out As κs xs) Post)
       walk =
           qed W ((‵ (flft (κs .0) (qs .0)) ⊛ raw tokens) ∷ ‵ (owns (ShrRef (named 0) (κs .0) Tr ∷ typesAt (outer As) κs) a vals) ∷ []) ∵ enter ! (𝓣 .C) (𝓣 .Λ) function (vptr b o ∷ machine-out As κs xs) _ $
-          alloc1 ! (λ l₀. alloc1 ! (λ l₁. allocates ! As (λ bs. alloc1 ! (λ l₂. allocates-again ! As (λ ts. alloc0 ! $ params1 ! $
-          pass1 ! (init ! 4 refl (tt, tt)) $ move ! (3 ∷ []) $ passes-all ! As κs xs bs (rear l₂ ts) sd $
+          alloc1 ! (λ l₀. alloc1 ! (λ l₁. allocates ! As (λ bs. alloc1 ! (λ l₂. allocates-again ! As (λ ts. alloc0 ! $ params1 ! $ fetches ! 0 $
+          passed ! 1 refl (tt, tt) $ lifts ! 2 $ passes-all ! As κs xs bs (rear l₂ ts) sd $ lays ! 2 $
+          -- the record is one of its type
+          move ! (1 ∷ []) $ fsplit ! $ move ! (2 ∷ []) $ split ! $ move ! (2 ∷ 0 ∷ []) $ fsplit3 ! $ move ! (2 ∷ 3 ∷ []) $ looks ! tt Tr (Is Tr) (shows 𝓤 H A Tr) (λ z. T .val z ∷ []) (T .tells) (twice T 𝓤 H A W) h b o (λ q′ vs.
+          move ! (1 ∷ []) $ peeks ! Tr (Is Tr) (shows 𝓤 H A Tr) h vs (λ is-h. move ! (1 ∷ 0 ∷ []) $ shuts ! tt Tr q′ h vs b o $ move ! (2 ∷ 3 ∷ 1 ∷ []) $ fjoin3 ! $ move ! (1 ∷ 0 ∷ []) $
           -- what is seen
-          move ! (9 ∷ []) $ fsplit ! $ move ! (10 ∷ []) $ split ! $ move ! (0 ∷ 2 ∷ 6 ∷ 8 ∷ []) $
-          views T seeing (κs .0) (qs .0) record-at tt ! 𝓣 known-look tt tt (and-then ! (load ! (finds ! refl) (look ! 2 refl)) (no-more !)) (λ is. land ! (finds ! (behind As bs (rear l₂ ts) 0)) (init ! 1 refl (X .typed 𝓤 H A W x _ is)) $
+          views T seeing (κs .0) (qs .0) record-at tt ! 𝓣 known-look tt tt (and-then ! (its ! refl) (no-more !)) (λ is. arrives ! refl (fills-at ! 3 (behind As bs (rear l₂ ts) 0) refl (X .typed 𝓤 H A W x _ is)) $
           -- and what is asked of it
-          move ! (5 ∷ 6 ∷ []) $ lends-all ! As (κs .1) v bs ts (locally l₀ l₁ bs l₂ ts) 2 on (stands As bs (Q .ty, l₀) (first, l₁) (rear l₂ ts)) (stands-again As bs ts (Q .ty, l₀) (first, l₁) ((X .ty, l₂) ∷ []) []) sd _ $
-          move ! (5 ∷ 6 ∷ []) $ use2 W (raw (G 𝓤 H A .pre to-g)) (goes is) $
-          calls-at ! (fmOf 𝓤 H (W .laws) 𝓣) (G 𝓤 H A) known to-g (and-then ! (load ! (finds ! (behind As bs (rear l₂ ts) 0)) (look ! 4 refl)) (reads-all ! As (κs .1) v bs ts (locally l₀ l₁ bs l₂ ts) 2 on (stands As bs (Q .ty, l₀) (first, l₁) (rear l₂ ts)) (stands-again As bs ts (Q .ty, l₀) (first, l₁) ((X .ty, l₂) ∷ []) []))) (λ w.
+          lifts ! 4 $ lifts ! 2 $ lends-all ! As (κs .1) v bs ts (locally l₀ l₁ bs l₂ ts) 2 on (stands As bs (Q .ty, l₀) (first, l₁) (rear l₂ ts)) (stands-again As bs ts (Q .ty, l₀) (first, l₁) ((X .ty, l₂) ∷ []) []) sd _ $ lays ! 2 $ lays ! 4 $
+          move ! (1 ∷ 2 ∷ []) $ use2 W (raw (G 𝓤 H A .pre to-g)) (goes is) $
+          calls-at ! (fmOf 𝓤 H (W .laws) 𝓣) (G 𝓤 H A) known to-g (and-then ! (its-at ! 3 (behind As bs (rear l₂ ts) 0) refl) (lifted ! 4 (lifted ! 2 (reads-all ! As (κs .1) v bs ts (locally l₀ l₁ bs l₂ ts) 2 on (stands As bs (Q .ty, l₀) (first, l₁) (rear l₂ ts)) (stands-again As bs ts (Q .ty, l₀) (first, l₁) ((X .ty, l₂) ∷ []) []))))) (λ w.
           use1 W (later (some (λ (r : Q .like .Denot). (raw tokens ⊛ ‵ (Q .like .own r (w ∷ []))) ⊛ raw (ensured 𝓤 H A g-ended (g-clauses 𝓤) (κs .1) (x, v) tt r)))) (id⊢ 𝓤 _) $ await ! tt $ pick ! (λ r. split ! $ move ! (1 ∷ []) $
           use1 W (some (λ (zs : Lasts g-ended (κs .1) (x, v)). ‵ (lasts g-ended (κs .1) (x, v) zs) ⊛ raw (S .clause 𝓤 (κs .1) x v r (at-end (zs .1))))) (id⊢ 𝓤 _) $ pick ! (λ zs. split ! $ move ! (1 ∷ []) $
           use1 W (raw (fact 𝓤 (S .Says (κs .1) x v r (at-end (zs .1))))) (S .tells 𝓤 (κs .1) x v r (at-end (zs .1))) $ heard ! (S .Says (κs .1) x v r (at-end (zs .1))) (λ e.
           fsplit ! $ drop ! $ ends ! As κs xs (zs .1) (each-out As κs xs) (λ fit. move ! (1 ∷ []) $ split ! $ move ! (1 ∷ []) $ peeks ! (row Q) (Is (row Q)) (shows 𝓤 H A (row Q)) r (w ∷ []) (λ isr.
-          land ! (from ! (stop !)) (init ! 10 refl (Q .typed 𝓤 H A W r w isr)) $ returns ! (look ! 10 refl) $ forget ! 10 refl $ forget ! 7 refl $ forget ! 6 refl $
-          move ! (10 ∷ 11 ∷ []) $ free1 ! $ move ! (7 ∷ 9 ∷ []) $ free1 ! $ move ! (3 ∷ []) $ frees-all ! As (κs .1) bs v $ move ! (5 ∷ 6 ∷ []) $ free1 ! $ move ! (3 ∷ []) $ frees-again ! As (κs .1) ts v $ free0 ! $
-          keep ! (3 ∷ 1 ∷ 2 ∷ 0 ∷ []) $ by ! (exits (zs .1) r w fit (so (κs .1) h v r (at-end (zs .1)) e))))))))))))))
+          arrives ! refl (fills ! refl (Q .typed 𝓤 H A W r w isr)) $ gives ! refl $ freed ! 2 refl $ fetches ! 0 $ frees-all ! As (κs .1) bs v $ freed ! 1 refl $ fetches ! 0 $ frees-again ! As (κs .1) ts v $ free0 ! $
+          keep ! (3 ∷ 1 ∷ 2 ∷ 0 ∷ []) $ by ! (exits (zs .1) r w fit (so (κs .1) h (subst (Is Tr h) (T .tells h vs is-h) is-h) v r (at-end (zs .1)) e))))))))))))))))
 
   pub glance : {M : Type 1} (𝓤 : URA M) (H : Heap 𝓤) (A : Atoms 𝓤) (W : Given 𝓤 H A) (𝓣 : Tables 𝓤 H) → Triple 𝓤 (𝓣 .C #look) (viewing T seeing 𝓤 H A) → Triple 𝓤 (𝓣 .C k) (G 𝓤 H A)
       → Meets 𝓤 H A (ended .signature) (WpFn 𝓤 H (𝓣 .C) (𝓣 .Λ) function) (closing 𝓤 H A ended (clauses 𝓤))

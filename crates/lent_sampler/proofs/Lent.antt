@@ -7,22 +7,20 @@ use denote.Steps.{only}
 use denote.Struct.Laws as LL
 use Rattle.sampler.proofs.Sampler as T
 use Rattle.sampler.proofs.Sampler.Laws as T′
-use Rattle.sampler.proofs.Answer as S
-use Rattle.sampler.proofs.Answer.Laws as S′
 use Rattle.sampler.proofs.Ran as R
 use Rattle.sampler.proofs.Ran.Laws as R′
 use Rattle.lent_sampler.proofs.Readings as M
 use Rattle.lent_sampler.proofs.Readings.Laws as M′
 use Rattle.lent_sampler.proofs.Framing as F
 use Rattle.lent_sampler.proofs.Framing.Laws as F′
+use Rattle.lent_sampler.proofs.Listing as J
+use Rattle.lent_sampler.proofs.Listing.Laws as J′
 use Rattle.lent_sampler.proofs.FrameDone as D
 use Rattle.lent_sampler.proofs.FrameDone.Laws as D′
 use Rattle.lent_sampler.proofs.Running as G
 use Rattle.lent_sampler.proofs.Running.Laws as G′
 use Rattle.lent_sampler.proofs.Sampled as Y
 use Rattle.lent_sampler.proofs.Sampled.Laws as Y′
-use Rattle.lent_sampler.proofs.Sampling as Z
-use Rattle.lent_sampler.proofs.Sampling.Laws as Z′
 use Rattle.channel.proofs.Against as Ag
 use Rattle.channel.proofs.Against.Laws as Ag′
 use Rattle.channel.proofs.Change as X
@@ -39,14 +37,10 @@ use Rattle.questions.proofs.OffsetAnswer as O
 use Rattle.questions.proofs.OffsetAnswer.Laws as O′
 use Rattle.questions.proofs.VoiceInfo as I
 use Rattle.questions.proofs.VoiceInfo.Laws as I′
-use Rattle.questions.proofs.VoiceInfos as L
-use Rattle.questions.proofs.VoiceInfos.Laws as L′
 use Rattle.questions.proofs.WaveformSummary as Q
 use Rattle.questions.proofs.WaveformSummary.Laws as Q′
 use Rattle.recordings.proofs.WaveRead as W
 use Rattle.recordings.proofs.WaveRead.Laws as W′
-use Rattle.recordings.proofs.ReadAnswer as K
-use Rattle.recordings.proofs.ReadAnswer.Laws as K′
 use Rattle.lent_channel.proofs.Asking as A
 use Rattle.lent_channel.proofs.Asking.Laws as A′
 use Rattle.lent_channel.proofs.Heard as Up
@@ -87,56 +81,14 @@ offset = enum O.the-type O′.the-laws O′.the-plain tt
 abbrev pub info : Datum
 info = struct I.the-type I′.the-laws I′.the-plain
 
-abbrev pub infos : Datum
-infos = struct L.the-type L′.the-laws L′.the-plain
-
 abbrev pub summary : Datum
 summary = struct Q.the-type Q′.the-laws Q′.the-plain
-
-abbrev pub answer : Answering sampler (word w8)
-answer = record {
-  like = S.the-row;
-  name = S.struct .name;
-  record-of = λ r. r .sampler;
-  answer-of = λ r. r .number;
-  make = λ s y. record { sampler = s; number = y };
-  eta = λ r. refl;
-  tells = λ r v is. ap only (LL.tells S.the-type S′.the-laws r _ is);
-  owed = λ r v is. (LL.owed S.the-type S′.the-laws r _ is .0, LL.owed S.the-type S′.the-laws r _ is .1 .0);
-  typed = λ 𝓤 H A W r v is. LL.lawful S.the-type S′.the-laws 𝓤 H A W .typed r _ is .0;
-}
 
 abbrev pub waveRead : Datum
 waveRead = struct W.the-type W′.the-laws W′.the-plain
 
-abbrev pub readAnswer : Answering sampler waveRead
-readAnswer = record {
-  like = K.the-row;
-  name = K.struct .name;
-  record-of = λ r. r .sampler;
-  answer-of = λ r. r .read;
-  make = λ s y. record { sampler = s; read = y };
-  eta = λ r. refl;
-  tells = λ r v is. ap only (LL.tells K.the-type K′.the-laws r _ is);
-  owed = λ r v is. (LL.owed K.the-type K′.the-laws r _ is .0, LL.owed K.the-type K′.the-laws r _ is .1 .0);
-  typed = λ 𝓤 H A W r v is. LL.lawful K.the-type K′.the-laws 𝓤 H A W .typed r _ is .0;
-}
-
 abbrev pub sampled : Datum
 sampled = struct Y.the-type Y′.the-laws Y′.the-plain
-
-abbrev pub sampling : Answering sampler sampled
-sampling = record {
-  like = Z.the-row;
-  name = Z.struct .name;
-  record-of = λ r. r .sampler;
-  answer-of = λ r. r .sampled;
-  make = λ s y. record { sampler = s; sampled = y };
-  eta = λ r. refl;
-  tells = λ r v is. ap only (LL.tells Z.the-type Z′.the-laws r _ is);
-  owed = λ r v is. (LL.owed Z.the-type Z′.the-laws r _ is .0, LL.owed Z.the-type Z′.the-laws r _ is .1 .0);
-  typed = λ 𝓤 H A W r v is. LL.lawful Z.the-type Z′.the-laws 𝓤 H A W .typed r _ is .0;
-}
 
 abbrev pub ran : Datum
 ran = struct R.the-type R′.the-laws R′.the-plain
@@ -164,6 +116,10 @@ frame-asking = record {
   owed = λ r v is. (LL.owed F.the-type F′.the-laws r _ is .0, LL.owed F.the-type F′.the-laws r _ is .1 .0);
   typed = λ 𝓤 H A W r v is. LL.lawful F.the-type F′.the-laws 𝓤 H A W .typed r _ is .0;
 }
+
+-- what is asked before a list is written
+abbrev pub listing : Datum
+listing = struct J.the-type J′.the-laws J′.the-plain
 
 abbrev pub run-asked : Datum
 run-asked = struct G.the-type G′.the-laws G′.the-plain

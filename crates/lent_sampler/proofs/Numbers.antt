@@ -10,6 +10,7 @@ use lib.ListN.{length, take, getD}
 use lib.Seq.{take-nil}
 use Rattle.walks.proofs.Tests.{and-true, or-false}
 use Rattle.walks.specs.Walks.{any, every, fold}
+use Rattle.recorder.specs.Recording.{isRecordingOf}
 use Rattle.common_types.specs.declared.Params.{Params}
 use Rattle.common_types.specs.Settings.{beyondLimits}
 use Rattle.channel.specs.declared.Change.{Change}
@@ -20,11 +21,13 @@ use Rattle.channel.specs.Heads.{headOf, lastTime}
 use Rattle.sampler.specs.declared.Sampler.{Sampler}
 use Rattle.sampler.specs.declared.RunAsked.{RunAsked}
 use Rattle.sampler.specs.declared.Ran.{Ran}
-use Rattle.sampler.specs.Refusals.{row, channelAt, goodSizes, goodSampler, goodWith, againstAny, atEnd, changeRows, changeNumber, sampleNumber, frameRows, frameNumber, latestOf, roomOf, runRows, runDone}
+use Rattle.sampler.specs.Refusals.{row, channelAt, goodSizes, goodSampler, goodWith, records, anyRecording, againstAny, atEnd, changeRows, changeNumber, gatherNumber, sampleNumber, frameRows, frameNumber, latestOf, roomOf, runRows, runDone}
 use Rattle.sampler.specs.Samplers.{runAnswer}
+use Rattle.sampler.proofs.Rows.{fitting}
 use Rattle.sampler.proofs.RunRows.{run-asked}
+use Rattle.questions.specs.Sights.{seenOf}
 use Rattle.lent_sampler.specs.declared.Readings.{Readings}
-use Rattle.lent_sampler.specs.Numbers.{allOf, anyOf, readingsIn, goodBy, goodWithBy, askedBy, timeIn, sampleRows, frameAskedBy, latestTime, roomLeft, runAskedBy}
+use Rattle.lent_sampler.specs.Numbers.{allOf, anyOf, readingsIn, goodBy, goodWithBy, askedBy, gatherRows, timeIn, sampleRows, frameAskedBy, latestTime, roomLeft, runAskedBy}
 
 -- ---- of two, the first n
 pub all-first : (a b : Bool) → a ≡ allOf 1 (a ∷ b ∷ [])
@@ -97,6 +100,29 @@ unfolding fold
 fold-first f zero t l = refl
 fold-first f (suc n) t [] = refl
 fold-first f (suc n) t (x ∷ l) = fold-first f n (max t (f x)) l
+
+-- ---- a gather: a channel that isn't there doesn't record
+none-records : records (channelOf (record { «auto_passthru» = false })) ≡ false
+unfolding channelOf headOf isRecordingOf
+none-records = refl
+
+any-records : (n : ℕ) (l : List Channel) → n ≤ 2 → anyOf n (records (getD l 0 (channelOf (record { «auto_passthru» = false }))) ∷ records (getD l 1 (channelOf (record { «auto_passthru» = false }))) ∷ []) ≡ any records (take n l)
+unfolding anyOf any
+any-records zero l few = refl
+any-records (suc zero) [] few = simp none-records
+any-records (suc zero) (c ∷ l) few = refl
+any-records (suc (suc zero)) [] few = simp none-records
+any-records (suc (suc zero)) (c ∷ []) few = simp none-records
+any-records (suc (suc zero)) (c ∷ d ∷ l) few = refl
+any-records (suc (suc (suc n))) l few = absurd (omega (arith, few))
+
+pub gather-seen : (s : Sampler) (size : ℕ) → gatherRows (seenOf s) size ≡ gatherNumber s size
+unfolding gatherNumber goodWith
+gather-seen s size = go (goodSampler s && leb (s .count * s .capacity) size) refl
+  where
+    go : (b : Bool) → goodSampler s && leb (s .count * s .capacity) size ≡ b → gatherRows (seenOf s) size ≡ row (not (goodSampler s && leb (s .count * s .capacity) size)) 9 (row (anyRecording s) 21 0)
+    go true e = ap (λ (c : Bool). row (not (goodSampler s && leb (s .count * s .capacity) size)) 9 (row c 21 0)) (any-records (s .count) (s .channels) (fitting s size e .few))
+    go false e = simp e
 
 -- ---- of a record with two channels
 module _ (s : Sampler) (two : length (s .channels) ≡ 2) where

@@ -1,2 +1,4 @@
 pub mod Numbers
 pub mod Hearing
+pub mod Lists
+pub mod Loads

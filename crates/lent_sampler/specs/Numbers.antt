@@ -6,6 +6,7 @@ use mathlib.Core.List.{List, [], _∷_}
 use lib.Dec.{leb, ltb, eqb}
 use lib.ListN.{take, getD}
 use Rattle.walks.specs.Walks.{any, every, fold}
+use Rattle.recorder.specs.Recording.{isRecordingOf}
 use Rattle.common_types.specs.declared.Params.{Params}
 use Rattle.common_types.specs.Settings.{beyondLimits}
 use Rattle.channel.specs.Heads.{lastTime}
@@ -83,6 +84,13 @@ askedBy good count first second = record {
 
 abbrev pub askingOf : Change → ℕ → Asking
 askingOf x capacity = record { ask = asksOf x; capacity = capacity }
+
+-- ---- a gather
+
+-- `gatherNumber`
+abbrev pub gatherRows : Seen → ℕ → ℕ
+gatherRows t size = row (not (t .good && leb (t .count * t .capacity) size)) 9
+    (row (anyOf (t .count) (isRecordingOf (t .first .recorder) ∷ isRecordingOf (t .second .recorder) ∷ [])) 21 0)
 
 -- ---- a sample of one channel
 

@@ -1,6 +1,6 @@
 // The sampler's calls on one record that its host lends, with the definitions of the calls by value in their contracts.
-// A frame is played where the record stands, and a change is made there. The other calls hand a copy of it to the call
-// by value. What takes a record, a channel or a list of records lent is proved by hand.
+// Each is done where the record stands: a frame, a run or a sample is played there, a change, a gather or a read made, a
+// question answered, and no channel is copied. What takes a record, a channel or a list of records lent is proved by hand.
 ghost use mathlib.Core.Path.{_≡_};
 ghost use Rattle.sampler.specs.Samplers.{
   startPlayingOf,
@@ -23,13 +23,25 @@ ghost use Rattle.sampler.specs.Samplers.{
   runAnswer,
 };
 ghost use Rattle.sampler.specs.Samplers.{processSampleOf as sampleOf};
-ghost use Rattle.sampler.specs.Refusals.{changeRows, changeNumber, sampleNumber, frameRows, frameNumber, runDone};
+ghost use Rattle.sampler.specs.Refusals.{
+  changeRows,
+  changeNumber,
+  gatherNumber,
+  sampleNumber,
+  frameRows,
+  frameNumber,
+  runDone,
+};
 ghost use Rattle.channel.specs.Channels.{processSampleOf, memoryOf};
+ghost use Rattle.binary32.specs.Leaves.{zero32};
 ghost use Prim.Native.Nat.{_+_, _*_, _-_, _%_, _^_, _≤_, _<_};
-ghost use mathlib.Core.Bool.{cond};
+ghost use mathlib.Core.Bool.{true, cond};
 ghost use mathlib.Core.List.{[], _∷_, _++_};
 ghost use lib.Dec.{eqb};
 ghost use lib.ListN.{length, getD, take, drop};
+ghost use Rattle.binary32.specs.Leaves.{asFloat};
+ghost use Rattle.common_types.specs.Notes.{intoU64Of};
+ghost use Rattle.common_types.specs.Settings.{loopLengthOf};
 ghost use Rattle.questions.specs.Questions.{
   getFramesProcessedOf,
   getDataLenOf,
@@ -39,12 +51,14 @@ ghost use Rattle.questions.specs.Questions.{
   errorTextAfter,
   iterActiveNotesOf,
   activeNotesAfter,
-  noInfo,
+  voiceInfoOf,
 };
 ghost use Rattle.questions.specs.Sights.{seenOf};
 ghost use Rattle.questions.specs.Waveforms.{getWaveformSummaryOf, waveformAfter};
 ghost use Rattle.recordings.specs.Waves.{writeWaveOf, waveAfter, readWaveOf, readMemory};
-ghost use Rattle.questions.specs.Lists.{countedOf, listedOf, voiceInfoCounted, voiceInfoAfter};
+ghost use Rattle.recordings.specs.Sights.{surveyOf};
+ghost use Rattle.lent_sampler.specs.Loads.{loadOf};
+ghost use Rattle.questions.specs.Lists.{voiceInfoCounted, voiceInfoAfter};
 ghost use Rattle.lent_channel.specs.Turns.{heardOf};
 ghost use Rattle.lent_sampler.specs.Numbers.{
   allOf,
@@ -55,6 +69,7 @@ ghost use Rattle.lent_sampler.specs.Numbers.{
   goodWithBy,
   askedBy,
   askingOf,
+  gatherRows,
   timeIn,
   sampleRows,
   frameAskedBy,
@@ -66,6 +81,18 @@ ghost use Rattle.lent_sampler.specs.Numbers.{
   runSeat,
 };
 ghost use Rattle.lent_sampler.specs.Hearing.{atVolume};
+ghost use Rattle.lent_sampler.specs.Lists.{
+  seatOf,
+  seated,
+  spotOf,
+  voiceIn,
+  unlisted,
+  countIn,
+  listingBy,
+  answeredOf,
+  lengthIn,
+  infoIn,
+};
 use channel::Against;
 use channel::Change;
 use channel::Channel;
@@ -75,19 +102,22 @@ use common_types::Note;
 use common_types::Params;
 use lent_channel::Asking;
 use lent_channel::Heard;
+use phrases::Beside;
 use questions::Counted;
 use questions::OffsetAnswer;
 use questions::Seen;
 use questions::Told;
 use questions::VoiceInfo;
-use questions::VoiceInfos;
 use questions::WaveformSummary;
+use recordings::Loading;
+use recordings::Surveyed;
 use recordings::WaveRead;
 use sampler::Asked;
 use sampler::FrameAsked;
 use sampler::Ran;
 use sampler::RunAsked;
 use sampler::Sampler;
+use voice::Voice;
 
 // Of two answers, the first n: whether all hold, and whether one does.
 fn all_of(n: usize, first: bool, second: bool) -> bool
@@ -352,63 +382,41 @@ pub fn reset(s: &mut Sampler) -> u8
     change(s, all_reset())
 }
 
+// The number of a gather, from what is read of the record.
+fn gather_rows(t: Seen, size: usize) -> u8
+    ensures { λ r. ⌜ r ≡ gatherRows t size ⌝ }
+{
+    let one = t.first;
+    let other = t.second;
+    let recording = any_of(t.count, one.is_recording(), other.is_recording());
+    let busy = sampler::first_of(recording, 21, 0);
+    let whole = t.good & sampler::enough(t.count, t.capacity, size);
+    sampler::first_of(!whole, 9, busy)
+}
+
+// The number of a gather, with no channel copied.
+fn gather_asked(s: &Sampler, size: usize) -> u8
+    ensures { λ r. ⌜ r ≡ gatherNumber (now (s .entry)) size ⌝ }
+{
+    gather_rows(look(s), size)
+}
+
 // Moves the phrases of each channel down, so that all free room of its part is behind them.
 pub fn gather(s: &mut Sampler, memory: &mut [u32]) -> u8
     ensures { λ r. ⌜ (record { sampler = now (s .exit); number = r } ≡ gatherOf (now (s .entry)) (now (memory .entry)))
         × (now (memory .exit) ≡ gatherMemory (now (s .entry)) (now (memory .entry))) ⌝ }
 {
-    let r = s.gather(memory);
-    *s = r.sampler;
-    r.number
-}
-
-// What a sample of one channel answers: its output, the number of document 01, and how many voices moved up as others
-// left.
-pub struct Sampled {
-    pub output: f32,
-    pub number: u8,
-    pub moved: u8,
-}
-
-struct Sampling {
-    sampler: Sampler,
-    sampled: Sampled,
-}
-
-fn sample_of(s: Sampler, channel: usize, input: f32, params: Params, memory: &mut [u32]) -> Sampling
-    ensures { λ r. ⌜ record {
-      sampler = r .sampler;
-      output = r .sampled .output;
-      number = r .sampled .number;
-      moved = r .sampled .moved;
-    } ≡ sampleOf s channel input params (now (memory .entry)) ⌝ }
-    ensures { λ r. ⌜ now (memory .exit) ≡ sampleMemory s channel input params (now (memory .entry)) ⌝ }
-{
-    let r = s.process_sample(channel, input, params, memory);
-    let sampler = r.sampler;
-    let sampled = Sampled {
-        output: r.output,
-        number: r.number,
-        moved: r.moved,
-    };
-    Sampling { sampler, sampled }
-}
-
-// A sample of one channel.
-pub fn process_sample(
-    s: &mut Sampler,
-    channel: usize,
-    input: f32,
-    params: Params,
-    memory: &mut [u32],
-) -> Sampled
-    ensures { λ r. ⌜ (record { sampler = now (s .exit); output = r .output; number = r .number; moved = r .moved }
-        ≡ sampleOf (now (s .entry)) channel input params (now (memory .entry)))
-        × (now (memory .exit) ≡ sampleMemory (now (s .entry)) channel input params (now (memory .entry))) ⌝ }
-{
-    let r = sample_of(*s, channel, input, params, memory);
-    *s = r.sampler;
-    r.sampled
+    let number = gather_asked(s, memory.len());
+    let n = steps(number, sampler::places(s.count));
+    let capacity = s.capacity;
+    let mut j: usize = 0;
+    while j < n {
+        let start = sampler::part_start(j, capacity);
+        let end = start + capacity;
+        lent_changes::gather(&mut s.channels[j], memory, start, end);
+        j = j + 1;
+    }
+    number
 }
 
 pub fn get_frames_processed(s: &Sampler, channel: usize) -> Counted
@@ -442,42 +450,173 @@ pub fn print_error_info(s: &Sampler, channel: usize, text: &mut [u8]) -> Counted
     questions::error_in(look(s), channel, text)
 }
 
+// Of the two channels the asked one.
+fn seat(channel: usize) -> usize
+    ensures { λ r. ⌜ r ≡ seatOf channel ⌝ }
+{
+    if channel == 1 { 1 } else { 0 }
+}
+
+fn spot(i: usize) -> usize
+    ensures { λ r. ⌜ r ≡ spotOf i ⌝ }
+{
+    if i < 32 { i } else { 0 }
+}
+
+// The voice at that place: it alone is copied.
+fn voice_of(c: &Channel, i: usize) -> Voice
+    ensures { λ r. ⌜ r ≡ voiceIn i (now (c .entry)) ⌝ }
+{
+    let k = spot(i);
+    c.voices[k]
+}
+
+fn voice_at(s: &Sampler, channel: usize, i: usize) -> Voice
+    ensures { λ r. ⌜ r ≡ voiceIn i (seated (now (s .entry)) channel) ⌝ }
+{
+    let j = seat(channel);
+    voice_of(&s.channels[j], i)
+}
+
+// How many voices are listed so far, with one more: at most 32, far from where a word wraps.
+fn listed_next(n: usize, v: Voice, all: bool) -> usize
+    ensures { λ r. ⌜ r ≡ cond (unlisted all v) n ((n + 1) % 2 ^ 64) ⌝ }
+{
+    if all | !v.finished {
+        std::num::wrapping_add_usize(n, 1)
+    } else {
+        n
+    }
+}
+
+// How many voices are listed: all, or those that aren't finished.
+fn count_of(c: &Channel, all: bool) -> usize
+    ensures { λ r. ⌜ r ≡ countIn all (now (c .entry)) ⌝ }
+{
+    let n = channel::places(c.count);
+    let mut k: usize = 0;
+    let mut i: usize = 0;
+    while i < n {
+        k = listed_next(k, c.voices[i], all);
+        i = i + 1;
+    }
+    k
+}
+
+fn count_at(s: &Sampler, channel: usize, all: bool) -> usize
+    ensures { λ r. ⌜ r ≡ countIn all (seated (now (s .entry)) channel) ⌝ }
+{
+    let j = seat(channel);
+    count_of(&s.channels[j], all)
+}
+
+// What is asked before a list is written: how many voices are looked at, how many entries it has, and its number.
+struct Listing {
+    turns: usize,
+    count: usize,
+    number: u8,
+}
+
+fn listing_of(
+    t: Seen,
+    channel: usize,
+    beyond: bool,
+    turns: usize,
+    count: usize,
+    room: usize,
+) -> Listing
+    ensures { λ r. ⌜ r ≡ listingBy t channel beyond turns count room ⌝ }
+{
+    let short = sampler::first_of(room < count, 8, 0);
+    let outside = sampler::first_of(beyond, 4, short);
+    let absent = sampler::first_of(!(channel < t.count), 1, outside);
+    let number = sampler::first_of(!t.good, 9, absent);
+    Listing {
+        turns: steps(number, turns),
+        count,
+        number,
+    }
+}
+
+// What is asked of a list of voices, or of those that aren't finished, with no channel copied.
+fn list_asked(s: &Sampler, channel: usize, beyond: bool, all: bool, room: usize) -> Listing
+    ensures { λ r. ⌜ r ≡ listingBy (seenOf (now (s .entry))) channel beyond
+        (countIn true (seated (now (s .entry)) channel)) (countIn all (seated (now (s .entry)) channel)) room ⌝ }
+{
+    let t = look(s);
+    let turns = count_at(s, channel, true);
+    let count = count_at(s, channel, all);
+    listing_of(t, channel, beyond, turns, count, room)
+}
+
+fn listed(a: Listing) -> Counted
+    ensures { λ r. ⌜ r ≡ answeredOf a ⌝ }
+{
+    if a.number == 0 {
+        Counted::Done(a.count)
+    } else {
+        Counted::Refused(a.number)
+    }
+}
+
+fn packed(v: Voice) -> u64
+    ensures { λ r. ⌜ r ≡ intoU64Of (v .note) ⌝ }
+{
+    let note = v.note;
+    note.into_u64()
+}
+
+// Writes the notes of the unfinished voices to the front of the list.
 pub fn iter_active_notes(s: &Sampler, channel: usize, notes: &mut [u64]) -> Counted
     ensures { λ r. ⌜ (r ≡ iterActiveNotesOf (now (s .entry)) channel (length (now (notes .entry))))
         × (now (notes .exit) ≡ activeNotesAfter (now (s .entry)) channel (now (notes .entry))) ⌝ }
 {
-    questions::iter_active_notes(*s, channel, notes)
-}
-
-fn info_at(v: VoiceInfos, i: usize) -> VoiceInfo
-    requires { ⌜ i < 32 ⌝ }
-    ensures { λ r. ⌜ r ≡ getD (v .infos) i noInfo ⌝ }
-{
-    v.infos[i]
-}
-
-fn counted(v: VoiceInfos) -> Counted
-    ensures { λ r. ⌜ r ≡ countedOf v ⌝ }
-{
-    if v.number == 0 {
-        Counted::Done(v.count)
-    } else {
-        Counted::Refused(v.number)
-    }
-}
-
-// Writes the infos to the front of the list.
-fn fill(list: &mut [VoiceInfo], v: VoiceInfos) -> Counted
-    requires { ⌜ (v .count ≤ length (now list)) × (v .count ≤ 32) ⌝ }
-    ensures { λ r. ⌜ (r ≡ countedOf v) × (now (list .exit) ≡ listedOf v (now (list .entry))) ⌝ }
-{
-    let n = v.count;
-    let mut i = 0;
+    let asked = list_asked(s, channel, false, false, notes.len());
+    let n = asked.turns;
+    let mut k: usize = 0;
+    let mut i: usize = 0;
     while i < n {
-        list[i] = info_at(v, i);
-        i += 1;
+        let v = voice_at(s, channel, i);
+        if !v.finished {
+            notes[k] = packed(v);
+        }
+        k = listed_next(k, v, false);
+        i = i + 1;
     }
-    counted(v)
+    listed(asked)
+}
+
+// How long the phrase of that number is.
+fn length_of(c: &Channel, k: u8) -> usize
+    ensures { λ r. ⌜ r ≡ lengthIn k (now (c .entry)) ⌝ }
+{
+    let phrase = c.head
+        .phrase_by(k, c.several, c.table[channel::place_of(k)]);
+    phrase.length
+}
+
+fn length_at(s: &Sampler, channel: usize, k: u8) -> usize
+    ensures { λ r. ⌜ r ≡ lengthIn k (seated (now (s .entry)) channel) ⌝ }
+{
+    let j = seat(channel);
+    length_of(&s.channels[j], k)
+}
+
+fn info_of(v: Voice, params: Params, whole: usize, own: usize) -> VoiceInfo
+    ensures { λ r. ⌜ r ≡ voiceInfoOf (loopLengthOf params whole) (asFloat own) v ⌝ }
+{
+    let length = params.loop_length(whole);
+    questions::voice_info(v, length, binary32::usize_to_f32(own))
+}
+
+// The figures of a voice, by its phrase; the loop length by channel 0's phrase of that number.
+fn info_at(s: &Sampler, channel: usize, params: Params, i: usize) -> VoiceInfo
+    ensures { λ r. ⌜ r ≡ infoIn params i (now (s .entry)) channel ⌝ }
+{
+    let v = voice_at(s, channel, i);
+    let whole = length_at(s, 0, v.phrase);
+    let own = length_at(s, channel, v.phrase);
+    info_of(v, params, whole, own)
 }
 
 // Writes the figures of each voice to the front of the list.
@@ -490,8 +629,15 @@ pub fn get_voice_info(
     ensures { λ r. ⌜ (r ≡ voiceInfoCounted (now (s .entry)) channel params (now (list .entry)))
         × (now (list .exit) ≡ voiceInfoAfter (now (s .entry)) channel params (now (list .entry))) ⌝ }
 {
-    let v = questions::get_voice_info(*s, channel, params, list.len());
-    fill(list, v)
+    let beyond = params.beyond_limits();
+    let asked = list_asked(s, channel, beyond, true, list.len());
+    let n = asked.turns;
+    let mut i: usize = 0;
+    while i < n {
+        list[i] = info_at(s, channel, params, i);
+        i = i + 1;
+    }
+    listed(asked)
 }
 
 // Writes a value for each column of channel 0's recording to the front of the list.
@@ -505,7 +651,7 @@ pub fn get_waveform_summary(
         ≡ getWaveformSummaryOf (now (s .entry)) columns (length (now (list .entry))) (now (memory .entry)))
         × (now (list .exit) ≡ waveformAfter (now (s .entry)) columns (now (list .entry)) (now (memory .entry))) ⌝ }
 {
-    questions::get_waveform_summary(*s, columns, list, memory)
+    questions::waveform_in(look(s), columns, list, memory)
 }
 
 // Writes the recordings of all channels as a WAVE file to the front of `out`, and answers how many bytes it has.
@@ -513,7 +659,51 @@ pub fn write_wave(s: &Sampler, rate: u32, memory: &[u32], out: &mut [u8]) -> Cou
     ensures { λ r. ⌜ (r ≡ writeWaveOf (now (s .entry)) (length (now (out .entry))) (length (now (memory .entry))))
         × (now (out .exit) ≡ waveAfter (now (s .entry)) rate (now (memory .entry)) (now (out .entry))) ⌝ }
 {
-    recordings::write_wave(*s, rate, memory, out)
+    recordings::write_in(look(s), rate, memory, out)
+}
+
+fn surveyed(seen: Seen, first: Beside, second: Beside) -> Surveyed
+    ensures { λ r. ⌜ r ≡ record { seen = seen; first = first; second = second } ⌝ }
+{
+    Surveyed {
+        seen,
+        first,
+        second,
+    }
+}
+
+// What a read asks of a record, with no channel copied.
+fn survey(s: &Sampler) -> Surveyed
+    ensures { λ r. ⌜ r ≡ surveyOf (now (s .entry)) ⌝ }
+{
+    let seen = look(s);
+    let capacity = s.capacity;
+    let first = lent_channel::beside(&s.channels[0], capacity);
+    let second = lent_channel::beside(&s.channels[1], capacity);
+    surveyed(seen, first, second)
+}
+
+// The change that a read makes. Where it is refused that is one which every record refuses, so that a read is one shape.
+fn load_of(r: Loading) -> Change
+    ensures { λ c. ⌜ c ≡ loadOf r ⌝ }
+{
+    let read = r.read;
+    if read.number == 0 {
+        return Change::Head(HeadChange::Load(r.samples));
+    }
+    Change::Head(HeadChange::Choose(8))
+}
+
+fn answer_of(r: Loading) -> WaveRead
+    ensures { λ w. ⌜ w ≡ r .read ⌝ }
+{
+    r.read
+}
+
+fn settle(s: &mut Sampler, r: Loading) -> u8
+    ensures { λ n. ⌜ record { sampler = now (s .exit); number = n } ≡ changeOf (now (s .entry)) (loadOf r) ⌝ }
+{
+    change(s, load_of(r))
 }
 
 // Replaces the recording of each channel by a WAVE file's.
@@ -522,9 +712,10 @@ pub fn read_wave(s: &mut Sampler, file: &[u8], memory: &mut [u32]) -> WaveRead
         ≡ readWaveOf (now (s .entry)) (now (file .entry)) (length (now (memory .entry))))
         × (now (memory .exit) ≡ readMemory (now (s .entry)) (now (file .entry)) (now (memory .entry))) ⌝ }
 {
-    let r = recordings::read_wave(*s, file, memory);
-    *s = r.sampler;
-    r.read
+    let t = survey(s);
+    let r = recordings::read_in(t, file, memory);
+    settle(s, r);
+    answer_of(r)
 }
 
 // How many of n turns are taken: a call that is refused takes none. A frame's are its entries, a change's its channels.
@@ -721,6 +912,58 @@ fn part_sample(
 {
     let heard = lent_channel::with_sample(c, params, input, &mut memory[start..end]);
     at_volume(params, heard)
+}
+
+// What a sample of one channel answers: its output, the number of document 01, and how many voices moved up as others
+// left.
+pub struct Sampled {
+    pub output: f32,
+    pub number: u8,
+    pub moved: u8,
+}
+
+// That it is refused, or what is heard.
+pub fn refused(number: u8) -> Sampled
+    ensures { λ r. ⌜ r ≡ record { output = zero32; number = number; moved = 0 } ⌝ }
+{
+    Sampled {
+        output: 0.0,
+        number,
+        moved: 0,
+    }
+}
+
+pub fn answered(heard: Heard) -> Sampled
+    ensures { λ r. ⌜ r ≡ record { output = heard .output; number = 0; moved = heard .moved } ⌝ }
+{
+    Sampled {
+        output: heard.output,
+        number: 0,
+        moved: heard.moved,
+    }
+}
+
+// A sample of one channel.
+pub fn process_sample(
+    s: &mut Sampler,
+    channel: usize,
+    input: f32,
+    params: Params,
+    memory: &mut [u32],
+) -> Sampled
+    ensures { λ r. ⌜ (record { sampler = now (s .exit); output = r .output; number = r .number; moved = r .moved }
+        ≡ sampleOf (now (s .entry)) channel input params (now (memory .entry)))
+        × (now (memory .exit) ≡ sampleMemory (now (s .entry)) channel input params (now (memory .entry))) ⌝ }
+{
+    let number = sample_asked(s, channel, params, memory.len());
+    if number != 0 {
+        return refused(number);
+    }
+    let capacity = s.capacity;
+    let start = sampler::part_start(channel, capacity);
+    let end = start + capacity;
+    let heard = part_sample(&mut s.channels[channel], params, input, memory, start, end);
+    answered(heard)
 }
 
 // What a frame answers: its number, and how many voices of its channels moved up.

@@ -17,7 +17,7 @@ use Rattle.common_types.specs.Times.{quarterNotesPerBarOf, samplesPerQuarterNot
 use Rattle.common_types.specs.Settings.{speedOf, timeLengthOf, lengthOf, loopLengthOf, lengthBeyond, beyondLimits}
 use Rattle.volume.specs.Levels.{progressOf, levelOf, towardOf, steppedOf, goodRamp, goodVolume}
 use Rattle.recorder.specs.Recording.{raised, inState, misusedOf, skippedOf, startOf, stopOf, isRecordingOf, recordedOf, dataAfter, goodRecorder}
-use Rattle.clip.specs.Positions.{positionOf, aheadOf, nextAt, leadOf, travelAt, loopedOf, roundTripOf, mirroredOf, bouncedOf, wrappedOf, placedOf, clipOffsetAt, clipToDataOf, offsetAt, indexAt}
+use Rattle.clip.specs.Positions.{positionOf, oneFurther, nextAt, leadOf, travelAt, loopedOf, roundTripOf, mirroredOf, bouncedOf, wrappedOf, placedOf, clipOffsetAt, clipToDataOf, offsetAt, indexAt}
 use Rattle.clip.specs.Updates.{madeOf, backOf, foundAt, reversingAt, shiftFor, settledOf, withSpeed, withMode, withLength, withDataLength}
 use Rattle.clip.specs.Refusals.{goodLength, goodClip}
 use Rattle.phrases.specs.Phrases.{noSamples, endsBy, reachOf, storedIn, roomOf, othersOf, besideWith, besideOf}
@@ -59,7 +59,7 @@ text (line ∷ lines) = bytes line ++ newline ++ text lines
 
 -- whatever a listing computes by
 computing : Unit {0}
-unfolding text fromHex pairs bytes lineOf textOf digits decimal printedFrom printed hexDigit hexDigits outputOf outputsOf answerLine frameLine badLine halfAt wordAt floatAt goodHeader headerOf bytesOf restOf goodSettings goodRecord loopModeOf noteOffOf listedLengthOf transportOf paramsOf frameCallOf callOf recordOf clockOf voicesOf answeredOf settingsOf frameOf playOf memoryAfter playerOf laterBy openedOf stepOf stepMemory floorOf minOf maxOf crossingOf any every without fold seek speedOf quarterNotesPerBarOf samplesPerQuarterNoteOf samplesPerBarOf asSamplesOf timeLengthOf lengthOf loopLengthOf lengthBeyond beyondLimits progressOf levelOf towardOf steppedOf goodRamp goodVolume raised inState misusedOf skippedOf startOf stopOf isRecordingOf recordedOf dataAfter goodRecorder leadOf travelAt loopedOf roundTripOf mirroredOf bouncedOf wrappedOf placedOf clipOffsetAt clipToDataOf offsetAt indexAt madeOf backOf foundAt reversingAt shiftFor settledOf withSpeed withMode withLength withDataLength goodLength goodClip spanOf tickOf lateOf overOf shouldRemoveOf movedOf positionOf aheadOf nextAt betweenOf valueOf productOf soundedOf finishOf playedOutOf endedOf volumeStepped turnOf freshOf blankVoice atSpeedOf goodVoice nextTime headOf rampOf passthruOf closedOf goodHead channelOf resetOf anyUnfinishedOf handledOf pushedOf startPlayingOf wantedOf findOf finishedAtOf stopPlayingOf spedOf setNoteSpeedOf headChangedOf keptOf addedOf heardOf playedOf turningBy resting turningAt turningOf turningIn noSamples endsBy reachOf storedIn roomOf othersOf besideWith besideOf phraseBy beginsAt writtenIn phraseAfter recorderAfter interpolatesAfter chosenAfter goodTable tableAfter severalAfter headNames foundBy headAsks asksOf leavingOf blockedBy shortBy usesOf headChangedIn takenOf memoryOf processSampleOf changedOf goodVoicesOf goodChannel goodSizes goodSampler capacityOf goodWith againstAny setUpNumber startRows stopRows speedRows frameNumber setUpOf eachOf answerOf partOf playedAt steppedAt outputAt memoryAt entryOf entriesOf framedOf add sub mul div rem neg lt le eq ofInt toUnsigned isNan ofBits toBits nanBits ofFields
+unfolding text fromHex pairs bytes lineOf textOf digits decimal printedFrom printed hexDigit hexDigits outputOf outputsOf answerLine frameLine badLine halfAt wordAt floatAt goodHeader headerOf bytesOf restOf goodSettings goodRecord loopModeOf noteOffOf listedLengthOf transportOf paramsOf frameCallOf callOf recordOf clockOf voicesOf answeredOf settingsOf frameOf playOf memoryAfter playerOf laterBy openedOf stepOf stepMemory floorOf minOf maxOf crossingOf any every without fold seek speedOf quarterNotesPerBarOf samplesPerQuarterNoteOf samplesPerBarOf asSamplesOf timeLengthOf lengthOf loopLengthOf lengthBeyond beyondLimits progressOf levelOf towardOf steppedOf goodRamp goodVolume raised inState misusedOf skippedOf startOf stopOf isRecordingOf recordedOf dataAfter goodRecorder leadOf travelAt loopedOf roundTripOf mirroredOf bouncedOf wrappedOf placedOf clipOffsetAt clipToDataOf offsetAt indexAt madeOf backOf foundAt reversingAt shiftFor settledOf withSpeed withMode withLength withDataLength goodLength goodClip spanOf tickOf lateOf overOf shouldRemoveOf movedOf positionOf oneFurther nextAt betweenOf valueOf productOf soundedOf finishOf playedOutOf endedOf volumeStepped turnOf freshOf blankVoice atSpeedOf goodVoice nextTime headOf rampOf passthruOf closedOf goodHead channelOf resetOf anyUnfinishedOf handledOf pushedOf startPlayingOf wantedOf findOf finishedAtOf stopPlayingOf spedOf setNoteSpeedOf headChangedOf keptOf addedOf heardOf playedOf turningBy resting turningAt turningOf turningIn noSamples endsBy reachOf storedIn roomOf othersOf besideWith besideOf phraseBy beginsAt writtenIn phraseAfter recorderAfter interpolatesAfter chosenAfter goodTable tableAfter severalAfter headNames foundBy headAsks asksOf leavingOf blockedBy shortBy usesOf headChangedIn takenOf memoryOf processSampleOf changedOf goodVoicesOf goodChannel goodSizes goodSampler capacityOf goodWith againstAny setUpNumber startRows stopRows speedRows frameNumber setUpOf eachOf answerOf partOf playedAt steppedAt outputAt memoryAt entryOf entriesOf framedOf add sub mul div rem neg lt le eq ofInt toUnsigned isNan ofBits toBits nanBits ofFields
 computing = tt
 
 -- ---- document 01's example

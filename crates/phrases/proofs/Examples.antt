@@ -7,7 +7,7 @@ use lib.ListN.{set}
 use Rattle.walks.specs.Walks.{fold}
 use Rattle.phrases.specs.declared.Phrase.{Phrase}
 use Rattle.phrases.specs.Phrases.{noPhrase, noPhrases, emptyFrom, noSamples, endsBy, reachOf, apartOf, roomOf, othersOf, everyBelow, goodAt, goodPhrases, besideWith, besideOf}
-use Rattle.phrases.specs.Gathering.{firstBelow, firstFrom, movedDown, gatherPhrase, gatherNext, gatherTurns, gatheringOf, sumBelow, samplesOf, samplesIf, samplesBefore}
+use Rattle.phrases.specs.Gathering.{firstBelow, firstFrom, movedDown, gatherPhrase, gatherNext, gatherTurns, gatheringOf, sumBelow, samplesOfAll, samplesIf, samplesBefore}
 use Rattle.phrases.proofs.Gathered.Places.{gatheredPhrase}
 
 -- n samples from a place on
@@ -161,8 +161,8 @@ unfolding gathering
 gathered-none = (refl, refl)
 
 -- ---- where that leaves each: one that begins there doesn't begin before it
-pub samples-before : (samplesBefore 0 three ≡ 0) × (samplesBefore 3 three ≡ 2) × (samplesBefore 4 three ≡ 3) × (samplesBefore 8 three ≡ 5) × (samplesOf three ≡ 5)
-unfolding samplesBefore samplesOf sumBelow samplesIf
+pub samples-before : (samplesBefore 0 three ≡ 0) × (samplesBefore 3 three ≡ 2) × (samplesBefore 4 three ≡ 3) × (samplesBefore 8 three ≡ 5) × (samplesOfAll three ≡ 5)
+unfolding samplesBefore samplesOfAll sumBelow samplesIf
 samples-before = (refl, refl, refl, refl, refl)
 
 pub placed : (gatheredPhrase three (from 4 2) ≡ from 3 2) × (gatheredPhrase three (emptyFrom 5) ≡ emptyFrom 5)

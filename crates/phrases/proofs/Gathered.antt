@@ -20,7 +20,7 @@ use Rattle.walks.specs.Each.{Each}
 use Rattle.walks.proofs.Lists.Each.{each-weaker}
 use Rattle.phrases.specs.declared.Phrase.{Phrase}
 use Rattle.phrases.specs.Phrases.{noPhrase, noSamples, endsBy, reachOf, storedIn, goodPhrases, besideOf}
-use Rattle.phrases.specs.Gathering.{Gathering, gatheringOf, samplesOf, samplesIf, samplesBefore}
+use Rattle.phrases.specs.Gathering.{Gathering, gatheringOf, samplesOfAll, samplesIf, samplesBefore}
 use Rattle.phrases.proofs.Below.{same-or}
 use Rattle.phrases.proofs.Rooms.{holds-some, holds-none, inside-ends}
 use Rattle.phrases.proofs.Apart.{apart-made, good-within, good-some, good-made}
@@ -40,7 +40,7 @@ pub record InOrder (ps : List Phrase) (m : List ℕ) (g : Gathering) : Type 0 wh
   pub those : Each (λ (k : ℕ). (k < 8) × (0 < getD ps k noPhrase .length)) order
   pub every : (k : ℕ) → k < 8 → 0 < getD ps k noPhrase .length → (j : ℕ) × (getElem? order j ≡ some k)
   pub rising : Rising ps order
-  pub memory : g .memory ≡ storedAll ps m order ++ drop (samplesOf ps) m
+  pub memory : g .memory ≡ storedAll ps m order ++ drop (samplesOfAll ps) m
 
 module _ (ps : List Phrase) (m : List ℕ) (many : length ps ≡ 8) (fine : goodPhrases (length m) ps ≡ true) where
   abbrev g : Gathering
@@ -55,8 +55,8 @@ module _ (ps : List Phrase) (m : List ℕ) (many : length ps ≡ 8) (fine : good
   reach : (k : ℕ) → k < 8 → 0 < nth ps k .length → samplesBefore (nth ps k .start) ps + nth ps k .length ≤ samplesBefore (g .from) ps
   reach k l s = before-it ps k (g .from) l (all-before k l s)
 
-  all : samplesBefore (g .from) ps ≡ samplesOf ps
-  unfolding samplesBefore samplesOf
+  all : samplesBefore (g .from) ps ≡ samplesOfAll ps
+  unfolding samplesBefore samplesOfAll
   all = sum-same 8 (λ (i : ℕ). samplesIf (g .from) (nth ps i)) (λ (i : ℕ). nth ps i .length) (λ i l. go i l (eq-zero-or-pos (nth ps i .length)))
     where
       go : (i : ℕ) → i < 8 → (nth ps i .length ≡ 0) ⊎ (0 < nth ps i .length) → samplesIf (g .from) (nth ps i) ≡ nth ps i .length
@@ -108,21 +108,21 @@ module _ (ps : List Phrase) (m : List ℕ) (many : length ps ≡ 8) (fine : good
           ∙ sym (ap (λ (n : ℕ). take n (drop (nth ps k .start) m)) e)
       go (inr s) = ap (λ (p : Phrase). storedIn p (g .memory)) (gather-some k l s) ∙ turned .kept k l s (all-before k l s)
 
-  pub gather-to : gatheringOf ps m .to ≡ samplesOf ps
+  pub gather-to : gatheringOf ps m .to ≡ samplesOfAll ps
   gather-to = turned .filled ∙ all
 
-  pub gather-samples : samplesOf (gatheringOf ps m .phrases) ≡ samplesOf ps
-  unfolding samplesOf
+  pub gather-samples : samplesOfAll (gatheringOf ps m .phrases) ≡ samplesOfAll ps
+  unfolding samplesOfAll
   gather-samples = sum-same 8 (λ (i : ℕ). nth (g .phrases) i .length) (λ (i : ℕ). nth ps i .length) gather-length
 
-  pub gather-rest : drop (samplesOf ps) (gatheringOf ps m .memory) ≡ drop (samplesOf ps) m
+  pub gather-rest : drop (samplesOfAll ps) (gatheringOf ps m .memory) ≡ drop (samplesOfAll ps) m
   gather-rest = subst (λ (n : ℕ). drop n (g .memory) ≡ drop n m) gather-to (turned .rest)
 
   -- ---- what is free is one stretch behind them
-  pub samples-fit : samplesOf ps ≤ length m
+  pub samples-fit : samplesOfAll ps ≤ length m
   samples-fit = omega (arith, gather-to, turned .low, turned .inside)
 
-  pub gather-reach : (k : ℕ) → k < 8 → 0 < getD ps k noPhrase .length → getD (gatheringOf ps m .phrases) k noPhrase .start + getD ps k noPhrase .length ≤ samplesOf ps
+  pub gather-reach : (k : ℕ) → k < 8 → 0 < getD ps k noPhrase .length → getD (gatheringOf ps m .phrases) k noPhrase .start + getD ps k noPhrase .length ≤ samplesOfAll ps
   gather-reach k l s = omega (arith, reach k l s, all, ap (λ (p : Phrase). p .start) (gather-some k l s))
 
   -- one before another stays before it
@@ -150,10 +150,10 @@ module _ (ps : List Phrase) (m : List ℕ) (many : length ps ≡ 8) (fine : good
       ends i l (inl e) = ap (endsBy (length m)) (gather-phrase i l ∙ gathered-empty ps (nth ps i) e) ∙ good-within (length m) ps fine i l
       ends i l (inr s) = inside-ends (nth (g .phrases) i) (length m) (omega (arith, gather-reach i l s, gather-length i l, samples-fit))
 
-  pub gathered-behind : length m < 2 ^ 64 → (place capacity : ℕ) → besideOf place capacity (gatheringOf ps m .phrases) .behind ≡ samplesOf ps
+  pub gathered-behind : length m < 2 ^ 64 → (place capacity : ℕ) → besideOf place capacity (gatheringOf ps m .phrases) .behind ≡ samplesOfAll ps
   gathered-behind h place capacity =
       le-antisymm
-      (behind-least place capacity (g .phrases) (samplesOf ps) (λ k l. most k (omega (arith, gather-many)) (eq-zero-or-pos (nth ps k .length))))
+      (behind-least place capacity (g .phrases) (samplesOfAll ps) (λ k l. most k (omega (arith, gather-many)) (eq-zero-or-pos (nth ps k .length))))
       (least (turned .reached))
     where
       reaches : (k : ℕ) → k < 8 → 0 < nth ps k .length → reachOf (nth (g .phrases) k) ≡ samplesBefore (nth ps k .start) ps + nth ps k .length
@@ -161,16 +161,16 @@ module _ (ps : List Phrase) (m : List ℕ) (many : length ps ≡ 8) (fine : good
           reach-end (nth (g .phrases) k) (length m) (good-within (length m) (g .phrases) gathered-good k l) h (λ e. omega (arith, gather-length k l))
           ∙ ap (λ (p : Phrase). p .start + p .length) (gather-some k l s)
 
-      most : (k : ℕ) → k < 8 → (nth ps k .length ≡ 0) ⊎ (0 < nth ps k .length) → reachOf (nth (g .phrases) k) ≤ samplesOf ps
+      most : (k : ℕ) → k < 8 → (nth ps k .length ≡ 0) ⊎ (0 < nth ps k .length) → reachOf (nth (g .phrases) k) ≤ samplesOfAll ps
       most k l (inl e) = omega (arith, reach-empty (nth (g .phrases) k) (gather-length k l ∙ e))
       most k l (inr s) = omega (arith, reaches k l s, reach k l s, all)
 
       least : (g .to ≡ 0) ⊎ ((k : ℕ) × (k < 8) × (0 < nth ps k .length) × (nth ps k .start < g .from) × (samplesBefore (nth ps k .start) ps + nth ps k .length ≡ g .to))
-          → samplesOf ps ≤ besideOf place capacity (g .phrases) .behind
+          → samplesOfAll ps ≤ besideOf place capacity (g .phrases) .behind
       least (inl e) = omega (arith, gather-to)
       least (inr r) = omega (arith, behind-reach place capacity (g .phrases) (r .0), reaches (r .0) (r .1) (r .2), r .4, gather-to)
 
-  pub gathered-next : (place capacity : ℕ) → samplesOf ps ≤ place → besideOf place capacity (gatheringOf ps m .phrases) .next ≡ capacity
+  pub gathered-next : (place capacity : ℕ) → samplesOfAll ps ≤ place → besideOf place capacity (gatheringOf ps m .phrases) .next ≡ capacity
   gathered-next place capacity h =
       next-none place capacity (g .phrases) λ k l s.
       let q : k < 8 = omega (arith, gather-many) in
@@ -191,9 +191,9 @@ module _ (ps : List Phrase) (m : List ℕ) (many : length ps ≡ 8) (fine : good
     every = λ k l s. turned .every k l s (all-before k l s);
     rising = turned .rising;
     memory =
-        sym (take-append-drop (samplesOf ps) (g .memory))
-        ∙ ap (λ (r : List ℕ). take (samplesOf ps) (g .memory) ++ r) gather-rest
-        ∙ ap (λ (r : List ℕ). r ++ drop (samplesOf ps) m) (subst (λ (n : ℕ). take n (g .memory) ≡ storedAll ps m (turned .order)) gather-to (turned .joined));
+        sym (take-append-drop (samplesOfAll ps) (g .memory))
+        ∙ ap (λ (r : List ℕ). take (samplesOfAll ps) (g .memory) ++ r) gather-rest
+        ∙ ap (λ (r : List ℕ). r ++ drop (samplesOfAll ps) m) (subst (λ (n : ℕ). take n (g .memory) ≡ storedAll ps m (turned .order)) gather-to (turned .joined));
   }
 
   -- ---- those that stand so already stay

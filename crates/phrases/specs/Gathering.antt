@@ -64,8 +64,8 @@ sumBelow zero f = 0
 sumBelow (suc n) f = sumBelow n f + f n
 
 -- how many the eight have
-unfoldable pub samplesOf : List Phrase → ℕ
-samplesOf ps = sumBelow 8 (λ (i : ℕ). getD ps i noPhrase .length)
+unfoldable pub samplesOfAll : List Phrase → ℕ
+samplesOfAll ps = sumBelow 8 (λ (i : ℕ). getD ps i noPhrase .length)
 
 -- those of one, if it begins before that place
 unfoldable pub samplesIf : ℕ → Phrase → ℕ

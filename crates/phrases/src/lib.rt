@@ -1,7 +1,7 @@
 // A phrase: a stretch of a channel's part of the lent memory (request 11/12). Each function takes every value of its
 // arguments, and equals a definition in specs/Phrases.antt.
 ghost use mathlib.Core.Path.{_≡_};
-ghost use Prim.Native.Nat.{_+_, _≤_, min, max};
+ghost use Prim.Native.Nat.{_+_, _≤_};
 ghost use lib.ListN.{length, getD, set};
 ghost use Rattle.phrases.specs.Phrases.{
   noPhrase,
@@ -20,6 +20,8 @@ ghost use Rattle.phrases.specs.Phrases.{
   besideOf,
 };
 ghost use Rattle.phrases.specs.Gathering.{firstFrom, movedDown, gatheringOf};
+use walks::larger;
+use walks::smaller;
 
 // Where it begins, and how many samples it has.
 pub struct Phrase {
@@ -263,16 +265,4 @@ pub fn gather(all: [Phrase; 8], data: &mut [u32]) -> [Phrase; 8]
         turn += 1;
     }
     moved
-}
-
-fn larger(a: usize, b: usize) -> usize
-    ensures { λ r. ⌜ r ≡ max a b ⌝ }
-{
-    if a < b { b } else { a }
-}
-
-pub fn smaller(a: usize, b: usize) -> usize
-    ensures { λ r. ⌜ r ≡ min a b ⌝ }
-{
-    if a < b { a } else { b }
 }

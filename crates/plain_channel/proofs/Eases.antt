@@ -19,7 +19,7 @@ use Rattle.channel.specs.Channels.{addedOf, turningBy, momentFor, turningIn}
 use Rattle.channel.proofs.Turns.{sounds-by}
 use Rattle.lent_channel.specs.Turns.{Follows}
 use Rattle.lent_channel.proofs.Turns.{follows-own}
-use Rattle.plain_channel.specs.Ahead.{tickIn, heldIn, onBy, aheadOf, Easy, Ahead}
+use Rattle.plain_channel.specs.Ahead.{tickIn, recordingHeld, onBy, aheadOf, Easy, Ahead}
 use Rattle.plain_channel.proofs.Firsts.{firsts-at}
 use Rattle.plain_channel.proofs.Aheads.{ahead-count}
 use Rattle.plain_channel.proofs.Laters.{turns-finished}
@@ -31,7 +31,7 @@ module _ (p : Params) (m : List ℕ) (d : Channel) (v : Voice) (n : ℕ) where
   t = tickIn p d v
 
   abbrev held : List ℕ
-  held = heldIn m d v
+  held = recordingHeld m d v
 
   -- stays in the next sample
   pub easy-stays : Easy p m (suc n) d v → Stays (turningIn p d m) v (onBy p m d 1 v)
@@ -54,7 +54,7 @@ module _ (p : Params) (m : List ℕ) (d : Channel) (v : Voice) (n : ℕ) where
   easy-soon easy = turns-finished t held 1 v (easy .glides .0, tt) ∙ easy .unfinished
 
 pub easy-late : (p : Params) (m : List ℕ) (d : Channel) (v : Voice) (n : ℕ) → Easy p m n d v → onBy p m d n v .finished ≡ false
-easy-late p m d v n easy = turns-finished (tickIn p d v) (heldIn m d v) n v (easy .glides) ∙ easy .unfinished
+easy-late p m d v n easy = turns-finished (tickIn p d v) (recordingHeld m d v) n v (easy .glides) ∙ easy .unfinished
 
 -- ---- what a sample behind them asks
 module _ (p : Params) (m : List ℕ) {e n : ℕ} {sums : List Float} {d c : Channel} {hs ks : List Hot} (voices : length (d .voices) ≡ 32) (ahead : Ahead p m e n sums d hs c ks) where

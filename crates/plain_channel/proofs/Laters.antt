@@ -25,7 +25,7 @@ use Rattle.channel.specs.Tables.{placeOf}
 use Rattle.channel.specs.Heads.{withPassthru, phraseBy, lastTime, closedOf}
 use Rattle.channel.specs.Channels.{withHead, withVoices, phraseAt, momentFor}
 use Rattle.channel.proofs.Heads.{passthru-holds, next-one, closed-now, closed-setting}
-use Rattle.plain_channel.specs.Ahead.{tickIn, heldIn, onBy, hotOnBy, hotsOn, Easy}
+use Rattle.plain_channel.specs.Ahead.{tickIn, recordingHeld, onBy, hotOnBy, hotsOn, Easy}
 
 -- gliding turns leave a voice unfinished
 pub turns-finished : (t : Tick) (m : List ℕ) (n : ℕ) (v : Voice) → GlidesOn t m n v → turnsOf t m n v .finished ≡ v .finished
@@ -62,7 +62,7 @@ module _ (p : Params) (m : List ℕ) (d : Channel) (early : d .head .now < lastT
       λ i. record { now = next-now i; «data_len» = next-phrase (v .phrase) i .length; interpolates = closed-setting p u (d .head) i; phrase = v .phrase } in
       ap (λ (k : ℕ). tickOf p (momentFor next k)) same ∙ ap (tickOf p) then
 
-  next-held : (v w : Voice) → w .phrase ≡ v .phrase → heldIn m next w ≡ heldIn m d v
+  next-held : (v w : Voice) → w .phrase ≡ v .phrase → recordingHeld m next w ≡ recordingHeld m d v
   next-held v w same = ap (λ (k : ℕ). storedIn (phraseAt next k) m) same ∙ ap (λ (q : Phrase). storedIn q m) (next-phrase (v .phrase))
 
   -- ---- a voice that has taken its turn
@@ -71,7 +71,7 @@ module _ (p : Params) (m : List ℕ) (d : Channel) (early : d .head .now < lastT
     t = tickIn p d v
 
     abbrev held : List ℕ
-    held = heldIn m d v
+    held = recordingHeld m d v
 
     abbrev w : Voice
     w = turnOf t held v
@@ -92,7 +92,7 @@ module _ (p : Params) (m : List ℕ) (d : Channel) (early : d .head .now < lastT
     next-easy n easy = record {
       full = ap (λ (k : ℕ). eqb (phraseAt next k .length) 0) stays-of ∙ ap (λ (q : Phrase). eqb (q .length) 0) (next-phrase (v .phrase)) ∙ easy .full;
       unfinished = holds t held v (easy .glides .0) .finished ∙ easy .unfinished;
-      glides = subst (λ (s : Tick). GlidesOn s (heldIn m next w) n w) (sym (next-tick v w stays-of)) (subst (λ (l : List ℕ). GlidesOn (later 1 t) l n w) (sym (next-held v w stays-of)) (easy .glides .1));
+      glides = subst (λ (s : Tick). GlidesOn s (recordingHeld m next w) n w) (sym (next-tick v w stays-of)) (subst (λ (l : List ℕ). GlidesOn (later 1 t) l n w) (sym (next-held v w stays-of)) (easy .glides .1));
     }
 
   -- ---- and the positions of such voices, before others

@@ -24,7 +24,7 @@ use Rattle.channel.specs.declared.Channel.{Channel}
 use Rattle.channel.specs.Heads.{lastTime}
 use Rattle.channel.specs.Channels.{withVoices, phraseAt}
 use Rattle.plain_channel.specs.declared.Side.{Side}
-use Rattle.plain_channel.specs.Ahead.{tickIn, heldIn, onBy, aheadOf, Easy, Ahead, mayEase, Eases}
+use Rattle.plain_channel.specs.Ahead.{tickIn, recordingHeld, onBy, aheadOf, Easy, Ahead, mayEase, Eases}
 use Rattle.plain_channel.proofs.Hotting.{hot-at, with-hot}
 use Rattle.plain_channel.proofs.Summing.{with-sums}
 use Rattle.plain_channel.proofs.Pourings.{voice-waits, pour-next}
@@ -36,7 +36,7 @@ may-apart h n may = let parts = both (not (isRecordingOf (h .recorder))) (leb (h
 
 module _ (p : Params) (m : List ℕ) (i n : ℕ) (c : Channel) (k : Side) where
   -- it isn't: the sums are what they were
-  pub eases-none : (zs us : List Float) → zs ≡ k .pour .sums → Eases p m i n c k false c (with-sums zs us k)
+  pub eases-none : (zs : List Float) (us : List ℕ) → zs ≡ k .pour .sums → Eases p m i n c k false c (with-sums zs us k)
   eases-none zs us same = record {
     ahead = λ d hs ahead. subst (λ (l : List Float). Ahead p m i n l d hs c (k .hots)) (sym same) ahead;
     head = refl;
@@ -48,8 +48,8 @@ module _ (p : Params) (m : List ℕ) (i n : ℕ) (c : Channel) (k : Side) where
   v = getD (c .voices) i blankVoice
 
   -- it is, of whatever channel the others are ahead
-  module _ (voices : length (c .voices) ≡ 32) (below : i < min (c .count) 32) (may : mayEase (c .head) n ≡ true) (room : n ≤ length (k .pour .sums)) (b : Beat) (zs us : List Float) (r : Pouring)
-      (full : eqb (phraseAt c (v .phrase) .length) 0 ≡ false) (pours : Pours (hot-at k i) v (tickIn p c v) b (heldIn m c v) n (k .pour .sums) zs r) (eases : r .eases ≡ true) where
+  module _ (voices : length (c .voices) ≡ 32) (below : i < min (c .count) 32) (may : mayEase (c .head) n ≡ true) (room : n ≤ length (k .pour .sums)) (b : Beat) (zs : List Float) (us : List ℕ) (r : Pouring)
+      (full : eqb (phraseAt c (v .phrase) .length) 0 ≡ false) (pours : Pours (hot-at k i) v (tickIn p c v) b (recordingHeld m c v) n (k .pour .sums) zs r) (eases : r .eases ≡ true) where
     module _ (d : Channel) (hs : List Hot) (ahead : Ahead p m i n (k .pour .sums) d hs c (k .hots)) where
       abbrev w : Voice
       w = getD (d .voices) i blankVoice
@@ -77,17 +77,17 @@ module _ (p : Params) (m : List ℕ) (i n : ℕ) (c : Channel) (k : Side) where
       unfolding aheadOf
       full-too = subst (λ (u : Voice). eqb (phraseAt d (u .phrase) .length) 0 ≡ false) same-voice (of-it (λ (x : Channel). eqb (phraseAt x (v .phrase) .length) 0 ≡ false) full)
 
-      pours-too : Pours (hot-at k i) w (tickIn p d w) b (heldIn m d w) n (k .pour .sums) zs r
+      pours-too : Pours (hot-at k i) w (tickIn p d w) b (recordingHeld m d w) n (k .pour .sums) zs r
       unfolding aheadOf
-      pours-too = subst (λ (u : Voice). Pours (hot-at k i) u (tickIn p d u) b (heldIn m d u) n (k .pour .sums) zs r) same-voice
-          (of-it (λ (x : Channel). Pours (hot-at k i) v (tickIn p x v) b (heldIn m x v) n (k .pour .sums) zs r) pours)
+      pours-too = subst (λ (u : Voice). Pours (hot-at k i) u (tickIn p d u) b (recordingHeld m d u) n (k .pour .sums) zs r) same-voice
+          (of-it (λ (x : Channel). Pours (hot-at k i) v (tickIn p x v) b (recordingHeld m x v) n (k .pour .sums) zs r) pours)
 
       one-more : Ahead p m (i + 1) n zs d hs (withVoices (set (c .voices) i (r .voice)) (c .count) c) (set (k .hots) i (r .hot))
       one-more =
           let apart = may-apart (d .head) n may-too in
           let easy : Easy p m n d w = record { full = full-too; unfinished = pours-too .unfinished eases; glides = pours-too .glides eases } in
           subst (λ (u : Voice). Ahead p m (i + 1) n zs d hs (withVoices (set (c .voices) i u) (c .count) c) (set (k .hots) i (r .hot))) (sym (pours-too .voice eases))
-          (subst (λ (u : Hot). Ahead p m (i + 1) n zs d hs (withVoices (set (c .voices) i (turnsOf (tickIn p d w) (heldIn m d w) n w)) (c .count) c) (set (k .hots) i u)) (sym (pours-too .hot eases))
+          (subst (λ (u : Hot). Ahead p m (i + 1) n zs d hs (withVoices (set (c .voices) i (turnsOf (tickIn p d w) (recordingHeld m d w) n w)) (c .count) c) (set (k .hots) i u)) (sym (pours-too .hot eases))
           (pour-next p m n d voices-too i below-too ahead (apart .0) (apart .1) easy room (pours-too .sums eases)))
 
     pub eases-one : Eases p m i n c k true (withVoices (set (c .voices) i (r .voice)) (c .count) c) (with-hot (with-sums zs us k) i (r .hot))

@@ -23,6 +23,7 @@ use types.Tokens.{lft-new, lft-end}
 use types.Run.{Opds}
 use denote.Memory.{partAt}
 use denote.Laws.{Is, shows}
+use denote.Builtin.{u32, f32}
 use denote.Ref.{RefT}
 use denote.Slice.{sliceVal, slice-vals}
 use denote.Steps.{only, owned, peeks, heard, nothing}
@@ -64,13 +65,13 @@ module _ (h : Hot) (v : Voice) (t : Tick) (n : ℕ) (κ : Lft) (q : Share) (m : 
   abbrev ys : List Float
   ys = k .pour .sums
 
-  abbrev vs : List Float
+  abbrev vs : List ℕ
   vs = k .pour .values
 
   abbrev sums : GName → RefT (List Float)
   sums γ = list-ref b (sums-at o) γ ys
 
-  abbrev values : GName → RefT (List Float)
+  abbrev values : GName → RefT (List ℕ)
   values δ = list-ref b (values-spot o) δ vs
 
   abbrev pace : Beat
@@ -79,7 +80,7 @@ module _ (h : Hot) (v : Voice) (t : Tick) (n : ℕ) (κ : Lft) (q : Share) (m : 
   abbrev here : (α β : ℕ) → Lfts 3
   here α β = (κ, (α ∷ [], (β ∷ [], tt)))
 
-  abbrev args : (γ δ : GName) → Hot × (Voice × (Tick × (Beat × (RefT (List ℕ) × (RefT (List Float) × (RefT (List Float) × (ℕ × Unit {0})))))))
+  abbrev args : (γ δ : GName) → Hot × (Voice × (Tick × (Beat × (RefT (List ℕ) × (RefT (List Float) × (RefT (List ℕ) × (ℕ × Unit {0})))))))
   args γ δ = (h, (v, (t, (pace, (m, (sums γ, (values δ, (n, tt))))))))
 
   -- what it asks
@@ -102,7 +103,7 @@ module _ (h : Hot) (v : Voice) (t : Tick) (n : ℕ) (κ : Lft) (q : Share) (m : 
     Tokens α β = ‵ (flft κ q) ⊛ ‵ (flft (α ∷ []) fullShare) ⊛ Tok (β ∷ []) fullShare
 
     abbrev Lists : (α β : ℕ) (γ δ : GName) → Item 𝓤
-    Lists α β γ δ = ‵ (Lent 𝓤 H A (named 1) (α ∷ []) b (sums-at o) γ ys) ⊛ ‵ (Lent 𝓤 H A (named 2) (β ∷ []) b (values-spot o) δ vs)
+    Lists α β γ δ = ‵ (Lent 𝓤 H A f32 (named 1) (α ∷ []) b (sums-at o) γ ys) ⊛ ‵ (Lent 𝓤 H A u32 (named 2) (β ∷ []) b (values-spot o) δ vs)
 
     goes : (W : Given 𝓤 H A) → May → (α β : ℕ) (γ δ : GName) → ent 𝓤 (⋆ 𝓤 H A (Tokens α β ∷ ‵ (Sl κ m) ∷ Lists α β γ δ ∷ [])) (Poured 𝓤 H A mem run .pre (about α β γ δ))
     goes W may α β γ δ =
@@ -121,12 +122,12 @@ module _ (h : Hot) (v : Voice) (t : Tick) (n : ℕ) (κ : Lft) (q : Share) (m : 
     pub pours-at : K → Triple 𝓤 (𝓣 .C #poured) (Poured 𝓤 H A mem run) → May
         → ((α β : ℕ) (γ δ : GName) → Opds K W (Before 𝓤 H A mem run Γ α β γ δ) E xs
         (hot .val h ∷ vv v ∷ tick .val t ∷ beat .val pace ∷ sliceVal (m .ptr) (length (m .now)) ∷ sliceVal (b, sums-at o) (length ys) ∷ sliceVal (b, values-spot o) (length vs) ∷ vint w64 n ∷ []))
-        → ((r : Pouring) (zs us : List Float) → Pours h v t pace (m .now) n ys zs r → Is G.the-row r (pouring .val r ∷ []) → IsSide (with-sums zs us k)
+        → ((r : Pouring) (zs : List Float) (us : List ℕ) → Pours h v t pace (m .now) n ys zs r → Is G.the-row r (pouring .val r ∷ []) → IsSide (with-sums zs us k)
         → Seq K W (‵ (partAt S.the-row fullShare (with-sums zs us k) b o) ∷ Tok κ q ∷ Γ) (lands (𝓣 .C) (𝓣 .Λ) E d (pouring .val r) rest p))
         → Seq K W (‵ (partAt S.the-row fullShare k b o) ∷ ‵ (Sl κ m) ∷ Tok κ q ∷ Γ) (runs (𝓣 .C) (𝓣 .Λ) E (seq (call #poured xs d) rest) p)
     pours-at z met may os go =
         lft-new z tt (λ α. lft-new z tt (λ β. move z (2 ∷ []) $
-        use1 W (later (some (λ (γ : GName). some (λ (δ : GName). ‵ (Lent 𝓤 H A (named 1) (α ∷ []) b (sums-at o) γ ys) ⊛ ‵ (Lent 𝓤 H A (named 2) (β ∷ []) b (values-spot o) δ vs) ⊛ Left 𝓤 H A (α ∷ []) (β ∷ []) k b o γ δ))))
+        use1 W (later (some (λ (γ : GName). some (λ (δ : GName). ‵ (Lent 𝓤 H A f32 (named 1) (α ∷ []) b (sums-at o) γ ys) ⊛ ‵ (Lent 𝓤 H A u32 (named 2) (β ∷ []) b (values-spot o) δ vs) ⊛ Left 𝓤 H A (α ∷ []) (β ∷ []) k b o γ δ))))
         (lends-sums 𝓤 H A W k b o (named 1) (named 2) (α ∷ []) (β ∷ []) (may .all) (may .all-values)) $ await z tt $ pick z (λ γ. pick z (λ δ. split z $ move z (1 ∷ []) $ split z $ move z (2 ∷ 0 ∷ []) $ join z $
         -- [both lists; what is kept of the side; their tokens, the values' first; the memory; its token]
         move z (5 ∷ []) $ split z $ move z (4 ∷ 1 ∷ []) $ join z $ move z (4 ∷ 0 ∷ []) $ join z $ move z (1 ∷ 0 ∷ []) $ join z $ move z (0 ∷ 3 ∷ 1 ∷ []) $
@@ -136,7 +137,7 @@ module _ (h : Hot) (v : Voice) (t : Tick) (n : ℕ) (κ : Lft) (q : Share) (m : 
         split z $ move z (1 ∷ []) $
         use1 W (some (λ (l : Lasts poured.ended (here α β) (args γ δ)). ‵ (lasts poured.ended (here α β) (args γ δ) l) ⊛ raw (fact 𝓤 (Pours h v t pace (m .now) n ys (l .1 .1 .1 .1 .1 .0) r)))) (id⊢ 𝓤 _) $ pick z (λ l.
         let zs : List Float = l .1 .1 .1 .1 .1 .0 in
-        let us : List Float = l .1 .1 .1 .1 .1 .1 .0 in
+        let us : List ℕ = l .1 .1 .1 .1 .1 .1 .0 in
         split z $ move z (1 ∷ []) $ heard z (Pours h v t pace (m .now) n ys zs r) (λ said.
         fsplit z $ drop z $ fsplit z $ drop z $ fsplit z $ drop z $ fsplit z $ drop z $ fsplit z $ drop z $ fsplit z $ fsplit z $ move z (1 ∷ []) $ drop z $ move z (1 ∷ []) $ fsplit z $ fsplit z $ move z (1 ∷ []) $ drop z $ move z (1 ∷ []) $ drop z $
         -- [what the values are at last; what the sums are; the tokens and the answer; what is kept]

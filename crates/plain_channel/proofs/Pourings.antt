@@ -21,7 +21,7 @@ use Rattle.pours.specs.Pours.{later, turnsOf, pouredOn, judgedOn}
 use Rattle.channel.specs.declared.Channel.{Channel}
 use Rattle.channel.specs.Heads.{lastTime}
 use Rattle.channel.specs.Channels.{withVoices, phraseAt}
-use Rattle.plain_channel.specs.Ahead.{tickIn, heldIn, onBy, hotOnBy, aheadOf, hotsOn, hotsAhead, sumAt, Easy, Eased, Ahead}
+use Rattle.plain_channel.specs.Ahead.{tickIn, recordingHeld, onBy, hotOnBy, aheadOf, hotsOn, hotsAhead, sumAt, Easy, Eased, Ahead}
 use Rattle.plain_channel.proofs.Firsts.{firsts-else, firsts-next, fold-next}
 
 -- ---- what a poured voice adds to the sums
@@ -73,7 +73,7 @@ module _ (p : Params) (m : List ℕ) (n : ℕ) (d : Channel) where
     unfolding aheadOf
     same-tick v = refl
 
-    pub same-held : (v : Voice) → heldIn m (aheadOf p m i n d) v ≡ heldIn m d v
+    pub same-held : (v : Voice) → recordingHeld m (aheadOf p m i n d) v ≡ recordingHeld m d v
     unfolding aheadOf
     same-held v = refl
 
@@ -102,10 +102,10 @@ module _ (p : Params) (m : List ℕ) (n : ℕ) (d : Channel) where
         ∙ fold-next (λ (out : Float) (w : Voice). add binary32 out (onBy p m d (k + 1) w .«last_sample_value»)) zero32 (d .voices) i blankVoice there
         ∙ ap (λ (j : ℕ). add binary32 (sumAt p m i d k) (onBy p m d j v .«last_sample_value»)) (add-one k)
 
-    pub pour-sums : (sums : List Float) {after : List Float} → n ≤ length sums → after ≡ pouredOn (tickIn p d v) (heldIn m d v) n v sums → ((k : ℕ) → k < n → getD sums k zero32 ≡ sumAt p m i d k)
+    pub pour-sums : (sums : List Float) {after : List Float} → n ≤ length sums → after ≡ pouredOn (tickIn p d v) (recordingHeld m d v) n v sums → ((k : ℕ) → k < n → getD sums k zero32 ≡ sumAt p m i d k)
         → (k : ℕ) → k < n → getD after k zero32 ≡ sumAt p m (i + 1) d k
     pour-sums sums room is adds k low =
-        ap (λ (l : List Float). getD l k zero32) is ∙ poured-at (tickIn p d v) (heldIn m d v) n v sums room k low
+        ap (λ (l : List Float). getD l k zero32) is ∙ poured-at (tickIn p d v) (recordingHeld m d v) n v sums room k low
         ∙ ap (λ (x : Float). add binary32 x (onBy p m d (suc k) v .«last_sample_value»)) (adds k low) ∙ sym (sum-next k)
 
     pub pour-eased : isRecordingOf (d .head .recorder) ≡ false → d .head .now + n ≤ lastTime → Eased p m i n d → Easy p m n d v → Eased p m (i + 1) n d
@@ -119,8 +119,8 @@ module _ (p : Params) (m : List ℕ) (n : ℕ) (d : Channel) where
 
     -- all at once
     pub pour-next : {sums after : List Float} {hs ks : List Hot} {c : Channel} → Ahead p m i n sums d hs c ks → isRecordingOf (d .head .recorder) ≡ false → d .head .now + n ≤ lastTime → Easy p m n d v
-        → n ≤ length sums → after ≡ pouredOn (tickIn p d v) (heldIn m d v) n v sums
-        → Ahead p m (i + 1) n after d hs (withVoices (set (c .voices) i (turnsOf (tickIn p d v) (heldIn m d v) n v)) (c .count) c) (set ks i (judgedOn (tickIn p d v) (heldIn m d v) n v (getD ks i cold)))
+        → n ≤ length sums → after ≡ pouredOn (tickIn p d v) (recordingHeld m d v) n v sums
+        → Ahead p m (i + 1) n after d hs (withVoices (set (c .voices) i (turnsOf (tickIn p d v) (recordingHeld m d v) n v)) (c .count) c) (set ks i (judgedOn (tickIn p d v) (recordingHeld m d v) n v (getD ks i cold)))
     pour-next {sums = sums} {hs = hs} {ks = ks} ahead still clock easy room is = record {
       eased = pour-eased still clock (ahead .eased) easy;
       channel = pour-channel (ahead .channel);

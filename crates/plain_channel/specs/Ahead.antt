@@ -31,17 +31,17 @@ use Rattle.plain_channel.specs.Sides.{noPour, withHots, restHots, sideAf
 abbrev pub tickIn : Params → Channel → Voice → Tick
 tickIn p c v = tickOf p (momentFor c (v .phrase))
 
-abbrev pub heldIn : List ℕ → Channel → Voice → List ℕ
-heldIn m c v = storedIn (phraseAt c (v .phrase)) m
+abbrev pub recordingHeld : List ℕ → Channel → Voice → List ℕ
+recordingHeld m c v = storedIn (phraseAt c (v .phrase)) m
 
 -- ---- n samples ahead
 
 -- a voice, and its position
 abbrev pub onBy : Params → List ℕ → Channel → ℕ → Voice → Voice
-onBy p m c n v = turnsOf (tickIn p c v) (heldIn m c v) n v
+onBy p m c n v = turnsOf (tickIn p c v) (recordingHeld m c v) n v
 
 abbrev pub hotOnBy : Params → List ℕ → Channel → ℕ → Voice → Hot → Hot
-hotOnBy p m c n v h = judgedOn (tickIn p c v) (heldIn m c v) n v h
+hotOnBy p m c n v h = judgedOn (tickIn p c v) (recordingHeld m c v) n v h
 
 -- the channel with its first e voices
 unfoldable pub aheadOf : Params → List ℕ → ℕ → ℕ → Channel → Channel
@@ -66,7 +66,7 @@ sumAt p m e c k =
 pub record Easy (p : Params) (m : List ℕ) (n : ℕ) (c : Channel) (v : Voice) : Type 0 where
   pub full : eqb (phraseAt c (v .phrase) .length) 0 ≡ false
   pub unfinished : v .finished ≡ false
-  pub glides : GlidesOn (tickIn p c v) (heldIn m c v) n v
+  pub glides : GlidesOn (tickIn p c v) (recordingHeld m c v) n v
 
 -- the first e voices of c may be
 pub record Eased (p : Params) (m : List ℕ) (e n : ℕ) (c : Channel) : Type 0 where

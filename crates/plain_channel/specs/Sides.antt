@@ -26,7 +26,7 @@ use Rattle.plain_channel.specs.declared.Side.{Side}
 
 -- nothing is poured
 unfoldable pub noPour : Pour
-noPour = record { sums = replicate 64 zero32; values = replicate 64 zero32; eased = 0; next = 0; left = 0 }
+noPour = record { sums = replicate 64 zero32; values = replicate 64 0; eased = 0; next = 0; left = 0 }
 
 -- no voice is plain
 unfoldable pub coldSide : Side

@@ -49,7 +49,7 @@ pub const STRETCH: usize = 64;
 // `next` on; `values` is room to work one voice out in.
 pub struct Pour {
     pub sums: [f32; STRETCH],
-    pub values: [f32; STRETCH],
+    pub values: [u32; STRETCH],
     pub eased: usize,
     pub next: usize,
     pub left: usize,
@@ -61,7 +61,7 @@ impl Pour {
     {
         Self {
             sums: [0.0; STRETCH],
-            values: [0.0; STRETCH],
+            values: [0; STRETCH],
             eased: 0,
             next: 0,
             left: 0,

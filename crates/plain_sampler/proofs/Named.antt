@@ -18,8 +18,8 @@ use prog.Wp.{Heap, Env, Calls, Loops, WpFn, Tables}
 use ghost.Atoms.{Atoms, sem}
 use contract.Monad.{fact}
 use contract.Lifetimes.{Lfts}
-use types.Kit.{Given, Item, ‵, raw, some, later, _⊛_, ⋆, Seq, Step, step, Goal, allocs, passes, frees, _$_, _∵_, !, qed, by, move, drop, use0, use1, use3, split, join, pick, fsplit, fsplit3, fjoin, fjoin3, suffices, frame, await, done}
-use types.Run.{Opds, look, init, forget, stop, hop, from, load, addr, and-then, no-more, assigns, land, returns, enter, alloc1, alloc0, params1, pass1, pass0, free1, free0}
+use types.Kit.{Given, Item, ‵, raw, some, later, _⊛_, ⋆, Seq, Step, step, Goal, allocs, passes, frees, _$_, _∵_, !, qed, by, move, drop, use0, use1, use3, split, join, pick, fsplit, fjoin, suffices, frame, await, done}
+use types.Run.{Opds, init, stop, addr, and-then, no-more, enter, alloc1, alloc0, params1, pass1, pass0, free0}
 use sound.WpLaws.{FmC, fmOf, WpFn-mono}
 use denote.RattleType.{RattleType, Denots, Valss, flat, owns}
 use denote.Memory.{pointee}
@@ -37,7 +37,8 @@ use denote.Triple.Clauses.{Ended, Clauses, ensured, lasts, closing}
 use denote.Triple.Walked.{says, Stays, stay-dropped, gave-ref, fitsOf, hasOf, AllGo, walkOf, goes-dropped, goes-gave-ref, ends-at, walked, walk-meets}
 use denote.Exit.{yes}
 use Rattle.walks.proofs.Steps.Data.{Datum, row}
-use Rattle.walks.proofs.Lending.Arguments.{no-local, finds}
+use Rattle.walks.proofs.Steps.Locals.{no-local, held, fills, its-at, fills-at, lifted, beyond, puts, arrives, gives, lifts, lays, fetches, passed, freed}
+use Rattle.walks.proofs.Lending.Arguments.{frees-one, one-more}
 
 -- ---- plain data as the arguments of a function that has n lifetimes
 abbrev slots : (n : ℕ) → List Datum → List (Slot n)
@@ -142,14 +143,18 @@ stand (D ∷ Ds) bs E = (refl, one-later Ds (bs .1) (D .ty, bs .0) (env Ds (bs .
 stands : (Ds : List Datum) (bs : Blocks Ds) (e₀ e₁ e₂ : Ty × ℕ) (E : List (Ty × ℕ)) → Stand Ds bs (e₀ ∷ e₁ ∷ e₂ ∷ env Ds bs E) 3
 stands Ds bs e₀ e₁ e₂ E = one-later Ds bs e₀ (e₁ ∷ e₂ ∷ env Ds bs E) 2 (one-later Ds bs e₁ (e₂ ∷ env Ds bs E) 1 (one-later Ds bs e₂ (env Ds bs E) 0 (stand Ds bs E)))
 
--- one entry of a context: empty, and full
+-- in a context, as one local's: empty, and full, and the right to free them
 abbrev rooms : (Ds : List Datum) → Blocks Ds → Fml
 rooms [] bs = ftrue
-rooms (D ∷ Ds) bs = fsep (froom (D .ty) (bs .0) zero) (fsep (fdies (D .ty) (bs .0)) (rooms Ds (bs .1)))
+rooms (D ∷ Ds) bs = fsep (froom (D .ty) (bs .0) zero) (rooms Ds (bs .1))
 
 abbrev cells : (Ds : List Datum) → Blocks Ds → Values Ds → Fml
 cells [] bs v = ftrue
-cells (D ∷ Ds) bs v = fsep (fat fullShare (D .ty) (bs .0) zero (D .val (v .0))) (fsep (fdies (D .ty) (bs .0)) (cells Ds (bs .1) (v .1)))
+cells (D ∷ Ds) bs v = fsep (fat fullShare (D .ty) (bs .0) zero (D .val (v .0))) (cells Ds (bs .1) (v .1))
+
+abbrev die : (Ds : List Datum) → Blocks Ds → Fml
+die [] bs = ftrue
+die (D ∷ Ds) bs = fsep (fdies (D .ty) (bs .0)) (die Ds (bs .1))
 
 module _ {M : Type 1} {𝓤 : URA M} {H : Heap 𝓤} {A : Atoms 𝓤} {N : Type 0} {W : Given 𝓤 H A} where
   had : N → (n : ℕ) (Ds : List Datum) (κs : Lfts n) (a : Passed n Ds κs) (vss : Valss (typesAt (slots n Ds) κs)) {Γ : List (Item 𝓤)} {g : Goal 𝓤 H}
@@ -157,33 +162,22 @@ module _ {M : Type 1} {𝓤 : URA M} {H : Heap 𝓤} {A : Atoms 𝓤} {N : Type 
   had t n [] κs a vss = step (λ s. nothing t $ s)
   had t n (D ∷ Ds) κs a vss = step (λ s. had t n Ds κs (a .1) (vss .1) $ nothing t $ fjoin t $ s)
 
-  allocates : N → (Ds : List Datum) {Γ : List (Item 𝓤)} {ls : List Local} {Kt : Env 𝓤 H → Goal 𝓤 H} → ((bs : Blocks Ds) → Seq N W (‵ (rooms Ds bs) ∷ Γ) (allocs ls (λ E. Kt (env Ds bs E)))) → Seq N W Γ (allocs (locals Ds ls) Kt)
-  allocates t [] k = nothing t $ k tt
-  allocates t (D ∷ Ds) k = alloc1 t (λ b. allocates t Ds (λ bs. move t (1 ∷ 2 ∷ 0 ∷ []) $ fjoin3 t $ k (b, bs)))
+  allocates : N → (Ds : List Datum) {Γ : List (Item 𝓤)} {ls : List Local} {Kt : Env 𝓤 H → Goal 𝓤 H} → ((bs : Blocks Ds) → Seq N W (‵ (rooms Ds bs) ∷ ‵ (die Ds bs) ∷ Γ) (allocs ls (λ E. Kt (env Ds bs E)))) → Seq N W Γ (allocs (locals Ds ls) Kt)
+  allocates t [] k = nothing t $ nothing t $ k tt
+  allocates t (D ∷ Ds) k = alloc1 t (λ b. allocates t Ds (λ bs. move t (2 ∷ 0 ∷ []) $ fjoin t $ move t (2 ∷ 1 ∷ []) $ fjoin t $ move t (1 ∷ []) $ k (b, bs)))
 
   passes-all : N → (n : ℕ) (Ds : List Datum) (κs : Lfts n) (a : Passed n Ds κs) (bs : Blocks Ds) (E : Env 𝓤 H) → Sound Ds (handed n Ds κs a) → {Γ : List (Item 𝓤)} {g : Goal 𝓤 H}
       → Step N W (‵ (cells Ds bs (handed n Ds κs a)) ∷ Γ) g (‵ (rooms Ds bs) ∷ Γ) (passes (env Ds bs E) (machine n Ds κs a) g)
   passes-all t n [] κs a bs E is = step (λ s. pass0 t $ s)
-  passes-all t n (D ∷ Ds) κs a bs E is = step (λ s. fsplit3 t $ pass1 t (init t 0 refl (D .typed 𝓤 H A W (a .0) _ (is .0))) $ move t (2 ∷ []) $ passes-all t n Ds κs (a .1) (bs .1) E (is .1) $ move t (1 ∷ 2 ∷ 0 ∷ []) $ fjoin3 t $ s)
+  passes-all t n (D ∷ Ds) κs a bs E is = step (λ s. fsplit t $ pass1 t (init t 0 refl (D .typed 𝓤 H A W (a .0) _ (is .0))) $ move t (1 ∷ []) $ passes-all t n Ds κs (a .1) (bs .1) E (is .1) $ move t (1 ∷ 0 ∷ []) $ fjoin t $ s)
 
-  frees-all : N → (Ds : List Datum) (bs : Blocks Ds) (v : Values Ds) {Γ : List (Item 𝓤)} {E : Env 𝓤 H} {g : Goal 𝓤 H} → Step N W Γ (frees E g) (‵ (cells Ds bs v) ∷ Γ) (frees (env Ds bs E) g)
-  frees-all t [] bs v = step (λ s. drop t $ s)
-  frees-all t (D ∷ Ds) bs v = step (λ s. fsplit3 t $ forget t 0 refl $ free1 t $ frees-all t Ds (bs .1) (v .1) $ s)
+  frees-all : N → (Ds : List Datum) (bs : Blocks Ds) (v : Values Ds) {Γ : List (Item 𝓤)} {E : Env 𝓤 H} {g : Goal 𝓤 H} → Step N W Γ (frees E g) (‵ (cells Ds bs v) ∷ ‵ (die Ds bs) ∷ Γ) (frees (env Ds bs E) g)
+  frees-all t [] bs v = step (λ s. drop t $ drop t $ s)
+  frees-all t (D ∷ Ds) bs v = step (λ s. frees-one t $ frees-all t Ds (bs .1) (v .1) $ s)
 
-  -- what a context can read, one that has the same can
-  across : {Γ Γ′ : List (Item 𝓤)} {E : Env 𝓤 H} {xs : List Operand} {vs : List Val} → ent 𝓤 (⋆ 𝓤 H A Γ) (⋆ 𝓤 H A Γ′) → ent 𝓤 (⋆ 𝓤 H A Γ′) (⋆ 𝓤 H A Γ) → Opds N W Γ′ E xs vs → Opds N W Γ E xs vs
-  across {Γ′ = Γ′} out back os = record { go = λ Kt h. via 𝓤 (⋆ 𝓤 H A Γ′) out (os .go Kt (via 𝓤 _ back h)) }
-
-  reads-all : N → (Ds : List Datum) (v : Values Ds) (bs : Blocks Ds) (E : Env 𝓤 H) (i : ℕ) → Stand Ds bs E i → {x : Item 𝓤} {Γ : List (Item 𝓤)} → Opds N W (x ∷ ‵ (cells Ds bs v) ∷ Γ) E (operands i Ds) (machine 0 Ds tt v)
+  reads-all : N → (Ds : List Datum) (v : Values Ds) (bs : Blocks Ds) (E : Env 𝓤 H) (i : ℕ) → Stand Ds bs E i → {x : Item 𝓤} {Γ : List (Item 𝓤)} → Opds N W (‵ (cells Ds bs v) ∷ x ∷ Γ) E (operands i Ds) (machine 0 Ds tt v)
   reads-all t [] v bs E i st = no-more t
-  reads-all t (D ∷ Ds) v bs E i st {x} {Γ} =
-      let c : Item 𝓤 = ‵ (fat fullShare (D .ty) (bs .0) zero (D .val (v .0))) in
-      let d : Item 𝓤 = ‵ (fdies (D .ty) (bs .0)) in
-      let r : Item 𝓤 = ‵ (cells Ds (bs .1) (v .1)) in
-      across {Γ′ = x ∷ r ∷ c ∷ d ∷ Γ}
-      (qed W (x ∷ ‵ (cells (D ∷ Ds) bs v) ∷ Γ) ∵ move ! (1 ∷ []) $ fsplit3 ! $ move ! (3 ∷ 2 ∷ []) $ done !)
-      (qed W (x ∷ r ∷ c ∷ d ∷ Γ) ∵ move ! (2 ∷ 3 ∷ 1 ∷ []) $ fjoin3 ! $ move ! (1 ∷ 0 ∷ []) $ done !)
-      (and-then t (load t (finds t (st .0)) (look t 2 refl)) (reads-all t Ds (v .1) (bs .1) E (suc i) (st .1) {Γ = c ∷ d ∷ Γ}))
+  reads-all t (D ∷ Ds) v bs E i st = one-more t (st .0) (reads-all t Ds (v .1) (bs .1) E (suc i) (st .1))
 
 -- ---- the function
 module _ (T K Q X : Datum) (Ds : List Datum) (m j : Name) (make : Values Ds → X .like .Denot) (Says : T .like .Denot → K .like .Denot → X .like .Denot → Q .like .Denot → T .like .Denot → K .like .Denot → Type 0) where
@@ -328,22 +322,21 @@ module _ (T K Q X : Datum) (Ds : List Datum) (m j : Name) (make : Values Ds → 
       walk : ent 𝓤 (onEntry 𝓤 H A (ended .signature) κs (q, (q₁, tt)) a vals) (WpFn 𝓤 H C Λ function (vptr b o ∷ vptr b₁ o₁ ∷ machine 2 Ds κs xs) Post)
       walk =
           qed W (Tokens ∷ ‵ (owns (MutRef (the 0) κ Tr ∷ MutRef (the 1) κ₁ Kr ∷ typesAt (slots 2 Ds) κs) a vals) ∷ []) ∵ enter ! C Λ function (vptr b o ∷ vptr b₁ o₁ ∷ machine 2 Ds κs xs) _ $
-          alloc1 ! (λ l₀. alloc1 ! (λ l₁. alloc1 ! (λ l₂. allocates ! Ds (λ bs. alloc1 ! (λ l₃. alloc1 ! (λ l₄. alloc1 ! (λ l₅. alloc0 ! $ params1 ! $
-          pass1 ! (init ! 9 refl (tt, tt)) $ pass1 ! (init ! 7 refl (tt, tt)) $ move ! (6 ∷ []) $ passes-all ! 2 Ds κs xs bs (rear l₃ l₄ l₅) is $
-          assigns ! (addr ! (from ! (hop ! (look ! 9 refl) (stop !)))) (finds ! (behind Ds bs (rear l₃ l₄ l₅) 0)) (init ! 5 refl (tt, tt)) $
-          assigns ! (addr ! (from ! (hop ! (look ! 7 refl) (stop !)))) (finds ! (behind Ds bs (rear l₃ l₄ l₅) 1)) (init ! 3 refl (tt, tt)) $
+          alloc1 ! (λ l₀. alloc1 ! (λ l₁. alloc1 ! (λ l₂. allocates ! Ds (λ bs. alloc1 ! (λ l₃. alloc1 ! (λ l₄. alloc1 ! (λ l₅. alloc0 ! $ params1 ! $ fetches ! 0 $
+          passed ! 1 refl (tt, tt) $ passed ! 2 refl (tt, tt) $ lifts ! 3 $ passes-all ! 2 Ds κs xs bs (rear l₃ l₄ l₅) is $ lays ! 3 $
+          puts ! (addr ! (beyond ! (held ! refl) (stop !))) (fills-at ! 4 (behind Ds bs (rear l₃ l₄ l₅) 0) refl (tt, tt)) $
+          puts ! (addr ! (beyond ! (held ! refl) (stop !))) (fills-at ! 5 (behind Ds bs (rear l₃ l₄ l₅) 1) refl (tt, tt)) $
           use0 W (raw (Makes 𝓤 H A .pre to-m)) goes-m $
-          calls-at ! fm (Makes 𝓤 H A) known-m to-m (reads-all ! Ds v bs (locally l₀ l₁ l₂ bs l₃ l₄ l₅) 3 (stands Ds bs (Q .ty, l₀) (first, l₁) (second, l₂) (rear l₃ l₄ l₅))) (λ w.
+          calls-at ! fm (Makes 𝓤 H A) known-m to-m (lifted ! 3 (reads-all ! Ds v bs (locally l₀ l₁ l₂ bs l₃ l₄ l₅) 3 (stands Ds bs (Q .ty, l₀) (first, l₁) (second, l₂) (rear l₃ l₄ l₅)))) (λ w.
           use1 W (later (some (λ (x : X .like .Denot). (‵ ftrue ⊛ ‵ (X .like .own x (w ∷ []))) ⊛ raw (ensured 𝓤 H A m-ended (m-clauses 𝓤) tt v tt x)))) (id⊢ 𝓤 _) $ await ! tt $ pick ! (λ x. split ! $ move ! (1 ∷ []) $
           use1 W (raw (fact 𝓤 (x ≡ make v))) (made-of x) $ heard ! (x ≡ make v) (λ e. split ! $ drop ! $ peeks ! (row X) (Is (row X)) (shows 𝓤 H A (row X)) x (w ∷ []) (λ isx.
-          land ! (finds ! (behind Ds bs (rear l₃ l₄ l₅) 2)) (init ! 2 refl (X .typed 𝓤 H A W x w isx)) $
-          move ! (15 ∷ []) $ fsplit ! $ move ! (1 ∷ []) $ fsplit ! $ move ! (2 ∷ 0 ∷ []) $ join ! $ move ! (16 ∷ 0 ∷ 2 ∷ []) $ use3 W (raw (Calls-on 𝓤 H A .pre (to-j x w))) (goes-j x w) $
-          calls-at ! fm (Calls-on 𝓤 H A) known-j (to-j x w) (and-then ! (load ! (finds ! (behind Ds bs (rear l₃ l₄ l₅) 0)) (look ! 7 refl)) (and-then ! (load ! (finds ! (behind Ds bs (rear l₃ l₄ l₅) 1)) (look ! 5 refl)) (and-then ! (load ! (finds ! (behind Ds bs (rear l₃ l₄ l₅) 2)) (look ! 3 refl)) (no-more !)))) (λ u.
+          arrives ! refl (fills-at ! 6 (behind Ds bs (rear l₃ l₄ l₅) 2) refl (X .typed 𝓤 H A W x w isx)) $
+          move ! (2 ∷ []) $ fsplit ! $ move ! (1 ∷ []) $ fsplit ! $ move ! (2 ∷ 0 ∷ []) $ join ! $ move ! (3 ∷ 0 ∷ 2 ∷ []) $ use3 W (raw (Calls-on 𝓤 H A .pre (to-j x w))) (goes-j x w) $
+          calls-at ! fm (Calls-on 𝓤 H A) known-j (to-j x w) (and-then ! (its-at ! 4 (behind Ds bs (rear l₃ l₄ l₅) 0) refl) (and-then ! (its-at ! 5 (behind Ds bs (rear l₃ l₄ l₅) 1) refl) (and-then ! (its-at ! 6 (behind Ds bs (rear l₃ l₄ l₅) 2) refl) (no-more !)))) (λ u.
           use1 W (later (some (λ (r : Q .like .Denot). (Tokens ⊛ ‵ (Q .like .own r (u ∷ []))) ⊛ raw (ensured 𝓤 H A j-ended (j-clauses 𝓤) κs (s, (k, (x, tt))) tt r)))) (id⊢ 𝓤 _) $ await ! tt $ pick ! (λ r. split ! $ move ! (1 ∷ []) $
           use1 W (some (λ (ys : T .like .Denot × (K .like .Denot × (Unit {0} × Unit {0}))). ‵ (lasts j-ended κs (s, (k, (x, tt))) ys) ⊛ raw (fact 𝓤 (Says h f x r (ys .0) (ys .1 .0))))) (id⊢ 𝓤 _) $ pick ! (λ ys. split ! $ move ! (1 ∷ []) $ heard ! (Says h f x r (ys .0) (ys .1 .0)) (λ d.
           fsplit ! $ move ! (1 ∷ []) $ fsplit ! $ move ! (1 ∷ []) $ drop ! $ move ! (2 ∷ []) $ split ! $ move ! (1 ∷ []) $ peeks ! (row Q) (Is (row Q)) (shows 𝓤 H A (row Q)) r (u ∷ []) (λ isr.
-          land ! (from ! (stop !)) (init ! 16 refl (Q .typed 𝓤 H A W r u isr)) $ returns ! (look ! 16 refl) $ forget ! 16 refl $ forget ! 14 refl $ forget ! 12 refl $ forget ! 10 refl $ forget ! 8 refl $ forget ! 6 refl $
-          move ! (16 ∷ 17 ∷ []) $ free1 ! $ move ! (14 ∷ 15 ∷ []) $ free1 ! $ move ! (12 ∷ 13 ∷ []) $ free1 ! $ move ! (5 ∷ []) $ frees-all ! Ds bs v $ move ! (9 ∷ 10 ∷ []) $ free1 ! $ move ! (7 ∷ 8 ∷ []) $ free1 ! $ move ! (5 ∷ 6 ∷ []) $ free1 ! $ free0 ! $
+          arrives ! refl (fills ! refl (Q .typed 𝓤 H A W r u isr)) $ gives ! refl $ freed ! 3 refl $ fetches ! 0 $ frees-all ! Ds bs v $ freed ! 3 refl $ free0 ! $
           move ! (4 ∷ []) $ drop ! $ move ! (1 ∷ 3 ∷ 2 ∷ 0 ∷ []) $ by ! (exits r u (ys .0) (ys .1 .0) (subst (λ (y : X .like .Denot). Says h f y r (ys .0) (ys .1 .0)) e d))))))))))))))))))
 
   pub named : {M : Type 1} (𝓤 : URA M) (H : Heap 𝓤) (A : Atoms 𝓤) (W : Given 𝓤 H A) (𝓣 : Tables 𝓤 H) → Triple 𝓤 (𝓣 .C m) (Makes 𝓤 H A) → Triple 𝓤 (𝓣 .C j) (Calls-on 𝓤 H A)

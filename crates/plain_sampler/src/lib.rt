@@ -23,7 +23,6 @@ ghost use Rattle.sampler.specs.Samplers.{
   runAnswer,
 };
 ghost use Rattle.sampler.specs.Samplers.{processSampleOf as sampleOf, sampleMemory};
-ghost use Rattle.binary32.specs.Leaves.{zero32};
 ghost use Rattle.sampler.specs.Refusals.{frameNumber};
 ghost use Rattle.channel.specs.Channels.{processSampleOf, memoryOf};
 ghost use Rattle.lent_channel.specs.Turns.{heardOf};
@@ -191,27 +190,6 @@ fn part_sample(
     lent_sampler::at_volume(params, heard)
 }
 
-// What a sample answers: that it is refused, or what is heard.
-fn refused(number: u8) -> Sampled
-    ensures { λ r. ⌜ r ≡ record { output = zero32; number = number; moved = 0 } ⌝ }
-{
-    Sampled {
-        output: 0.0,
-        number,
-        moved: 0,
-    }
-}
-
-fn answered(heard: Heard) -> Sampled
-    ensures { λ r. ⌜ r ≡ record { output = heard .output; number = 0; moved = heard .moved } ⌝ }
-{
-    Sampled {
-        output: heard.output,
-        number: 0,
-        moved: heard.moved,
-    }
-}
-
 // A sample of one channel.
 pub fn process_sample(
     s: &mut Sampler,
@@ -229,7 +207,7 @@ pub fn process_sample(
 {
     let number = lent_sampler::sample_asked(s, channel, params, memory.len());
     if number != 0 {
-        return refused(number);
+        return lent_sampler::refused(number);
     }
     let capacity = s.capacity;
     let start = sampler::part_start(channel, capacity);
@@ -243,7 +221,7 @@ pub fn process_sample(
         start,
         end,
     );
-    answered(heard)
+    lent_sampler::answered(heard)
 }
 
 // A sample of each channel in turn, each entry of the frame replaced by its output.

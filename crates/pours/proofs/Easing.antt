@@ -35,7 +35,7 @@ use Rattle.voice.specs.Voices.{turnOf}
 use Rattle.plain_voice.specs.declared.Hot.{Hot}
 use Rattle.plain_voice.specs.Hots.{cold, playsPlain, hotAfter, judgedOf}
 use Rattle.plain_voice.proofs.Hots.{so-plays}
-use Rattle.pours.specs.Eases.{Eases, termAt, movedOf}
+use Rattle.pours.specs.Eases.{EasesVoice, termAt, movedOn}
 use Rattle.pours.specs.Pours.{judgedOn}
 use Rattle.pours.specs.Steady.{paceOf, Steady, playedOn, Lasts, soundAt}
 use Rattle.pours.proofs.Turns.{clip-stays, next-steady, next-lasts}
@@ -75,7 +75,7 @@ steady-level (Static x) a b h = refl
 steady-level (Linear c d x y) a b h = absurd (true≢false (sym h))
 
 -- ---- as any steady voice
-module _ {t : Tick} {start length total p n : ℕ} {v : Voice} (E : Eases t start length total p n v) where
+module _ {t : Tick} {start length total p n : ℕ} {v : Voice} (E : EasesVoice t start length total p n v) where
   pub eases-steady : Steady t n v
   eases-steady = record { own = E .own; unfinished = E .unfinished; sharp = E .sharp; same = E .same; keeps = λ k h. steady-keeps (v .volume) (t .now + k) (E .steady) }
 
@@ -142,8 +142,8 @@ module _ (h : Hot) (e length : ℕ) (stands : h .lap * length + h .place ≡ e) 
   pub place-on : (start total k : ℕ) → plainIndex start length total (h .place + k) ≡ plainIndex start length total (e + k)
   place-on start total k = ap (λ (r : ℕ). (start + r) % total) (rest-on k)
 
-  pub moved-to : (c : Clip) → asWhole 64 (c .length) ≡ length → asWhole 64 (c .start) ≡ h .start → 1 ≤ length → (n : ℕ) → movedOf h n length ≡ hotAfter c (e + n)
-  unfolding movedOf hotAfter
+  pub moved-to : (c : Clip) → asWhole 64 (c .length) ≡ length → asWhole 64 (c .start) ≡ h .start → 1 ≤ length → (n : ℕ) → movedOn h n length ≡ hotAfter c (e + n)
+  unfolding movedOn hotAfter
   moved-to c length-is start-is low n =
       ap₂ (λ (p l : ℕ). record { place = p; lap = l; start = h .start; plain = true }) (rest-on n)
       (sym (mul-add-div-right low (h .lap) (h .place + n)) ∙ ap (λ (x : ℕ). x / length) (omega (arith, stands)))

@@ -1,32 +1,38 @@
 -- Where a clip is, and how loud a ramp, by how many samples there were since its last change or start. Assumes nothing.
 --     looped-either    the place in a loop, by what remains of the travel's size
 --     lower-is         the smaller of a place and the last
---     placed-told      the offset of a place that is told
+--     spot-is          the sample of a place that is told
 --     counted-next     one more that is told
---     looped-on        a travel that isn't below 0
+--     within           a place by what is left of a lap
 --     travel-by        the travel at a time
 --     offset-by        and the offset
 --     level-by         the level at a time
-use mathlib.Core.Path.{_≡_, refl, sym, ap, ap₂, _∙_}
-use Prim.Native.Nat.{ℕ, _+_, _-_, _^_, _≤_, _<_}
+use mathlib.Core.Path.{_≡_, refl, sym, ap, ap₂, _∙_, subst}
+use mathlib.Core.Logic.{inl, inr}
+use Prim.Native.Nat.{ℕ, _+_, _-_, _*_, _^_, _≤_, _<_}
 use native.Mathlib.Omega.{arith}
 use mathlib.Core.Bool.{Bool, true, false, not, cond}
 use mathlib.Core.List.{List}
-use lib.Dec.{T}
+use lib.Dec.{T, ltb→lt}
 use lib.ListN.{length, set}
-use lib.Ieee.{Float, binary32, add, sub, mul, rem, neg, lt, le, isNan}
-use Rattle.binary32.specs.Leaves.{zero32, OrLess, asFloat, minOf}
-use Rattle.binary32.proofs.Between.{le-not-nan}
+use lib.IntN.{pos}
+use lib.Ieee.{Float, nan, inf, fin, Format, binary32, up, down, add, sub, mul, rem, neg, lt, le, isNan}
+use lib.Ieee.Bits.{is-true}
+use borrow.Author.Tests.{not-true, lt-ltb}
+use Rattle.binary32.specs.Leaves.{zero32, one32, asFloat, asWhole, minOf, maxOf, absOf}
+use Rattle.binary32.proofs.Truth.{yes, yes-or-no, cond-split}
+use Rattle.binary32.proofs.Between.{le-not-nan, lt-not-nan, lt→le, lt-le-clash}
 use Rattle.binary32.proofs.Quotients.{rem-turned}
 use Rattle.volume.specs.declared.Volume.{Volume}
 use Rattle.volume.specs.declared.Volume.the-variants.{Static, Linear}
 use Rattle.volume.specs.Levels.{progressOf, levelOf}
 use Rattle.clip.specs.declared.Clip.{Clip}
 use Rattle.clip.specs.declared.Mode.{Mode}
-use Rattle.clip.specs.declared.Mode.the-variants.{Loop}
-use Rattle.clip.specs.Positions.{elapsedAt, leadOf, travelAt, raisedOf, loopedOf, wrappedOf, clampedOf, placedOf, clipOffsetAt, clipToDataOf, offsetAt}
+use Rattle.clip.specs.Positions.{two32, elapsedAt, leadOf, travelAt, raisedOf, loopedOf, mirroredOf, roundTripOf, foldedOf, bouncedOf, wrappedOf, placedOf, clipOffsetAt, clipToDataOf, offsetAt}
 use Rattle.clip.proofs.Quick.{looped-ahead, lead-added}
-use Rattle.pours.specs.Steady.{travelBy, PlacedOffset, Low, Counted, rampBy}
+use Rattle.pours.specs.declared.Way.{Way}
+use Rattle.pours.specs.declared.Way.the-variants.{Up, Down, Fold}
+use Rattle.pours.specs.Steady.{travelBy, spotOf, CountedPlaces, modeBy, sizeBy, periodBy, placeBy, LeftBy, rampBy}
 use Rattle.pours.proofs.Filling.{filled}
 
 pub looped-either : (x length y : Float) → T (le zero32 y) → y ≡ rem binary32 (cond (le zero32 x) x (neg x)) length → cond (le zero32 x) y (raisedOf (neg y) length) ≡ loopedOf x length
@@ -38,32 +44,98 @@ looped-either x length y h = go (le zero32 x)
     go false e = ap (λ (z : Float). raisedOf z length) (rem-turned binary32 x length y e)
 
 -- the smaller of a number and another
-pub lower-is : (y top : Float) (b : Bool) → T (le zero32 y) → lt top y ≡ b → cond b top y ≡ minOf y top
+pub lower-is : (y top : Float) → T (not (isNan y)) → cond (lt top y) top y ≡ minOf y top
 unfolding minOf
-lower-is y top b low is = sym (ap₂ (λ (n s : Bool). cond n top (cond s top y)) (not-T-false (isNan y) (le-not-nan zero32 y low .1)) is)
+lower-is y top number = sym (ap (λ (n : Bool). cond n top (cond (lt top y) top y)) (not-T-false (isNan y) number))
   where
     not-T-false : (n : Bool) → T (not n) → n ≡ false
     not-T-false false h = refl
     not-T-false true h = absurd h
 
-pub placed-told : (c : Clip) (x y r : Float) → OrLess (wrappedOf (c .mode) x (c .length)) y → PlacedOffset y (c .start) (c .length) (c .«data_length») r → T (le zero32 r)
-    → r ≡ clipToDataOf c (placedOf (c .mode) x (c .length))
-unfolding clipToDataOf placedOf
-placed-told c x y r wrapped placed told =
-    let p = placed told in
-    p .1 ∙ ap (λ (z : Float). rem binary32 (add binary32 (c .start) (clampedOf z (c .length))) (c .«data_length»)) (wrapped (p .0))
+-- what a sum that is a number is the sum of
+sum-second : (f : Format) (x y : Float) → T (not (isNan (add f x y))) → T (not (isNan y))
+unfolding add isNan
+sum-second f nan y h = absurd h
+sum-second f (inf s) nan h = absurd h
+sum-second f (inf s) (inf t) h = tt
+sum-second f (inf s) (fin t n d) h = tt
+sum-second f (fin s m e) nan h = absurd h
+sum-second f (fin s m e) (inf t) h = tt
+sum-second f (fin s m e) (fin t n d) h = tt
+
+sum-first : (f : Format) (x y : Float) → T (not (isNan (add f x y))) → T (not (isNan x))
+unfolding add isNan
+sum-first f nan y h = absurd h
+sum-first f (inf s) y h = tt
+sum-first f (fin s m e) y h = tt
+
+lower-number : (y top : Float) → T (not (isNan (cond (lt top y) top y))) → T (not (isNan y))
+lower-number y top = cond-split (λ (z : Float). T (not (isNan z)) → T (not (isNan y))) (lt top y) top y (λ below h. lt-not-nan top y below .1) (λ other h. h)
+
+round-number : (s total : Float) → T (not (isNan (cond (lt s total) s (sub binary32 s total)))) → T (not (isNan s))
+unfolding sub
+round-number s total = cond-split (λ (z : Float). T (not (isNan z)) → T (not (isNan s))) (lt s total) s (sub binary32 s total) (λ below h. h) (λ other h. sum-first binary32 s (neg total) h)
+
+-- the sample of a place, where the offset t is told
+pub spot-is : (y start length total low t : Float) → low ≡ cond (lt (sub binary32 length one32) y) (sub binary32 length one32) y → t ≡ cond (lt (add binary32 start low) total) (add binary32 start low) (sub binary32 (add binary32 start low) total)
+    → (T (le zero32 t) → T (lt t total) → t ≡ rem binary32 (add binary32 start low) total) → T (le zero32 t) → T (lt t total) → T (not (isNan y)) × (asWhole 64 t ≡ spotOf y start length total)
+spot-is y start length total low t low-is t-is once least most =
+    let number : T (not (isNan y)) =
+    lower-number y (sub binary32 length one32) (subst (λ (z : Float). T (not (isNan z))) low-is (sum-second binary32 start low (round-number (add binary32 start low) total (subst (λ (z : Float). T (not (isNan z))) t-is (le-not-nan zero32 t least .1))))) in
+    (number, ap (asWhole 64) (once least most ∙ ap (λ (z : Float). rem binary32 (add binary32 start z) total) (low-is ∙ lower-is y (sub binary32 length one32) number)))
 
 -- one more that is told
-pub counted-next : (c : Clip) (from k : ℕ) (values : List Float) (x y r : Float) → k < length values → x ≡ travelBy (c .shift) (c .speed) (from + k) → OrLess (wrappedOf (c .mode) x (c .length)) y
-    → PlacedOffset y (c .start) (c .length) (c .«data_length») r → Low r → Counted c from k values → Counted c from (k + 1) (set values k r)
-counted-next c from k values x y r room at wrapped placed low =
-    let here = placed-told c x y r wrapped placed (low .0) ∙ ap (λ (z : Float). clipToDataOf c (placedOf (c .mode) z (c .length))) at in
-    filled (λ (j : ℕ) (z : Float). Low z × (z ≡ clipToDataOf c (placedOf (c .mode) (travelBy (c .shift) (c .speed) (from + j)) (c .length)))) k values r room (low, here)
+pub counted-next : (c : Clip) (from k : ℕ) (values : List ℕ) (x y : Float) (r : ℕ) → k < length values → x ≡ travelBy (c .shift) (c .speed) (from + k) → y ≡ wrappedOf (c .mode) x (c .length)
+    → r ≡ spotOf y (c .start) (c .length) (c .«data_length») → CountedPlaces c from k values → CountedPlaces c from (k + 1) (set values k r)
+unfolding clipToDataOf placedOf
+counted-next c from k values x y r room at wrapped spot =
+    let here = spot ∙ ap (λ (z : Float). spotOf z (c .start) (c .length) (c .«data_length»)) (wrapped ∙ ap (λ (z : Float). wrappedOf (c .mode) z (c .length)) at) in
+    filled (λ (j : ℕ) (z : ℕ). z ≡ asWhole 64 (clipToDataOf c (placedOf (c .mode) (travelBy (c .shift) (c .speed) (from + j)) (c .length)))) k values r room here
 
--- by a remainder that isn't below 0
-pub looped-on : (c : Clip) (x y : Float) → c .mode ≡ Loop → OrLess (rem binary32 x (c .length)) y → OrLess (wrappedOf (c .mode) x (c .length)) y
-unfolding wrappedOf
-looped-on c x y is rest h = looped-ahead x (c .length) y h (rest h) ∙ sym (ap (λ (z : Mode). wrappedOf z x (c .length)) is)
+-- ---- within one lap
+pub positive : (x : Float) → T (lt zero32 x) → absOf x ≡ x
+unfolding lt
+positive nan h = absurd h
+positive (inf true) h = absurd h
+positive (inf false) h = refl
+positive (fin true m e) h = absurd h
+positive (fin false m e) h = refl
+
+back : (y : Float) → T (lt zero32 y) → T (lt (neg y) zero32)
+unfolding lt neg
+back nan h = absurd h
+back (inf true) h = absurd h
+back (inf false) h = tt
+back (fin true m e) h = absurd h
+back (fin false m e) h = yes (lt-ltb 0 (m * up e * down (pos 0) + 0 * up (pos 0) * down e) (omega (arith, ltb→lt (0 * up (pos 0) * down e) (m * up e * down (pos 0)) h)))
+
+turns-below : (y : Float) → T (lt zero32 y) → le zero32 (neg y) ≡ false
+turns-below y h = elim (yes-or-no (le zero32 (neg y))) [ inl l ↦ absurd (lt-le-clash (neg y) zero32 (back y h) l) | inr l ↦ not-true _ (is-true _ l) ]
+
+lifted : (y : Float) (b : Bool) (m : Float) → T (not (isNan (cond b y (cond (lt m zero32) zero32 m)))) → cond b y (cond (lt m zero32) zero32 m) ≡ cond b y (maxOf m zero32)
+unfolding maxOf lt isNan
+lifted y true m h = refl
+lifted y false nan h = absurd h
+lifted y false (inf s) h = refl
+lifted y false (fin s n d) h = refl
+
+fold-is : (y length : Float) → T (not (isNan (placeBy Fold y length))) → placeBy Fold y length ≡ foldedOf y length
+fold-is y length = lifted y (lt y length) (mirroredOf y length)
+
+-- the place by what is left of a lap
+pub within : (way : Way) (x y length : Float) → T (lt zero32 y) → LeftBy (sizeBy way x) (periodBy way length) y → T (not (isNan (placeBy way y length))) → placeBy way y length ≡ wrappedOf (modeBy way) x length
+unfolding wrappedOf loopedOf bouncedOf roundTripOf
+within Up x y length some left number = looped-ahead x length y (lt→le zero32 y some) (left some .1)
+within Down x y length some left number =
+    sym (ap (λ (b : Bool). cond b (neg y) (add binary32 (neg y) length)) (turns-below y some)) ∙ ap (λ (z : Float). raisedOf z length) (rem-turned binary32 x length y (left some .1))
+within Fold x y length some left number =
+    fold-is y length number ∙ ap (λ (z : Float). foldedOf z length) (left some .1 ∙ ap (λ (z : Float). rem binary32 z (mul binary32 two32 length)) (sym (positive x (left some .0))))
+
+-- by what the code has for each
+pub within-by : (way : Way) (mode : Mode) (x s p y w length : Float) → mode ≡ modeBy way → s ≡ sizeBy way x → p ≡ periodBy way length → w ≡ placeBy way y length → LeftBy s p y → T (lt zero32 y) → T (not (isNan w)) → w ≡ wrappedOf mode x length
+within-by way mode x s p y w length mode-is size-is period-is place-is left some number =
+    place-is ∙ within way x y length some (λ h. let q = left h in (subst (λ (z : Float). T (lt zero32 z)) size-is (q .0), q .1 ∙ ap₂ (rem binary32) size-is period-is)) (subst (λ (z : Float). T (not (isNan z))) place-is number)
+    ∙ sym (ap (λ (m : Mode). wrappedOf m x length) mode-is)
 
 pub lead-few : (speed : Float) {lead : ℕ} → lead ≡ cond (lt speed zero32) 1 0 → lead ≤ 1
 lead-few speed {lead} = go (lt speed zero32)

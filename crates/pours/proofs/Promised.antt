@@ -6,13 +6,13 @@ use native.Mathlib.Omega.{arith}
 use mathlib.Core.Bool.{Bool, true, false, not, _&&_, _||_, true≢false}
 use mathlib.Core.List.{List}
 use lib.Dec.{T, leb, eqb, leb→le, eqb→eq, lit≤}
-use lib.Ieee.{Float, nan, binary32, add, mul, lt}
+use lib.Ieee.{Float, binary32, add, mul, lt}
 use lib.Ieee.Bits.{is-true}
 use lib.Ieee.Fits.{and-l, and-r}
 use lib.ListN as ListN
 use lib.ListN.{getD}
 use borrow.Author.Tests.{not-true, lt-ltb, ltb-true}
-use Rattle.binary32.specs.Leaves.{asFloat, asWhole}
+use Rattle.binary32.specs.Leaves.{asFloat, asWhole, floatOf}
 use Rattle.binary32.specs.Wholes.{wholeIn}
 use Rattle.binary32.proofs.Truth.{yes}
 use Rattle.binary32.proofs.Floors.{floor-cast}
@@ -27,15 +27,14 @@ use Rattle.clip.specs.Plain.{plainIndex}
 use Rattle.clip.proofs.Offsets.{offset-fits}
 use Rattle.voice.specs.declared.Voice.{Voice}
 use Rattle.voice.specs.declared.Tick.{Tick}
-use Rattle.voice.specs.Voices.{recordedValueOf}
 use Rattle.plain_voice.specs.declared.Hot.{Hot}
 use Rattle.plain_voice.specs.declared.Beat.{Beat}
 use Rattle.plain_voice.specs.Hots.{beatOf, Agrees, Agreeing}
 use Rattle.pours.specs.declared.Pouring.{Pouring}
 use Rattle.pours.specs.declared.Fetched.{Fetched}
-use Rattle.pours.specs.Eases.{Eases, EasesAt, termAt, LastButOne, heardOf, movedOf, Added}
+use Rattle.pours.specs.Eases.{EasesVoice, EasesAt, termAt, LastButOne, lastHeard, movedOn, Added}
 use Rattle.pours.specs.Pours.{Pours, judgedOn}
-use Rattle.pours.specs.Steady.{paceOf, Steady, SteadyAt, playedOn, Lasts, soundAt, leveled, Offsets, Fetches, Gathers}
+use Rattle.pours.specs.Steady.{paceOf, Steady, SteadyAt, playedOn, Lasts, soundAt, leveled, Places, Fetches, Gathers}
 use Rattle.pours.proofs.Turns.{lastOn, onOf, glides-on, turns, poured}
 use Rattle.pours.proofs.Easing.{sum-is, eases-steady, eases-lasts, played-on, index-on, sounds-on, judged, place-on, moved-to}
 
@@ -134,7 +133,7 @@ laps-few {h} a few = omega (arith, a .stands, a .early, few, mul-le-mul-left (h 
 module _ (h : Hot) (v : Voice) (t : Tick) (b : Beat) (m : List ℕ) (before after : List Float) where
   pub steadily : (n : ℕ) → 1 ≤ n → Steady t n v → Lasts t n v → n ≤ ListN.length before → (term : ℕ → Float) → ((k : ℕ) → k < n → term k ≡ soundAt m (v .clip2) (v .volume) (t .now + k))
       → (index : ℕ) (value last played : Float) (r : Pouring) → index ≡ indexAt (v .clip2) (t .now + (n - 1)) → value ≡ term (n - 1) → LastButOne (v .«last_sample_value») term n last
-      → played ≡ playedOn (paceOf t v) (v .played) n → r .voice ≡ heardOf v index value last played → r .hot ≡ judgedOn t m n v h → r .eases ≡ true → Added term 0 n before after → Pours h v t b m n before after r
+      → played ≡ playedOn (paceOf t v) (v .played) n → r .voice ≡ lastHeard v index value last played → r .hot ≡ judgedOn t m n v h → r .eases ≡ true → Added term 0 n before after → Pours h v t b m n before after r
   unfolding lastOn
   steadily zero some s l room term is index value last played r index-is value-is last-is played-is voice-is hot-is eased added = absurd (omega (arith, some))
   steadily (suc n) some s l room term is index value last played r index-is value-is last-is played-is voice-is hot-is eased added =
@@ -158,14 +157,14 @@ module _ (h : Hot) (v : Voice) (t : Tick) (b : Beat) (m : List ℕ) (before afte
       last-on zero few l = l .first (omega arith)
       last-on (suc k) few l = l .later (omega arith) ∙ ap term (omega arith) ∙ is k (omega (arith, few))
 
-      heard : heardOf v index value last played ≡ onOf m t n v
+      heard : lastHeard v index value last played ≡ onOf m t n v
       heard =
-          ap₂ (λ (i : ℕ) (x : Float). heardOf v i x last played) at sounded
-          ∙ ap₂ (heardOf v (indexAt (v .clip2) (t .now + n)) (soundAt m (v .clip2) (v .volume) (t .now + n))) (last-on n (omega arith) last-is) played-is
+          ap₂ (λ (i : ℕ) (x : Float). lastHeard v i x last played) at sounded
+          ∙ ap₂ (lastHeard v (indexAt (v .clip2) (t .now + n)) (soundAt m (v .clip2) (v .volume) (t .now + n))) (last-on n (omega arith) last-is) played-is
 
 -- the position after n turns, of a voice whose position agrees
 pub moves : (m : List ℕ) (h : Hot) (v : Voice) (t : Tick) (b : Beat) (n : ℕ) → h .plain ≡ true → 1 ≤ n → n ≤ 2 ^ 24 → v .clip2 .since ≤ t .now → Agrees h (v .clip2) t b (paceOf t v) (2 ^ 24 - n)
-    → Steady t n v → Lasts t n v → movedOf h n (b .length) ≡ judgedOn t m n v h
+    → Steady t n v → Lasts t n v → movedOn h n (b .length) ≡ judgedOn t m n v h
 moves m h v t b zero plain some few begun a s l = absurd (omega (arith, some))
 moves m h v t b (suc n) plain some few begun a s l =
     let p = a .profile in
@@ -191,19 +190,19 @@ unfolding indexAt
 whole-index c now = sym (floor-cast 64 (offsetAt c now) (offset-fits c now))
 
 module _ (m : List ℕ) (t : Tick) (n : ℕ) (v : Voice) where
-  pub gathered : (before after : List Float) (f : Fetched) → 1 ≤ n → Lasts t n v → Offsets (v .clip2) (t .now) n before → Fetches m (v .played) (paceOf t v) n before after f → Gathers m t n v after f
+  pub gathered : (before after : List ℕ) (f : Fetched) → 1 ≤ n → Lasts t n v → Places (v .clip2) (t .now) n before → Fetches m (v .played) (paceOf t v) n before after f → Gathers m t n v after f
   gathered before after f some lasts o F = record {
-    recorded = λ k h. F .values k h ∙ ap (recordedValueOf m) (at k h);
+    recorded = λ k h. F .values k h ∙ ap (λ (i : ℕ). getD m i 0) (at k h);
     index = F .index (n - 1) (omega (arith, some)) ∙ at (n - 1) (omega (arith, some));
     far = F .far;
     lasts = lasts;
   }
     where
-      at : (k : ℕ) → k < n → asWhole 64 (getD before k nan) ≡ indexAt (v .clip2) (t .now + k)
-      at k h = ap (asWhole 64) (o k h .1) ∙ whole-index (v .clip2) (t .now + k)
+      at : (k : ℕ) → k < n → getD before k 0 ≡ indexAt (v .clip2) (t .now + k)
+      at k h = o k h ∙ whole-index (v .clip2) (t .now + k)
 
-  pub sounds : (values : List Float) (g : Fetched) → Gathers m t n v values g → (k : ℕ) → k < n → leveled values (v .volume) (t .now) k ≡ soundAt m (v .clip2) (v .volume) (t .now + k)
-  sounds values g G k h = ap (λ (x : Float). mul binary32 x (levelOf (v .volume) (t .now + k))) (G .recorded k h)
+  pub sounds : (values : List ℕ) (g : Fetched) → Gathers m t n v values g → (k : ℕ) → k < n → leveled values (v .volume) (t .now) k ≡ soundAt m (v .clip2) (v .volume) (t .now + k)
+  sounds values g G k h = ap (λ (x : ℕ). mul binary32 (floatOf x) (levelOf (v .volume) (t .now + k))) (G .recorded k h)
 
 -- ---- and of one that eases by whole numbers
 module _ (h : Hot) (v : Voice) (t : Tick) (b : Beat) (m : List ℕ) (before after : List Float) (level : Float) (level-is : level ≡ levelOf (v .volume) (t .now)) where
@@ -212,7 +211,7 @@ module _ (h : Hot) (v : Voice) (t : Tick) (b : Beat) (m : List ℕ) (before afte
 
   pub promised : (n : ℕ) → EasesAt h v t b (ListN.length m) n → n ≤ ListN.length before → (index : ℕ) (value last played : Float) (r : Pouring)
       → index ≡ plainIndex (h .start) (b .length) (b .total) (h .place + (n - 1)) → value ≡ termAt m level index → LastButOne (v .«last_sample_value») term n last
-      → played ≡ add binary32 (v .played) (asFloat n) → r .voice ≡ heardOf v index value last played → r .hot ≡ movedOf h n (b .length) → r .eases ≡ true → Added term 0 n before after → Pours h v t b m n before after r
+      → played ≡ add binary32 (v .played) (asFloat n) → r .voice ≡ lastHeard v index value last played → r .hot ≡ movedOn h n (b .length) → r .eases ≡ true → Added term 0 n before after → Pours h v t b m n before after r
   promised n E room index value last played r index-is value-is last-is played-is voice-is hot-is eased added =
       steadily h v t b m before after n (E .some) (eases-steady eases) (eases-lasts eases) room term
       (λ k below. ap (termAt m level) (on k) ∙ sounds-on eases m level level-is k below)
@@ -222,12 +221,12 @@ module _ (h : Hot) (v : Voice) (t : Tick) (b : Beat) (m : List ℕ) (before afte
       (hot-is ∙ moves m h v t b n (E .plain) (E .some) (omega (arith, eases .few)) (eases .begun) (agrees-so E) (eases-steady eases) (eases-lasts eases))
       eased added
     where
-      eases : Eases t (h .start) (b .length) (b .total) (asWhole 64 (v .played)) n v
+      eases : EasesVoice t (h .start) (b .length) (b .total) (asWhole 64 (v .played)) n v
       eases = E .eases
 
       on : (k : ℕ) → plainIndex (h .start) (b .length) (b .total) (h .place + k) ≡ plainIndex (h .start) (b .length) (b .total) (elapsedAt (v .clip2) (t .now) + k)
       on k = place-on h (elapsedAt (v .clip2) (t .now)) (b .length) (E .stands) (h .start) (b .total) k
 
-      far : (n : ℕ) → 1 ≤ n → Eases t (h .start) (b .length) (b .total) (asWhole 64 (v .played)) n v → add binary32 (v .played) (asFloat n) ≡ playedOn (paceOf t v) (v .played) n
+      far : (n : ℕ) → 1 ≤ n → EasesVoice t (h .start) (b .length) (b .total) (asWhole 64 (v .played)) n v → add binary32 (v .played) (asFloat n) ≡ playedOn (paceOf t v) (v .played) n
       far zero some e = absurd (omega (arith, some))
       far (suc n) some e = sum-is (asWhole 64 (v .played)) (suc n) (e .played) (float-is (suc n) (omega (arith, e .few))) (e .few) (omega arith) ∙ sym (played-on e n (omega arith))

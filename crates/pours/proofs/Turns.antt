@@ -23,7 +23,7 @@ use Rattle.voice.proofs.Values.{value-off}
 use Rattle.voice.proofs.Gliding.{quickly-at}
 use Rattle.plain_voice.specs.declared.Hot.{Hot}
 use Rattle.plain_voice.specs.Hots.{cold, playsPlain, hotAfter, judgedOf}
-use Rattle.pours.specs.Eases.{termAt, heardOf, Added}
+use Rattle.pours.specs.Eases.{termAt, lastHeard, Added}
 use Rattle.pours.specs.Pours.{later, turnsOf, GlidesOn, pouredOn, judgedOn}
 use Rattle.pours.specs.Steady.{paceOf, Steady, playedOn, Lasts, soundAt}
 
@@ -72,18 +72,18 @@ module _ (m : List ℕ) where
 
     -- the voice after it
     after : Voice
-    after = heardOf v (indexAt (v .clip2) (t .now)) (soundAt m (v .clip2) (v .volume) (t .now)) (v .«last_sample_value») (playedOn (paceOf t v) (v .played) 1)
+    after = lastHeard v (indexAt (v .clip2) (t .now)) (soundAt m (v .clip2) (v .volume) (t .now)) (v .«last_sample_value») (playedOn (paceOf t v) (v .played) 1)
 
     turn : turnOf t m v ≡ after
-    unfolding quickAt heardOf index after playedOn
+    unfolding quickAt lastHeard index after playedOn
     turn = sym (turned .2)
 
     pub clip-stays : turnOf t m v .clip2 ≡ v .clip2
-    unfolding after heardOf
+    unfolding after lastHeard
     clip-stays = ap (λ (x : Voice). x .clip2) turn
 
     after-steady : Steady (later 1 t) n after
-    unfolding after heardOf
+    unfolding after lastHeard
     after-steady = record {
       own = s .own;
       unfinished = s .unfinished;
@@ -93,7 +93,7 @@ module _ (m : List ℕ) where
     }
 
     after-lasts : Lasts (later 1 t) n after
-    unfolding after heardOf playedOn
+    unfolding after lastHeard playedOn
     after-lasts k h = ap (λ (x : Float). t .once && le (t .span .«whole_length») (absOf x)) (played-first (paceOf t v) (v .played) (suc k)) ∙ l (suc k) (omega (arith, h))
 
     pub next-steady : Steady (later 1 t) n (turnOf t m v)
@@ -103,7 +103,7 @@ module _ (m : List ℕ) where
     next-lasts = subst (Lasts (later 1 t) n) (sym turn) after-lasts
 
     heard-is : turnOf t m v .«last_sample_value» ≡ soundAt m (v .clip2) (v .volume) (t .now)
-    unfolding after heardOf
+    unfolding after lastHeard
     heard-is = ap (λ (x : Voice). x .«last_sample_value») turn
 
   -- ---- n turns in one
@@ -119,17 +119,17 @@ module _ (m : List ℕ) where
 
   -- the voice after n + 1
   abbrev pub onOf : Tick → ℕ → Voice → Voice
-  onOf t n v = heardOf v (indexAt (v .clip2) (t .now + n)) (soundAt m (v .clip2) (v .volume) (t .now + n)) (lastOn t v n) (playedOn (paceOf t v) (v .played) (suc n))
+  onOf t n v = lastHeard v (indexAt (v .clip2) (t .now + n)) (soundAt m (v .clip2) (v .volume) (t .now + n)) (lastOn t v n) (playedOn (paceOf t v) (v .played) (suc n))
 
   pub turns : (n : ℕ) {t : Tick} {v : Voice} → Steady t (suc n) v → Lasts t (suc n) v → turnsOf t m (suc n) v ≡ onOf t n v
-  unfolding turnsOf lastOn heardOf after playedOn
+  unfolding turnsOf lastOn lastHeard after playedOn
   turns zero {t} {v} s l =
-      turn s l ∙ ap (λ (x : ℕ). heardOf v (indexAt (v .clip2) x) (soundAt m (v .clip2) (v .volume) x) (v .«last_sample_value») (playedOn (paceOf t v) (v .played) 1)) (sym (add-zero (t .now)))
+      turn s l ∙ ap (λ (x : ℕ). lastHeard v (indexAt (v .clip2) x) (soundAt m (v .clip2) (v .volume) x) (v .«last_sample_value») (playedOn (paceOf t v) (v .played) 1)) (sym (add-zero (t .now)))
   turns (suc n) {t} {v} s l =
       turns n (next-steady s l) (next-lasts s l)
       ∙ ap (onOf (later 1 t) n) (turn s l)
-      ∙ ap₂ (λ (x : ℕ) (p : Float). heardOf v (indexAt (v .clip2) x) (soundAt m (v .clip2) (v .volume) x) (lastOn (later 1 t) (after s l) n) p) (omega arith) (played-on n)
-      ∙ ap (λ (x : Float). heardOf v (indexAt (v .clip2) (t .now + suc n)) (soundAt m (v .clip2) (v .volume) (t .now + suc n)) x (playedOn (paceOf t v) (v .played) (suc (suc n)))) (before n)
+      ∙ ap₂ (λ (x : ℕ) (p : Float). lastHeard v (indexAt (v .clip2) x) (soundAt m (v .clip2) (v .volume) x) (lastOn (later 1 t) (after s l) n) p) (omega arith) (played-on n)
+      ∙ ap (λ (x : Float). lastHeard v (indexAt (v .clip2) (t .now + suc n)) (soundAt m (v .clip2) (v .volume) (t .now + suc n)) x (playedOn (paceOf t v) (v .played) (suc (suc n)))) (before n)
     where
       played-on : (n : ℕ) → playedOn (paceOf t v) (playedOn (paceOf t v) (v .played) 1) (suc n) ≡ playedOn (paceOf t v) (v .played) (suc (suc n))
       played-on n = played-first (paceOf t v) (v .played) (suc n)
@@ -140,7 +140,7 @@ module _ (m : List ℕ) where
 
   pub poured : (n : ℕ) {t : Tick} {v : Voice} → Steady t n v → Lasts t n v → (term : ℕ → Float) → ((k : ℕ) → k < n → term k ≡ soundAt m (v .clip2) (v .volume) (t .now + k))
       → (before after : List Float) → n ≤ ListN.length before → Added term 0 n before after → after ≡ pouredOn t m n v before
-  unfolding pouredOn after heardOf
+  unfolding pouredOn after lastHeard
   poured zero s l term is before after room a = ext-getD nan after before (a .size) (λ k h. a .high k zero-le)
   poured (suc n) s l term is [] after room a = absurd (omega (arith, room))
   poured (suc n) s l term is (x ∷ xs) [] room a = absurd (omega (arith, a .size))

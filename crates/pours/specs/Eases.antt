@@ -23,7 +23,7 @@ use Rattle.plain_voice.specs.declared.Beat.{Beat}
 
 -- Whatever its position beside it: its clip is plain and stays as it is for n samples, its level is steady, it is one of
 -- the tick's phrase and unfinished, p samples played is a count that stays exact, and play-once doesn't end it.
-pub record Eases (t : Tick) (start length total p n : ℕ) (v : Voice) : Type 0 where
+pub record EasesVoice (t : Tick) (start length total p n : ℕ) (v : Voice) : Type 0 where
   pub own : v .phrase ≡ t .phrase
   pub unfinished : v .finished ≡ false
   pub steady : isStaticOf (v .volume) ≡ true
@@ -42,7 +42,7 @@ pub record Eases (t : Tick) (start length total p n : ℕ) (v : Voice) : Type 0 
 pub record EasesAt (h : Hot) (v : Voice) (t : Tick) (b : Beat) (room n : ℕ) : Type 0 where
   pub plain : h .plain ≡ true
   pub some : 1 ≤ n
-  pub eases : Eases t (h .start) (b .length) (b .total) (asWhole 64 (v .played)) n v
+  pub eases : EasesVoice t (h .start) (b .length) (b .total) (asWhole 64 (v .played)) n v
   pub held : b .total ≤ room
   pub place : h .place < b .length
   pub stands : h .lap * b .length + h .place ≡ elapsedAt (v .clip2) (t .now)
@@ -59,8 +59,8 @@ pub record LastButOne (before : Float) (term : ℕ → Float) (n : ℕ) (r : Flo
   pub later : 2 ≤ n → r ≡ term (n - 2)
 
 -- the voice as it has last sounded that value, after `last`
-unfoldable pub heardOf : Voice → ℕ → Float → Float → Float → Voice
-heardOf v index value last played = record {
+unfoldable pub lastHeard : Voice → ℕ → Float → Float → Float → Voice
+lastHeard v index value last played = record {
   «finished_at» = v .«finished_at»;
   «last_sample_index» = index;
   clip2 = v .clip2;
@@ -76,8 +76,8 @@ heardOf v index value last played = record {
 }
 
 -- the position n samples on
-unfoldable pub movedOf : Hot → ℕ → ℕ → Hot
-movedOf h n length = record {
+unfoldable pub movedOn : Hot → ℕ → ℕ → Hot
+movedOn h n length = record {
   place = (h .place + n) % length;
   lap = h .lap + (h .place + n) / length;
   start = h .start;

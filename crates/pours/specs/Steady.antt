@@ -2,23 +2,27 @@
 -- only. Assumes nothing.
 use mathlib.Core.Path.{_≡_}
 use Prim.Native.Nat.{ℕ, zero, suc, _+_, _-_, _^_, _≤_, _<_}
-use mathlib.Core.Bool.{true, false, _&&_}
+use mathlib.Core.Bool.{true, false, not, _&&_, cond}
 use mathlib.Core.List.{List}
 use lib.Dec.{T}
-use lib.Ieee.{Float, nan, binary32, add, mul, div, rem, lt, le, ofBits}
+use lib.Ieee.{Float, binary32, add, mul, div, rem, neg, lt, le, isNan, ofBits}
 use lib.ListN.{length, getD}
 use Rattle.binary32.specs.Leaves.{zero32, one32, asFloat, asWhole, minOf, maxOf, absOf}
 use Rattle.volume.specs.declared.Volume.{Volume}
 use Rattle.volume.specs.Levels.{levelOf, keepsOf}
 use Rattle.clip.specs.declared.Clip.{Clip}
-use Rattle.clip.specs.Positions.{clampedOf, placedOf, clipToDataOf, indexAt, offsetAt}
+use Rattle.clip.specs.declared.Mode.{Mode}
+use Rattle.clip.specs.declared.Mode.the-variants.{Loop, PingPong}
+use Rattle.clip.specs.Positions.{two32, mirroredOf, clampedOf, placedOf, clipToDataOf, indexAt, offsetAt}
 use Rattle.clip.specs.Updates.{sameAll}
 use Rattle.voice.specs.declared.Voice.{Voice}
 use Rattle.voice.specs.declared.Tick.{Tick}
-use Rattle.voice.specs.Voices.{recordedValueOf}
 use Rattle.plain_voice.specs.declared.Hot.{Hot}
 use Rattle.pours.specs.declared.Fetched.{Fetched}
 use Rattle.pours.specs.declared.Stood.{Stood}
+use Rattle.pours.specs.declared.Spot.{Spot}
+use Rattle.pours.specs.declared.Way.{Way}
+use Rattle.pours.specs.declared.Way.the-variants.{Up, Down, Fold}
 use Rattle.pours.specs.Eases.{termAt}
 use Rattle.pours.specs.Pours.{judgedOn}
 
@@ -64,9 +68,9 @@ pub record SteadyAt (t : Tick) (n : ℕ) (v : Voice) : Type 0 where
 abbrev pub soundAt : List ℕ → Clip → Volume → ℕ → Float
 soundAt m c volume now = termAt m (levelOf volume now) (indexAt c now)
 
--- a list's k-th value at the volume's level k samples on
-abbrev pub leveled : List Float → Volume → ℕ → ℕ → Float
-leveled values volume now k = mul binary32 (getD values k nan) (levelOf volume (now + k))
+-- what a list has as its k-th, at the volume's level k samples on
+abbrev pub leveled : List ℕ → Volume → ℕ → ℕ → Float
+leveled values volume now k = termAt values (levelOf volume (now + k)) k
 
 -- the level of a ramp that rises so far over so many samples
 abbrev pub rampBy : Float → Float → Float → ℕ → Float
@@ -79,42 +83,73 @@ rampBy over low rise count =
 abbrev pub travelBy : Float → Float → ℕ → Float
 travelBy shift speed count = add binary32 shift (mul binary32 (asFloat count) speed)
 
--- r is below 0, or NaN; or y isn't, and r is the offset of that place
-abbrev pub PlacedOffset : Float → Float → Float → Float → Float → Type 0
-PlacedOffset y start length total r =
-    T (le zero32 r) → T (le zero32 y) × (r ≡ rem binary32 (add binary32 start (clampedOf y length)) total)
-
 -- from 0 to below 2^23, as offsets are
 abbrev pub Low : Float → Type 0
 Low x = T (le zero32 x) × T (lt x (ofBits binary32 1258291200))
 
-abbrev pub Lows : ℕ → List Float → Type 0
-Lows n values = (k : ℕ) → k < n → Low (getD values k nan)
+-- the sample of a place in a clip that begins and ends there, in so much data
+abbrev pub spotOf : Float → Float → Float → Float → ℕ
+spotOf y start length total = asWhole 64 (rem binary32 (add binary32 start (clampedOf y length)) total)
 
--- the offsets of n samples stand in the list, by how many there were since the clip's last change
-abbrev pub Counted : Clip → ℕ → ℕ → List Float → Type 0
-Counted c from n values =
+-- where r tells one it is that of the place, which is a number
+abbrev pub Spots : Float → Float → Float → Float → Spot → Type 0
+Spots y start length total r = r .told ≡ true → T (not (isNan y)) × (r .index ≡ spotOf y start length total)
+
+-- the samples of n places stand in the list, by how many there were since the clip's last change
+abbrev pub CountedPlaces : Clip → ℕ → ℕ → List ℕ → Type 0
+CountedPlaces c from n values =
     (k : ℕ) → k < n
-    → Low (getD values k nan)
-    × (getD values k nan ≡ clipToDataOf c (placedOf (c .mode) (travelBy (c .shift) (c .speed) (from + k)) (c .length)))
+    → getD values k 0
+    ≡ asWhole 64 (clipToDataOf c (placedOf (c .mode) (travelBy (c .shift) (c .speed) (from + k)) (c .length)))
 
 -- by the time
-abbrev pub Offsets : Clip → ℕ → ℕ → List Float → Type 0
-Offsets c now n values =
-    (k : ℕ) → k < n → Low (getD values k nan) × (getD values k nan ≡ offsetAt c (now + k))
+abbrev pub Places : Clip → ℕ → ℕ → List ℕ → Type 0
+Places c now n values = (k : ℕ) → k < n → getD values k 0 ≡ asWhole 64 (offsetAt c (now + k))
 
--- What fetching promises: what is recorded at the whole part of each of n offsets stands in its place, the index is that
--- of the last, and so often the pace was added to what was played.
-pub record Fetches (m : List ℕ) (played by : Float) (n : ℕ) (before after : List Float) (r : Fetched) : Type 0 where
+-- ---- within one lap
+
+-- the way of a loop is on or back through it, that of ping-pong there and back
+abbrev pub modeBy : Way → Mode
+modeBy Up = Loop
+modeBy Down = Loop
+modeBy Fold = PingPong
+
+-- the size of a travel that goes that way
+abbrev pub sizeBy : Way → Float → Float
+sizeBy Up x = x
+sizeBy Down x = neg x
+sizeBy Fold x = x
+
+-- a lap
+abbrev pub periodBy : Way → Float → Float
+periodBy Up length = length
+periodBy Down length = length
+periodBy Fold length = mul binary32 two32 length
+
+-- the place of one by what it leaves of a lap, which is above 0
+abbrev pub placeBy : Way → Float → Float → Float
+placeBy Up y length = y
+placeBy Down y length = add binary32 (neg y) length
+placeBy Fold y length =
+    let m = mirroredOf y length in
+    cond (lt y length) y (cond (lt m zero32) zero32 m)
+
+-- r isn't above 0; or it is what x leaves, and x is
+abbrev pub LeftBy : Float → Float → Float → Type 0
+LeftBy x y r = T (lt zero32 r) → T (lt zero32 x) × (r ≡ rem binary32 x y)
+
+-- What fetching promises: what is recorded at each of n samples stands in its place, the index is the last of them, and so
+-- often the pace was added to what was played.
+pub record Fetches (m : List ℕ) (played by : Float) (n : ℕ) (before after : List ℕ) (r : Fetched) : Type 0 where
   pub size : length after ≡ length before
-  pub values : (k : ℕ) → k < n → getD after k nan ≡ recordedValueOf m (asWhole 64 (getD before k nan))
-  pub index : (k : ℕ) → n ≡ suc k → r .index ≡ asWhole 64 (getD before k nan)
+  pub values : (k : ℕ) → k < n → getD after k 0 ≡ getD m (getD before k 0) 0
+  pub index : (k : ℕ) → n ≡ suc k → r .index ≡ getD before k 0
   pub far : r .played ≡ playedOn by played n
 
 -- What gathering promises: what is recorded at each of n samples stands in the list, and the rest is what it is after
 -- them, of which none ends the voice.
-pub record Gathers (m : List ℕ) (t : Tick) (n : ℕ) (v : Voice) (values : List Float) (r : Fetched) : Type 0 where
-  pub recorded : (k : ℕ) → k < n → getD values k nan ≡ recordedValueOf m (indexAt (v .clip2) (t .now + k))
+pub record Gathers (m : List ℕ) (t : Tick) (n : ℕ) (v : Voice) (values : List ℕ) (r : Fetched) : Type 0 where
+  pub recorded : (k : ℕ) → k < n → getD values k 0 ≡ getD m (indexAt (v .clip2) (t .now + k)) 0
   pub index : r .index ≡ indexAt (v .clip2) (t .now + (n - 1))
   pub far : r .played ≡ playedOn (paceOf t v) (v .played) n
   pub lasts : Lasts t n v
@@ -122,6 +157,6 @@ pub record Gathers (m : List ℕ) (t : Tick) (n : ℕ) (v : Voice) (values : Lis
 -- ---- its position
 
 -- r denies it; or its position is that after n steady turns
-abbrev pub Stands : Hot → Tick → ℕ → Voice → Stood → Type 0
-Stands h t n v r =
+abbrev pub StoodOn : Hot → Tick → ℕ → Voice → Stood → Type 0
+StoodOn h t n v r =
     r .known ≡ true → (m : List ℕ) → Steady t n v → Lasts t n v → r .hot ≡ judgedOn t m n v h

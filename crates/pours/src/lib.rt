@@ -3,31 +3,37 @@
 // through the recording; of any other the places are worked out first, and nothing is added where one isn't quickly told.
 ghost use mathlib.Core.Path.{_≡_};
 ghost use mathlib.Core.Bool.{true, false, cond};
-ghost use Prim.Native.Nat.{ℕ, _+_, _-_, _%_, _^_, _≤_, _<_, min};
+ghost use Prim.Native.Nat.{ℕ, _+_, _-_, _%_, _^_, _≤_, _<_};
 ghost use lib.Dec.{T};
 ghost use lib.ListN.{length, getD};
-ghost use lib.Ieee.{nan, binary32, mul, rem, neg, lt, le};
-ghost use Rattle.binary32.specs.Leaves.{zero32, asFloat, asWhole, minOf, OrLess};
+ghost use lib.Ieee.{binary32, sub, mul, rem, neg, lt, le};
+ghost use Rattle.binary32.specs.Leaves.{zero32, asFloat, asWhole, floatOf, OrLess};
 ghost use Rattle.clip.specs.Positions.{raisedOf, loopedOf, foldedOf, bouncedOf, wrappedOf};
 ghost use Rattle.clip.specs.Plain.{plainIndex};
 ghost use Rattle.plain_voice.specs.Hots.{beatOf};
-ghost use Rattle.pours.specs.Eases.{EasesAt, termAt, LastButOne, heardOf, movedOf, Added};
+ghost use Rattle.pours.specs.Eases.{EasesAt, termAt, LastButOne, lastHeard, movedOn, Added};
 ghost use Rattle.pours.specs.Pours.{Pours};
 ghost use Rattle.pours.specs.Steady.{
   SteadyAt,
   PlaysBelow,
   Lasts,
+  playedOn,
+  paceOf,
   leveled,
   rampBy,
   travelBy,
-  PlacedOffset,
+  sizeBy,
+  periodBy,
+  placeBy,
+  modeBy,
+  LeftBy,
   Low,
-  Lows,
-  Counted,
-  Offsets,
+  Spots,
+  CountedPlaces,
+  Places,
   Fetches,
   Gathers,
-  Stands,
+  StoodOn,
 };
 use clip::Clip;
 use clip::Mode;
@@ -37,6 +43,7 @@ use plain_voice::LAST_WHOLE;
 use voice::Tick;
 use voice::Voice;
 use volume::Volume;
+use walks::smaller;
 
 // The last time from which a run is worked out in one go: 2^62.
 const LATEST: usize = 0x4000_0000_0000_0000;
@@ -52,6 +59,19 @@ pub struct Pouring {
 struct Stood {
     hot: Hot,
     known: bool,
+}
+
+// The sample of a place, where it is told.
+struct Spot {
+    index: u32,
+    told: bool,
+}
+
+// Which way a voice goes through one lap: on through its loop or back through it, or there and back.
+enum Way {
+    Up,
+    Down,
+    Fold,
 }
 
 // What fetching comes to, where it is told: the last index, and how far the voice has played.
@@ -103,12 +123,6 @@ fn rest(x: usize, by: usize) -> usize
     if y < by { y } else { y % by }
 }
 
-fn smaller(a: usize, b: usize) -> usize
-    ensures { λ r. ⌜ r ≡ min a b ⌝ }
-{
-    if a < b { a } else { b }
-}
-
 // The sample that sounds at a place that may lie beyond the loop's end.
 fn index_at(start: usize, place: usize, round: usize, total: usize) -> usize
     requires { ⌜ (start ≤ 2 ^ 22) × (1 ≤ round) × (round ≤ 2 ^ 22) × (1 ≤ total) ⌝ }
@@ -146,7 +160,7 @@ fn last_but_one(
 
 // The voice after some samples, of which the last two were `last` and the one at that index.
 fn heard(v: Voice, index: usize, value: f32, last: f32, played: f32) -> Voice
-    ensures { λ r. ⌜ r ≡ heardOf v index value last played ⌝ }
+    ensures { λ r. ⌜ r ≡ lastHeard v index value last played ⌝ }
 {
     let clip2 = v.clip2;
     let volume = v.volume;
@@ -170,7 +184,7 @@ fn heard(v: Voice, index: usize, value: f32, last: f32, played: f32) -> Voice
 // The position n samples on.
 fn moved(h: Hot, n: usize, round: usize) -> Hot
     requires { ⌜ (h .place < round) × (round ≤ 2 ^ 22) × (h .lap + n ≤ 2 ^ 24) ⌝ }
-    ensures { λ r. ⌜ r ≡ movedOf h n round ⌝ }
+    ensures { λ r. ⌜ r ≡ movedOn h n round ⌝ }
 {
     let s = (h.place as usize) + n;
     if s < round {
@@ -289,7 +303,7 @@ fn steady(v: Voice, t: Tick, n: usize) -> bool
 // The position after n turns of a steady voice: that of one that isn't plain stays.
 fn position_on(h: Hot, v: Voice, t: Tick, b: Beat, n: usize) -> Stood
     requires { ⌜ (b ≡ beatOf t) × SteadyAt t n v ⌝ }
-    ensures { λ r. ⌜ Stands h t n v r ⌝ }
+    ensures { λ r. ⌜ StoodOn h t n v r ⌝ }
 {
     if !h.plain {
         return Stood {
@@ -387,85 +401,206 @@ fn wrapped(mode: Mode, x: f32, length: f32) -> f32
     }
 }
 
-// s % total, for an s from 0 to below twice the total; else a number below 0.
+// s % total, where that comes to a number from 0 to below the total.
 fn once_round(s: f32, total: f32) -> f32
-    ensures { λ r. ⌜ OrLess (rem binary32 s total) r ⌝ }
+    ensures { λ r. ⌜ (r ≡ cond (lt s total) s (sub binary32 s total))
+        × (T (le zero32 r) → T (lt r total) → r ≡ rem binary32 s total) ⌝ }
 {
-    if s < total {
-        return s;
-    }
-    let t = s - total;
-    if t < total { t } else { -1.0 }
+    if s < total { s } else { s - total }
 }
 
 // The smaller of a place and the last.
 fn lower(y: f32, top: f32) -> f32
-    ensures { λ r. ⌜ (T (le zero32 y) → r ≡ minOf y top) ⌝ }
+    ensures { λ r. ⌜ r ≡ cond (lt top y) top y ⌝ }
 {
     if top < y { top } else { y }
 }
 
-// The offset of a place of at least 0; else a number below 0.
-fn offset_of(y: f32, start: f32, length: f32, total: f32) -> f32
-    ensures { λ r. ⌜ PlacedOffset y start length total r ⌝ }
+// What is told, else 0.
+fn if_told(told: bool, x: f32) -> f32
+    ensures { λ r. ⌜ r ≡ cond told x zero32 ⌝ }
+{
+    if told { x } else { 0.0 }
+}
+
+// The whole part of an offset, as binary32 works out that of a low float: the sum with 2^28 in f64 has 24 digits of
+// fraction, in which none is rounded up to a whole number.
+fn whole_of(x: f32) -> u32
+    requires { ⌜ Low x ⌝ }
+    ensures { λ r. ⌜ r ≡ asWhole 64 x ⌝ }
+{
+    (f64::to_bits((x as f64) + 268435456.0) / 0x100_0000 % 0x1000_0000) as u32
+}
+
+// The sample of a place in a clip.
+fn spot_at(y: f32, start: f32, length: f32, total: f32) -> Spot
+    ensures { λ r. ⌜ Spots y start length total r ⌝ }
 {
     let t = once_round(start + lower(y, length - 1.0), total);
-    if y >= 0.0 { t } else { -1.0 }
+    let told = (t >= 0.0) & (t < total) & (total <= 8388608.0);
+    Spot {
+        index: whole_of(if_told(told, t)),
+        told,
+    }
 }
 
-fn is_low(x: f32) -> bool
-    ensures { λ r. ⌜ (r ≡ true → Low x) ⌝ }
-{
-    (x >= 0.0) & (x < 8388608.0)
-}
-
-// Puts the offsets of n samples into the list, from so many samples after the clip's last change on, its lead among them;
+// Puts the samples of n places into the list, from so many samples after the clip's last change on, its lead among them;
 // or says that one isn't quickly worked out.
-fn offsets_from(c: Clip, from: u32, values: &mut [f32], n: usize) -> bool
+fn places_from(c: Clip, from: u32, values: &mut [u32], n: usize) -> bool
     requires { ⌜ (from + n ≤ 2 ^ 24 + 1) × (n ≤ length (now «values»)) ⌝ }
-    ensures { λ r. ⌜ (length (now («values» .exit)) ≡ length (now («values» .entry))) × (r ≡ true → Counted c from n (now («values» .exit))) ⌝ }
+    ensures { λ r. ⌜ (length (now («values» .exit)) ≡ length (now («values» .entry))) × (r ≡ true → CountedPlaces c from n (now («values» .exit))) ⌝ }
 {
     let mode = c.mode;
     let mut told = true;
     let mut k: usize = 0;
     while k < n {
         let y = wrapped(mode, travel(c.shift, c.speed, from + (k as u32)), c.length);
-        let offset = offset_of(y, c.start, c.length, c.data_length);
-        values[k] = offset;
-        told = told & is_low(offset);
+        let p = spot_at(y, c.start, c.length, c.data_length);
+        values[k] = p.index;
+        told = told & ((y >= 0.0) & p.told);
         k += 1;
     }
     told
 }
 
-// The same of a loop, where no travel is below 0.
-fn offsets_ahead(c: Clip, from: u32, values: &mut [f32], n: usize) -> bool
-    requires { ⌜ (c .mode ≡ Mode.Loop) × (from + n ≤ 2 ^ 24 + 1) × (n ≤ length (now «values»)) ⌝ }
-    ensures { λ r. ⌜ (length (now («values» .exit)) ≡ length (now («values» .entry))) × (r ≡ true → Counted c from n (now («values» .exit))) ⌝ }
+// ---- within one lap: what is left of a travel above 0 is told by one product for all n samples
+
+fn size_by(way: Way, x: f32) -> f32
+    ensures { λ r. ⌜ r ≡ sizeBy way x ⌝ }
+{
+    match way {
+        Way::Up => x,
+        Way::Down => -x,
+        Way::Fold => x,
+    }
+}
+
+fn period(way: Way, length: f32) -> f32
+    ensures { λ r. ⌜ r ≡ periodBy way length ⌝ }
+{
+    match way {
+        Way::Up => length,
+        Way::Down => length,
+        Way::Fold => 2.0 * length,
+    }
+}
+
+fn fold(y: f32, length: f32) -> f32
+    ensures { λ r. ⌜ r ≡ placeBy Way.Fold y length ⌝ }
+{
+    if y < length {
+        return y;
+    }
+    let m = 2.0 * length - y - 1.0;
+    if m < 0.0 { 0.0 } else { m }
+}
+
+// The place that so much is left to.
+fn place_by(way: Way, y: f32, length: f32) -> f32
+    ensures { λ r. ⌜ r ≡ placeBy way y length ⌝ }
+{
+    match way {
+        Way::Up => y,
+        Way::Down => -y + length,
+        Way::Fold => fold(y, length),
+    }
+}
+
+// A float near x / y, plus 1.5 * 2^52. Any number would be right.
+fn near_of(x: f32, y: f32) -> f64 {
+    if (x > 0.0) & (y > 0.0) {
+        (x as f64) * (1.0 / (y as f64)) - 0.49999999 + 6755399441055744.0
+    } else {
+        0.0
+    }
+}
+
+// `x % y` by such a float, as `binary32::rem_or_less` has it, where both are above 0 and it is too; else 0.
+fn left_by(x: f32, near: f64, y: f32) -> f32
+    ensures { λ r. ⌜ LeftBy x y r ⌝ }
+{
+    if (x > 0.0) & (y > 0.0) {
+        let wide = x as f64;
+        let by = y as f64;
+        let left = wide - (near - 6755399441055744.0) * by;
+        if (near < 6755399449444352.0) & (left > 0.0) & (left < by) {
+            left as f32
+        } else {
+            0.0
+        }
+    } else {
+        0.0
+    }
+}
+
+fn places_within(c: Clip, way: Way, near: f64, from: u32, values: &mut [u32], n: usize) -> bool
+    requires { ⌜ (c .mode ≡ modeBy way) × (from + n ≤ 2 ^ 24 + 1) × (n ≤ length (now «values»)) ⌝ }
+    ensures { λ r. ⌜ (length (now («values» .exit)) ≡ length (now («values» .entry))) × (r ≡ true → CountedPlaces c from n (now («values» .exit))) ⌝ }
 {
     let mut told = true;
     let mut k: usize = 0;
     while k < n {
-        let x = travel(c.shift, c.speed, from + (k as u32));
-        let y = binary32::rem_or_less(x, c.length);
-        let offset = offset_of(y, c.start, c.length, c.data_length);
-        values[k] = offset;
-        told = told & is_low(offset);
+        let x = size_by(way, travel(c.shift, c.speed, from + (k as u32)));
+        let y = left_by(x, near, period(way, c.length));
+        let p = spot_at(place_by(way, y, c.length), c.start, c.length, c.data_length);
+        values[k] = p.index;
+        told = told & ((y > 0.0) & p.told);
         k += 1;
     }
     told
 }
 
-// Either way: most loops are gone through ahead.
-fn offsets_by(c: Clip, from: u32, values: &mut [f32], n: usize) -> bool
-    requires { ⌜ (from + n ≤ 2 ^ 24 + 1) × (n ≤ length (now «values»)) ⌝ }
-    ensures { λ r. ⌜ (length (now («values» .exit)) ≡ length (now («values» .entry))) × (r ≡ true → Counted c from n (now («values» .exit))) ⌝ }
+// Each way by a function of its own, so that each is a loop of its own.
+fn places_up(c: Clip, near: f64, from: u32, values: &mut [u32], n: usize) -> bool
+    requires { ⌜ (c .mode ≡ Mode.Loop) × (from + n ≤ 2 ^ 24 + 1) × (n ≤ length (now «values»)) ⌝ }
+    ensures { λ r. ⌜ (length (now («values» .exit)) ≡ length (now («values» .entry))) × (r ≡ true → CountedPlaces c from n (now («values» .exit))) ⌝ }
+{
+    places_within(c, Way::Up, near, from, values, n)
+}
+
+fn places_down(c: Clip, near: f64, from: u32, values: &mut [u32], n: usize) -> bool
+    requires { ⌜ (c .mode ≡ Mode.Loop) × (from + n ≤ 2 ^ 24 + 1) × (n ≤ length (now «values»)) ⌝ }
+    ensures { λ r. ⌜ (length (now («values» .exit)) ≡ length (now («values» .entry))) × (r ≡ true → CountedPlaces c from n (now («values» .exit))) ⌝ }
+{
+    places_within(c, Way::Down, near, from, values, n)
+}
+
+fn places_fold(c: Clip, near: f64, from: u32, values: &mut [u32], n: usize) -> bool
+    requires { ⌜ (c .mode ≡ Mode.PingPong) × (from + n ≤ 2 ^ 24 + 1) × (n ≤ length (now «values»)) ⌝ }
+    ensures { λ r. ⌜ (length (now («values» .exit)) ≡ length (now («values» .entry))) × (r ≡ true → CountedPlaces c from n (now («values» .exit))) ⌝ }
+{
+    places_within(c, Way::Fold, near, from, values, n)
+}
+
+// The way of a travel.
+fn way_of(mode: Mode, x: f32) -> Way
+    ensures { λ r. ⌜ mode ≡ modeBy r ⌝ }
+{
+    match mode {
+        Mode::Loop => { if x >= 0.0 { Way::Up } else { Way::Down } }
+        Mode::PingPong => Way::Fold,
+    }
+}
+
+// Either way: most often the first and the last of n samples are in one lap.
+fn places_by(c: Clip, from: u32, values: &mut [u32], n: usize) -> bool
+    requires { ⌜ (1 ≤ n) × (from + n ≤ 2 ^ 24 + 1) × (n ≤ length (now «values»)) ⌝ }
+    ensures { λ r. ⌜ (length (now («values» .exit)) ≡ length (now («values» .entry))) × (r ≡ true → CountedPlaces c from n (now («values» .exit))) ⌝ }
 {
     let mode = c.mode;
-    if clip::same_mode(mode, Mode::Loop) & ((c.speed >= 0.0) & (c.shift >= 0.0)) {
-        return offsets_ahead(c, from, values, n);
+    let x = travel(c.shift, c.speed, from);
+    let way = way_of(mode, x);
+    let by = period(way, c.length);
+    let near = near_of(size_by(way, x), by);
+    let last = travel(c.shift, c.speed, from + ((n - 1) as u32));
+    if !(left_by(size_by(way, last), near, by) > 0.0) {
+        return places_from(c, from, values, n);
     }
-    offsets_from(c, from, values, n)
+    match way {
+        Way::Up => places_up(c, near, from, values, n),
+        Way::Down => places_down(c, near, from, values, n),
+        Way::Fold => places_fold(c, near, from, values, n),
+    }
 }
 
 // How many samples a negative speed is ahead.
@@ -475,16 +610,16 @@ fn lead(speed: f32) -> u32
     if speed < 0.0 { 1 } else { 0 }
 }
 
-// The offsets of n samples from that time on, by counts, which are exact up to 2^24. Past that none is told: the clip's
+// The samples of n places from that time on, by counts, which are exact up to 2^24. Past that none is told: the clip's
 // own quick way, called from here too, would stand apart from the turns that have it compiled in.
-fn offsets(c: Clip, time: usize, values: &mut [f32], n: usize) -> bool
-    requires { ⌜ (time ≤ 2 ^ 62) × (n ≤ 2 ^ 24) × (n ≤ length (now «values»)) ⌝ }
-    ensures { λ r. ⌜ (length (now («values» .exit)) ≡ length (now («values» .entry))) × (r ≡ true → Offsets c time n (now («values» .exit))) ⌝ }
+fn places(c: Clip, time: usize, values: &mut [u32], n: usize) -> bool
+    requires { ⌜ (time ≤ 2 ^ 62) × (1 ≤ n) × (n ≤ 2 ^ 24) × (n ≤ length (now «values»)) ⌝ }
+    ensures { λ r. ⌜ (length (now («values» .exit)) ≡ length (now («values» .entry))) × (r ≡ true → Places c time n (now («values» .exit))) ⌝ }
 {
     if c.since <= time {
         let elapsed = time - c.since;
         if elapsed <= LAST_WHOLE - n {
-            return offsets_by(c, (elapsed as u32) + lead(c.speed), values, n);
+            return places_by(c, (elapsed as u32) + lead(c.speed), values, n);
         }
     }
     false
@@ -507,37 +642,41 @@ fn ends(played: f32, by: f32, whole: f32, n: usize) -> bool
     over
 }
 
-// Whether play-once, if it is so, goes on for n samples.
-fn lasts(v: Voice, t: Tick, n: usize) -> bool
+// Whether play-once, if it is so, goes on for n samples, after which the voice has played so far. Where it plays on, the
+// last sum is the largest.
+fn lasts(v: Voice, t: Tick, far: f32, n: usize) -> bool
+    requires { ⌜ (1 ≤ n) × (far ≡ playedOn (paceOf t v) (v .played) n) ⌝ }
     ensures { λ r. ⌜ (r ≡ true → Lasts t n v) ⌝ }
 {
     if t.once {
         let span = t.span;
-        return !ends(v.played, v.speed * t.speed, span.whole_length, n);
+        let speed = v.speed * t.speed;
+        if (v.played > 0.0) & (speed > 0.0) {
+            return !(span.whole_length <= far);
+        }
+        return !ends(v.played, speed, span.whole_length, n);
     }
     true
 }
 
-// The whole part of an offset, as binary32 works out that of a low float: the sum with 2^28 in f64 has 24 digits of
-// fraction, in which none is rounded up to a whole number.
-fn whole_of(x: f32) -> usize
-    requires { ⌜ Low x ⌝ }
-    ensures { λ r. ⌜ r ≡ asWhole 64 x ⌝ }
+// The pattern recorded there.
+fn pattern_at(data: &[u32], index: usize) -> u32
+    ensures { λ r. ⌜ r ≡ getD (now («data» .entry)) index 0 ⌝ }
 {
-    (f64::to_bits((x as f64) + 268435456.0) / 0x100_0000 % 0x1000_0000) as usize
+    if index < data.len() { data[index] } else { 0 }
 }
 
-// Puts what is recorded at each of n offsets in its place, and adds the speed as often.
-fn fetch(data: &[u32], played: f32, by: f32, values: &mut [f32], n: usize) -> Fetched
-    requires { ⌜ (n ≤ length (now «values»)) × Lows n (now «values») ⌝ }
+// Puts what is recorded at each of n samples in its place, and adds the speed as often.
+fn fetch(data: &[u32], played: f32, by: f32, values: &mut [u32], n: usize) -> Fetched
+    requires { ⌜ n ≤ length (now «values») ⌝ }
     ensures { λ r. ⌜ Fetches (now («data» .entry)) played by n (now («values» .entry)) (now («values» .exit)) r ⌝ }
 {
     let mut index: usize = 0;
     let mut sum = played;
     let mut k: usize = 0;
     while k < n {
-        index = whole_of(values[k]);
-        values[k] = voice::recorded(data, index);
+        index = values[k] as usize;
+        values[k] = pattern_at(data, index);
         sum = sum + by;
         k += 1;
     }
@@ -549,8 +688,8 @@ fn fetch(data: &[u32], played: f32, by: f32, values: &mut [f32], n: usize) -> Fe
 }
 
 // Puts what is recorded at each of n samples of a steady voice into the list. It isn't told where play-once ends it, or
-// where an offset isn't quickly worked out.
-fn gather(v: Voice, t: Tick, data: &[u32], values: &mut [f32], n: usize) -> Fetched
+// where a place isn't quickly worked out.
+fn gather(v: Voice, t: Tick, data: &[u32], values: &mut [u32], n: usize) -> Fetched
     requires { ⌜ SteadyAt t n v × (n ≤ length (now «values»)) ⌝ }
     ensures { λ r. ⌜ (length (now («values» .exit)) ≡ length (now («values» .entry))) × (r .told ≡ true → Gathers (now («data» .entry)) t n v (now («values» .exit)) r) ⌝ }
 {
@@ -559,27 +698,28 @@ fn gather(v: Voice, t: Tick, data: &[u32], values: &mut [f32], n: usize) -> Fetc
         played: 0.0,
         told: false,
     };
-    if !lasts(v, t, n) {
-        return otherwise;
-    }
     let clip2 = v.clip2;
     let speed = v.speed * t.speed;
-    if !offsets(clip2, t.now, values, n) {
+    if !places(clip2, t.now, values, n) {
         return otherwise;
     }
-    fetch(data, v.played, speed, values, n)
+    let f = fetch(data, v.played, speed, values, n);
+    if !lasts(v, t, f.played, n) {
+        return otherwise;
+    }
+    f
 }
 
 // What the list's k-th value sounds at the volume's level then.
-fn value_at(values: &[f32], volume: Volume, time: usize, k: usize) -> f32
+fn value_at(values: &[u32], volume: Volume, time: usize, k: usize) -> f32
     requires { ⌜ (time ≤ 2 ^ 62) × (k ≤ 2 ^ 24) × (k < length (now «values»)) ⌝ }
     ensures { λ r. ⌜ r ≡ leveled (now («values» .entry)) volume time k ⌝ }
 {
-    values[k] * volume.level(time + k)
+    binary32::from_bits(values[k]) * volume.level(time + k)
 }
 
 // Before the last of n: what it sounded before all of them, if there is but one.
-fn value_before(before: f32, values: &[f32], volume: Volume, time: usize, n: usize) -> f32
+fn value_before(before: f32, values: &[u32], volume: Volume, time: usize, n: usize) -> f32
     requires { ⌜ (time ≤ 2 ^ 62) × (n ≤ 2 ^ 24) × (n ≤ length (now «values»)) ⌝ }
     ensures { λ r. ⌜ LastButOne before (leveled (now («values» .entry)) volume time) n r ⌝ }
 {
@@ -589,26 +729,14 @@ fn value_before(before: f32, values: &[f32], volume: Volume, time: usize, n: usi
     value_at(values, volume, time, n - 2)
 }
 
-// Adds n values at one level to the first n sums.
-fn add_all(values: &[f32], level: f32, sums: &mut [f32], n: usize)
-    requires { ⌜ (n ≤ length (now «values»)) × (n ≤ length (now «sums»)) ⌝ }
-    ensures { λ _. ⌜ Added (λ (k : ℕ). mul binary32 (getD (now («values» .entry)) k nan) level) 0 n (now («sums» .entry)) (now («sums» .exit)) ⌝ }
-{
-    let mut k: usize = 0;
-    while k < n {
-        sums[k] = sums[k] + values[k] * level;
-        k += 1;
-    }
-}
-
 // Adds n values at the volume's levels to the first n sums.
-fn add_levels(values: &[f32], volume: Volume, time: usize, sums: &mut [f32], n: usize)
+fn add_levels(values: &[u32], volume: Volume, time: usize, sums: &mut [f32], n: usize)
     requires { ⌜ (time ≤ 2 ^ 62) × (n ≤ 2 ^ 24) × (n ≤ length (now «values»)) × (n ≤ length (now «sums»)) ⌝ }
     ensures { λ _. ⌜ Added (leveled (now («values» .entry)) volume time) 0 n (now («sums» .entry)) (now («sums» .exit)) ⌝ }
 {
     let mut k: usize = 0;
     while k < n {
-        sums[k] = sums[k] + values[k] * volume.level(time + k);
+        sums[k] = sums[k] + binary32::from_bits(values[k]) * volume.level(time + k);
         k += 1;
     }
 }
@@ -622,23 +750,24 @@ fn ramp_level(count: u32, over: f32, low: f32, rise: f32) -> f32
 }
 
 // Adds n values at the levels of such a ramp to the first n sums.
-fn add_ramp(values: &[f32], from: u32, over: f32, low: f32, rise: f32, sums: &mut [f32], n: usize)
+fn add_ramp(values: &[u32], from: u32, over: f32, low: f32, rise: f32, sums: &mut [f32], n: usize)
     requires { ⌜ (from + n ≤ 2 ^ 24) × (n ≤ length (now «values»)) × (n ≤ length (now «sums»)) ⌝ }
-    ensures { λ _. ⌜ Added (λ (k : ℕ). mul binary32 (getD (now («values» .entry)) k nan) (rampBy over low rise (from + k))) 0 n (now («sums» .entry)) (now («sums» .exit)) ⌝ }
+    ensures { λ _. ⌜ Added (λ (k : ℕ). termAt (now («values» .entry)) (rampBy over low rise (from + k)) k) 0 n (now («sums» .entry)) (now («sums» .exit)) ⌝ }
 {
     let mut k: usize = 0;
     while k < n {
-        sums[k] = sums[k] + values[k] * ramp_level(from + (k as u32), over, low, rise);
+        sums[k] = sums[k]
+            + binary32::from_bits(values[k]) * ramp_level(from + (k as u32), over, low, rise);
         k += 1;
     }
 }
 
-fn add_at(values: &[f32], volume: Volume, time: usize, sums: &mut [f32], n: usize)
+fn add_at(values: &[u32], volume: Volume, time: usize, sums: &mut [f32], n: usize)
     requires { ⌜ (time ≤ 2 ^ 62) × (n ≤ 2 ^ 24) × (n ≤ length (now «values»)) × (n ≤ length (now «sums»)) ⌝ }
     ensures { λ _. ⌜ Added (leveled (now («values» .entry)) volume time) 0 n (now («sums» .entry)) (now («sums» .exit)) ⌝ }
 {
     match volume {
-        Volume::Static(level) => add_all(values, level, sums, n),
+        Volume::Static(level) => pour(values, 0, level, sums, 0, n),
         Volume::Linear {
             time_start,
             time_end,
@@ -667,7 +796,7 @@ fn fully(
     b: Beat,
     data: &[u32],
     sums: &mut [f32],
-    values: &mut [f32],
+    values: &mut [u32],
     n: usize,
 ) -> Pouring
     requires { ⌜ (b ≡ beatOf t) × (n ≤ length (now «sums»)) × (n ≤ length (now «values»)) ⌝ }
@@ -709,7 +838,7 @@ pub fn poured(
     b: Beat,
     data: &[u32],
     sums: &mut [f32],
-    values: &mut [f32],
+    values: &mut [u32],
     n: usize,
 ) -> Pouring
     requires { ⌜ (b ≡ beatOf t) × (n ≤ length (now «sums»)) × (n ≤ length (now «values»)) ⌝ }

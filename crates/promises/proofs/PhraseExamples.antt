@@ -23,7 +23,7 @@ use Rattle.recordings.proofs.Examples.{computing as filing, mono}
 use Rattle.promises.specs.Runs.{World, Call, stop, startRecording, stopRecording, choosePhrase, deletePhrase, reset, sample, readWave, gather, setUp, run, after, code, chan, ownPart, output, FittingCall}
 use Rattle.promises.specs.Outcomes.{on, leftBy}
 use Rattle.promises.specs.Recordings.{writePlaceOf}
-use Rattle.promises.specs.Phrases.{phrase, samplesIn, phrasesIn, Chosen, Deleted, Gathered, OthersKept, Behind}
+use Rattle.promises.specs.Phrases.{phrase, samplesIn, allPhrases, Chosen, Deleted, Gathered, OthersKept, Behind}
 use Rattle.promises.proofs.Outcomes.{settled}
 use Rattle.promises.proofs.Whole.{whole}
 use Rattle.promises.proofs.Demands.{demands}
@@ -52,7 +52,7 @@ abbrev span : ℕ → ℕ → Phrase
 span start length = record { start = start; length = length }
 
 abbrev phrases : World → List Phrase
-phrases w = phrasesIn w 0
+phrases w = allPhrases w 0
 
 -- those of the numbers 0, 3 and 5, the others being as set-up left them
 abbrev with035 : Phrase → Phrase → Phrase → List Phrase

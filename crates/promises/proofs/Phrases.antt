@@ -16,7 +16,7 @@ use Rattle.walks.specs.Walks.{any}
 use Rattle.common_types.specs.declared.Params.{Params}
 use Rattle.phrases.specs.declared.Phrase.{Phrase}
 use Rattle.phrases.specs.Phrases.{noPhrase, noSamples, reachOf, storedIn, goodPhrases}
-use Rattle.phrases.specs.Gathering.{samplesOf, samplesBefore}
+use Rattle.phrases.specs.Gathering.{samplesOfAll, samplesBefore}
 use Rattle.phrases.proofs.Table.{others-chosen}
 use Rattle.phrases.proofs.Reaches.{reach-empty, reach-end, behind-reach, behind-there}
 use Rattle.phrases.proofs.Gathered.{gather-start, gather-empty, gather-rest}
@@ -58,7 +58,7 @@ use Rattle.fates.specs.Events.{Event, idle, sounds, act, isSample}
 use Rattle.promises.specs.Runs.{World, Call, change, sample, frame, readWave, gather, asks, choosePhrase, deletePhrase, startRecording, code, after, chan, ownPart, doneTo, event}
 use Rattle.promises.specs.Outcomes.{on, Outcome, ReadOutcome, GatherOutcome, Allows, leftBy}
 use Rattle.promises.specs.Recordings.{writePlaceOf, beginning}
-use Rattle.promises.specs.Phrases.{phrase, chosen, endOf, recordsOther, inUse, OnlyPhrases, Chosen, Deleted, phrasesIn, Gathered, OthersKept, Behind, Phrases}
+use Rattle.promises.specs.Phrases.{phrase, chosen, endOf, recordsOther, inUse, OnlyPhrases, Chosen, Deleted, allPhrases, Gathered, OthersKept, Behind, Phrases}
 use Rattle.promises.proofs.Calls.{Standing, chan-after, kept}
 use Rattle.promises.proofs.Memory.{part-written}
 use Rattle.promises.proofs.Accepted.{Heard, heard}
@@ -446,10 +446,10 @@ module _ (w : World) (fit : FittingSampler (w .sampler)) where
     moved-part = ap (λ (u : World). ownPart u j) (left-after w gather r a) ∙ part-gathered w z j l
 
     -- all phrases, by their numbers
-    all : phrasesIn w j ≡ phrasesOf here
-    all = ext-getD noPhrase (phrasesIn w j) (phrasesOf here) (sym (phrases-length (length m) here judged)) (λ i b. at i b ∙ phrase-of-all (length m) here judged i b)
+    all : allPhrases w j ≡ phrasesOf here
+    all = ext-getD noPhrase (allPhrases w j) (phrasesOf here) (sym (phrases-length (length m) here judged)) (λ i b. at i b ∙ phrase-of-all (length m) here judged i b)
       where
-        at : (i : ℕ) → i < 8 → getD (phrasesIn w j) i noPhrase ≡ phraseAt here i
+        at : (i : ℕ) → i < 8 → getD (allPhrases w j) i noPhrase ≡ phraseAt here i
         at zero b = refl
         at (suc zero) b = refl
         at (suc (suc zero)) b = refl
@@ -481,12 +481,12 @@ module _ (w : World) (fit : FittingSampler (w .sampler)) where
           ∙ gathered-phrase here m judged k b
           ∙ gather-empty (phrasesOf here) m many fine k b (ap noSamples (sym own) ∙ without-samples (phraseAt here k) none)
           ∙ sym own;
-      free = (λ i. drop (samplesOf (all i)) (moved-part i)) ∙ free ∙ sym (ap (λ (ps : List Phrase). drop (samplesOf ps) m) all);
+      free = (λ i. drop (samplesOfAll (all i)) (moved-part i)) ∙ free ∙ sym (ap (λ (ps : List Phrase). drop (samplesOfAll ps) m) all);
       number = number;
       else-kept = subst (OnlyPhrases here) (sym moved) only;
     }
       where
-        free : drop (samplesOf (phrasesOf here)) (gatheredMemory here m) ≡ drop (samplesOf (phrasesOf here)) m
+        free : drop (samplesOfAll (phrasesOf here)) (gatheredMemory here m) ≡ drop (samplesOfAll (phrasesOf here)) m
         free = gather-rest (phrasesOf here) m many fine
 
         number : chosen (leftBy w gather r) j ≡ chosen w j

@@ -19,7 +19,7 @@ use Rattle.wave.specs.Fields.{listed}
 use Rattle.wave.specs.Files.{fileOf}
 use Rattle.wave.specs.Reader.{wordsIn, judgedOf}
 use Rattle.wave.specs.Grammar.{IsWave}
-use Rattle.wave.specs.Memory.{startAt, fitsMemory, framesOf, channelOf, bytesOf, layoutOf, loadedOf}
+use Rattle.wave.specs.Memory.{startAt, fitsMemory, framesOf, channelWords, bytesOf, layoutOf, loadedOf}
 use Rattle.wave.specs.Promised.{Sized, recordingAt}
 use Rattle.wave.proofs.Answers.{Known, good-known, answer-good}
 use Rattle.wave.proofs.Layouts.{fits-true}
@@ -162,7 +162,7 @@ pub record Loaded (w u : World) (n : ℕ) (words : List ℕ) : Type 0 where
   pub head : (j : ℕ) → j < w .sampler .count → chan u j ≡ withHead (beginning (beginsIn (chan w j)) n (chan w j .head)) (chan w j)
   pub size : (j : ℕ) → length (ownPart u j) ≡ length (ownPart w j)
   pub before : (j : ℕ) → j < w .sampler .count → take (beginsIn (chan w j)) (ownPart u j) ≡ take (beginsIn (chan w j)) (ownPart w j)
-  pub stored : (j : ℕ) → j < w .sampler .count → storedIn (record { start = beginsIn (chan w j); length = n }) (ownPart u j) ≡ channelOf (w .sampler .count) n j words
+  pub stored : (j : ℕ) → j < w .sampler .count → storedIn (record { start = beginsIn (chan w j); length = n }) (ownPart u j) ≡ channelWords (w .sampler .count) n j words
   pub rest : (j : ℕ) → j < w .sampler .count → drop (beginsIn (chan w j) + n) (ownPart u j) ≡ drop (beginsIn (chan w j) + n) (ownPart w j)
   pub behind : drop (w .sampler .count * w .sampler .capacity) (u .memory) ≡ drop (w .sampler .count * w .sampler .capacity) (w .memory)
 
@@ -249,18 +249,18 @@ module _ (w : World) (f : List ℕ) (r : ReadOutcome) (a : Allows (on w (readWav
       go true e = some (ltb-true 0 n e)
       go false e = none (omega (arith, ltb-false 0 n e))
 
-  stored-is : (j : ℕ) → j < rec .count → storedIn (record { start = beginsIn (chan w j); length = n }) (partOf rec j then) ≡ channelOf (rec .count) n j (wordsIn f v)
+  stored-is : (j : ℕ) → j < rec .count → storedIn (record { start = beginsIn (chan w j); length = n }) (partOf rec j then) ≡ channelWords (rec .count) n j (wordsIn f v)
   unfolding storedIn listed
   stored-is j h = by-samples (λ none. rw none refl) full
     where
-      full : 0 < n → storedIn (record { start = beginsIn (chan w j); length = n }) (partOf rec j then) ≡ channelOf (rec .count) n j (wordsIn f v)
+      full : 0 < n → storedIn (record { start = beginsIn (chan w j); length = n }) (partOf rec j then) ≡ channelWords (rec .count) n j (wordsIn f v)
       full some =
           let fits : fitsMemory (layoutOf v starts) (length (w .memory)) ≡ true
           = beginnings-fit rec (fit .few) (length (w .memory)) (layoutOf v starts) fit counts refl (subst (Roomy rec (fit .few)) (sym samples-are) (roomy some)) in
           part-read rec (fit .few) n (roomy some) j h then
           ∙ ap (λ (k : ℕ). recordingAt starts k j then) (sym samples-are)
           ∙ promised .loaded-recording f v starts (w .memory) judged fits j (omega (arith, counts))
-          ∙ (λ i. channelOf (counts i) (samples-are i) j (wordsIn f v))
+          ∙ (λ i. channelWords (counts i) (samples-are i) j (wordsIn f v))
 
   pub loaded : Loaded w u n (wordsIn f v)
   unfolding partOf
@@ -287,7 +287,7 @@ module _ (w : World) (f : List ℕ) (rate channels : ℕ) (words : List ℕ) (g 
   unfolding code readWaveOf
   read = subst (λ (m : ℕ). Read w (leftBy w (readWave f) r) rate m (g .samples) words (r .answer .read)) (sym (counts w f r a z two (k .wave) (k .judged) (g .samples) (k .same-samples)) ∙ k .same-channels) (record {
     rated = ap (λ (b : ReadAnswer). b .read) (a .0) ∙ rw (z, k .judged, k .same-rate) refl;
-    recordings = λ j h. rw (t .head j h) (t .stored j h ∙ ap (channelOf (w .sampler .count) (g .samples) j) (k .same-words));
+    recordings = λ j h. rw (t .head j h) (t .stored j h ∙ ap (channelWords (w .sampler .count) (g .samples) j) (k .same-words));
     before = t .before;
     rest = t .rest;
     behind = t .behind;
@@ -309,7 +309,7 @@ module _ (w : World) (rate : ℕ) (out : List ℕ) (r : ListOutcome) (a : Allows
       let f = take (bytesIn w) (r .lent) in
       let c = read u f rate (w .sampler .count) (there .words) (there .good) q b y two in (
         ap (λ (x : WaveRead). x .rate) (c .rated),
-        λ j h. c .recordings j h ∙ ap (λ (n : ℕ). channelOf (w .sampler .count) n j (there .words)) (there .samples) ∙ sym (there .recordings j h),
+        λ j h. c .recordings j h ∙ ap (λ (n : ℕ). channelWords (w .sampler .count) n j (there .words)) (there .samples) ∙ sym (there .recordings j h),
       )
 
 pub recordings : (w : World) → Recordings w

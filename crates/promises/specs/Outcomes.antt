@@ -53,7 +53,7 @@ use Rattle.questions.specs.Waveforms.{getWaveformSummaryOf, waveformAfter}
 use Rattle.recordings.specs.declared.ReadAnswer.{ReadAnswer}
 use Rattle.recordings.specs.Waves.{writeWaveOf, waveAfter, readWaveOf, readMemory}
 use Rattle.questions.specs.Lists.{voiceInfoCounted, voiceInfoAfter}
-use Rattle.smf.specs.Cues.{numberOf, countedOf, listOf}
+use Rattle.smf.specs.Cues.{cuesNumber, countedOf, listOf}
 use Rattle.smf.specs.declared.Counted.{Counted as SongCounted}
 use Rattle.songs.specs.Plays.{playOf}
 use Rattle.songs.specs.declared.Playing.{Playing}
@@ -206,7 +206,7 @@ numberIn (on w (frame xs p)) r = r .answer .number
 numberIn (on w (readWave f)) r = r .answer .read .number
 numberIn (on w gather) r = r .answer .number
 numberIn (along w xs p) r = r .answer .ran .number
-numberIn (reads f rate list) r = numberOf (r .answer)
+numberIn (reads f rate list) r = cuesNumber (r .answer)
 numberIn (plays s list next at p) r = 0
 numberIn (on w (asks (getFramesProcessed j))) r = countedNumber r
 numberIn (on w (asks (getDataLen j))) r = countedNumber r

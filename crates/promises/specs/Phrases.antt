@@ -15,7 +15,7 @@ use Rattle.common_types.specs.declared.Params.{Params}
 use Rattle.binary32.specs.Leaves.{bitsOf}
 use Rattle.phrases.specs.declared.Phrase.{Phrase}
 use Rattle.phrases.specs.Phrases.{storedIn}
-use Rattle.phrases.specs.Gathering.{samplesOf, samplesBefore}
+use Rattle.phrases.specs.Gathering.{samplesOfAll, samplesBefore}
 use Rattle.recorder.specs.Recording.{recordedOf, dataAfter}
 use Rattle.voice.specs.declared.Voice.{Voice}
 use Rattle.channel.specs.declared.Channel.{Channel}
@@ -83,8 +83,8 @@ pub record Deleted (w u : World) (j k : ℕ) : Type 0 where
   pub else-kept : OnlyPhrases (chan w j) (chan u j)
 
 -- the phrases of channel j, by their numbers
-abbrev pub phrasesIn : World → ℕ → List Phrase
-phrasesIn w j = phrase w j 0 ∷ phrase w j 1 ∷ phrase w j 2 ∷ phrase w j 3 ∷ phrase w j 4 ∷ phrase w j 5
+abbrev pub allPhrases : World → ℕ → List Phrase
+allPhrases w j = phrase w j 0 ∷ phrase w j 1 ∷ phrase w j 2 ∷ phrase w j 3 ∷ phrase w j 4 ∷ phrase w j 5
     ∷ phrase w j 6 ∷ phrase w j 7 ∷ []
 
 -- "A gather call moves phrases down, in order, each sample keeping its bits, so that all free room is one stretch behind
@@ -94,9 +94,9 @@ pub record Gathered (w u : World) (j : ℕ) : Type 0 where
   pub keeps : (k : ℕ) → k < 8 → samplesIn u j k ≡ samplesIn w j k
   pub lengths : (k : ℕ) → k < 8 → phrase u j k .length ≡ phrase w j k .length
   pub down : (k : ℕ) → k < 8 → phrase w j k .length ≢ 0
-      → phrase u j k .start ≡ samplesBefore (phrase w j k .start) (phrasesIn w j)
+      → phrase u j k .start ≡ samplesBefore (phrase w j k .start) (allPhrases w j)
   pub empty : (k : ℕ) → k < 8 → phrase w j k .length ≡ 0 → phrase u j k ≡ phrase w j k
-  pub free : drop (samplesOf (phrasesIn w j)) (ownPart u j) ≡ drop (samplesOf (phrasesIn w j)) (ownPart w j)
+  pub free : drop (samplesOfAll (allPhrases w j)) (ownPart u j) ≡ drop (samplesOfAll (allPhrases w j)) (ownPart w j)
   pub number : chosen u j ≡ chosen w j
   pub else-kept : OnlyPhrases (chan w j) (chan u j)
 

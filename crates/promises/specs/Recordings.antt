@@ -11,7 +11,7 @@ use Rattle.walks.specs.Each.{Each}
 use Rattle.octets.specs.Octets.{Bytes}
 use Rattle.wave.specs.Files.{fileOf}
 use Rattle.wave.specs.Grammar.{IsWave}
-use Rattle.wave.specs.Memory.{channelOf}
+use Rattle.wave.specs.Memory.{channelWords}
 use Rattle.recorder.specs.declared.State.the-variants.{Triggered, Idle}
 use Rattle.channel.specs.declared.Head.{Head}
 use Rattle.channel.specs.declared.Channel.{Channel}
@@ -31,7 +31,7 @@ recording w j = recordingOf (chan w j) (ownPart w j)
 
 -- the words of a file, frame by frame, are the recordings of so many channels
 abbrev pub Filed : World → ℕ → ℕ → List ℕ → Type 0
-Filed w channels samples words = (j : ℕ) → j < channels → recording w j ≡ channelOf channels samples j words
+Filed w channels samples words = (j : ℕ) → j < channels → recording w j ≡ channelWords channels samples j words
 
 -- each word of a memory has 32 bits, as in every memory of a program
 abbrev pub Words : List ℕ → Type 0

@@ -7,5 +7,6 @@ pub mod Room
 pub mod Cuts
 pub mod Filling
 pub mod Stored
+pub mod Seats
 pub mod Summaries
 pub mod Examples

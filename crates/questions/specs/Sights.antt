@@ -1,17 +1,21 @@
 -- What the questions of a recording see of a record, and what they answer of it: `proofs/Sights` proves that it is what
 -- they answer of the record. Definitions only. Assumes nothing.
-use Prim.Native.Nat.{ℕ}
-use mathlib.Core.Bool.{not, cond}
+use Prim.Native.Nat.{ℕ, _*_}
+use mathlib.Core.Bool.{Bool, true, not, cond, _&&_}
 use mathlib.Core.List.{List}
-use lib.Dec.{eqb, ltb}
+use lib.Dec.{eqb, ltb, leb}
 use lib.ListN.{length}
+use lib.Ieee.{Float}
 use Rattle.recorder.specs.Recording.{lastRecordedOffsetOf}
 use Rattle.recorder.specs.Recording.{isRecordingOf as recordsOf}
 use Rattle.recorder.specs.ErrorText.{errorText}
+use Rattle.phrases.specs.Phrases.{endsBy, storedIn}
 use Rattle.channel.specs.declared.Head.{Head}
+use Rattle.channel.specs.Heads.{recordingIn as ownOf}
 use Rattle.sampler.specs.declared.Sampler.{Sampler}
-use Rattle.sampler.specs.Refusals.{channelAt, row, goodSampler}
+use Rattle.sampler.specs.Refusals.{channelAt, row, goodSizes, goodSampler}
 use Rattle.questions.specs.Questions.{answered, listNumberBy, listCountedBy, listAfterBy}
+use Rattle.questions.specs.Waveforms.{columnsOf, waveformRows, summaryBy, valuesAfterBy}
 use Rattle.questions.specs.declared.Seen.{Seen}
 use Rattle.questions.specs.declared.Counted.{Counted}
 use Rattle.questions.specs.declared.Counted.the-variants as counted
@@ -19,6 +23,7 @@ use Rattle.questions.specs.declared.Told.{Told}
 use Rattle.questions.specs.declared.Told.the-variants as told
 use Rattle.questions.specs.declared.OffsetAnswer.{OffsetAnswer}
 use Rattle.questions.specs.declared.OffsetAnswer.the-variants as offset
+use Rattle.questions.specs.declared.WaveformSummary.{WaveformSummary}
 
 abbrev pub seenOf : Sampler → Seen
 seenOf s = record {
@@ -57,3 +62,33 @@ errorIn t j room = listCountedBy (errorText (headIn t j .recorder)) (errorNumber
 
 abbrev pub errorAfter : Seen → ℕ → List ℕ → List ℕ
 errorAfter t j text = listAfterBy (errorText (headIn t j .recorder)) text (errorNumber t j (length text))
+
+-- ---- questions of the recordings' samples, which stand in the lent memory
+
+-- a recording stands in its channel's part
+abbrev pub inPart : ℕ → Head → Bool
+inPart capacity h = endsBy capacity (ownOf h)
+
+-- what is seen may be of a good record: no recording in use leaves its part. Of a record it is `goodSampler`
+unfoldable pub soundIn : Seen → Bool
+soundIn t =
+    (t .good && goodSizes (t .count) (t .capacity))
+    && (inPart (t .capacity) (t .first) && cond (eqb (t .count) 2) (inPart (t .capacity) (t .second)) true)
+
+-- and memory of that size is long enough: `goodWith`
+unfoldable pub goodIn : Seen → ℕ → Bool
+goodIn t size = soundIn t && leb (t .count * t .capacity) size
+
+abbrev pub waveformNumberIn : Seen → ℕ → ℕ → ℕ → ℕ
+waveformNumberIn t columns room size = waveformRows (goodIn t size) columns room
+
+-- channel 0's part is the front of the memory
+abbrev pub valuesIn : Seen → ℕ → List ℕ → List Float
+valuesIn t columns m = columnsOf columns (storedIn (ownOf (t .first)) m)
+
+abbrev pub waveformIn : Seen → ℕ → ℕ → List ℕ → WaveformSummary
+waveformIn t columns room m = summaryBy (valuesIn t columns m) (waveformNumberIn t columns room (length m))
+
+abbrev pub waveformLeft : Seen → ℕ → List Float → List ℕ → List Float
+waveformLeft t columns list m =
+    valuesAfterBy (valuesIn t columns m) list (waveformNumberIn t columns (length list) (length m))

@@ -2,7 +2,7 @@
 -- column the root of its samples' mean square, and the smallest and the largest of these. All of it is binary32
 -- arithmetic, operation by operation. Definitions only. Assumes nothing.
 use Prim.Native.Nat.{ℕ, zero, suc, _+_, _-_}
-use mathlib.Core.Bool.{not, cond}
+use mathlib.Core.Bool.{Bool, not, cond}
 use mathlib.Core.List.{List, [], _∷_, map}
 use lib.Dec.{eqb, ltb}
 use lib.ListN.{length, take, drop}
@@ -70,21 +70,28 @@ abbrev pub mostColumns : ℕ
 mostColumns = 4096
 
 -- rows 9, 11 and 8, with room for so many values
+abbrev pub waveformRows : Bool → ℕ → ℕ → ℕ
+waveformRows good columns room = row (not good) 9 (row (ltb mostColumns columns) 11 (row (ltb room columns) 8 0))
+
+-- the answer with these values, and the lent list afterwards
+abbrev pub summaryBy : List Float → ℕ → WaveformSummary
+summaryBy values number =
+    answered (summaryWith (smallestOf values) (largestOf values) 0) (summaryWith zero32 zero32) number
+
+abbrev pub valuesAfterBy : List Float → List Float → ℕ → List Float
+valuesAfterBy values list number = cond (eqb number 0) (inFront values list) list
+
 unfoldable pub waveformNumber : Sampler → ℕ → ℕ → ℕ → ℕ
-waveformNumber s columns room size =
-    row (not (goodWith s size)) 9 (row (ltb mostColumns columns) 11 (row (ltb room columns) 8 0))
+waveformNumber s columns room size = waveformRows (goodWith s size) columns room
 
 -- the values of channel 0's recording
 abbrev pub waveformOf : Sampler → ℕ → List ℕ → List Float
 waveformOf s columns m = columnsOf columns (recordingOf (channelAt s 0) (partOf s 0 m))
 
 unfoldable pub getWaveformSummaryOf : Sampler → ℕ → ℕ → List ℕ → WaveformSummary
-getWaveformSummaryOf s columns room m =
-    let values = waveformOf s columns m in
-    answered (summaryWith (smallestOf values) (largestOf values) 0) (summaryWith zero32 zero32)
-    (waveformNumber s columns room (length m))
+getWaveformSummaryOf s columns room m = summaryBy (waveformOf s columns m) (waveformNumber s columns room (length m))
 
 -- the lent list afterwards
 unfoldable pub waveformAfter : Sampler → ℕ → List Float → List ℕ → List Float
 waveformAfter s columns list m =
-    cond (eqb (waveformNumber s columns (length list) (length m)) 0) (inFront (waveformOf s columns m) list) list
+    valuesAfterBy (waveformOf s columns m) list (waveformNumber s columns (length list) (length m))

@@ -21,6 +21,12 @@ ghost use Rattle.questions.specs.Sights.{
   offsetIn,
   errorIn,
   errorAfter,
+  inPart,
+  soundIn,
+  goodIn,
+  waveformNumberIn,
+  waveformIn,
+  waveformLeft,
 };
 ghost use Rattle.questions.specs.Questions.{
   getFramesProcessedOf,
@@ -45,7 +51,6 @@ ghost use Rattle.questions.specs.Waveforms.{
   columnsOf,
   largestOf,
   summaryWith,
-  waveformNumber,
   getWaveformSummaryOf,
   waveformAfter,
 };
@@ -112,7 +117,7 @@ pub struct Seen {
     pub second: Head,
 }
 
-fn look(s: Sampler) -> Seen
+pub fn look(s: Sampler) -> Seen
     ensures { λ r. ⌜ r ≡ seenOf s ⌝ }
 {
     let first = channel_at(s, 0).head;
@@ -325,7 +330,7 @@ pub fn iter_active_notes(s: Sampler, channel: usize, notes: &mut [u64]) -> Count
     Counted::Done(count)
 }
 
-fn voice_info(v: Voice, length: f32, data_length: f32) -> VoiceInfo
+pub fn voice_info(v: Voice, length: f32, data_length: f32) -> VoiceInfo
     ensures { λ r. ⌜ r ≡ voiceInfoOf length «data_length» v ⌝ }
 {
     VoiceInfo {
@@ -446,16 +451,72 @@ fn largest(values: &[f32]) -> f32
     most
 }
 
-fn waveform_number(s: Sampler, columns: usize, room: usize, size: usize) -> u8
-    ensures { λ r. ⌜ r ≡ waveformNumber s columns room size ⌝ }
+// Whether a recording stands in its channel's part.
+fn in_part(head: Head, capacity: usize) -> bool
+    ensures { λ r. ⌜ r ≡ inPart capacity head ⌝ }
+{
+    let recording = head.recording();
+    recording.ends_by(capacity)
+}
+
+// Whether what is seen may be of a good record: no recording in use leaves its part. One that isn't in use may stand
+// anywhere.
+fn sound(t: Seen) -> bool
+    ensures { λ r. ⌜ r ≡ soundIn t ⌝ }
+{
+    if t.good & sampler::good_sizes(t.count, t.capacity) {
+        if t.count == 2 {
+            return in_part(t.first, t.capacity) & in_part(t.second, t.capacity);
+        }
+        return in_part(t.first, t.capacity);
+    }
+    false
+}
+
+// And memory of that size is long enough for it.
+pub fn good_in(t: Seen, size: usize) -> bool
+    ensures { λ r. ⌜ r ≡ goodIn t size ⌝ }
+{
+    if sound(t) {
+        sampler::enough(t.count, t.capacity, size)
+    } else {
+        false
+    }
+}
+
+fn waveform_number(t: Seen, columns: usize, room: usize, size: usize) -> u8
+    ensures { λ r. ⌜ r ≡ waveformNumberIn t columns room size ⌝ }
 {
     let short = first_of(room < columns, 8, 0);
     let many = first_of(MOST_COLUMNS < columns, 11, short);
-    first_of(!s.good_with(size), 9, many)
+    first_of(!good_in(t, size), 9, many)
 }
 
 // Writes a value for each column of channel 0's recording to the front of the list. None is below 0, so the smallest is
 // where the extremes start.
+pub fn waveform_in(t: Seen, columns: usize, list: &mut [f32], memory: &[u32]) -> WaveformSummary
+    ensures { λ r. ⌜ r ≡ waveformIn t columns (length (now (list .entry))) (now (memory .entry)) ⌝ }
+    ensures { λ r. ⌜ now (list .exit) ≡ waveformLeft t columns (now (list .entry)) (now (memory .entry)) ⌝ }
+{
+    let number = waveform_number(t, columns, list.len(), memory.len());
+    if number != 0 {
+        return WaveformSummary {
+            smallest: 0.0,
+            largest: 0.0,
+            number,
+        };
+    }
+    let head = t.first;
+    let start = head.start;
+    let end = start + head.data_len;
+    write_columns(&memory[start..end], columns, list);
+    WaveformSummary {
+        smallest: 0.0,
+        largest: largest(&list[..columns]),
+        number: 0,
+    }
+}
+
 pub fn get_waveform_summary(
     s: Sampler,
     columns: usize,
@@ -465,21 +526,5 @@ pub fn get_waveform_summary(
     ensures { λ r. ⌜ r ≡ getWaveformSummaryOf s columns (length (now (list .entry))) (now (memory .entry)) ⌝ }
     ensures { λ r. ⌜ now (list .exit) ≡ waveformAfter s columns (now (list .entry)) (now (memory .entry)) ⌝ }
 {
-    let number = waveform_number(s, columns, list.len(), memory.len());
-    if number != 0 {
-        return WaveformSummary {
-            smallest: 0.0,
-            largest: 0.0,
-            number,
-        };
-    }
-    let head = channel_at(s, 0).head;
-    let start = head.start;
-    let end = start + head.data_len;
-    write_columns(&memory[start..end], columns, list);
-    WaveformSummary {
-        smallest: 0.0,
-        largest: largest(&list[..columns]),
-        number: 0,
-    }
+    waveform_in(look(s), columns, list, memory)
 }

@@ -2,8 +2,9 @@
 // 32-bit pattern. The memory's length is the capacity; data_len is the length of the recording in it. `with_sample`
 // takes every write place, also one past the data, and is for recorders that are known to be good.
 use decimal::Line;
+use walks::larger;
+use walks::smaller;
 ghost use mathlib.Core.Path.{_≡_};
-ghost use Prim.Native.Nat.{max, min};
 ghost use lib.ListN.{length};
 ghost use Rattle.decimal.specs.Lines.{lineOf};
 ghost use Rattle.recorder.specs.ErrorText.{errorText, printErrorInfoOf, textAfter};
@@ -64,18 +65,6 @@ fn raised_count(count: u32) -> u32
     ensures { λ r. ⌜ r ≡ raised count ⌝ }
 {
     if count < 4294967295 { count + 1 } else { count }
-}
-
-fn larger(a: usize, b: usize) -> usize
-    ensures { λ r. ⌜ r ≡ max a b ⌝ }
-{
-    if a < b { b } else { a }
-}
-
-fn smaller(a: usize, b: usize) -> usize
-    ensures { λ r. ⌜ r ≡ min a b ⌝ }
-{
-    if a < b { a } else { b }
 }
 
 impl Recorder {

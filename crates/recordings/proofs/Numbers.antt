@@ -3,7 +3,7 @@ use mathlib.Core.Path.{_≡_, refl, sym, ap, _∙_, subst}
 use mathlib.Core.Bool.{Bool, true, false, not, cond}
 use mathlib.Core.List.{List}
 use Prim.Native.Nat.{ℕ, _+_, _*_, _^_, _≤_, _<_}
-use native.Mathlib.Nat.{le-trans, le-of-eq, mul-le-mul-right}
+use native.Mathlib.Nat.{mul-le-mul-right}
 use native.Mathlib.Omega.{arith}
 use borrow.Author.Tests.{ne-eqb, eqb-true, le-leb, lt-ltb, ltb-false}
 use lib.Dec.{ltb, eqb}
@@ -14,7 +14,7 @@ use Rattle.wave.specs.declared.Layout.{Layout}
 use Rattle.wave.specs.declared.Judged.{Judged}
 use Rattle.wave.specs.declared.Wave.{Wave}
 use Rattle.wave.specs.Reader.{judgedOf}
-use Rattle.wave.specs.Memory.{fitsMemory, fitsFile, writes, bytesOf, writtenOf, outputOf, loadedOf}
+use Rattle.wave.specs.Memory.{fitsMemory, fitsFile, bytesOf, loadedOf}
 use Rattle.wave.proofs.Calls.{length-loaded}
 use Rattle.channel.specs.declared.Change.the-variants.{Head}
 use Rattle.channel.specs.declared.HeadChange.the-variants.{Load}
@@ -32,32 +32,29 @@ use Rattle.sampler.proofs.Against.{against-samples, short-samples, none-at}
 use Rattle.questions.specs.declared.Counted.{Counted}
 use Rattle.questions.specs.declared.Counted.the-variants as counted
 use Rattle.questions.specs.Questions.{countedNumber, answered}
-use Rattle.recordings.specs.Waves.{samplesOf, lengthsDiffer, layoutIn, writeNumber, writeWaveOf, waveAfter, badFile, heldIn, readNumber, readWaveOf, beginningsIn, readMemory}
+use Rattle.recordings.specs.Waves.{samplesOf, lengthsDiffer, layoutIn, writeNumber, writeWaveOf, badFile, heldIn, readNumber, readWaveOf, beginningsIn, readMemory}
 use Rattle.recordings.specs.declared.ReadAnswer.{ReadAnswer}
 use Rattle.recordings.proofs.Parts.{starts-fit}
 
 -- ---- writing
+
+-- a channel's words, of one channel or two
+pub words-few : (count capacity samples : ℕ) → count ≤ 2 → capacity ≤ 2 ^ 22 → samples ≤ capacity → count * samples ≤ 2 ^ 23
+words-few count capacity samples few small short = let a : count * samples ≤ 2 * samples = mul-le-mul-right samples few in omega (arith, a, short, small)
+
+pub room-enough : (l : Layout) → l .channels * l .samples ≤ 2 ^ 23 → (room : ℕ) → bytesOf l ≤ room → fitsFile l room ≡ true
+unfolding fitsFile
+room-enough l few room h = rw (lt-ltb (bytesOf l) (2 ^ 32 + 8) (omega (arith, few)), le-leb (bytesOf l) room h) refl
+
 module _ (s : Sampler) (size : ℕ) (good : goodWith s size ≡ true) where
   g : Fitting s size
   g = fitting s size good
-
-  pub short : samplesOf s ≤ s .capacity
-  short = short-data s 0 (g .good) (g .some)
-
-  -- a channel's words, of one channel or two
-  pub words-few : (l : Layout) → l ≡ layoutIn s → l .channels * l .samples ≤ 2 ^ 23
-  words-few l e =
-      let a : s .count * samplesOf s ≤ 2 * samplesOf s = mul-le-mul-right (samplesOf s) (g .few) in
-      le-trans (le-of-eq (ap (λ (k : Layout). k .channels * k .samples) e)) (omega (arith, a, short, g .small))
 
   pub layout-fits : length (s .channels) ≡ 2 → lengthsDiffer s ≡ false → fitsMemory (layoutIn s) size ≡ true
   layout-fits = starts-fit s size g
 
   pub file-fits : (room : ℕ) → bytesOf (layoutIn s) ≤ room → fitsFile (layoutIn s) room ≡ true
-  unfolding fitsFile
-  file-fits room h =
-      let few = words-few (layoutIn s) refl in
-      rw (lt-ltb (bytesOf (layoutIn s)) (2 ^ 32 + 8) (omega (arith, few)), le-leb (bytesOf (layoutIn s)) room h) refl
+  file-fits = room-enough (layoutIn s) (words-few (s .count) (s .capacity) (samplesOf s) (g .few) (g .small) (short-data s 0 (g .good) (g .some)))
 
 -- what a number of 0 says of a write
 pub record Writes (s : Sampler) (room size : ℕ) : Type 0 where
@@ -79,25 +76,6 @@ write-says s room size z =
       alike = c .0;
       fits = ltb-false room (bytesOf (layoutIn s)) (d .0);
     }
-
-module _ (s : Sampler) (rate : ℕ) (m out : List ℕ) where
-  -- r is what the call answers, and `after` the list afterwards
-  abbrev pub Answers : Counted → List ℕ → Type 0
-  Answers r after = (r ≡ writeWaveOf s (length out) (length m)) × (after ≡ waveAfter s rate m out)
-
-  module _ (number : ℕ) (e : number ≡ writeNumber s (length out) (length m)) where
-    pub write-refused : (number ≡ 0 → ⊥) → Answers (counted.Refused number) out
-    unfolding writeWaveOf waveAfter answered
-    write-refused h = (simp (← e, ne-eqb number 0 h), simp (← e, ne-eqb number 0 h))
-
-    pub write-done : number ≡ 0 → length (s .channels) ≡ 2 → (l : Layout) → l ≡ layoutIn s → (bytes : ℕ) → bytes ≡ writtenOf l (length m) (length out) → (after : List ℕ) → after ≡ outputOf rate l m out
-        → Answers (counted.Done bytes) after
-    unfolding writeWaveOf waveAfter answered writtenOf outputOf writes
-    write-done z two l k bytes b after o =
-        let w = write-says s (length out) (length m) (sym e ∙ z) in
-        let x = layout-fits s (length m) (w .good) two (w .alike) in
-        let y = file-fits s (length m) (w .good) (length out) (w .fits) in
-        (rw (← e, z, b, k, x, y) refl, rw (← e, z) (o ∙ rw (k, x, y) refl))
 
 -- the number of its answer
 pub write-number : (s : Sampler) (room size : ℕ) → countedNumber (writeWaveOf s room size) ≡ writeNumber s room size

@@ -38,20 +38,20 @@ second-not p [] d long none = absurd (omega arith)
 second-not p (a ∷ []) d long none = absurd (omega arith)
 second-not p (a ∷ b ∷ l) d long none = neither (p b) false (neither (p a) (p b || false) none .1) .0
 
-module _ (s : Sampler) where
-  -- recordings within their parts fit the memory
-  parts-fit : (size : ℕ) (l : Layout) → Fitting s size → l .channels ≡ s .count → l .starts .first + l .samples ≤ s .capacity
-      → (s .count ≡ 2 → (s .capacity ≤ l .starts .second) × (l .starts .second + l .samples ≤ s .capacity + s .capacity)) → fitsMemory l size ≡ true
-  parts-fit size l g c first second =
-      let parts : (k : ℕ) → k ≤ s .count → k * s .capacity ≤ size = λ k h. le-trans (mul-le-mul-right (s .capacity) h) (g .fits) in
-      fits-made l size (record {
-        some = omega (arith, c, g .some);
-        few = omega (arith, c, g .few);
-        first-fits = omega (arith, first, parts 1 (g .some));
-        apart = λ two. omega (arith, first, second (sym c ∙ two) .0);
-        second-fits = λ two. omega (arith, second (sym c ∙ two) .1, parts 2 (omega (arith, c)));
-      })
+-- recordings within their parts fit the memory
+pub parts-fit : (count capacity size : ℕ) (l : Layout) → 1 ≤ count → count ≤ 2 → count * capacity ≤ size → l .channels ≡ count → l .starts .first + l .samples ≤ capacity
+    → (count ≡ 2 → (capacity ≤ l .starts .second) × (l .starts .second + l .samples ≤ capacity + capacity)) → fitsMemory l size ≡ true
+parts-fit count capacity size l some few fits c first second =
+    let parts : (k : ℕ) → k ≤ count → k * capacity ≤ size = λ k h. le-trans (mul-le-mul-right capacity h) fits in
+    fits-made l size (record {
+      some = omega (arith, c, some);
+      few = omega (arith, c, few);
+      first-fits = omega (arith, first, parts 1 some);
+      apart = λ two. omega (arith, first, second (sym c ∙ two) .0);
+      second-fits = λ two. omega (arith, second (sym c ∙ two) .1, parts 2 (omega (arith, c)));
+    })
 
+module _ (s : Sampler) where
   -- ---- a file's, from where each channel's recording begins
   module _ (few : s .count ≤ 2) where
     begin-is : (j : ℕ) → j < s .count → startAt (beginningsIn s) j ≡ j * s .capacity + beginsIn (channelAt s j)
@@ -67,7 +67,7 @@ module _ (s : Sampler) where
 
     pub beginnings-fit : (size : ℕ) (l : Layout) → Fitting s size → l .channels ≡ s .count → l .starts ≡ beginningsIn s → Roomy (l .samples) → fitsMemory l size ≡ true
     beginnings-fit size l g c e room =
-        parts-fit size l g c (omega (arith, ap (λ (x : Starts). x .first) e, room 0 (g .some)))
+        parts-fit (s .count) (s .capacity) size l (g .some) (g .few) (g .fits) c (omega (arith, ap (λ (x : Starts). x .first) e, room 0 (g .some)))
         (λ two. let there : l .starts .second ≡ s .capacity + beginsIn (channelAt s 1) = ap (λ (x : Starts). x .second) e ∙ rw two refl in
         (omega (arith, there), omega (arith, there, room 1 (omega (arith, two)))))
 
@@ -171,12 +171,6 @@ module _ (s : Sampler) where
     small good = fitting s (s .count * s .capacity) (rw (good, le-leb _ _ (le-refl (s .count * s .capacity))) refl) .small
 
     -- whatever stands past the last channel
-    pub second-there : length (s .channels) ≡ 2 → (d : Channel) → s .capacity + getD (s .channels) 1 d .head .start ≡ startsIn s .second
-    second-there long d = rw two (ap (λ (c : Channel). s .capacity + c .head .start) (getD-any (s .channels) 1 d _ (omega (arith, long))))
-
-    pub second-small : goodSampler s ≡ true → startsIn s .second ≤ 2 ^ 23
-    second-small good = rw two (omega (arith, small good, recording-within s 1 good (omega (arith, two))))
-
     pub second-begins-there : length (s .channels) ≡ 2 → (d : Channel) → s .capacity + beginsIn (getD (s .channels) 1 d) ≡ beginningsIn s .second
     second-begins-there long d = rw two (ap (λ (c : Channel). s .capacity + beginsIn c) (getD-any (s .channels) 1 d _ (omega (arith, long))))
 
@@ -195,7 +189,7 @@ module _ (s : Sampler) where
 
   pub starts-fit : (size : ℕ) → Fitting s size → length (s .channels) ≡ 2 → lengthsDiffer s ≡ false → fitsMemory (layoutIn s) size ≡ true
   starts-fit size g long alike =
-      parts-fit size (layoutIn s) g refl (recording-within s 0 (g .good) (g .some))
+      parts-fit (s .count) (s .capacity) size (layoutIn s) (g .some) (g .few) (g .fits) refl (recording-within s 0 (g .good) (g .some))
       (λ two. let there : startsIn s .second ≡ s .capacity + channelAt s 1 .head .start = rw two refl in
       let second : 1 < s .count = omega (arith, two) in
       let within = recording-within s 1 (g .good) second in

@@ -50,19 +50,27 @@ abbrev pub layoutIn : Sampler → Layout
 layoutIn s = record { channels = s .count; samples = samplesOf s; starts = startsIn s }
 
 -- "8 for a short output buffer"
+abbrev pub writeRows : Bool → Bool → Bool → Layout → ℕ → ℕ
+writeRows good recording differ l room =
+    row (not good) 9 (row recording 15 (row differ 16 (row (ltb room (bytesOf l)) 8 0)))
+
 unfoldable pub writeNumber : Sampler → ℕ → ℕ → ℕ
-writeNumber s room size = row (not (goodWith s size)) 9
-    (row (anyRecording s) 15 (row (lengthsDiffer s) 16 (row (ltb room (bytesOf (layoutIn s))) 8 0)))
+writeNumber s room size = writeRows (goodWith s size) (anyRecording s) (lengthsDiffer s) (layoutIn s) room
 
 -- how many bytes are written
+abbrev pub writtenBy : Layout → ℕ → Counted
+writtenBy l number = answered (counted.Done (bytesOf l)) counted.Refused number
+
 unfoldable pub writeWaveOf : Sampler → ℕ → ℕ → Counted
-writeWaveOf s room size = answered (counted.Done (bytesOf (layoutIn s))) counted.Refused (writeNumber s room size)
+writeWaveOf s room size = writtenBy (layoutIn s) (writeNumber s room size)
 
 -- the file in the front of the list, whose rest is kept
+abbrev pub waveAfterBy : ℕ → Layout → List ℕ → List ℕ → ℕ → List ℕ
+waveAfterBy rate l m out number =
+    cond (eqb number 0) (fileOf rate (l .channels) (l .samples) (framesOf l m) ++ drop (bytesOf l) out) out
+
 unfoldable pub waveAfter : Sampler → ℕ → List ℕ → List ℕ → List ℕ
-waveAfter s rate m out =
-    cond (eqb (writeNumber s (length out) (length m)) 0)
-    (fileOf rate (s .count) (samplesOf s) (framesOf (layoutIn s) m) ++ drop (bytesOf (layoutIn s)) out) out
+waveAfter s rate m out = waveAfterBy rate (layoutIn s) m out (writeNumber s (length out) (length m))
 
 -- ---- reading: "15, 17, 16, 18", behind row 9
 
@@ -78,12 +86,16 @@ heldIn Refused = record { rate = 0; channels = 0; samples = 0; first = 0 }
 
 -- "16 for .. another channel count"; request 11/12: "18 means more than it may hold without moving another", on one of the
 -- channels in use
+abbrev pub readRows : Bool → Bool → Judged → ℕ → Bool → ℕ
+readRows good recording j count short =
+    row (not good) 9
+    (row recording 15
+    (row (badFile j) 17 (row (not (eqb (heldIn j .channels) count)) 16 (row short 18 0))))
+
 unfoldable pub readNumber : Sampler → Judged → ℕ → ℕ
 readNumber s j size =
     let a = againstAny (Samples (heldIn j .samples)) s in
-    row (not (goodWith s size)) 9
-    (row (a .blocked) 15
-    (row (badFile j) 17 (row (not (eqb (heldIn j .channels) (s .count))) 16 (row (a .short) 18 0))))
+    readRows (goodWith s size) (a .blocked) j (s .count) (a .short)
 
 -- the record: each channel's recording is as long as the file's. The answer has the rate, 0 where it is refused
 unfoldable pub readWaveOf : Sampler → List ℕ → ℕ → ReadAnswer

@@ -1,7 +1,7 @@
 // The sampler by value: every public call, with the refusals of document 01's table. Each takes every value of its
 // arguments, and equals a definition in specs/. On a refusal the record and what is lent with it hold what they held.
 ghost use mathlib.Core.Path.{_≡_};
-ghost use Prim.Native.Nat.{_+_, _*_, _/_, _%_, _≤_, _<_, min, max};
+ghost use Prim.Native.Nat.{_+_, _*_, _/_, _%_, _≤_, _<_, min};
 ghost use mathlib.Core.Bool.{_&&_};
 ghost use lib.Dec.{leb};
 ghost use lib.Ieee.{le};
@@ -86,6 +86,8 @@ use common_types::InitParams;
 pub use common_types::LoopMode;
 use common_types::Note;
 use common_types::Params;
+use walks::larger;
+use walks::smaller;
 
 // The most samples a channel holds.
 const MOST_SAMPLES: usize = 0x40_0000;
@@ -314,7 +316,7 @@ impl Sampler {
         let mut time = 0;
         let mut j = 0;
         while j < n {
-            time = later(time, self.channels[j].head.now);
+            time = larger(time, self.channels[j].head.now);
             j += 1;
         }
         time
@@ -687,18 +689,6 @@ impl Sampler {
         let sampler = self.frames(ran.frames, run, params, memory);
         RunAnswer { sampler, ran }
     }
-}
-
-fn later(a: usize, b: usize) -> usize
-    ensures { λ r. ⌜ r ≡ max a b ⌝ }
-{
-    if a < b { b } else { a }
-}
-
-pub fn smaller(a: usize, b: usize) -> usize
-    ensures { λ r. ⌜ r ≡ min a b ⌝ }
-{
-    if a < b { a } else { b }
 }
 
 // A row of the table: its number where its test holds, else what the rows after it give.

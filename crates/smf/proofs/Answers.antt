@@ -8,7 +8,7 @@ use lib.ListN.{length, drop}
 use lib.Seq.{sets}
 use borrow.Author.Tests.{le-leb, lt-leb}
 use Rattle.walks.proofs.Lists.Runs.{run-front}
-use Rattle.smf.specs.Cues.{Entry, Song, songOf, closedOf, countOf, numbersOf, Written, goodRate, judgedOf, countedOf, listAfter, listOf}
+use Rattle.smf.specs.Cues.{Entry, Song, songOf, countClosed, countOf, numbersOf, WrittenList, goodRate, roomJudged, countedOf, cuesAfter, listOf}
 use Rattle.smf.specs.declared.faults.Fault.{Fault}
 use Rattle.smf.specs.declared.chunks.Verdict.{Verdict}
 use Rattle.smf.specs.declared.chunks.Verdict.the-variants.{Good, Broken}
@@ -18,17 +18,17 @@ use Rattle.smf.specs.declared.Counted.{Counted}
 use Rattle.smf.specs.declared.Counted.the-variants.{Done, BadRate, Faulty, Short}
 use Rattle.smf.proofs.Turns.{numbers-length}
 
-closed-done : (v : Verdict) (m n : ℕ) → closedOf v m ≡ count.Done n → m ≡ n
-unfolding closedOf
+closed-done : (v : Verdict) (m n : ℕ) → countClosed v m ≡ count.Done n → m ≡ n
+unfolding countClosed
 closed-done Good m n e = cc
 closed-done (Broken why) m n e = cc
 
 module _ (f : List ℕ) (rate : ℕ) (list : List ℕ) where
   -- an answer that leaves the list
-  leaves : (r : Counted) → countedOf f rate (length list) ≡ r → listAfter (songOf rate f .entries) list r ≡ list
+  leaves : (r : Counted) → countedOf f rate (length list) ≡ r → cuesAfter (songOf rate f .entries) list r ≡ list
       → (r ≡ countedOf f rate (length list)) × (list ≡ listOf f rate list)
   unfolding listOf
-  leaves r e h = (sym e, sym (ap (listAfter (songOf rate f .entries) list) e ∙ h))
+  leaves r e h = (sym e, sym (ap (cuesAfter (songOf rate f .entries) list) e ∙ h))
 
   pub low-rate : rate < 1 → (BadRate ≡ countedOf f rate (length list)) × (list ≡ listOf f rate list)
   unfolding countedOf
@@ -39,9 +39,9 @@ module _ (f : List ℕ) (rate : ℕ) (list : List ℕ) where
   high-rate k h = leaves BadRate (simp (le-leb _ _ k, lt-leb _ _ h)) refl
 
   module _ (low : 1 ≤ rate) (high : rate ≤ 192000) (c : Count) (is : countOf (songOf rate f) ≡ c) where
-    judged : countedOf f rate (length list) ≡ judgedOf (length list) c
+    judged : countedOf f rate (length list) ≡ roomJudged (length list) c
     unfolding countedOf
-    judged = simp (le-leb _ _ low, le-leb _ _ high) (ap (judgedOf (length list)) is)
+    judged = simp (le-leb _ _ low, le-leb _ _ high) (ap (roomJudged (length list)) is)
 
     pub faulty : (why : Fault) → c ≡ count.Broken why → (Faulty why ≡ countedOf f rate (length list)) × (list ≡ listOf f rate list)
     faulty why e = leaves (Faulty why) (judged ∙ rw e) refl
@@ -49,7 +49,7 @@ module _ (f : List ℕ) (rate : ℕ) (list : List ℕ) where
     pub too-short : (n : ℕ) → c ≡ count.Done n → length list < 2 * n → (Short n ≡ countedOf f rate (length list)) × (list ≡ listOf f rate list)
     too-short n e h = leaves (Short n) (judged ∙ rw (e, lt-leb (2 * n) (length list) h)) refl
 
-    pub done : (n : ℕ) → c ≡ count.Done n → 2 * n ≤ length list → (after : List ℕ) → Written list after (songOf rate f .entries)
+    pub done : (n : ℕ) → c ≡ count.Done n → 2 * n ≤ length list → (after : List ℕ) → WrittenList list after (songOf rate f .entries)
         → (Done n ≡ countedOf f rate (length list)) × (after ≡ listOf f rate list)
     unfolding listOf
     done n e h after w =
@@ -61,5 +61,5 @@ module _ (f : List ℕ) (rate : ℕ) (list : List ℕ) where
           w (omega arith)
               ∙ run-front list (numbersOf (songOf rate f .entries)) (omega arith)
               ∙ ap (λ (k : ℕ). numbersOf (songOf rate f .entries) ++ drop k list) size
-              ∙ sym (ap (listAfter (songOf rate f .entries) list) answer),
+              ∙ sym (ap (cuesAfter (songOf rate f .entries) list) answer),
         )

@@ -10,10 +10,10 @@ use Rattle.octets.specs.Octets.{numberAfter, numberOf as number}
 use Rattle.octets.proofs.Hex.{digitsOf, pairs, fromHex}
 use Rattle.smf.specs.Faults.{faultAt, refusalOf}
 use Rattle.smf.specs.Fields.{twoAt, threeAt, fourAt, quantityFrom}
-use Rattle.smf.specs.Events.{dataAt, oneByte, messageOf, channelAt, sysexAt, tempoOf, metaOf, metaAt, statusOf, eventAt, stepAt}
-use Rattle.smf.specs.Files.{fieldsOf, headerOf, chunkAt, trackFrom, trackAt, restOf, behindOf, eventsOn, eventsFrom, trackOf, eventsOf}
-use Rattle.smf.specs.Times.{frameOf}
-use Rattle.smf.specs.Cues.{entriesOf, tempoAfter, lateOf, songFrom, songOf, closedOf, numbersOf, countedOf, listOf, numberOf, cueOf}
+use Rattle.smf.specs.Events.{dataAt, oneByte, messageOf, channelEvent, sysexAt, tempoOf, metaOf, metaAt, statusOf, eventAt, stepAt}
+use Rattle.smf.specs.Files.{fieldsOf, headerOf, chunkAt, trackFrom, trackAt, restAt, behindTrack, eventsOn, eventsFrom, trackOf, eventsOf}
+use Rattle.smf.specs.Times.{frameAt}
+use Rattle.smf.specs.Cues.{eventEntries, tempoAfter, tooLate, songFrom, songOf, countClosed, numbersOf, countedOf, listOf, cuesNumber, cueOf}
 use Rattle.smf.specs.declared.faults.Reason.{Reason}
 use Rattle.smf.specs.declared.faults.Reason.the-variants.{Missing, NoHeader, ShortHeader, OtherFormat, OtherTrackCount, SmpteDivision, NoDivision, SecondHeader, SecondTrack, NoTrack, NoEndOfTrack, BehindEndOfTrack, LongQuantity, NoRunningStatus, SystemStatus, NoDataByte, NoMetaType, ShortTempo, LateFrame}
 use Rattle.smf.specs.declared.Counted.{Counted}
@@ -21,7 +21,7 @@ use Rattle.smf.specs.declared.Counted.the-variants.{Done, BadRate, Fault
 
 -- whatever an answer computes by
 unfoldable pub computing : Unit {0}
-unfolding fromHex pairs digitsOf number numberAfter refusalOf twoAt threeAt fourAt quantityFrom dataAt oneByte messageOf channelAt sysexAt tempoOf metaOf metaAt statusOf eventAt stepAt fieldsOf headerOf chunkAt trackFrom trackAt restOf behindOf eventsOn eventsFrom trackOf eventsOf frameOf entriesOf tempoAfter lateOf songFrom songOf closedOf numbersOf countedOf listOf numberOf cueOf div ofInt ofBits
+unfolding fromHex pairs digitsOf number numberAfter refusalOf twoAt threeAt fourAt quantityFrom dataAt oneByte messageOf channelEvent sysexAt tempoOf metaOf metaAt statusOf eventAt stepAt fieldsOf headerOf chunkAt trackFrom trackAt restAt behindTrack eventsOn eventsFrom trackOf eventsOf frameAt eventEntries tempoAfter tooLate songFrom songOf countClosed numbersOf countedOf listOf cuesNumber cueOf div ofInt ofBits
 computing = tt
 
 -- ---- files
@@ -204,7 +204,7 @@ rooms : countedOf (two ++ (0 ∷ [])) 48000 3 ∷ countedOf two 48000 3 ∷ coun
 unfolding computing
 rooms = refl
 
-numbers : map numberOf (BadRate ∷ Short 2 ∷ Done 2 ∷ []) ≡ 22 ∷ 8 ∷ 0 ∷ []
+numbers : map cuesNumber (BadRate ∷ Short 2 ∷ Done 2 ∷ []) ≡ 22 ∷ 8 ∷ 0 ∷ []
 unfolding computing
 numbers = refl
 
@@ -214,7 +214,7 @@ twelves : map refusalOf (Missing ∷ NoHeader ∷ ShortHeader ∷ OtherTrackCoun
 unfolding computing
 twelves = refl
 
-others : map numberOf (fault OtherFormat 9 ∷ fault SmpteDivision 13 ∷ fault LateFrame 30 ∷ []) ≡ 13 ∷ 13 ∷ 14 ∷ []
+others : map cuesNumber (fault OtherFormat 9 ∷ fault SmpteDivision 13 ∷ fault LateFrame 30 ∷ []) ≡ 13 ∷ 13 ∷ 14 ∷ []
 unfolding computing
 others = refl
 

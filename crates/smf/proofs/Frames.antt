@@ -7,8 +7,8 @@ use native.Mathlib.Nat.{le-refl, le-trans, mul-zero, zero-div, zero-mod, le-add-
 use native.Mathlib.Omega.{arith}
 use lib.Dec.{ltb, leb}
 use borrow.Author.Tests.{leb-true, leb-false, ltb-false, lt-ltb, le-leb, lt-leb}
-use Rattle.smf.specs.Times.{frameOf, lastFrame, clockAt, unitOf}
-use Rattle.smf.specs.Cues.{Entry, entriesOf, lateOf}
+use Rattle.smf.specs.Times.{frameAt, lastFrame, clockAt, unitOf}
+use Rattle.smf.specs.Cues.{Entry, eventEntries, tooLate}
 use Rattle.smf.specs.declared.clock.Clock.{Clock}
 use Rattle.smf.specs.declared.events.Event.{Event}
 use Rattle.smf.specs.declared.events.Event.the-variants.{Note, Tempo, Other}
@@ -118,8 +118,8 @@ module _ (unit rate a : ℕ) (low : 10 ^ 6 ≤ unit) (high : unit < 2 ^ 35) (rat
 
 -- ---- an event at the clock's frames is one at the exact frame
 module _ (unit total : ℕ) where
-  pub late-same : (e : Event) → lateOf (clockAt unit total .frames) e ≡ lateOf (total / unit) e
-  unfolding lateOf
+  pub late-same : (e : Event) → tooLate (clockAt unit total .frames) e ≡ tooLate (total / unit) e
+  unfolding tooLate
   late-same (Note key) = clock-cases unit total (λ k. rw (clock-early unit total k)) (λ k. rw (clock-late unit total k) (sym (go k)))
     where
       go : lastFrame < total / unit → ltb lastFrame (total / unit) ≡ true
@@ -127,8 +127,8 @@ module _ (unit total : ℕ) where
   late-same (Tempo new) = refl
   late-same Other = refl
 
-  pub entries-same : (e : Event) → lateOf (total / unit) e ≡ false → entriesOf (clockAt unit total .frames) e ≡ entriesOf (total / unit) e
-  unfolding lateOf entriesOf
+  pub entries-same : (e : Event) → tooLate (total / unit) e ≡ false → eventEntries (clockAt unit total .frames) e ≡ eventEntries (total / unit) e
+  unfolding tooLate eventEntries
   entries-same (Note key) h = rw (clock-early unit total (le-of h))
     where
       le-of : ltb lastFrame (total / unit) ≡ false → total / unit ≤ lastFrame

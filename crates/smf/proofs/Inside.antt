@@ -9,7 +9,7 @@ use borrow.Author.Tests.{ltb-true, leb-true}
 use Rattle.octets.specs.Octets.{byteAt}
 use Rattle.smf.specs.Faults.{faultAt}
 use Rattle.smf.specs.Fields.{quantityAt, threeAt}
-use Rattle.smf.specs.Events.{dataAt, oneByte, messageOf, withData, channelAt, past, withQuantity, sysexAt, tempoOf, metaOf, metaAt, statusOf, eventAt, timed, withDelta, stepAt}
+use Rattle.smf.specs.Events.{dataAt, oneByte, messageOf, withData, channelEvent, past, withQuantity, sysexAt, tempoOf, metaOf, metaAt, statusOf, eventAt, stepTimed, withDelta, stepAt}
 use Rattle.smf.specs.declared.faults.Reason.the-variants.{Missing, NoEndOfTrack, NoRunningStatus, SystemStatus, NoDataByte, NoMetaType, ShortTempo}
 use Rattle.smf.specs.declared.fields.Quantity.{Quantity}
 use Rattle.smf.specs.declared.fields.Quantity.the-variants as quantity
@@ -56,8 +56,8 @@ with-data : (end at : ℕ) (d : Data) (found : ℕ → Read) (place : ℕ) → S
 with-data end at (datum.Is b) found place h k = k h b
 with-data end at (datum.Broken why) found place h k = tt
 
-channel-inside : (f : List ℕ) (end status at : ℕ) → Inside end at (channelAt f end status at)
-unfolding channelAt
+channel-inside : (f : List ℕ) (end status at : ℕ) → Inside end at (channelEvent f end status at)
+unfolding channelEvent
 channel-inside f end status at =
     with-data end at (dataAt f end at) _ at (data-seen f end at)
     (λ h first. both (Inside end at) (oneByte status) _ _ (λ _. (omega arith, omega arith))
@@ -118,7 +118,7 @@ Moves end at (step.Is delta event status next) = (at < next) × (next ≤ end)
 Moves end at (step.End next) = (at < next) × (next ≤ end)
 Moves end at (step.Broken why) = Unit {0}
 
-timed-moves : (end at from delta : ℕ) (r : Read) → at < from → Inside end from r → Moves end at (timed delta r)
+timed-moves : (end at from delta : ℕ) (r : Read) → at < from → Inside end from r → Moves end at (stepTimed delta r)
 timed-moves end at from delta (Is event status next) h k = (omega arith, k .1)
 timed-moves end at from delta (End next) h k = (omega arith, k .1)
 timed-moves end at from delta (Broken why) h k = tt

@@ -15,9 +15,9 @@ use Rattle.walks.specs.Each.{Each}
 use Rattle.smf.specs.Faults.{refusalOf}
 use Rattle.smf.specs.Files.{Events, headerOf, eventsOf}
 use Rattle.smf.specs.Files.Events.{then, over}
-use Rattle.smf.specs.Times.{firstTempo, frameOf, lastFrame, unitOf}
-use Rattle.smf.specs.Cues.{Entry, Song, entriesOf, tempoAfter, lateOf, songFrom, songIn, songOf, closedOf, numbersOf, goodRate, judgedOf, countedOf, listAfter, listOf, numberOf, cueOf}
-use Rattle.smf.specs.Promised.{Timed, timedOf, tempoBehind, sumOf, soundsBehind, NeverFall, Rows, FaultNumbers, Promised}
+use Rattle.smf.specs.Times.{firstTempo, frameAt, lastFrame, unitOf}
+use Rattle.smf.specs.Cues.{Entry, Song, eventEntries, tempoAfter, tooLate, songFrom, songIn, songOf, countClosed, numbersOf, goodRate, roomJudged, countedOf, cuesAfter, listOf, cuesNumber, cueOf}
+use Rattle.smf.specs.Promised.{Timed, timedOf, tempoBehind, tempoSum, soundsBehind, NeverFall, Rows, FaultNumbers, Promised}
 use Rattle.smf.proofs.Inside.{both}
 use Rattle.smf.specs.declared.faults.Reason.{Reason}
 use Rattle.smf.specs.declared.faults.Reason.the-variants.{Missing, NoHeader, ShortHeader, OtherFormat, OtherTrackCount, SmpteDivision, NoDivision, SecondHeader, SecondTrack, NoTrack, NoEndOfTrack, BehindEndOfTrack, LongQuantity, NoRunningStatus, SystemStatus, NoDataByte, NoMetaType, ShortTempo, LateFrame}
@@ -31,20 +31,20 @@ use Rattle.smf.specs.declared.Counted.{Counted}
 use Rattle.smf.specs.declared.Counted.the-variants.{Done, BadRate, Faulty, Short}
 
 -- ---- exact: what the song carries along is the sum and the tempo of the events behind it
-exact-from : (rate division : ℕ) (past : List Timed) (es : Events) → songFrom rate division (tempoBehind past) (sumOf past) es .verdict ≡ Good
-    → songFrom rate division (tempoBehind past) (sumOf past) es .entries ≡ soundsBehind rate division past (timedOf es)
-unfolding songFrom timedOf soundsBehind sumOf tempoBehind frameOf
+exact-from : (rate division : ℕ) (past : List Timed) (es : Events) → songFrom rate division (tempoBehind past) (tempoSum past) es .verdict ≡ Good
+    → songFrom rate division (tempoBehind past) (tempoSum past) es .entries ≡ soundsBehind rate division past (timedOf es)
+unfolding songFrom timedOf soundsBehind tempoSum tempoBehind frameAt
 exact-from rate division past (over v) = λ h. refl
 exact-from rate division past (then delta event next rest) =
-    let frame = frameOf rate division (sumOf past + delta * tempoBehind past) in
+    let frame = frameAt rate division (tempoSum past + delta * tempoBehind past) in
     let t : Timed = record { delta = delta; event = event } in
-    both (λ (s : Song). s .verdict ≡ Good → s .entries ≡ soundsBehind rate division past (t ∷ timedOf rest)) (lateOf frame event) _ _
+    both (λ (s : Song). s .verdict ≡ Good → s .entries ≡ soundsBehind rate division past (t ∷ timedOf rest)) (tooLate frame event) _ _
     (λ _ e. cc)
-    (λ _ e. ap (λ (l : List Entry). entriesOf frame event ++ l) (exact-from rate division (t ∷ past) rest e))
+    (λ _ e. ap (λ (l : List Entry). eventEntries frame event ++ l) (exact-from rate division (t ∷ past) rest e))
 
 exact : (rate : ℕ) (f : List ℕ) (division next : ℕ) → headerOf f ≡ opening.Is division next → songOf rate f .verdict ≡ Good
     → songOf rate f .entries ≡ soundsBehind rate division [] (timedOf (eventsOf f next))
-unfolding songOf sumOf tempoBehind
+unfolding songOf tempoSum tempoBehind
 exact rate f division next e h =
     let is : songOf rate f ≡ songFrom rate division firstTempo 0 (eventsOf f next) = ap (songIn rate f) e in
     ap (λ (s : Song). s .entries) is ∙ exact-from rate division [] (eventsOf f next) (sym (ap (λ (s : Song). s .verdict) is) ∙ h)
@@ -56,22 +56,22 @@ div-mono a b k h = ⊎-elim
     (λ some. le-div-iff-mul-le {k = k} {x = a / k} {y = b} some .1 (le-trans (div-mul-le-self a k) h))
     (eq-zero-or-pos k)
 
-later-frame : (rate division sum more : ℕ) → frameOf rate division sum ≤ frameOf rate division (sum + more)
-unfolding frameOf
+later-frame : (rate division sum more : ℕ) → frameAt rate division sum ≤ frameAt rate division (sum + more)
+unfolding frameAt
 later-frame rate division sum more = div-mono (rate * sum) (rate * (sum + more)) (unitOf division) (mul-le-mul-left rate (le-add-right sum more))
 
-joined : (frame n : ℕ) (event : Event) (l : List Entry) → n ≤ frame → ((m : ℕ) → m ≤ frame → NeverFall m l) → NeverFall n (entriesOf frame event ++ l)
-unfolding entriesOf NeverFall
+joined : (frame n : ℕ) (event : Event) (l : List Entry) → n ≤ frame → ((m : ℕ) → m ≤ frame → NeverFall m l) → NeverFall n (eventEntries frame event ++ l)
+unfolding eventEntries NeverFall
 joined frame n (Note key) l h k = (h, k frame (le-refl frame))
 joined frame n (Tempo new) l h k = k n h
 joined frame n Other l h k = k n h
 
-order-from : (rate division tempo sum n : ℕ) (es : Events) → n ≤ frameOf rate division sum → NeverFall n (songFrom rate division tempo sum es .entries)
+order-from : (rate division tempo sum n : ℕ) (es : Events) → n ≤ frameAt rate division sum → NeverFall n (songFrom rate division tempo sum es .entries)
 unfolding songFrom NeverFall
 order-from rate division tempo sum n (over v) h = tt
 order-from rate division tempo sum n (then delta event next rest) h =
-    let frame = frameOf rate division (sum + delta * tempo) in
-    both (λ (s : Song). NeverFall n (s .entries)) (lateOf frame event) _ _
+    let frame = frameAt rate division (sum + delta * tempo) in
+    both (λ (s : Song). NeverFall n (s .entries)) (tooLate frame event) _ _
     (λ _. tt)
     (λ _. joined frame n event (songFrom rate division (tempoAfter tempo event) (sum + delta * tempo) rest .entries)
     (le-trans h (later-frame rate division sum (delta * tempo)))
@@ -81,8 +81,8 @@ order-from rate division tempo sum n (then delta event next rest) h =
 abbrev InRange : Entry → Type 0
 InRange e = e .frame ≤ 2 ^ 48
 
-ranged : (frame : ℕ) (event : Event) (l : List Entry) → lateOf frame event ≡ false → Each InRange l → Each InRange (entriesOf frame event ++ l)
-unfolding entriesOf lateOf Each
+ranged : (frame : ℕ) (event : Event) (l : List Entry) → tooLate frame event ≡ false → Each InRange l → Each InRange (eventEntries frame event ++ l)
+unfolding eventEntries tooLate Each
 ranged frame (Note key) l h k = (ltb-false lastFrame frame h, k)
 ranged frame (Tempo new) l h k = k
 ranged frame Other l h k = k
@@ -91,8 +91,8 @@ range-from : (rate division tempo sum : ℕ) (es : Events) → Each InRange (son
 unfolding songFrom Each
 range-from rate division tempo sum (over v) = tt
 range-from rate division tempo sum (then delta event next rest) =
-    let frame = frameOf rate division (sum + delta * tempo) in
-    both (λ (s : Song). Each InRange (s .entries)) (lateOf frame event) _ _
+    let frame = frameAt rate division (sum + delta * tempo) in
+    both (λ (s : Song). Each InRange (s .entries)) (tooLate frame event) _ _
     (λ _. tt)
     (λ e. ranged frame event (songFrom rate division (tempoAfter tempo event) (sum + delta * tempo) rest .entries) e
     (range-from rate division (tempoAfter tempo event) (sum + delta * tempo) rest))
@@ -142,7 +142,7 @@ unfolding refusalOf
 fault-numbers = record { format = refl; smpte = refl; late = refl; others = others-12 }
 
 song-rows : (f : List ℕ) (rate room : ℕ) → Rows f rate room
-unfolding countedOf closedOf numberOf
+unfolding countedOf countClosed cuesNumber
 song-rows f rate room = record {
   rate-row = λ h. rw h;
   fault-row = λ why g v. rw (g, v);
@@ -151,14 +151,14 @@ song-rows f rate room = record {
 }
 
 -- ---- the list
-held-at : (es : List Entry) (list : List ℕ) (c : Counted) → (numberOf c ≡ 0 → ⊥) → listAfter es list c ≡ list
-unfolding numberOf
+held-at : (es : List Entry) (list : List ℕ) (c : Counted) → (cuesNumber c ≡ 0 → ⊥) → cuesAfter es list c ≡ list
+unfolding cuesNumber
 held-at es list (Done n) h = absurd (h refl)
 held-at es list BadRate h = refl
 held-at es list (Faulty why) h = refl
 held-at es list (Short n) h = refl
 
-held : (f : List ℕ) (rate : ℕ) (list : List ℕ) → (numberOf (countedOf f rate (length list)) ≡ 0 → ⊥) → listOf f rate list ≡ list
+held : (f : List ℕ) (rate : ℕ) (list : List ℕ) → (cuesNumber (countedOf f rate (length list)) ≡ 0 → ⊥) → listOf f rate list ≡ list
 unfolding listOf
 held f rate list h = held-at (songOf rate f .entries) list (countedOf f rate (length list)) h
 
@@ -184,39 +184,39 @@ no-zero NoMetaType e = omega arith
 no-zero ShortTempo e = omega arith
 no-zero LateFrame e = omega arith
 
-written : (f : List ℕ) (rate : ℕ) (list : List ℕ) → numberOf (countedOf f rate (length list)) ≡ 0
+written : (f : List ℕ) (rate : ℕ) (list : List ℕ) → cuesNumber (countedOf f rate (length list)) ≡ 0
     → listOf f rate list ≡ numbersOf (songOf rate f .entries) ++ drop (2 * length (songOf rate f .entries)) list
-unfolding listOf countedOf closedOf numberOf
+unfolding listOf countedOf countClosed cuesNumber
 written f rate list = go (goodRate rate) (songOf rate f .verdict)
   where
     es : List Entry
     es = songOf rate f .entries
 
-    fits : (b : Bool) → numberOf (cond b (Done (length es)) (Short (length es))) ≡ 0 → listAfter es list (cond b (Done (length es)) (Short (length es))) ≡ numbersOf es ++ drop (2 * length es) list
+    fits : (b : Bool) → cuesNumber (cond b (Done (length es)) (Short (length es))) ≡ 0 → cuesAfter es list (cond b (Done (length es)) (Short (length es))) ≡ numbersOf es ++ drop (2 * length es) list
     fits true e = refl
     fits false e = absurd (omega arith)
 
-    go : (b : Bool) (v : Verdict) → numberOf (cond b (judgedOf (length list) (closedOf v (length es))) BadRate) ≡ 0
-        → listAfter es list (cond b (judgedOf (length list) (closedOf v (length es))) BadRate) ≡ numbersOf es ++ drop (2 * length es) list
+    go : (b : Bool) (v : Verdict) → cuesNumber (cond b (roomJudged (length list) (countClosed v (length es))) BadRate) ≡ 0
+        → cuesAfter es list (cond b (roomJudged (length list) (countClosed v (length es))) BadRate) ≡ numbersOf es ++ drop (2 * length es) list
     go true Good e = fits (leb (2 * length es) (length list)) e
     go true (Broken why) e = absurd (no-zero (why .reason) e)
     go false v e = absurd (omega arith)
 
 counted : (f : List ℕ) (rate room n : ℕ) → countedOf f rate room ≡ Done n → (songOf rate f .verdict ≡ Good) × (length (songOf rate f .entries) ≡ n)
-unfolding countedOf closedOf numberOf
+unfolding countedOf countClosed cuesNumber
 counted f rate room n = go (goodRate rate) (songOf rate f .verdict)
   where
     size : ℕ
     size = length (songOf rate f .entries)
 
-    never : {A : Type 0} {c : Counted} → c ≡ Done n → numberOf c ≢ 0 → A
-    never e h = absurd (h (ap numberOf e))
+    never : {A : Type 0} {c : Counted} → c ≡ Done n → cuesNumber c ≢ 0 → A
+    never e h = absurd (h (ap cuesNumber e))
 
     fits : (b : Bool) → cond b (Done size) (Short size) ≡ Done n → size ≡ n
     fits true e = cc
     fits false e = never e (λ z. omega arith)
 
-    go : (b : Bool) (v : Verdict) → cond b (judgedOf room (closedOf v size)) BadRate ≡ Done n → (v ≡ Good) × (size ≡ n)
+    go : (b : Bool) (v : Verdict) → cond b (roomJudged room (countClosed v size)) BadRate ≡ Done n → (v ≡ Good) × (size ≡ n)
     go true Good e = (refl, fits (leb (2 * size) room) e)
     go true (Broken why) e = never e (no-zero (why .reason))
     go false v e = never e (λ z. omega arith)

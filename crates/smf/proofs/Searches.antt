@@ -9,7 +9,7 @@ use lib.ListN.{length}
 use borrow.Author.Tests.{ltb-true, ltb-false, leb-true, leb-false, eqb-true, eqb-false, lt-ltb, le-ltb, le-leb, lt-leb}
 use Rattle.smf.specs.Faults.{faultAt}
 use Rattle.smf.specs.Fields.{twoAt, fourAt}
-use Rattle.smf.specs.Files.{headerType, trackType, fieldsOf, headerOf, chunkAt, trackFrom, trackAt, restOf, behindOf, chunkEvents, trackOf, eventsIn, eventsOf}
+use Rattle.smf.specs.Files.{headerType, trackType, fieldsOf, headerOf, chunkAt, trackFrom, trackAt, restAt, behindTrack, chunkEvents, trackOf, eventsIn, eventsOf}
 use Rattle.smf.specs.Files.Events.{over}
 use Rattle.smf.specs.declared.faults.Reason.the-variants.{Missing, BehindEndOfTrack}
 use Rattle.smf.specs.declared.chunks.Opening.{Opening}
@@ -84,20 +84,20 @@ header-divided f division next e = subst Divided e (header-divides f)
 
 -- ---- behind End of Track
 module _ (f : List ℕ) (full at : ℕ) where
-  pub behind-early : at < full → at < length f → behindOf f full at ≡ Broken (faultAt BehindEndOfTrack at)
-  unfolding behindOf
+  pub behind-early : at < full → at < length f → behindTrack f full at ≡ Broken (faultAt BehindEndOfTrack at)
+  unfolding behindTrack
   behind-early h k =
       let early : at < min full (length f) = omega arith in
       simp (lt-ltb _ _ early)
 
-  pub behind-cut : length f ≤ at → length f < full → behindOf f full at ≡ Broken (faultAt Missing (length f))
-  unfolding behindOf
+  pub behind-cut : length f ≤ at → length f < full → behindTrack f full at ≡ Broken (faultAt Missing (length f))
+  unfolding behindTrack
   behind-cut h k =
       let late : min full (length f) ≤ at = omega arith in
       simp (le-ltb _ _ late, lt-ltb _ _ k)
 
-  pub behind-whole : full ≤ at → full ≤ length f → behindOf f full at ≡ restOf f full
-  unfolding behindOf
+  pub behind-whole : full ≤ at → full ≤ length f → behindTrack f full at ≡ restAt f full
+  unfolding behindTrack
   behind-whole h k =
       let late : min full (length f) ≤ at = omega arith in
       simp (le-ltb _ _ late, le-ltb _ _ k)

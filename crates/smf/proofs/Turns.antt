@@ -10,10 +10,10 @@ use lib.Seq.{sets, length-sets}
 use Rattle.walks.proofs.Lists.Runs.{run-append}
 use Rattle.smf.specs.Faults.{faultAt}
 use Rattle.smf.specs.Events.{stepAt}
-use Rattle.smf.specs.Files.{Events, behindOf, eventsOn, eventsFrom, chunkEvents}
+use Rattle.smf.specs.Files.{Events, behindTrack, eventsOn, eventsFrom, chunkEvents}
 use Rattle.smf.specs.Files.Events.{then, over}
-use Rattle.smf.specs.Times.{firstTempo, frameOf, lastFrame, unitOf, clockAt}
-use Rattle.smf.specs.Cues.{Entry, Song, entriesOf, tempoAfter, lateOf, overOf, after, songFrom, closedOf, countOf, numbersOf, Written}
+use Rattle.smf.specs.Times.{firstTempo, frameAt, lastFrame, unitOf, clockAt}
+use Rattle.smf.specs.Cues.{Entry, Song, eventEntries, tempoAfter, tooLate, emptyWith, entriesFirst, songFrom, countClosed, countOf, numbersOf, WrittenList}
 use Rattle.smf.specs.declared.faults.Reason.the-variants.{LateFrame}
 use Rattle.smf.specs.declared.faults.Fault.{Fault}
 use Rattle.smf.specs.declared.clock.Clock.{Clock}
@@ -91,22 +91,22 @@ module _ (f : List ℕ) (rate division full : ℕ) where
     on = ap (songFrom rate division tempo (g .sum)) (events-on (g .steps) f full running place (let h = g .enough in omega arith))
 
     -- nothing is left
-    done : (v : Verdict) → left (g .steps) running place tempo (g .sum) ≡ overOf v → (closedOf v count ≡ countOf whole) × Written list₀ list (whole .entries)
+    done : (v : Verdict) → left (g .steps) running place tempo (g .sum) ≡ emptyWith v → (countClosed v count ≡ countOf whole) × WrittenList list₀ list (whole .entries)
     unfolding numbersOf
     done v e =
         let verdict : v ≡ whole .verdict = sym (ap (λ (s : Song). s .verdict) e) ∙ g .verdict in
         let counts : count + 0 ≡ length (whole .entries) = sym (ap (λ (s : Song). count + length (s .entries)) e) ∙ g .counts in (
-          ap (closedOf v) (sym (add-zero count) ∙ counts) ∙ ap (λ (w : Verdict). closedOf w (length (whole .entries))) verdict,
+          ap (countClosed v) (sym (add-zero count) ∙ counts) ∙ ap (λ (w : Verdict). countClosed w (length (whole .entries))) verdict,
           λ room. sym (ap (λ (s : Song). sets list (2 * count) (numbersOf (s .entries))) e) ∙ g .writes room,
         )
 
-    pub broken : (why : Fault) → here ≡ step.Broken why → (closedOf (Broken why) count ≡ countOf whole) × Written list₀ list (whole .entries)
+    pub broken : (why : Fault) → here ≡ step.Broken why → (countClosed (Broken why) count ≡ countOf whole) × WrittenList list₀ list (whole .entries)
     unfolding songFrom eventsOn
     broken why e = done (Broken why) (on ∙ rw e)
 
-    pub ended : (next : ℕ) → here ≡ step.End next → (closedOf (behindOf f full next) count ≡ countOf whole) × Written list₀ list (whole .entries)
+    pub ended : (next : ℕ) → here ≡ step.End next → (countClosed (behindTrack f full next) count ≡ countOf whole) × WrittenList list₀ list (whole .entries)
     unfolding songFrom eventsOn
-    ended next e = done (behindOf f full next) (on ∙ rw e)
+    ended next e = done (behindTrack f full next) (on ∙ rw e)
 
     -- an event, at the clock afterwards
     module _ (delta : ℕ) (event : Event) (status next : ℕ) (is : here ≡ step.Is delta event status next) (clock' : Clock)
@@ -121,31 +121,31 @@ module _ (f : List ℕ) (rate division full : ℕ) where
       behind = left (pred (g .steps)) status next (tempoAfter tempo event) sum'
 
       on-event : left (g .steps) running place tempo (g .sum)
-          ≡ cond (lateOf (frameOf rate division sum') event) (overOf (Broken (faultAt LateFrame (next - 1)))) (after (entriesOf (frameOf rate division sum') event) behind)
+          ≡ cond (tooLate (frameAt rate division sum') event) (emptyWith (Broken (faultAt LateFrame (next - 1)))) (entriesFirst (eventEntries (frameAt rate division sum') event) behind)
       unfolding songFrom eventsOn
       on-event = on ∙ rw is
 
-      late-there : lateOf (clock' .frames) event ≡ lateOf (frameOf rate division sum') event
-      unfolding frameOf
-      late-there = ap (λ (k : Clock). lateOf (k .frames) event) exact ∙ late-same (unitOf division) (rate * sum') event
+      late-there : tooLate (clock' .frames) event ≡ tooLate (frameAt rate division sum') event
+      unfolding frameAt
+      late-there = ap (λ (k : Clock). tooLate (k .frames) event) exact ∙ late-same (unitOf division) (rate * sum') event
 
-      pub late : lateOf (clock' .frames) event ≡ true → (closedOf (Broken (faultAt LateFrame (next - 1))) count ≡ countOf whole) × Written list₀ list (whole .entries)
-      late h = let there : lateOf (frameOf rate division sum') event ≡ true = sym late-there ∙ h in
+      pub late : tooLate (clock' .frames) event ≡ true → (countClosed (Broken (faultAt LateFrame (next - 1))) count ≡ countOf whole) × WrittenList list₀ list (whole .entries)
+      late h = let there : tooLate (frameAt rate division sum') event ≡ true = sym late-there ∙ h in
           done (Broken (faultAt LateFrame (next - 1))) (on-event ∙ rw there)
 
-      entries-there : lateOf (clock' .frames) event ≡ false → entriesOf (clock' .frames) event ≡ entriesOf (frameOf rate division sum') event
-      unfolding frameOf
+      entries-there : tooLate (clock' .frames) event ≡ false → eventEntries (clock' .frames) event ≡ eventEntries (frameAt rate division sum') event
+      unfolding frameAt
       entries-there h =
-          ap (λ (k : Clock). entriesOf (k .frames) event) exact ∙ entries-same (unitOf division) (rate * sum') event (sym late-there ∙ h)
+          ap (λ (k : Clock). eventEntries (k .frames) event) exact ∙ entries-same (unitOf division) (rate * sum') event (sym late-there ∙ h)
 
-      module _ (h : lateOf (clock' .frames) event ≡ false) where
+      module _ (h : tooLate (clock' .frames) event ≡ false) where
         abbrev es : List Entry
-        es = entriesOf (clock' .frames) event
+        es = eventEntries (clock' .frames) event
 
-        goes : left (g .steps) running place tempo (g .sum) ≡ after es behind
+        goes : left (g .steps) running place tempo (g .sum) ≡ entriesFirst es behind
         goes =
-            let there : lateOf (frameOf rate division sum') event ≡ false = sym late-there ∙ h in
-            on-event ∙ (rw there) ∙ ap (λ (l : List Entry). after l behind) (sym (entries-there h))
+            let there : tooLate (frameAt rate division sum') event ≡ false = sym late-there ∙ h in
+            on-event ∙ (rw there) ∙ ap (λ (l : List Entry). entriesFirst l behind) (sym (entries-there h))
 
         counts' : count + length es + length (behind .entries) ≡ length (whole .entries)
         counts' =
@@ -177,14 +177,14 @@ module _ (f : List ℕ) (rate division full : ℕ) where
         }
 
 -- an event adds one entry at most
-pub one-entry : (frame : ℕ) (e : Event) → length (entriesOf frame e) ≤ 1
-unfolding entriesOf
+pub one-entry : (frame : ℕ) (e : Event) → length (eventEntries frame e) ≤ 1
+unfolding eventEntries
 one-entry frame (Note key) = omega arith
 one-entry frame (Tempo new) = omega arith
 one-entry frame Other = omega arith
 
 -- ---- a song without events
 pub over-now : (rate division : ℕ) (list : List ℕ) (v : Verdict) (es : Events) → es ≡ over v
-    → (closedOf v 0 ≡ countOf (songFrom rate division firstTempo 0 es)) × Written list list (songFrom rate division firstTempo 0 es .entries)
+    → (countClosed v 0 ≡ countOf (songFrom rate division firstTempo 0 es)) × WrittenList list list (songFrom rate division firstTempo 0 es .entries)
 unfolding songFrom numbersOf
 over-now rate division list v es e = rw e (refl, λ _. refl)

@@ -55,8 +55,8 @@ withData (datum.Is byte) found = found byte
 withData (datum.Broken why) found = Broken why
 
 -- from the first data byte on; the status is the running status afterwards
-unfoldable pub channelAt : List ℕ → ℕ → ℕ → ℕ → Read
-channelAt f end status at =
+unfoldable pub channelEvent : List ℕ → ℕ → ℕ → ℕ → Read
+channelEvent f end status at =
     withData (dataAt f end at) (λ first. cond (oneByte status) (Is Other status (at + 1))
     (withData (dataAt f end (at + 1)) (λ second. Is (messageOf status first second) status (at + 2))))
 
@@ -101,7 +101,7 @@ metaAt f end at =
 -- from behind its status byte on: F1 to F6 and F8 to FE have no place in a file
 unfoldable pub statusOf : List ℕ → ℕ → ℕ → ℕ → Read
 statusOf f end status at =
-    cond (ltb status 240) (channelAt f end status at)
+    cond (ltb status 240) (channelEvent f end status at)
     (cond (eqb status 255) (metaAt f end at)
     (cond (eqb status 240 || eqb status 247) (sysexAt f end at) (Broken (faultAt SystemStatus (at - 1)))))
 
@@ -110,17 +110,17 @@ unfoldable pub eventAt : List ℕ → ℕ → ℕ → ℕ → Read
 eventAt f end running at =
     cond (ltb at end)
     (cond (leb 128 (byteAt f at)) (statusOf f end (byteAt f at) (at + 1))
-    (cond (eqb running 0) (Broken (faultAt NoRunningStatus at)) (channelAt f end running at)))
+    (cond (eqb running 0) (Broken (faultAt NoRunningStatus at)) (channelEvent f end running at)))
     (Broken (faultAt Missing at))
 
 -- a delta-time and an event
-abbrev pub timed : ℕ → Read → Step
-timed delta (Is event status next) = step.Is delta event status next
-timed delta (End next) = step.End next
-timed delta (Broken why) = step.Broken why
+abbrev pub stepTimed : ℕ → Read → Step
+stepTimed delta (Is event status next) = step.Is delta event status next
+stepTimed delta (End next) = step.End next
+stepTimed delta (Broken why) = step.Broken why
 
 abbrev pub withDelta : Quantity → (ℕ → Read) → Step
-withDelta (quantity.Is delta next) found = timed delta (found next)
+withDelta (quantity.Is delta next) found = stepTimed delta (found next)
 withDelta (quantity.Broken why) found = step.Broken why
 
 unfoldable pub stepAt : List ℕ → ℕ → ℕ → ℕ → Step

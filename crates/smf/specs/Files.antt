@@ -96,14 +96,14 @@ noSecond (found.Broken why) = Broken why
 noSecond (found.Track place) = Broken (faultAt SecondTrack (place + 3))
 noSecond found.Nothing = Good
 
-unfoldable pub restOf : List ℕ → ℕ → Verdict
-restOf f at = noSecond (trackAt f at)
+unfoldable pub restAt : List ℕ → ℕ → Verdict
+restAt f at = noSecond (trackAt f at)
 
 -- behind End of Track the track chunk, which ends at `full`, is over, and what follows is good
-unfoldable pub behindOf : List ℕ → ℕ → ℕ → Verdict
-behindOf f full at =
+unfoldable pub behindTrack : List ℕ → ℕ → ℕ → Verdict
+behindTrack f full at =
     cond (ltb at (min full (length f))) (Broken (faultAt BehindEndOfTrack at))
-    (cond (ltb (length f) full) (Broken (faultAt Missing (length f))) (restOf f full))
+    (cond (ltb (length f) full) (Broken (faultAt Missing (length f))) (restAt f full))
 
 -- ---- the events of a track, with their delta-times and the places behind them, up to the end of the file or the first
 -- fault
@@ -115,7 +115,7 @@ pub data Events : Type 0 where
 -- what a step finds, and the events behind it, from a running status and a place on
 unfoldable pub eventsOn : List ℕ → ℕ → (ℕ → ℕ → Events) → Step → Events
 eventsOn f full behind (step.Broken why) = over (Broken why)
-eventsOn f full behind (step.End next) = over (behindOf f full next)
+eventsOn f full behind (step.End next) = over (behindTrack f full next)
 eventsOn f full behind (step.Is delta event status next) = then delta event next (behind status next)
 
 -- in n steps at most

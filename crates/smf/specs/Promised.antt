@@ -14,14 +14,14 @@ use Rattle.smf.specs.Files.{Events, headerOf, eventsOf}
 use Rattle.smf.specs.Files.Events.{then, over}
 use Rattle.smf.specs.Cues.{
   Entry,
-  entriesOf,
+  eventEntries,
   tempoAfter,
   songOf,
   numbersOf,
   goodRate,
   countedOf,
   listOf,
-  numberOf,
+  cuesNumber,
   cueOf,
 }
 use Rattle.smf.specs.declared.faults.Reason.{Reason}
@@ -52,15 +52,15 @@ tempoBehind [] = 500000
 tempoBehind (t ∷ past) = tempoAfter (tempoBehind past) (t .event)
 
 -- the sum of the delta-times, each times the tempo that was set before its event
-unfoldable pub sumOf : List Timed → ℕ
-sumOf [] = 0
-sumOf (t ∷ past) = sumOf past + t .delta * tempoBehind past
+unfoldable pub tempoSum : List Timed → ℕ
+tempoSum [] = 0
+tempoSum (t ∷ past) = tempoSum past + t .delta * tempoBehind past
 
 -- the starts and stops of a list of events, behind others
 unfoldable pub soundsBehind : ℕ → ℕ → List Timed → List Timed → List Entry
 soundsBehind rate division past [] = []
 soundsBehind rate division past (t ∷ rest) =
-    entriesOf (rate * sumOf (t ∷ past) / (division * 10 ^ 6)) (t .event) ++ soundsBehind rate division (t ∷ past) rest
+    eventEntries (rate * tempoSum (t ∷ past) / (division * 10 ^ 6)) (t .event) ++ soundsBehind rate division (t ∷ past) rest
 
 -- ---- frames along the list: each is at least the one before it
 unfoldable pub NeverFall : ℕ → List Entry → Type 0
@@ -69,13 +69,13 @@ NeverFall before (e ∷ es) = (before ≤ e .frame) × NeverFall (e .frame) es
 
 -- ---- the numbers, in their order
 pub record Rows (f : List ℕ) (rate room : ℕ) : Type 0 where
-  pub rate-row : goodRate rate ≡ false → numberOf (countedOf f rate room) ≡ 22
+  pub rate-row : goodRate rate ≡ false → cuesNumber (countedOf f rate room) ≡ 22
   pub fault-row : (why : Fault) → goodRate rate ≡ true → songOf rate f .verdict ≡ Broken why
-      → numberOf (countedOf f rate room) ≡ refusalOf (why .reason)
+      → cuesNumber (countedOf f rate room) ≡ refusalOf (why .reason)
   pub room-row : goodRate rate ≡ true → songOf rate f .verdict ≡ Good → room < 2 * length (songOf rate f .entries)
-      → numberOf (countedOf f rate room) ≡ 8
+      → cuesNumber (countedOf f rate room) ≡ 8
   pub done-row : goodRate rate ≡ true → songOf rate f .verdict ≡ Good → 2 * length (songOf rate f .entries) ≤ room
-      → numberOf (countedOf f rate room) ≡ 0
+      → cuesNumber (countedOf f rate room) ≡ 0
 
 -- 13 for another format or a SMPTE division, 14 for a start or stop later than any frame, 12 for every other fault
 pub record FaultNumbers : Type 0 where
@@ -97,9 +97,9 @@ pub record Promised : Type 0 where
   pub song-rows : (f : List ℕ) (rate room : ℕ) → Rows f rate room
   pub fault-numbers : FaultNumbers
   -- "On each the lent list is untouched"; otherwise it begins with the song, and keeps the rest
-  pub held : (f : List ℕ) (rate : ℕ) (list : List ℕ) → (numberOf (countedOf f rate (length list)) ≡ 0 → ⊥)
+  pub held : (f : List ℕ) (rate : ℕ) (list : List ℕ) → (cuesNumber (countedOf f rate (length list)) ≡ 0 → ⊥)
       → listOf f rate list ≡ list
-  pub written : (f : List ℕ) (rate : ℕ) (list : List ℕ) → numberOf (countedOf f rate (length list)) ≡ 0
+  pub written : (f : List ℕ) (rate : ℕ) (list : List ℕ) → cuesNumber (countedOf f rate (length list)) ≡ 0
       → listOf f rate list ≡ numbersOf (songOf rate f .entries) ++ drop (2 * length (songOf rate f .entries)) list
   -- a song that is read is good, and the count is that of its starts and stops
   pub counted : (f : List ℕ) (rate room n : ℕ) → countedOf f rate room ≡ Done n

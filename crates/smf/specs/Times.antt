@@ -17,8 +17,8 @@ firstTempo = 500000
 abbrev pub unitOf : ℕ → ℕ
 unitOf division = division * 10 ^ 6
 
-unfoldable pub frameOf : ℕ → ℕ → ℕ → ℕ
-frameOf rate division sum = rate * sum / unitOf division
+unfoldable pub frameAt : ℕ → ℕ → ℕ → ℕ
+frameAt rate division sum = rate * sum / unitOf division
 
 -- the last count that a start or a stop may have
 abbrev pub lastFrame : ℕ

@@ -2,7 +2,7 @@
 ghost use mathlib.Core.Path.{_≡_};
 ghost use Prim.Native.Nat.{_+_, _^_, _≤_, _<_, min};
 ghost use lib.ListN.{length};
-ghost use Rattle.smf.specs.Files.{fieldsOf, headerOf, trackAt, restOf, behindOf};
+ghost use Rattle.smf.specs.Files.{fieldsOf, headerOf, trackAt, restAt, behindTrack};
 use crate::faults::Fault;
 use crate::faults::Reason;
 use crate::fields::four_at;
@@ -166,7 +166,7 @@ pub fn track_at(file: &[u8], at: usize) -> Found
 }
 
 fn rest(file: &[u8], at: usize) -> Verdict
-    ensures { λ r. ⌜ r ≡ restOf (now (file .entry)) at ⌝ }
+    ensures { λ r. ⌜ r ≡ restAt (now (file .entry)) at ⌝ }
 {
     match track_at(file, at) {
         Found::Broken(fault) => Verdict::Broken(fault),
@@ -180,7 +180,7 @@ fn rest(file: &[u8], at: usize) -> Verdict
 
 // What the file has behind End of Track, where the track chunk ends at `full`.
 pub fn behind(file: &[u8], full: usize, at: usize) -> Verdict
-    ensures { λ r. ⌜ r ≡ behindOf (now (file .entry)) full at ⌝ }
+    ensures { λ r. ⌜ r ≡ behindTrack (now (file .entry)) full at ⌝ }
 {
     let all = file.len();
     if all < full {

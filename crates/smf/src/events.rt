@@ -5,7 +5,7 @@ ghost use Rattle.smf.specs.Events.{
   oneByte,
   messageOf,
   dataAt,
-  channelAt,
+  channelEvent,
   tempoOf,
   metaOf,
   metaAt,
@@ -99,7 +99,7 @@ fn message(status: u8, first: u8, second: u8) -> Event
 
 // A channel's message of this status, from its first data byte on.
 fn channel_at(file: &[u8], end: usize, status: u8, at: usize) -> Read
-    ensures { λ r. ⌜ r ≡ channelAt (now (file .entry)) end status at ⌝ }
+    ensures { λ r. ⌜ r ≡ channelEvent (now (file .entry)) end status at ⌝ }
 {
     match data_at(file, end, at) {
         Data::Broken(fault) => Read::Broken(fault),

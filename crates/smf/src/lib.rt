@@ -9,7 +9,7 @@ mod tracks;
 
 ghost use mathlib.Core.Path.{_≡_};
 ghost use lib.ListN.{length};
-ghost use Rattle.smf.specs.Cues.{countedOf, listOf, numberOf, cueOf};
+ghost use Rattle.smf.specs.Cues.{countedOf, listOf, cuesNumber, cueOf};
 use faults::Fault;
 use tracks::Count;
 use tracks::song;
@@ -58,7 +58,7 @@ pub fn read_song(file: &[u8], rate: u32, list: &mut [u64]) -> Counted
 impl Counted {
     // The number of the refusal; 0 where the song was read.
     pub fn number(self) -> u8
-        ensures { λ r. ⌜ r ≡ numberOf self ⌝ }
+        ensures { λ r. ⌜ r ≡ cuesNumber self ⌝ }
     {
         match self {
             Counted::Done(_) => 0,

@@ -7,15 +7,15 @@ ghost use lib.Seq.{sets};
 ghost use Rattle.smf.specs.Files.{chunkEvents, trackOf, eventsOf};
 ghost use Rattle.smf.specs.Times.{firstTempo};
 ghost use Rattle.smf.specs.Cues.{
-  entriesOf,
+  eventEntries,
   tempoAfter,
-  lateOf,
+  tooLate,
   songFrom,
   songOf,
   countOf,
-  closedOf,
+  countClosed,
   numbersOf,
-  Written,
+  WrittenList,
 };
 use crate::chunks::Found;
 use crate::chunks::Opening;
@@ -33,6 +33,7 @@ use crate::events::step_at;
 use crate::faults::Fault;
 use crate::faults::Reason;
 use crate::fields::four_at;
+use walks::smaller;
 
 // How many starts and stops a song has.
 pub enum Count {
@@ -51,7 +52,7 @@ fn tempo_after(tempo: u32, event: Event) -> u32
 }
 
 fn late(frame: u64, event: Event) -> bool
-    ensures { λ r. ⌜ r ≡ lateOf frame event ⌝ }
+    ensures { λ r. ⌜ r ≡ tooLate frame event ⌝ }
 {
     match event {
         Event::Note(_) => LAST_FRAME < frame,
@@ -63,9 +64,9 @@ fn late(frame: u64, event: Event) -> bool
 // What an event adds to a list of `count` entries, written where there is room.
 fn put(list: &mut [u64], count: usize, frame: u64, event: Event) -> usize
     requires { ⌜ count < 2 ^ 63 ⌝ }
-    ensures { λ r. ⌜ r ≡ count + length (entriesOf frame event) ⌝ }
+    ensures { λ r. ⌜ r ≡ count + length (eventEntries frame event) ⌝ }
     ensures { λ r. ⌜ (2 * r ≤ length (now (list .entry))
-        → now (list .exit) ≡ sets (now (list .entry)) (2 * count) (numbersOf (entriesOf frame event))) ⌝ }
+        → now (list .exit) ≡ sets (now (list .entry)) (2 * count) (numbersOf (eventEntries frame event))) ⌝ }
 {
     match event {
         Event::Note(key) => {
@@ -83,7 +84,7 @@ fn put(list: &mut [u64], count: usize, frame: u64, event: Event) -> usize
 }
 
 fn closed(verdict: Verdict, count: usize) -> Count
-    ensures { λ r. ⌜ r ≡ closedOf verdict count ⌝ }
+    ensures { λ r. ⌜ r ≡ countClosed verdict count ⌝ }
 {
     match verdict {
         Verdict::Good => Count::Done(count),
@@ -91,25 +92,19 @@ fn closed(verdict: Verdict, count: usize) -> Count
     }
 }
 
-fn lesser(a: usize, b: usize) -> usize
-    ensures { λ r. ⌜ r ≡ min a b ⌝ }
-{
-    if a < b { a } else { b }
-}
-
 // The events of a track chunk that ends at `full`, from a place on.
 fn events(file: &[u8], rate: u32, division: u32, full: usize, at: usize, list: &mut [u64]) -> Count
     requires { ⌜ (rate ≤ 192000) × (0 < division) × (division < 2 ^ 15) ⌝ }
     requires { ⌜ (0 < at) × (at ≤ min full (length (now file))) ⌝ }
     ensures { λ r. ⌜ r ≡ countOf (songFrom rate division firstTempo 0 (chunkEvents (now (file .entry)) full at)) ⌝ }
-    ensures { λ r. ⌜ Written (now (list .entry)) (now (list .exit))
+    ensures { λ r. ⌜ WrittenList (now (list .entry)) (now (list .exit))
         (songFrom rate division firstTempo 0 (chunkEvents (now (file .entry)) full at) .entries) ⌝ }
 {
     let tune = Tune {
         rate: rate as u64,
         unit: (division as u64) * 1_000_000,
     };
-    let end = lesser(full, file.len());
+    let end = smaller(full, file.len());
     let mut place = at;
     let mut running: u8 = 0;
     let mut tempo: u32 = 500_000;
@@ -147,7 +142,7 @@ fn track(file: &[u8], rate: u32, division: u32, at: usize, list: &mut [u64]) -> 
     requires { ⌜ (rate ≤ 192000) × (0 < division) × (division < 2 ^ 15) ⌝ }
     requires { ⌜ at ≤ length (now file) ⌝ }
     ensures { λ r. ⌜ r ≡ countOf (songFrom rate division firstTempo 0 (trackOf (now (file .entry)) at)) ⌝ }
-    ensures { λ r. ⌜ Written (now (list .entry)) (now (list .exit))
+    ensures { λ r. ⌜ WrittenList (now (list .entry)) (now (list .exit))
         (songFrom rate division firstTempo 0 (trackOf (now (file .entry)) at) .entries) ⌝ }
 {
     let all = file.len();
@@ -164,7 +159,7 @@ fn track(file: &[u8], rate: u32, division: u32, at: usize, list: &mut [u64]) -> 
 fn tracks(file: &[u8], rate: u32, division: u32, at: usize, list: &mut [u64]) -> Count
     requires { ⌜ (rate ≤ 192000) × (0 < division) × (division < 2 ^ 15) ⌝ }
     ensures { λ r. ⌜ r ≡ countOf (songFrom rate division firstTempo 0 (eventsOf (now (file .entry)) at)) ⌝ }
-    ensures { λ r. ⌜ Written (now (list .entry)) (now (list .exit))
+    ensures { λ r. ⌜ WrittenList (now (list .entry)) (now (list .exit))
         (songFrom rate division firstTempo 0 (eventsOf (now (file .entry)) at) .entries) ⌝ }
 {
     match track_at(file, at) {
@@ -180,7 +175,7 @@ fn tracks(file: &[u8], rate: u32, division: u32, at: usize, list: &mut [u64]) ->
 pub fn song(file: &[u8], rate: u32, list: &mut [u64]) -> Count
     requires { ⌜ rate ≤ 192000 ⌝ }
     ensures { λ r. ⌜ r ≡ countOf (songOf rate (now (file .entry))) ⌝ }
-    ensures { λ r. ⌜ Written (now (list .entry)) (now (list .exit)) (songOf rate (now (file .entry)) .entries) ⌝ }
+    ensures { λ r. ⌜ WrittenList (now (list .entry)) (now (list .exit)) (songOf rate (now (file .entry)) .entries) ⌝ }
 {
     match header(file) {
         Opening::Broken(fault) => Count::Broken(fault),

@@ -9,7 +9,7 @@ use borrow.Author.Tests.{ltb-true, ltb-false, leb-true, lt-ltb, le-ltb, le-leb}
 use Rattle.octets.specs.Octets.{byteAt}
 use Rattle.smf.specs.Faults.{faultAt}
 use Rattle.smf.specs.Fields.{threeAt, quantityFrom, quantityAt}
-use Rattle.smf.specs.Events.{dataAt, oneByte, messageOf, withData, channelAt, past, withQuantity, sysexAt, tempoOf, metaOf, metaAt, statusOf, eventAt, timed, withDelta, stepAt}
+use Rattle.smf.specs.Events.{dataAt, oneByte, messageOf, withData, channelEvent, past, withQuantity, sysexAt, tempoOf, metaOf, metaAt, statusOf, eventAt, stepTimed, withDelta, stepAt}
 use Rattle.smf.specs.declared.faults.Reason.the-variants.{Missing, NoMetaType}
 use Rattle.smf.specs.declared.fields.Quantity as fields
 use Rattle.smf.specs.declared.fields.Quantity.the-variants as quantity
@@ -103,12 +103,12 @@ module _ (k : ℕ) (f g : List ℕ) (same : (i : ℕ) → i ≤ k → byteAt g i
       (λ _ h. omega (arith, reach-second status at x (dataAt f end (at + 1)) (data-at (at + 1)) h))
   reach-first status at (datum.Broken why) there = λ h. omega arith
 
-  reach-channel : (status at : ℕ) → InRead k (channelAt f end status at) → at ≤ k
-  unfolding channelAt
+  reach-channel : (status at : ℕ) → InRead k (channelEvent f end status at) → at ≤ k
+  unfolding channelEvent
   reach-channel status at h = reach-first status at (dataAt f end at) (data-at at) h
 
-  same-channel : (status at : ℕ) → InRead k (channelAt f end status at) → channelAt g end' status at ≡ channelAt f end status at
-  unfolding channelAt
+  same-channel : (status at : ℕ) → InRead k (channelEvent f end status at) → channelEvent g end' status at ≡ channelEvent f end status at
+  unfolding channelEvent
   same-channel status at h = rw (same-data at (reach-first status at (dataAt f end at) (data-at at) h)) (go (dataAt f end at) h)
     where
       go : (d : Data) → InRead k (withData d (λ x. cond (oneByte status) (Is Other status (at + 1)) (withData (dataAt f end (at + 1)) (λ y. Is (messageOf status x y) status (at + 2)))))
@@ -239,7 +239,7 @@ module _ (k : ℕ) (f g : List ℕ) (same : (i : ℕ) → i ≤ k → byteAt g i
       )
 
   -- ---- with their delta-times
-  timed-in : (d : ℕ) (r : Read) → InStep k (timed d r) → InRead k r
+  timed-in : (d : ℕ) (r : Read) → InStep k (stepTimed d r) → InRead k r
   timed-in d (Is e s next) h = h
   timed-in d (End next) h = h
   timed-in d (Broken why) h = h
@@ -254,7 +254,7 @@ module _ (k : ℕ) (f g : List ℕ) (same : (i : ℕ) → i ≤ k → byteAt g i
       go (quantity.Is d mid) h =
           let e = same-event running mid (timed-in d (eventAt f end running mid) h) in
           let low = e .0 in
-          (omega arith, ap (timed d) (e .1))
+          (omega arith, ap (stepTimed d) (e .1))
       go (quantity.Broken why) h = (h, refl)
 
   pub same-step : (running at : ℕ) → InStep k (stepAt f end running at) → stepAt g end' running at ≡ stepAt f end running at

@@ -10,13 +10,14 @@ use lib.Dec.{ltb}
 use lib.ListN.{length, take}
 use borrow.Author.Tests.{ltb-true, ltb-false}
 use Rattle.walks.specs.Each.{Each}
+use Rattle.octets.specs.Octets.{Bytes}
 use Rattle.smf.specs.Faults.{faultAt, refusalOf}
 use Rattle.smf.specs.Fields.{fourAt}
-use Rattle.smf.specs.Files.{Events, headerOf, trackFrom, trackAt, noSecond, restOf, eventsFrom, trackOf, eventsIn, eventsOf}
+use Rattle.smf.specs.Files.{Events, headerOf, trackFrom, trackAt, noSecond, restAt, eventsFrom, trackOf, eventsIn, eventsOf}
 use Rattle.smf.specs.Files.Events.{then, over}
-use Rattle.smf.specs.Times.{firstTempo, frameOf}
-use Rattle.smf.specs.Cues.{Entry, Song, tempoAfter, lateOf, songFrom, songIn, songOf, goodRate, countedOf, numberOf}
-use Rattle.smf.specs.Promised.{Timed, timedOf, tempoBehind, sumOf, soundsBehind}
+use Rattle.smf.specs.Times.{firstTempo, frameAt}
+use Rattle.smf.specs.Cues.{Entry, Song, tempoAfter, tooLate, songFrom, songIn, songOf, goodRate, countedOf, cuesNumber}
+use Rattle.smf.specs.Promised.{Timed, timedOf, tempoBehind, tempoSum, soundsBehind}
 use Rattle.smf.specs.declared.faults.Reason.the-variants.{LateFrame}
 use Rattle.smf.specs.declared.faults.Fault.{Fault}
 use Rattle.smf.specs.declared.chunks.Opening.{Opening}
@@ -29,10 +30,10 @@ use Rattle.smf.proofs.Promised.{promised}
 use Rattle.song_grammar.specs.Grammar.{Track, Chunk, MTrk, Header, Aliens, File}
 use Rattle.song_grammar.specs.Grammar.Aliens.{none}
 use Rattle.song_grammar.specs.Grammar.File.{file}
-use Rattle.song_grammar.specs.First.{Opened, Due, First}
-use Rattle.song_grammar.specs.First.Opened.{begun, over as played}
+use Rattle.song_grammar.specs.First.{OpenedSong, Due, FirstFault}
+use Rattle.song_grammar.specs.First.OpenedSong.{begun, over as played}
 use Rattle.song_grammar.specs.First.Due.{chunkType, chunkLength, chunkBody, trackLength, event}
-use Rattle.song_grammar.specs.Judged.{Bytes, Grammatical, Judged}
+use Rattle.song_grammar.specs.Judged.{Grammatical, Judged}
 use Rattle.song_grammar.proofs.Segments.{From, from-length, join, whole-is, whole-from, before-is}
 use Rattle.song_grammar.proofs.Wholes.{lastOf, Octets, FileTaken, file-taken}
 use Rattle.song_grammar.proofs.Shown.{Spelt}
@@ -50,12 +51,12 @@ octets (b ∷ f) h (suc i) = octets f (h .1) i
 
 -- ---- a song is good where its events are and none of them is late
 sings : (rate division : ℕ) (past : List Timed) (es : Events) → lastOf es ≡ Good → Each InRange (soundsBehind rate division past (timedOf es))
-    → songFrom rate division (tempoBehind past) (sumOf past) es .verdict ≡ Good
-unfolding songFrom lastOf timedOf soundsBehind sumOf tempoBehind frameOf
+    → songFrom rate division (tempoBehind past) (tempoSum past) es .verdict ≡ Good
+unfolding songFrom lastOf timedOf soundsBehind tempoSum tempoBehind frameAt
 sings rate division past (over v) e h = e
 sings rate division past (then ticks m next rest) e h =
     let t : Timed = record { delta = ticks; event = m } in
-    let k = not-late (frameOf rate division (sumOf past + ticks * tempoBehind past)) m (soundsBehind rate division (t ∷ past) (timedOf rest)) h in
+    let k = not-late (frameAt rate division (tempoSum past + ticks * tempoBehind past)) m (soundsBehind rate division (t ∷ past) (timedOf rest)) h in
     let early = k .0 in
     rw early (sings rate division (t ∷ past) rest e (k .1))
 
@@ -63,7 +64,7 @@ sung : (rate division tempo sum : ℕ) (es : Events) → songFrom rate division 
 unfolding songFrom lastOf
 sung rate division tempo sum (over v) = λ e. e
 sung rate division tempo sum (then ticks m next rest) =
-    both (λ (s : Song). s .verdict ≡ Good → lastOf rest ≡ Good) (lateOf (frameOf rate division (sum + ticks * tempo)) m) _ _
+    both (λ (s : Song). s .verdict ≡ Good → lastOf rest ≡ Good) (tooLate (frameAt rate division (sum + ticks * tempo)) m) _ _
     (λ _ e. let z : _≡_ {A = ℕ} 0 1 = cc in absurd (omega arith))
     (λ _ e. sung rate division (tempoAfter tempo m) (sum + ticks * tempo) rest e)
 
@@ -77,7 +78,7 @@ module _ (rate : ℕ) (f : List ℕ) (b : Bytes f) where
   is-song division next e = ap (songIn rate f) e
 
   good-from : Grammatical rate f → songOf rate f .verdict ≡ Good
-  unfolding sumOf tempoBehind
+  unfolding tempoSum tempoBehind
   good-from g =
       let t = taken (g .division) (g .events) (g .spelt) in
       ap (λ (s : Song). s .verdict) (is-song (g .division) (t .next) (t .opens))
@@ -95,8 +96,8 @@ module _ (rate : ℕ) (f : List ℕ) (b : Bytes f) where
   no-good {why = why} e = let z : _≡_ {A = ℕ} 0 1 = cc in absurd (omega arith)
 
   -- nothing but chunks that are skipped stands behind the track
-  skipped : (at : ℕ) → at ≤ length f → restOf f at ≡ Good → Spelt f Aliens at (length f)
-  unfolding restOf trackAt
+  skipped : (at : ℕ) → at ≤ length f → restAt f at ≡ Good → Spelt f Aliens at (length f)
+  unfolding restAt trackAt
   skipped at room = go (trackFrom (length f) f at) (search f (octets f b) (length f) at room (omega arith))
     where
       go : (r : Found) → Searched f (octets f b) at r → noSecond r ≡ Good → Spelt f Aliens at (length f)
@@ -164,7 +165,7 @@ module _ (rate : ℕ) (f : List ℕ) (b : Bytes f) where
       }
 
   -- ---- the first fault
-  stands : (why : Fault) → Stops f Due 0 why → First f (why .at)
+  stands : (why : Fault) → Stops f Due 0 why → FirstFault f (why .at)
   stands why s = record {
     start = s .start;
     width = s .width;
@@ -177,12 +178,12 @@ module _ (rate : ℕ) (f : List ℕ) (b : Bytes f) where
       at (inr e) = inr (e, s .low, s .high)
 
   -- in a chunk that is skipped
-  part-due : {head : List ℕ} → Opened head → {bytes : List ℕ} {width : ℕ} → AlienPart bytes width → Due (head ++ bytes) width
+  part-due : {head : List ℕ} → OpenedSong head → {bytes : List ℕ} {width : ℕ} → AlienPart bytes width → Due (head ++ bytes) width
   part-due o (at-type others) = chunkType o others
   part-due o (at-length a c d e no-header no-track others) = chunkLength a c d e no-header no-track o others
   part-due o (at-body part rest others) = chunkBody part rest o others
 
-  behind-head : (next : ℕ) → Spelt f Opened 0 next → (why : Fault) → Stops f AlienPart next why → First f (why .at)
+  behind-head : (next : ℕ) → Spelt f OpenedSong 0 next → (why : Fault) → Stops f AlienPart next why → FirstFault f (why .at)
   behind-head next head why s = stands why (record {
     start = s .start;
     width = s .width;
@@ -198,7 +199,7 @@ module _ (rate : ℕ) (f : List ℕ) (b : Bytes f) where
   })
 
   -- at the type of a chunk
-  at-chunk : (next place : ℕ) → Spelt f Opened 0 next → Spelt f Aliens next place → place ≤ length f → (why : Fault) → place ≤ why .at → why .at < place + 4 → (why .at + 1 ≡ place + 4) ⊎ (why .at ≡ length f) → First f (why .at)
+  at-chunk : (next place : ℕ) → Spelt f OpenedSong 0 next → Spelt f Aliens next place → place ≤ length f → (why : Fault) → place ≤ why .at → why .at < place + 4 → (why .at + 1 ≡ place + 4) ⊎ (why .at ≡ length f) → FirstFault f (why .at)
   at-chunk next place head others room why low high last = behind-head next head why (record {
     start = place;
     width = 4;
@@ -209,25 +210,25 @@ module _ (rate : ℕ) (f : List ℕ) (b : Bytes f) where
     inside = room;
   })
 
-  behind-all : (at : ℕ) → Spelt f Opened 0 at → at ≤ length f → (why : Fault) → restOf f at ≡ Broken why → First f (why .at)
-  unfolding restOf trackAt
+  behind-all : (at : ℕ) → Spelt f OpenedSong 0 at → at ≤ length f → (why : Fault) → restAt f at ≡ Broken why → FirstFault f (why .at)
+  unfolding restAt trackAt
   behind-all at head room why = go (trackFrom (length f) f at) (search f (octets f b) (length f) at room (omega arith))
     where
-      go : (r : Found) → Searched f (octets f b) at r → noSecond r ≡ Broken why → First f (why .at)
+      go : (r : Found) → Searched f (octets f b) at r → noSecond r ≡ Broken why → FirstFault f (why .at)
       go (found.Track place) (others, type, inside) e =
           let there = ap (λ (w : Fault). w .at) (fault-is e) in
           at-chunk at place head others (omega arith) why (omega arith) (omega arith) (inl (omega arith))
       go found.Nothing s e = let z : _≡_ {A = ℕ} 0 1 = cc in absurd (omega arith)
-      go (found.Broken w) s e = subst (λ (w : Fault). First f (w .at)) (fault-is e) (behind-head at head w s)
+      go (found.Broken w) s e = subst (λ (w : Fault). FirstFault f (w .at)) (fault-is e) (behind-head at head w s)
 
   module _ (division next : ℕ) (head : Spelt f (λ (bytes : List ℕ). Header bytes division) 0 next) where
-    opened : Spelt f Opened 0 next
+    opened : Spelt f OpenedSong 0 next
     opened = record { bytes = head .bytes; is = begun (head .is); there = head .there }
 
     abbrev Stopped : Events → Type 0
-    Stopped es = (why : Fault) → songFrom rate division firstTempo 0 es .verdict ≡ Broken why → First f (why .at)
+    Stopped es = (why : Fault) → songFrom rate division firstTempo 0 es .verdict ≡ Broken why → FirstFault f (why .at)
 
-    in-track : (place : ℕ) → Spelt f Aliens next place → (type : From f place MTrk (place + 4)) → (why : Fault) → Breaks f (full place type) 0 (place + 8) why → First f (why .at)
+    in-track : (place : ℕ) → Spelt f Aliens next place → (type : From f place MTrk (place + 4)) → (why : Fault) → Breaks f (full place type) 0 (place + 8) why → FirstFault f (why .at)
     in-track place others type why (inl (c, room, plain)) = stands why (record {
       start = why .at;
       width = 1;
@@ -290,18 +291,18 @@ module _ (rate : ℕ) (f : List ℕ) (b : Bytes f) where
         go found.Nothing s = λ why e.
             let there = ap (λ (w : Fault). w .at) (fault-is e) in
             at-chunk next (length f) opened s (omega arith) why (omega arith) (omega arith) (inr (sym there))
-        go (found.Broken w) s = λ why e. subst (λ (w : Fault). First f (w .at)) (fault-is e) (behind-head next opened w s)
+        go (found.Broken w) s = λ why e. subst (λ (w : Fault). FirstFault f (w .at)) (fault-is e) (behind-head next opened w s)
 
-  first : (why : Fault) → songOf rate f .verdict ≡ Broken why → First f (why .at)
+  first : (why : Fault) → songOf rate f .verdict ≡ Broken why → FirstFault f (why .at)
   unfolding songOf
   first why = go (headerOf f) (opens f (octets f b))
     where
-      go : (o : Opening) → Opens f (octets f b) o → songIn rate f o .verdict ≡ Broken why → First f (why .at)
-      go (opening.Broken w) h e = subst (λ (w : Fault). First f (w .at)) (fault-is e) (stands w h)
+      go : (o : Opening) → Opens f (octets f b) o → songIn rate f o .verdict ≡ Broken why → FirstFault f (why .at)
+      go (opening.Broken w) h e = subst (λ (w : Fault). FirstFault f (w .at)) (fault-is e) (stands w h)
       go (opening.Is division next) h e = stopped division next (h .0) (h .1) why e
 
 takes : (f : List ℕ) (rate room : ℕ) → (b : Bytes f) → goodRate rate ≡ true → (g : Grammatical rate f)
-    → 2 * length (soundsBehind rate (g .division) [] (g .events)) ≤ room → numberOf (countedOf f rate room) ≡ 0
+    → 2 * length (soundsBehind rate (g .division) [] (g .events)) ≤ room → cuesNumber (countedOf f rate room) ≡ 0
 takes f rate room b good g fits =
     promised .song-rows f rate room .done-row good (good-from rate f b g) (subst (λ (l : List Entry). 2 * length l ≤ room) (sym (listed rate f b g)) fits)
 

@@ -10,12 +10,12 @@ use lib.ListN.{length}
 use borrow.Author.Tests.{le-ltb, ltb-false, leb-true, eqb-true}
 use Rattle.smf.specs.Faults.{faultAt, refusalOf}
 use Rattle.smf.specs.Fields.{twoAt, fourAt}
-use Rattle.smf.specs.Files.{Events, headerType, trackType, fieldsOf, headerOf, chunkAt, trackFrom, trackAt, noSecond, restOf, eventsFrom, trackOf, eventsIn, eventsOf}
+use Rattle.smf.specs.Files.{Events, headerType, trackType, fieldsOf, headerOf, chunkAt, trackFrom, trackAt, noSecond, restAt, eventsFrom, trackOf, eventsIn, eventsOf}
 use Rattle.smf.specs.Files.Events.{then, over}
-use Rattle.smf.specs.Times.{firstTempo, frameOf}
-use Rattle.smf.specs.Promised.{Timed, tempoBehind, sumOf, soundsBehind}
+use Rattle.smf.specs.Times.{firstTempo, frameAt}
+use Rattle.smf.specs.Promised.{Timed, tempoBehind, tempoSum, soundsBehind}
 use Rattle.walks.specs.Each.{Each}
-use Rattle.smf.specs.Cues.{Entry, entriesOf, Song, tempoAfter, lateOf, songFrom, songIn, songOf}
+use Rattle.smf.specs.Cues.{Entry, eventEntries, Song, tempoAfter, tooLate, songFrom, songIn, songOf}
 use Rattle.smf.specs.declared.faults.Reason.the-variants.{Missing, NoHeader, ShortHeader, OtherTrackCount, NoDivision, LateFrame}
 use Rattle.smf.specs.declared.faults.Fault.{Fault}
 use Rattle.smf.specs.declared.events.Event.{Event}
@@ -39,8 +39,8 @@ use Rattle.song_grammar.proofs.Same.{fault-is, events-told}
 abbrev pub InRange : Entry → Type 0
 InRange e = e .frame ≤ 2 ^ 48
 
-pub not-late : (frame : ℕ) (e : Event) (l : List Entry) → Each InRange (entriesOf frame e ++ l) → (lateOf frame e ≡ false) × Each InRange l
-unfolding Each entriesOf lateOf
+pub not-late : (frame : ℕ) (e : Event) (l : List Entry) → Each InRange (eventEntries frame e ++ l) → (tooLate frame e ≡ false) × Each InRange l
+unfolding Each eventEntries tooLate
 not-late frame (Note key) l h = (le-ltb _ _ (h .0), h .1)
 not-late frame (Tempo new) l h = (refl, h)
 not-late frame Other l h = (refl, h)
@@ -50,7 +50,7 @@ pub good-or-late : (rate division tempo sum : ℕ) (es : Events) → lastOf es �
 unfolding lastOf songFrom
 good-or-late rate division tempo sum (over v) e = inl e
 good-or-late rate division tempo sum (then ticks m next rest) e =
-    both (λ (s : Song). (s .verdict ≡ Good) ⊎ ((at : ℕ) × (s .verdict ≡ Broken (faultAt LateFrame at)))) (lateOf (frameOf rate division (sum + ticks * tempo)) m) _ _
+    both (λ (s : Song). (s .verdict ≡ Good) ⊎ ((at : ℕ) × (s .verdict ≡ Broken (faultAt LateFrame at)))) (tooLate (frameAt rate division (sum + ticks * tempo)) m) _ _
     (λ _. inr (_, refl))
     (λ _. good-or-late rate division (tempoAfter tempo m) (sum + ticks * tempo) rest e)
 
@@ -126,8 +126,8 @@ module _ (f : List ℕ) (octets : Octets f) where
       (λ _. both PlainFound (ltb (length f) (at + 8)) _ _ (λ _. refl)
       (λ _. both PlainFound (ltb (length f) (at + 8 + fourAt f (at + 4))) _ _ (λ _. refl) (λ _. plain-search n (at + 8 + fourAt f (at + 4))))))))
 
-  plain-rest : (at : ℕ) (why : Fault) → restOf f at ≡ Broken why → Plain why
-  unfolding restOf trackAt refusalOf
+  plain-rest : (at : ℕ) (why : Fault) → restAt f at ≡ Broken why → Plain why
+  unfolding restAt trackAt refusalOf
   plain-rest at why = go (trackFrom (length f) f at) (plain-search (length f) at)
     where
       go : (r : Found) → PlainFound r → noSecond r ≡ Broken why → Plain why
@@ -194,14 +194,14 @@ module _ (f : List ℕ) (octets : Octets f) where
     twelve plain e = let same = ap (λ (v : Fault). refusalOf (v .reason)) (fault-is e) in absurd (omega arith)
 
     late-track : (past : List Timed) (running at : ℕ) (es : Events) → Tracked f full running at es
-        → songFrom rate division (tempoBehind past) (sumOf past) es .verdict ≡ Broken why → LateTrack past running at
-    unfolding songFrom sumOf tempoBehind soundsBehind frameOf
+        → songFrom rate division (tempoBehind past) (tempoSum past) es .verdict ≡ Broken why → LateTrack past running at
+    unfolding songFrom tempoSum tempoBehind soundsBehind frameAt
     late-track past running at (over Good) t = λ e. let z : _≡_ {A = ℕ} 0 1 = cc in absurd (omega arith)
     late-track past running at (over (Broken w)) (inl (c, room, plain)) = λ e. twelve plain e
     late-track past running at (over (Broken w)) (inr c) = λ e. twelve (plain-rest full w (c .behind)) e
     late-track past running at (then ticks m next rest) (status, s, room, more) =
         let t : Timed = record { delta = ticks; event = m } in
-        both (λ (song : Song). song .verdict ≡ Broken why → LateTrack past running at) (lateOf (frameOf rate division (sumOf past + ticks * tempoBehind past)) m) _ _
+        both (λ (song : Song). song .verdict ≡ Broken why → LateTrack past running at) (tooLate (frameAt rate division (tempoSum past + ticks * tempoBehind past)) m) _ _
         (λ late e.
         let last = ap (λ (w : Fault). w .at) (fault-is e) in
         let long = from-length f at (s .bytes) next (s .there) in
@@ -211,7 +211,7 @@ module _ (f : List ℕ) (octets : Octets f) where
           spelt = record { bytes = s .bytes; is = event-before (s .is) (ends-at-once status); there = subst (From f at (s .bytes)) behind (s .there) };
           room = omega arith;
           late = λ h.
-              let early = not-late (frameOf rate division (sumOf past + ticks * tempoBehind past)) m [] h .0 in
+              let early = not-late (frameAt rate division (tempoSum past + ticks * tempoBehind past)) m [] h .0 in
               let z : _≡_ {A = ℕ} 0 1 = cc in
               omega arith;
         })
@@ -229,7 +229,7 @@ module _ (f : List ℕ) (octets : Octets f) where
         })
 
   pub fourteen : (rate : ℕ) (why : Fault) → songOf rate f .verdict ≡ Broken why → refusalOf (why .reason) ≡ 14 → Late rate f (why .at)
-  unfolding songOf sumOf tempoBehind
+  unfolding songOf tempoSum tempoBehind
   fourteen rate why told number = go (headerOf f) kind-header (opens f octets) told
     where
       in-file : (division next : ℕ) → Spelt f (λ (bytes : List ℕ). Header bytes division) 0 next → Plain why ⊎ Entered rate division why next → Late rate f (why .at)

@@ -13,10 +13,10 @@ use Rattle.octets.specs.Octets.{byteAt}
 use Rattle.smf.specs.Faults.{faultAt}
 use Rattle.smf.specs.Fields.{twoAt, fourAt}
 use Rattle.smf.specs.Events.{stepAt}
-use Rattle.smf.specs.Files.{Events, headerType, trackType, upTo, unless, fieldsOf, headerOf, chunkAt, trackFrom, trackAt, noSecond, restOf, behindOf, eventsOn, eventsFrom, trackOf, eventsIn, eventsOf}
+use Rattle.smf.specs.Files.{Events, headerType, trackType, upTo, unless, fieldsOf, headerOf, chunkAt, trackFrom, trackAt, noSecond, restAt, behindTrack, eventsOn, eventsFrom, trackOf, eventsIn, eventsOf}
 use Rattle.smf.specs.Files.Events.{over}
-use Rattle.smf.specs.Times.{firstTempo, frameOf}
-use Rattle.smf.specs.Cues.{Entry, Song, entriesOf, overOf, after, tempoAfter, lateOf, songFrom, songIn, songOf}
+use Rattle.smf.specs.Times.{firstTempo, frameAt}
+use Rattle.smf.specs.Cues.{Entry, Song, eventEntries, emptyWith, entriesFirst, tempoAfter, tooLate, songFrom, songIn, songOf}
 use Rattle.smf.specs.declared.faults.Reason.{Reason}
 use Rattle.smf.specs.declared.faults.Reason.the-variants.{Missing, NoHeader, ShortHeader, OtherFormat, OtherTrackCount, SmpteDivision, NoDivision, SecondHeader, BehindEndOfTrack, LateFrame}
 use Rattle.smf.specs.declared.faults.Fault.{Fault}
@@ -50,7 +50,7 @@ pub fault-is : {v w : Fault} → Broken v ≡ Broken w → v ≡ w
 fault-is e = cc
 
 carried : (why : Fault) (b : Bool) (v : Verdict) (es : List Entry) (y y' : Song) → (y .verdict ≡ Broken why → y' .verdict ≡ Broken why)
-    → cond b (overOf v) (after es y) .verdict ≡ Broken why → cond b (overOf v) (after es y') .verdict ≡ Broken why
+    → cond b (emptyWith v) (entriesFirst es y) .verdict ≡ Broken why → cond b (emptyWith v) (entriesFirst es y') .verdict ≡ Broken why
 carried why true v es y y' more e = e
 carried why false v es y y' more e = more e
 
@@ -167,8 +167,8 @@ module _ (k : ℕ) (f g : List ℕ) (same : (i : ℕ) → i ≤ k → byteAt g i
         h₁)
 
     -- behind a track
-    rest-low : (at : ℕ) → at ≤ length f → (why : Fault) → restOf f at ≡ Broken why → at ≤ why .at
-    unfolding restOf trackAt
+    rest-low : (at : ℕ) → at ≤ length f → (why : Fault) → restAt f at ≡ Broken why → at ≤ why .at
+    unfolding restAt trackAt
     rest-low at room why = go (trackFrom (length f) f at) (search f octets (length f) at room (omega arith))
       where
         go : (r : Found) → Searched f octets at r → noSecond r ≡ Broken why → at ≤ why .at
@@ -176,8 +176,8 @@ module _ (k : ℕ) (f g : List ℕ) (same : (i : ℕ) → i ≤ k → byteAt g i
         go found.Nothing s e = let z : _≡_ {A = ℕ} 0 1 = cc in absurd (omega arith)
         go (found.Broken w) s e = omega (arith, from-length f at (s .spelt .bytes) (s .start) (s .spelt .there), s .low, ap (λ (w : Fault). w .at) (fault-is e))
 
-    same-rest : (at : ℕ) → at ≤ length f → (why : Fault) → why .at ≤ k → restOf f at ≡ Broken why → (at ≤ k) × (restOf g at ≡ Broken why)
-    unfolding restOf trackAt
+    same-rest : (at : ℕ) → at ≤ length f → (why : Fault) → why .at ≤ k → restAt f at ≡ Broken why → (at ≤ k) × (restAt g at ≡ Broken why)
+    unfolding restAt trackAt
     same-rest at room why by = go (trackFrom (length f) f at) refl (search f octets (length f) at room (omega arith))
       where
         told : (r : Found) → trackFrom (length f) f at ≡ r → Searched f octets at r → InFound k (length f) r → noSecond r ≡ Broken why
@@ -192,14 +192,14 @@ module _ (k : ℕ) (f g : List ℕ) (same : (i : ℕ) → i ≤ k → byteAt g i
         go found.Nothing is s e = let z : _≡_ {A = ℕ} 0 1 = cc in absurd (omega arith)
         go (found.Broken w) is s e = told (found.Broken w) is s (let p = ap (λ (w : Fault). w .at) (fault-is e) in omega arith) e
 
-    same-behind : (full next : ℕ) → next ≤ min full (length f) → (why : Fault) → why .at ≤ k → behindOf f full next ≡ Broken why
-        → (next ≤ k) × (behindOf g full next ≡ Broken why)
-    unfolding behindOf
+    same-behind : (full next : ℕ) → next ≤ min full (length f) → (why : Fault) → why .at ≤ k → behindTrack f full next ≡ Broken why
+        → (next ≤ k) × (behindTrack g full next ≡ Broken why)
+    unfolding behindTrack
     same-behind full next room why by = go (ltb next (min full (length f))) refl (ltb (length f) full) refl
       where
         go : (a : Bool) → ltb next (min full (length f)) ≡ a → (b : Bool) → ltb (length f) full ≡ b
-            → cond a (Broken (faultAt BehindEndOfTrack next)) (cond b (Broken (faultAt Missing (length f))) (restOf f full)) ≡ Broken why
-            → (next ≤ k) × (behindOf g full next ≡ Broken why)
+            → cond a (Broken (faultAt BehindEndOfTrack next)) (cond b (Broken (faultAt Missing (length f))) (restAt f full)) ≡ Broken why
+            → (next ≤ k) × (behindTrack g full next ≡ Broken why)
         go true ea b eb e =
             let l = ltb-true next (min full (length f)) ea in
             let p = ap (λ (w : Fault). w .at) (fault-is e) in
@@ -258,14 +258,14 @@ module _ (k : ℕ) (f g : List ℕ) (same : (i : ℕ) → i ≤ k → byteAt g i
               let ends = step-ends f (min full (length f)) running at (step.Is d m status next) at-step in
               let up = ends .1 in
               let less = ends .0 in
-              let frame = frameOf rate division (sum + d * tempo) in
+              let frame = frameAt rate division (sum + d * tempo) in
               let low : next ≤ suc k =
-              both (λ (song : Song). song .verdict ≡ Broken why → next ≤ suc k) (lateOf frame m) _ _
+              both (λ (song : Song). song .verdict ≡ Broken why → next ≤ suc k) (tooLate frame m) _ _
               (λ _ e'. let p = ap (λ (w : Fault). w .at) (fault-is e') in omega arith)
               (λ _ e'. omega (arith, track-reach n status next (tempoAfter tempo m) (sum + d * tempo) (s .0) up why (omega arith) e'))
               e in
               rw (there (step.Is d m status next) at-step low)
-              (carried why (lateOf frame m) (Broken (faultAt LateFrame (next - 1))) (entriesOf frame m)
+              (carried why (tooLate frame m) (Broken (faultAt LateFrame (next - 1))) (eventEntries frame m)
               (songFrom rate division (tempoAfter tempo m) (sum + d * tempo) (eventsFrom n f full status next))
               (songFrom rate division (tempoAfter tempo m) (sum + d * tempo) (eventsFrom n' g full status next))
               (more status next (tempoAfter tempo m) (sum + d * tempo) (s .0) up less low) e)

@@ -12,7 +12,7 @@ use borrow.Author.Tests.{ltb-true, ltb-false, leb-true, leb-false, eqb-true, eqb
 use Rattle.octets.specs.Octets.{byteAt, numberOf}
 use Rattle.smf.specs.Faults.{refusalOf}
 use Rattle.smf.specs.Fields.{threeAt, quantityFrom, quantityAt}
-use Rattle.smf.specs.Events.{dataAt, oneByte, messageOf, withData, channelAt, past, withQuantity, sysexAt, tempoOf, metaOf, metaAt, statusOf, eventAt}
+use Rattle.smf.specs.Events.{dataAt, oneByte, messageOf, withData, channelEvent, past, withQuantity, sysexAt, tempoOf, metaOf, metaAt, statusOf, eventAt}
 use Rattle.smf.specs.declared.faults.Fault.{Fault}
 use Rattle.smf.specs.declared.fields.Quantity as fields
 use Rattle.smf.specs.declared.fields.Quantity.the-variants as quantity
@@ -219,8 +219,8 @@ module _ (f : List ℕ) (end : ℕ) where
         (λ two. second x (b .1) (b .0) (b .2) two (dataAt f end (at + 1)) (byte (at + 1)))
     first (datum.Broken why) b = (record { bytes = []; is = begins-none; there = sym (b .0) }, omega arith, b .1)
 
-    pub hears : Hears status at (channelAt f end status at)
-    unfolding channelAt
+    pub hears : Hears status at (channelEvent f end status at)
+    unfolding channelEvent
     hears = first (dataAt f end at) (byte at)
 
 -- ---- a size and so many bytes
@@ -493,7 +493,7 @@ module _ (f : List ℕ) (end running : ℕ) where
   unfolding statusOf refusalOf
   shows-status at low inside =
       both (Shows at) (ltb (byteAt f at) 240) _ _
-      (λ e. let high = ltb-true (byteAt f at) 240 e in told-shown at (channelAt f end (byteAt f at) (at + 1)) low high (hears f end (byteAt f at) (at + 1) low high (omega arith)))
+      (λ e. let high = ltb-true (byteAt f at) 240 e in told-shown at (channelEvent f end (byteAt f at) (at + 1)) low high (hears f end (byteAt f at) (at + 1) low high (omega arith)))
       (λ _. both (Shows at) (eqb (byteAt f at) 255) _ _ (λ e. shows-meta at (eqb-true (byteAt f at) 255 e) inside)
       (λ _. both (Shows at) (eqb (byteAt f at) 240 || eqb (byteAt f at) 247) _ _ (λ e. which (eqb (byteAt f at) 240) refl (eqb (byteAt f at) 247) refl e)
       (λ _. (record { bytes = []; is = none-yet running; there = omega arith }, omega arith, refl))))
@@ -514,6 +514,6 @@ module _ (f : List ℕ) (end running : ℕ) where
       none-here : Spelt f (EventPart running) at at
       none-here = record { bytes = []; is = none-yet running; there = refl }
 
-      go : Running running → (running ≡ 0 → ⊥) → Shows at (channelAt f end running at)
+      go : Running running → (running ≡ 0 → ⊥) → Shows at (channelEvent f end running at)
       go (inl z) some = absurd (some z)
-      go (inr k) some = again-shown at (channelAt f end running at) (k .0) (k .1) (hears f end running at (k .0) (k .1) room)
+      go (inr k) some = again-shown at (channelEvent f end running at) (k .0) (k .1) (hears f end running at (k .0) (k .1) room)

@@ -9,7 +9,7 @@ use lib.ListN.{length}
 use borrow.Author.Tests.{lt-ltb, le-ltb, le-leb, lt-leb, ne-eqb}
 use Rattle.octets.specs.Octets.{byteAt, numberOf}
 use Rattle.smf.specs.Fields.{quantityFrom, quantityAt}
-use Rattle.smf.specs.Events.{dataAt, oneByte, messageOf, channelAt, sysexAt, tempoOf, metaOf, metaAt, statusOf, eventAt, timed, stepAt}
+use Rattle.smf.specs.Events.{dataAt, oneByte, messageOf, channelEvent, sysexAt, tempoOf, metaOf, metaAt, statusOf, eventAt, stepTimed, stepAt}
 use Rattle.smf.specs.declared.fields.Quantity.the-variants as quantity
 use Rattle.smf.specs.declared.events.Event.{Event}
 use Rattle.smf.specs.declared.events.Event.the-variants.{Note, Tempo, Other}
@@ -43,13 +43,13 @@ module _ (f : List ℕ) (end : ℕ) where
   unfolding dataAt
   data-taken at h k = simp (lt-ltb _ _ h, lt-ltb _ _ k)
 
-  one-taken : (status at : ℕ) → oneByte status ≡ true → at < end → byteAt f at < 128 → channelAt f end status at ≡ Is Other status (at + 1)
-  unfolding channelAt
+  one-taken : (status at : ℕ) → oneByte status ≡ true → at < end → byteAt f at < 128 → channelEvent f end status at ≡ Is Other status (at + 1)
+  unfolding channelEvent
   one-taken status at one h k = rw (data-taken at h k, one)
 
   two-taken : (status at : ℕ) → oneByte status ≡ false → at + 1 < end → byteAt f at < 128 → byteAt f (at + 1) < 128
-      → channelAt f end status at ≡ Is (messageOf status (byteAt f at) (byteAt f (at + 1))) status (at + 2)
-  unfolding channelAt
+      → channelEvent f end status at ≡ Is (messageOf status (byteAt f at) (byteAt f (at + 1))) status (at + 2)
+  unfolding channelEvent
   two-taken status at two h k l = rw (data-taken at (omega arith) k, two, data-taken (at + 1) h l)
 
 pub one-byte : (status : ℕ) → 192 ≤ status → status < 224 → oneByte status ≡ true
@@ -91,7 +91,7 @@ other-means status x y h =
 module _ (f : List ℕ) (end : ℕ) where
   -- a message that is taken: its status, and its first byte
   pub record Heard (status at behind : ℕ) (e : Event) : Type 0 where
-    pub read : channelAt f end status at ≡ Is e status behind
+    pub read : channelEvent f end status at ≡ Is e status behind
     pub low : 128 ≤ status
     pub high : status < 240
     pub small : byteAt f at < 128
@@ -273,7 +273,7 @@ module _ (f : List ℕ) (end : ℕ) where
       (end-taken (at + 1) behind 0x2F (length body) size body r (from .1) room (omega arith) refl refl)
 
   -- ---- with its delta-time
-  step-on : (running at ticks mid : ℕ) → at < end → quantityAt f end at ≡ quantity.Is ticks mid → stepAt f end running at ≡ timed ticks (eventAt f end running mid)
+  step-on : (running at ticks mid : ℕ) → at < end → quantityAt f end at ≡ quantity.Is ticks mid → stepAt f end running at ≡ stepTimed ticks (eventAt f end running mid)
   unfolding stepAt
   step-on running at ticks mid h q = rw (lt-ltb _ _ h, q)
 
@@ -281,7 +281,7 @@ module _ (f : List ℕ) (end : ℕ) where
     apart : Split f at delta event behind
     apart = split f at delta event behind from
 
-    on : stepAt f end running at ≡ timed ticks (eventAt f end running (apart .mid))
+    on : stepAt f end running at ≡ stepTimed ticks (eventAt f end running (apart .mid))
     on =
         let some = some-bytes f end q in
         let place = apart .place in
@@ -289,9 +289,9 @@ module _ (f : List ℕ) (end : ℕ) where
         step-on running at ticks (apart .mid) (omega arith) (digits-taken f end q at (apart .mid) (apart .left) (omega arith))
 
     pub step-taken : {status : ℕ} {e : Event} → OneEvent running event e status → stepAt f end running at ≡ step.Is ticks e status behind
-    step-taken o = on ∙ ap (timed ticks) (event-taken o (apart .mid) behind (apart .right) room)
+    step-taken o = on ∙ ap (stepTimed ticks) (event-taken o (apart .mid) behind (apart .right) room)
 
     pub end-step : (size body : List ℕ) → Quantity size (length body) → event ≡ 0xFF ∷ 0x2F ∷ (size ++ body) → stepAt f end running at ≡ step.End behind
     end-step size body r is =
         let right : From f (apart .mid) (0xFF ∷ 0x2F ∷ (size ++ body)) behind = subst (λ (l : List ℕ). From f (apart .mid) l behind) is (apart .right) in
-        on ∙ ap (timed ticks) (end-event running (apart .mid) behind size body r right room)
+        on ∙ ap (stepTimed ticks) (end-event running (apart .mid) behind size body r right room)

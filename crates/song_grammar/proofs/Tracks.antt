@@ -9,11 +9,11 @@ use lib.ListN.{length, length-append}
 use borrow.Author.Tests.{ltb-true, ltb-false}
 use Rattle.smf.specs.Faults.{faultAt, refusalOf}
 use Rattle.smf.specs.Fields.{quantityAt}
-use Rattle.smf.specs.Events.{eventAt, timed, withDelta, stepAt}
-use Rattle.smf.specs.Files.{Events, restOf, behindOf, eventsOn, eventsFrom}
+use Rattle.smf.specs.Events.{eventAt, stepTimed, withDelta, stepAt}
+use Rattle.smf.specs.Files.{Events, restAt, behindTrack, eventsOn, eventsFrom}
 use Rattle.smf.specs.Files.Events.{then, over}
-use Rattle.smf.specs.Times.{frameOf}
-use Rattle.smf.specs.Cues.{Song, tempoAfter, lateOf, songFrom}
+use Rattle.smf.specs.Times.{frameAt}
+use Rattle.smf.specs.Cues.{Song, tempoAfter, tooLate, songFrom}
 use Rattle.smf.specs.Promised.{Timed, timedOf}
 use Rattle.smf.specs.declared.faults.Reason.the-variants.{LateFrame}
 use Rattle.smf.specs.declared.faults.Fault.{Fault}
@@ -100,7 +100,7 @@ module _ (f : List ℕ) (end : ℕ) where
   Steps running at (step.Broken why) = Cut f end (TrackPart running) at why
 
   module _ (running at : ℕ) where
-    after-delta : (ticks mid : ℕ) → Spelt f (λ (bytes : List ℕ). Quantity bytes ticks) at mid → (r : Read) → Shows f end running mid r → Steps running at (timed ticks r)
+    after-delta : (ticks mid : ℕ) → Spelt f (λ (bytes : List ℕ). Quantity bytes ticks) at mid → (r : Read) → Shows f end running mid r → Steps running at (stepTimed ticks r)
     after-delta ticks mid d (Is e status behind) s = (
       s .0,
       record {
@@ -144,7 +144,7 @@ module _ (f : List ℕ) (full : ℕ) where
   pub record Closes (P : List ℕ → Type 0) (at : ℕ) (v : Verdict) : Type 0 where
     pub spelt : Spelt f P at full
     pub inside : full ≤ length f
-    pub behind : restOf f full ≡ v
+    pub behind : restAt f full ≡ v
 
   abbrev pub Tracked : ℕ → ℕ → Events → Type 0
   Tracked running at (over verdict.Good) = Closes (λ (bytes : List ℕ). Track running bytes []) at verdict.Good
@@ -164,15 +164,15 @@ module _ (f : List ℕ) (full : ℕ) where
     closed verdict.Good c = c
     closed (verdict.Broken why) c = inr c
 
-    ends : (next : ℕ) → next ≤ min full (length f) → Spelt f (λ (bytes : List ℕ). Track running bytes []) at next → Tracked running at (over (behindOf f full next))
-    unfolding behindOf refusalOf
+    ends : (next : ℕ) → next ≤ min full (length f) → Spelt f (λ (bytes : List ℕ). Track running bytes []) at next → Tracked running at (over (behindTrack f full next))
+    unfolding behindTrack refusalOf
     ends next room s =
         both (λ (v : Verdict). Tracked running at (over v)) (ltb next (min full (length f))) _ _ (λ _. inl (whole-part next s, omega arith, refl))
         (λ late. let k = ltb-false next (min full (length f)) late in
         both (λ (v : Verdict). Tracked running at (over v)) (ltb (length f) full) _ _
         (λ short. let l = ltb-true (length f) full short in inl (subst (Spelt f (TrackPart running) at) (omega arith) (whole-part next s), omega arith, refl))
         (λ whole. let l = ltb-false (length f) full whole in
-        closed (restOf f full) (record { spelt = subst (Spelt f (λ (bytes : List ℕ). Track running bytes []) at) (omega arith) s; inside = l; behind = refl })))
+        closed (restAt f full) (record { spelt = subst (Spelt f (λ (bytes : List ℕ). Track running bytes []) at) (omega arith) s; inside = l; behind = refl })))
 
   pub tracked : (n running at : ℕ) → Running running → at ≤ min full (length f) → Tracked running at (eventsFrom n f full running at)
   unfolding eventsFrom eventsOn refusalOf
@@ -275,7 +275,7 @@ module _ (f : List ℕ) (full : ℕ) where
         behind = c .behind;
       })
   broken-track rate division tempo sum running at (then ticks m next rest) (status, s, room, more) why =
-      both (λ (song : Song). song .verdict ≡ verdict.Broken why → Breaks running at why) (lateOf (frameOf rate division (sum + ticks * tempo)) m) _ _
+      both (λ (song : Song). song .verdict ≡ verdict.Broken why → Breaks running at why) (tooLate (frameAt rate division (sum + ticks * tempo)) m) _ _
       (λ _ e.
       let is : faultAt LateFrame (next - 1) ≡ why = cc in
       subst (Breaks running at) is (inl (late-part running at ticks m status next s, omega arith, (λ z. omega arith))))

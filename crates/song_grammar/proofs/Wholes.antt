@@ -7,7 +7,7 @@ use lib.ListN.{length}
 use borrow.Author.Tests.{le-ltb, lt-leb, ne-eqb}
 use Rattle.octets.specs.Octets.{byteAt, numberAfter, numberOf}
 use Rattle.smf.specs.Fields.{twoAt, fourAt}
-use Rattle.smf.specs.Files.{Events, headerType, trackType, fieldsOf, headerOf, chunkAt, trackFrom, trackAt, restOf, behindOf, eventsOn, eventsFrom, eventsOf}
+use Rattle.smf.specs.Files.{Events, headerType, trackType, fieldsOf, headerOf, chunkAt, trackFrom, trackAt, restAt, behindTrack, eventsOn, eventsFrom, eventsOf}
 use Rattle.smf.specs.Files.Events.{then, over}
 use Rattle.smf.specs.Promised.{Timed, timedOf}
 use Rattle.smf.specs.declared.chunks.Opening.the-variants as opening
@@ -35,7 +35,7 @@ module _ (f : List ℕ) (full : ℕ) where
   end = min full (length f)
 
   pub record TrackTaken (es : Events) (behind : ℕ) (ts : List Timed) : Type 0 where
-    pub verdict : lastOf es ≡ behindOf f full behind
+    pub verdict : lastOf es ≡ behindTrack f full behind
     pub events : timedOf es ≡ ts
 
   pub track-taken : {running : ℕ} {bytes : List ℕ} {ts : List Timed} → Track running bytes ts → (n at behind : ℕ) → From f at bytes behind → behind ≤ end → behind ≤ at + n
@@ -171,8 +171,8 @@ module _ (f : List ℕ) where
         let kind : fourAt f at ≡ trackType = s .kind in
         track-on n f at k0 fuel ∙ (simp (lt-leb _ _ k0, le-ltb _ _ k4, kind))
 
-    pub nothing-behind : {bytes : List ℕ} → Aliens bytes → (at : ℕ) → From f at bytes (length f) → at ≤ length f → restOf f at ≡ Good
-    unfolding restOf trackAt
+    pub nothing-behind : {bytes : List ℕ} → Aliens bytes → (at : ℕ) → From f at bytes (length f) → at ≤ length f → restAt f at ≡ Good
+    unfolding restAt trackAt
     nothing-behind others at from room =
         let p = aliens-passed others (length f) at (length f) from (omega arith) (omega arith) in
         rw (p .same, track-over (p .left) f (length f) (omega arith))

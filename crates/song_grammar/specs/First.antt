@@ -17,9 +17,9 @@ abbrev pub Early : ℕ → ℕ → List Timed → Type 0
 Early rate division events = Each (λ (e : Entry). e .frame ≤ 2 ^ 48) (soundsBehind rate division [] events)
 
 -- behind what a chunk may stand that is skipped: a header, or a whole file
-pub data Opened : List ℕ → Type 0 where
-  begun : {bytes : List ℕ} {division : ℕ} → Header bytes division → Opened bytes
-  over : {bytes : List ℕ} {division : ℕ} {ts : List Timed} → File bytes division ts → Opened bytes
+pub data OpenedSong : List ℕ → Type 0 where
+  begun : {bytes : List ℕ} {division : ℕ} → Header bytes division → OpenedSong bytes
+  over : {bytes : List ℕ} {division : ℕ} {ts : List Timed} → File bytes division ts → OpenedSong bytes
 
 -- Behind these bytes, which are good, a field of so many bytes is due. What is skipped, and what is an event's, is due
 -- byte by byte: the bytes before it begin something that the grammar spells
@@ -32,10 +32,10 @@ pub data Due : List ℕ → ℕ → Type 0 where
   division : (a b c d : ℕ) → 6 ≤ numberOf (a ∷ b ∷ c ∷ d ∷ []) → Due (MThd ++ (a ∷ b ∷ c ∷ d ∷ 0 ∷ 0 ∷ 0 ∷ 1 ∷ [])) 2
   headerRest : (bytes rest : List ℕ) {division : ℕ} → Header (bytes ++ rest) division → Due bytes 1
   -- of a chunk that is skipped, before the track and behind it, or of one that is refused at its type
-  chunkType : {bytes others : List ℕ} → Opened bytes → Aliens others → Due (bytes ++ others) 4
+  chunkType : {bytes others : List ℕ} → OpenedSong bytes → Aliens others → Due (bytes ++ others) 4
   chunkLength : {bytes others : List ℕ} (a b c d : ℕ) → a ∷ b ∷ c ∷ d ∷ [] ≢ MThd → a ∷ b ∷ c ∷ d ∷ [] ≢ MTrk
-      → Opened bytes → Aliens others → Due (bytes ++ (others ++ (a ∷ b ∷ c ∷ d ∷ []))) 4
-  chunkBody : {bytes : List ℕ} (part rest : List ℕ) → Opened bytes → Aliens (part ++ rest) → Due (bytes ++ part) 1
+      → OpenedSong bytes → Aliens others → Due (bytes ++ (others ++ (a ∷ b ∷ c ∷ d ∷ []))) 4
+  chunkBody : {bytes : List ℕ} (part rest : List ℕ) → OpenedSong bytes → Aliens (part ++ rest) → Due (bytes ++ part) 1
   -- of the track, whose length is judged where its events end, or where it ends
   trackLength : {head others : List ℕ} {division : ℕ} → Header head division → Aliens others
       → Due (head ++ (others ++ MTrk)) 4
@@ -64,7 +64,7 @@ pub record Late (rate : ℕ) (f : List ℕ) (k : ℕ) : Type 0 where
   pub stands : take (k + 1) f ≡ head ++ (others ++ (MTrk ++ (length ++ part)))
 
 -- behind good bytes a field is due, and k is its last byte, or the first of it that is missing: none stands earlier
-pub record First (f : List ℕ) (k : ℕ) : Type 0 where
+pub record FirstFault (f : List ℕ) (k : ℕ) : Type 0 where
   pub start : ℕ
   pub width : ℕ
   pub due : Due (take start f) width

@@ -6,18 +6,15 @@ use mathlib.Core.List.{List, []}
 use mathlib.Core.Logic.{_↔_}
 use Prim.Native.Nat.{ℕ, _+_, _*_, _≤_, _<_}
 use lib.ListN.{length, take}
-use Rattle.walks.specs.Each.{Each}
+use Rattle.octets.specs.Octets.{Bytes}
 use Rattle.smf.specs.Faults.{refusalOf}
-use Rattle.smf.specs.Cues.{songOf, goodRate, countedOf, numberOf}
+use Rattle.smf.specs.Cues.{songOf, goodRate, countedOf, cuesNumber}
 use Rattle.smf.specs.Promised.{Timed, soundsBehind}
 use Rattle.smf.specs.declared.faults.Fault.{Fault}
 use Rattle.smf.specs.declared.chunks.Verdict.the-variants.{Good, Broken}
 use Rattle.smf.specs.declared.Counted.the-variants.{Done}
 use Rattle.song_grammar.specs.Grammar.{File}
-use Rattle.song_grammar.specs.First.{Early, OtherKind, Late, First}
-
-abbrev pub Bytes : List ℕ → Type 0
-Bytes f = Each (λ (b : ℕ). b < 256) f
+use Rattle.song_grammar.specs.First.{Early, OtherKind, Late, FirstFault}
 
 -- a file that the grammar spells, whose starts and stops all lie early enough at a rate
 pub record Grammatical (rate : ℕ) (f : List ℕ) : Type 0 where
@@ -34,11 +31,11 @@ pub record Judged : Type 0 where
       → songOf rate f .entries ≡ soundsBehind rate (g .division) [] (g .events)
   -- so `read_song` takes them, at a good rate and into a list with room, and no others
   pub takes : (f : List ℕ) (rate room : ℕ) → Bytes f → goodRate rate ≡ true → (g : Grammatical rate f)
-      → 2 * length (soundsBehind rate (g .division) [] (g .events)) ≤ room → numberOf (countedOf f rate room) ≡ 0
+      → 2 * length (soundsBehind rate (g .division) [] (g .events)) ≤ room → cuesNumber (countedOf f rate room) ≡ 0
   pub takes-only : (f : List ℕ) (rate room n : ℕ) → Bytes f → countedOf f rate room ≡ Done n → Grammatical rate f
   -- "whichever stands first in the file": none stands before the fault that is told,
   pub first : (rate : ℕ) (f : List ℕ) → Bytes f → (why : Fault) → songOf rate f .verdict ≡ Broken why
-      → First f (why .at)
+      → FirstFault f (why .at)
   -- and nothing behind that byte counts: every file with the same bytes up to it is told the same
   pub alike : (rate : ℕ) (f g : List ℕ) → Bytes f → (why : Fault) → songOf rate f .verdict ≡ Broken why
       → take (why .at + 1) g ≡ take (why .at + 1) f → songOf rate g .verdict ≡ Broken why

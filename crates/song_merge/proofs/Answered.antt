@@ -22,13 +22,13 @@ use Rattle.song_grammar.proofs.Wholes.{Octets}
 use Rattle.song_merge.specs.declared.chunks.Opened.the-variants as opened
 use Rattle.song_merge.specs.declared.merging.Gathered.{Gathered}
 use Rattle.song_merge.specs.declared.merging.Gathered.the-variants as gathered
-use Rattle.song_merge.specs.Songs.{Heading, Tracks, Songs}
-use Rattle.song_merge.specs.Songs.Songs.{songs}
-use Rattle.song_merge.specs.Merges.{allOf}
+use Rattle.song_merge.specs.Songs.{Heading, Tracks, ManyTracks}
+use Rattle.song_merge.specs.Songs.ManyTracks.{songs}
+use Rattle.song_merge.specs.Merges.{mergedAll}
 use Rattle.song_merge.specs.Written.{headingBytes}
-use Rattle.song_merge.specs.Standing.{Stands}
+use Rattle.song_merge.specs.Standing.{TrackStands}
 use Rattle.song_merge.specs.Headings.{openingOf}
-use Rattle.song_merge.specs.Gathers.{Counted, Gathers}
+use Rattle.song_merge.specs.Gathers.{TracksFrom, GathersTracks}
 use Rattle.song_merge.specs.Answers.{Answers}
 use Rattle.song_merge.proofs.Bytes.{bytes-from, bytes-are, bytes-long, bytes-after, from-sets, sets-long}
 use Rattle.song_merge.proofs.Headings.{heading-taken, opens}
@@ -72,7 +72,7 @@ heading-there division size body bytes ts some small long t is =
     subst (λ (l : List ℕ). File l division ts) all (file head-is none chunk-is t none)
 
 module _ (out out' : List ℕ) (division end : ℕ) (ts : List Timed) where
-  pub filed : 0 < division → division < 0x8000 → 22 ≤ end → end ≤ length out → Stands out 22 end ts → out' ≡ sets out 0 (headingBytes division (end - 22)) → (end ≤ length out') × File (take end out') division ts
+  pub filed : 0 < division → division < 0x8000 → 22 ≤ end → end ≤ length out → TrackStands out 22 end ts → out' ≡ sets out 0 (headingBytes division (end - 22)) → (end ≤ length out') × File (take end out') division ts
   filed some small low high t stored =
       let h = headingBytes division (end - 22) in
       let body = bytesAt (end - 22) out 22 in
@@ -88,9 +88,9 @@ module _ (f : List ℕ) (octets : Octets f) where
   pub record Parts (division : ℕ) (tss : List (List Timed)) : Type 0 where
     pub next : ℕ
     pub opening : openingOf f ≡ opened.Is division (length tss) next
-    pub counted : Counted f next (length tss) tss
+    pub counted : TracksFrom f next (length tss) tss
 
-  parts-of : {bytes : List ℕ} {division : ℕ} {tss : List (List Timed)} → Songs bytes division tss → From f 0 bytes (length f) → Parts division tss
+  parts-of : {bytes : List ℕ} {division : ℕ} {tss : List (List Timed)} → ManyTracks bytes division tss → From f 0 bytes (length f) → Parts division tss
   parts-of (songs {head} {bytes} {division} {tss} h t) from =
       let s = split f 0 head bytes (length f) from in
       record {
@@ -99,16 +99,16 @@ module _ (f : List ℕ) (octets : Octets f) where
         counted = (subst (λ (l : List ℕ). Tracks l tss) (sym (bytes-are f bytes (s .mid) (length f) (s .right))) t, refl);
       }
 
-  parts : (division : ℕ) (tss : List (List Timed)) → Songs f division tss → Parts division tss
+  parts : (division : ℕ) (tss : List (List Timed)) → ManyTracks f division tss → Parts division tss
   parts division tss s = parts-of s (whole-from f)
 
-  song-of : (division count next : ℕ) (tss : List (List Timed)) → openingOf f ≡ opened.Is division count next → Counted f next count tss → Songs f division tss
+  song-of : (division count next : ℕ) (tss : List (List Timed)) → openingOf f ≡ opened.Is division count next → TracksFrom f next count tss → ManyTracks f division tss
   song-of division count next tss e (t, n) =
       let o = opens f octets division count next e in
       let head = o .head in
       let rest = bytesAt (length f - next) f next in
       let all = join f 0 (head .bytes) next rest (length f) (head .there) (bytes-from f next (length f) (o .room)) in
-      subst (λ (l : List ℕ). Songs l division tss) (sym (whole-is f (head .bytes ++ rest) all))
+      subst (λ (l : List ℕ). ManyTracks l division tss) (sym (whole-is f (head .bytes ++ rest) all))
       (songs (subst (Heading (head .bytes) division) (sym n) (head .is)) t)
 
   -- ---- the answers
@@ -129,7 +129,7 @@ module _ (f : List ℕ) (octets : Octets f) where
         low (inl n) = omega (arith, refusal-high (why .reason))
         low (inr n) = omega (arith, refusal-high (why .reason))
 
-        no-song : (division : ℕ) (tss : List (List Timed)) → Songs f division tss → ⊥
+        no-song : (division : ℕ) (tss : List (List Timed)) → ManyTracks f division tss → ⊥
         no-song division tss s = let p = parts division tss s in let o = p .opening in let z : _≡_ {A = ℕ} 0 1 = cc in omega arith
 
     module _ (division count next : ℕ) (e : openingOf f ≡ opened.Is division count next) where
@@ -140,7 +140,7 @@ module _ (f : List ℕ) (octets : Octets f) where
       small = let o = opens f octets division count next e in (o .some, o .small)
 
       -- by the header that was read
-      counted-of : (d : ℕ) (tss : List (List Timed)) → Songs f d tss → (d ≡ division) × Counted f next count tss
+      counted-of : (d : ℕ) (tss : List (List Timed)) → ManyTracks f d tss → (d ≡ division) × TracksFrom f next count tss
       counted-of d tss s =
           let p = parts d tss s in
           let o = p .opening in
@@ -152,7 +152,7 @@ module _ (f : List ℕ) (octets : Octets f) where
       no-broken : {A : Type 0} (why : Fault) → openingOf f ≡ opened.Broken why → A
       no-broken why k = absurd (let z : _≡_ {A = ℕ} 0 1 = cc in omega arith)
 
-      pub refused-tracks : Gathers f count next spare out gathered.Broken → Answers f spare out (record { length = 0; number = 12 })
+      pub refused-tracks : GathersTracks f count next spare out gathered.Broken → Answers f spare out (record { length = 0; number = 12 })
       refused-tracks g = record {
         told = λ n. absurd (low n);
         taken = λ d tss s. absurd (no-song d tss s);
@@ -167,21 +167,21 @@ module _ (f : List ℕ) (octets : Octets f) where
           low (inl n) = omega arith
           low (inr n) = omega arith
 
-          no-song : (d : ℕ) (tss : List (List Timed)) → Songs f d tss → ⊥
+          no-song : (d : ℕ) (tss : List (List Timed)) → ManyTracks f d tss → ⊥
           no-song d tss s = g .taken tss (counted-of d tss s .1) refl
 
-      song : (r : Gathered) → Gathers f count next spare out r → (r ≡ gathered.Broken → ⊥) → (division : ℕ) × (tss : List (List Timed)) × Songs f division tss
+      song : (r : Gathered) → GathersTracks f count next spare out r → (r ≡ gathered.Broken → ⊥) → (division : ℕ) × (tss : List (List Timed)) × ManyTracks f division tss
       song r g good = let (tss, c) = g .told good in (division, tss, song-of division count next tss e c)
 
       -- some tracks stand behind the header
-      behind : (tss : List (List Timed)) → Counted f next count tss → 0 < count → next < length f
+      behind : (tss : List (List Timed)) → TracksFrom f next count tss → 0 < count → next < length f
       behind tss (t, n) some = go (firsts f octets next tss in-file t)
         where
           go : Firsts f next tss → next < length f
           go (inl (nothing, is)) = let z = ap length is in absurd (omega arith)
           go (inr (ts, uss, is, f₁)) = let a = f₁ .low in let b = f₁ .is in let c = f₁ .room in omega arith
 
-      pub no-room : Gathers f count next spare out gathered.Short → Answers f spare out (record { length = 2 * length f; number = 8 })
+      pub no-room : GathersTracks f count next spare out gathered.Short → Answers f spare out (record { length = 2 * length f; number = 8 })
       no-room g = record {
         told = λ _. song gathered.Short g (λ k. let z : _≡_ {A = ℕ} 0 1 = cc in omega arith);
         taken = λ d tss s. inr refl;
@@ -196,21 +196,21 @@ module _ (f : List ℕ) (octets : Octets f) where
       }
 
       -- what is known of a merged track
-      pub fits : (end : ℕ) → Gathers f count next spare out (gathered.To end) → (22 ≤ end) × (end ≤ length out) × (end < 2 ^ 32)
+      pub fits : (end : ℕ) → GathersTracks f count next spare out (gathered.To end) → (22 ≤ end) × (end ≤ length out) × (end < 2 ^ 32)
       fits end g =
           let (tss, c) = g .told (λ k. let z : _≡_ {A = ℕ} 0 1 = cc in omega arith) in
           let m = g .merged tss c end refl in
           (m .0, m .1, m .2)
 
-      pub done : (end : ℕ) → Gathers f count next spare out (gathered.To end) → (out' : List ℕ) → out' ≡ sets out 0 (headingBytes division (end - 22)) → Answers f spare out' (record { length = end; number = 0 })
+      pub done : (end : ℕ) → GathersTracks f count next spare out (gathered.To end) → (out' : List ℕ) → out' ≡ sets out 0 (headingBytes division (end - 22)) → Answers f spare out' (record { length = end; number = 0 })
       done end g out' stored = record {
         told = λ _. song (gathered.To end) g (λ k. let z : _≡_ {A = ℕ} 0 1 = cc in omega arith);
         taken = λ d tss s. inl refl;
         merged = λ d tss s n.
             let (same, c) = counted-of d tss s in
             let (low, high, short, stands) = g .merged tss c end refl in
-            subst (λ (k : ℕ). (end ≤ length out') × File (take end out') k (allOf tss)) (sym same)
-            (filed out out' division end (allOf tss) (small .0) (small .1) low high stands stored);
+            subst (λ (k : ℕ). (end ≤ length out') × File (take end out') k (mergedAll tss)) (sym same)
+            (filed out out' division end (mergedAll tss) (small .0) (small .1) low high stands stored);
         short = λ n. absurd (omega arith);
         room = λ d tss s h p q. refl;
         heading = λ why k. no-broken why k;

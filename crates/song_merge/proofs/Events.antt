@@ -15,18 +15,18 @@ use Rattle.song_grammar.specs.Grammar.{Message, OneEvent}
 use Rattle.song_grammar.specs.Grammar.Message.{noteOff, noteOn, keyPressure, control, program, pressure, pitchWheel}
 use Rattle.song_grammar.specs.Grammar.OneEvent.{told, again, sysex, escape, tempo, meta}
 use Rattle.song_merge.specs.declared.cursors.Cursor.{Cursor}
-use Rattle.song_merge.specs.Written.{deltaBytes, eventOf, toldOf, eventBytes}
+use Rattle.song_merge.specs.Written.{deltaBytes, eventOf, wholeEvent, eventBytes}
 use Rattle.song_merge.proofs.Bytes.{bytes-long}
 use Rattle.song_merge.proofs.Deltas.{long-4}
 
 module _ (f : List ℕ) (c : Cursor) where
   -- ---- its bytes
-  pub with-status : byteAt f (c .from) < 128 → toldOf f c ≡ c .before ∷ eventOf f c
-  unfolding toldOf
+  pub with-status : byteAt f (c .from) < 128 → wholeEvent f c ≡ c .before ∷ eventOf f c
+  unfolding wholeEvent
   with-status h = simp (lt-ltb _ _ h)
 
-  pub as-it-is : 128 ≤ byteAt f (c .from) → toldOf f c ≡ eventOf f c
-  unfolding toldOf
+  pub as-it-is : 128 ≤ byteAt f (c .from) → wholeEvent f c ≡ eventOf f c
+  unfolding wholeEvent
   as-it-is h = simp (le-ltb _ _ h)
 
   long : length (eventOf f c) ≡ c .next - c .from
@@ -34,7 +34,7 @@ module _ (f : List ℕ) (c : Cursor) where
 
   -- ---- stored
   abbrev Stored : List ℕ → ℕ → List ℕ → ℕ → Type 0
-  Stored l at x r = (r ≡ at + length (toldOf f c)) × (x ≡ sets l at (toldOf f c))
+  Stored l at x r = (r ≡ at + length (wholeEvent f c)) × (x ≡ sets l at (wholeEvent f c))
 
   pub stored-with : (l : List ℕ) (at : ℕ) {x : List ℕ} → byteAt f (c .from) < 128 → x ≡ sets (set l at (c .before)) (at + 1) (eventOf f c) → Stored l at x (at + 1 + (c .next - c .from))
   stored-with l at h e = (
@@ -45,12 +45,12 @@ module _ (f : List ℕ) (c : Cursor) where
   pub stored-as-is : (l : List ℕ) (at : ℕ) {x : List ℕ} → 128 ≤ byteAt f (c .from) → x ≡ sets l at (eventOf f c) → Stored l at x (at + (c .next - c .from))
   stored-as-is l at h e = (rw (as-it-is h) (omega (arith, long)), rw (as-it-is h) e)
 
-  pub told-long : c .next - c .from ≤ length (toldOf f c)
-  unfolding toldOf
+  pub told-long : c .next - c .from ≤ length (wholeEvent f c)
+  unfolding wholeEvent
   told-long = both (λ (l : List ℕ). c .next - c .from ≤ length l) (ltb (byteAt f (c .from)) 128) _ _ (λ _. omega (arith, long)) (λ _. omega (arith, long))
 
   pub event-short : length (eventBytes f c) ≤ 5 + (c .next - c .from)
-  unfolding toldOf
+  unfolding wholeEvent
   event-short =
       let d = deltaBytes (c .wait) in
       let short = long-4 (c .wait) in
@@ -95,8 +95,8 @@ module _ (f : List ℕ) (c : Cursor) (e : Event) (o : OneEvent (c .before) (even
   abbrev Is : List ℕ → Type 0
   Is l = (128 ≤ byteAt l 0) × ((r : ℕ) → OneEvent r l e (c .after))
 
-  pub told-is : Is (toldOf f c)
-  unfolding toldOf
+  pub told-is : Is (wholeEvent f c)
+  unfolding wholeEvent
   told-is =
       let t = told-of o in
       let first = first-byte f (c .next - c .from) (c .from) (t .some) in

@@ -9,14 +9,14 @@ use Rattle.octets.proofs.Hex.{fromHex}
 use Rattle.smf.specs.Files.{trackOf}
 use Rattle.smf.specs.Promised.{Timed, timedOf}
 use Rattle.smf.proofs.Examples.{computing}
-use Rattle.song_merge.specs.Merges.{among, mergedOf, mergedWith, allOf, Ticked, ticksOf}
+use Rattle.song_merge.specs.Merges.{among, mergedOf, mergedWith, mergedAll, Ticked, ticksOf}
 use Rattle.song_merge.specs.Written.{deltaBytes}
 
 abbrev events : String → List Timed
 events text = timedOf (trackOf (fromHex "4D54726B 000000" ++ (length (fromHex text) ∷ []) ++ fromHex text) 0)
 
 abbrev Merge : List String → String → Type 0
-Merge tracks merged = allOf (map events tracks) ≡ events merged
+Merge tracks merged = mergedAll (map events tracks) ≡ events merged
 
 -- at one tick the first track's event is the first
 tie : Merge ("00 903C40 10 803C40 00 FF2F00" ∷ "00 904040 10 804040 00 FF2F00" ∷ []) "00 903C40 00 904040 10 803C40 00 804040 00 FF2F00"

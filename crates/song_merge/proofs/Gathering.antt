@@ -22,9 +22,9 @@ use Rattle.song_grammar.proofs.Wholes.{Octets, chunk-stands, aliens-passed, tra
 use Rattle.song_merge.specs.declared.merging.Gathered.the-variants.{To, Short, Broken}
 use Rattle.song_merge.specs.Songs.{Tracks}
 use Rattle.song_merge.specs.Songs.Tracks.{none, track}
-use Rattle.song_merge.specs.Merges.{mergedOf, mergedWith, allOf}
-use Rattle.song_merge.specs.Standing.{Stands, Held, ChunkEnd}
-use Rattle.song_merge.specs.Gathers.{Grown, Started, closedOf, Counted, Gathers}
+use Rattle.song_merge.specs.Merges.{mergedOf, mergedWith, mergedAll}
+use Rattle.song_merge.specs.Standing.{TrackStands, Held, ChunkEnd}
+use Rattle.song_merge.specs.Gathers.{Grown, Started, gatheredTo, TracksFrom, GathersTracks}
 use Rattle.song_merge.proofs.Bytes.{bytes-from, bytes-are, bytes-long}
 use Rattle.song_merge.proofs.Tracks.{sized-of, track-of}
 
@@ -49,7 +49,7 @@ module _ (f : List ℕ) where
     pub low : place ≤ chunk
     pub is : end ≡ chunk + 8 + fourAt f (chunk + 4)
     pub room : end ≤ length f
-    pub stands : Stands f (chunk + 8) end ts
+    pub stands : TrackStands f (chunk + 8) end ts
     pub rest : Behind end tss
 
   abbrev pub Firsts : ℕ → List (List Timed) → Type 0
@@ -64,7 +64,7 @@ module _ (f : List ℕ) where
       pub rest : Behind place tss
       pub number : i + length tss ≡ count
       pub held : 0 < end → Held out 0 22 end acc k
-      pub merged : mergedWith acc tss ≡ allOf uss
+      pub merged : mergedWith acc tss ≡ mergedAll uss
       pub size : k ≤ 4 + 2 * (place - at)
       pub long : end ≤ 22 + k
       pub roomy : 14 ≤ at → at < length f → 2 * length f ≤ spare → 2 * length f ≤ length out → 0 < end
@@ -77,7 +77,7 @@ module _ (f : List ℕ) where
       pub some : 0 < end → 22 ≤ end
       pub few : i ≤ count
       pub back : (tss : List (List Timed)) → Behind place tss → (uss : List (List Timed)) × Behind at uss × (length uss ≡ i + length tss)
-      pub on : (uss : List (List Timed)) → Counted f at count uss → Left out place end i uss
+      pub on : (uss : List (List Timed)) → TracksFrom f at count uss → Left out place end i uss
 
 module _ (f : List ℕ) (octets : Octets f) where
   -- ---- what the grammar spells is found
@@ -126,7 +126,7 @@ module _ (f : List ℕ) (octets : Octets f) where
       none (subst Aliens (sym (bytes-are f (s .bytes) place (length f) (s .there))) (s .is))
 
   pub back-one : (place chunk end : ℕ) (ts : List Timed) (tss : List (List Timed)) → place ≤ length f → trackAt f place ≡ found.Track chunk
-      → end ≡ chunk + 8 + fourAt f (chunk + 4) → end ≤ length f → Stands f (chunk + 8) end ts → Behind f end tss → Behind f place (ts ∷ tss)
+      → end ≡ chunk + 8 + fourAt f (chunk + 4) → end ≤ length f → TrackStands f (chunk + 8) end ts → Behind f end tss → Behind f place (ts ∷ tss)
   back-one place chunk end ts tss room e is up t more =
       let (others, type, inside) = searched place (found.Track chunk) room e in
       let body = bytesAt (end - (chunk + 8)) f (chunk + 8) in
@@ -169,7 +169,7 @@ module _ (f : List ℕ) (octets : Octets f) where
     }
 
     module _ (before out : List ℕ) (place end i : ℕ) (r : Round f count at spare before out place end i) where
-      broken : ((uss : List (List Timed)) → Counted f at count uss → ⊥) → Gathers f count at spare out Broken
+      broken : ((uss : List (List Timed)) → TracksFrom f at count uss → ⊥) → GathersTracks f count at spare out Broken
       broken h = record {
         told = λ no. absurd (no refl);
         taken = λ uss c e. h uss c;
@@ -177,14 +177,14 @@ module _ (f : List ℕ) (octets : Octets f) where
         room = λ uss c. absurd (h uss c);
       }
 
-      pub no-track : i < count → (q : Found) → trackAt f place ≡ q → ((chunk : ℕ) → q ≡ found.Track chunk → ⊥) → Gathers f count at spare out Broken
+      pub no-track : i < count → (q : Found) → trackAt f place ≡ q → ((chunk : ℕ) → q ≡ found.Track chunk → ⊥) → GathersTracks f count at spare out Broken
       no-track more q e other = broken (λ uss c. let l = r .on uss c in go l (firsts place (l .tss) (r .room) (l .rest)))
         where
           go : {uss : List (List Timed)} (l : Left f count at spare out place end i uss) → Firsts f place (l .tss) → ⊥
           go l (inl (nothing, is)) = let n = l .number in let z = ap length is in omega arith
           go l (inr (ts, tss, is, f₁)) = other (f₁ .chunk) (sym e ∙ f₁ .is-found)
 
-      pub no-chunk : i < count → (chunk : ℕ) → trackAt f place ≡ found.Track chunk → ChunkEnd f chunk 0 → Gathers f count at spare out Broken
+      pub no-chunk : i < count → (chunk : ℕ) → trackAt f place ≡ found.Track chunk → ChunkEnd f chunk 0 → GathersTracks f count at spare out Broken
       no-chunk more chunk e c₀ = broken (λ uss c. let l = r .on uss c in go l (firsts place (l .tss) (r .room) (l .rest)))
         where
           go : {uss : List (List Timed)} (l : Left f count at spare out place end i uss) → Firsts f place (l .tss) → ⊥
@@ -193,7 +193,7 @@ module _ (f : List ℕ) (octets : Octets f) where
               let read = f₁ .is-found in
               let same : f₁ .chunk ≡ chunk = cc in
               let end-is : f₁ .end ≡ chunk + 8 + fourAt f (chunk + 4) = f₁ .is ∙ ap (λ (n : ℕ). n + 8 + fourAt f (n + 4)) same in
-              omega (arith, c₀ .taken ts (f₁ .end) end-is (f₁ .room) (subst (λ (n : ℕ). Stands f (n + 8) (f₁ .end) ts) same (f₁ .stands)))
+              omega (arith, c₀ .taken ts (f₁ .end) end-is (f₁ .room) (subst (λ (n : ℕ). TrackStands f (n + 8) (f₁ .end) ts) same (f₁ .stands)))
 
       -- one more
       module _ (chunk full : ℕ) (e : trackAt f place ≡ found.Track chunk) (c₁ : ChunkEnd f chunk full) (real : 0 < full) (out' : List ℕ) (end' : ℕ) (g : Grown out end f (chunk + 8) full spare out' end') (same-long : length out' ≡ length out) where
@@ -208,8 +208,8 @@ module _ (f : List ℕ) (octets : Octets f) where
                 let same : f₁ .chunk ≡ chunk = cc in
                 let (full-is, up, us, u) = c₁ .told real in
                 let end-is : f₁ .end ≡ full = f₁ .is ∙ ap (λ (n : ℕ). n + 8 + fourAt f (n + 4)) same ∙ sym full-is in
-                let stands : Stands f (chunk + 8) full ts =
-                subst (λ (n : ℕ). Stands f (n + 8) full ts) same (subst (λ (n : ℕ). Stands f (f₁ .chunk + 8) n ts) end-is (f₁ .stands)) in
+                let stands : TrackStands f (chunk + 8) full ts =
+                subst (λ (n : ℕ). TrackStands f (n + 8) full ts) same (subst (λ (n : ℕ). TrackStands f (f₁ .chunk + 8) n ts) end-is (f₁ .stands)) in
                 let m = 2 * length (bytesAt (full - (chunk + 8)) f (chunk + 8)) in
                 let one : Held f 0 (chunk + 8) full ts m = sized-of f stands in
                 let wide = bytes-long f (full - (chunk + 8)) (chunk + 8) in
@@ -249,24 +249,24 @@ module _ (f : List ℕ) (octets : Octets f) where
 
       -- the last
       module _ (done : count ≤ i) where
-        all : (uss : List (List Timed)) → Counted f at count uss → (trackAt f place ≡ found.Nothing) × (l : Left f count at spare out place end i uss) × (l .tss ≡ [])
+        all : (uss : List (List Timed)) → TracksFrom f at count uss → (trackAt f place ≡ found.Nothing) × (l : Left f count at spare out place end i uss) × (l .tss ≡ [])
         all uss c = let l = r .on uss c in go l (firsts place (l .tss) (r .room) (l .rest))
           where
             go : (l : Left f count at spare out place end i uss) → Firsts f place (l .tss) → (trackAt f place ≡ found.Nothing) × (l : Left f count at spare out place end i uss) × (l .tss ≡ [])
             go l (inl (nothing, is)) = (nothing, l, is)
             go l (inr (ts, tss, is, f₁)) = let n = l .number in let z = ap length is in absurd (omega arith)
 
-        no-more : (q : Found) → trackAt f place ≡ q → (q ≡ found.Nothing → ⊥) → Gathers f count at spare out Broken
+        no-more : (q : Found) → trackAt f place ≡ q → (q ≡ found.Nothing → ⊥) → GathersTracks f count at spare out Broken
         no-more q e other = broken (λ uss c. other (sym e ∙ all uss c .0))
 
         module _ (nothing : trackAt f place ≡ found.Nothing) where
-          told : (uss : List (List Timed)) × Counted f at count uss
+          told : (uss : List (List Timed)) × TracksFrom f at count uss
           told =
               let (uss, u, n) = r .back [] (back-none place (r .room) nothing) in
               let few = r .few in
               (uss, (u, omega arith))
 
-          short : ((uss : List (List Timed)) → Counted f at count uss → 14 ≤ at → at < length f → 2 * length f ≤ spare → 2 * length f ≤ length out → length f < 2 ^ 31 → ⊥) → Gathers f count at spare out Short
+          short : ((uss : List (List Timed)) → TracksFrom f at count uss → 14 ≤ at → at < length f → 2 * length f ≤ spare → 2 * length f ≤ length out → length f < 2 ^ 31 → ⊥) → GathersTracks f count at spare out Short
           short h = record {
             told = λ _. told;
             taken = λ uss c e. let z : _≡_ {A = ℕ} 0 1 = cc in omega arith;
@@ -274,13 +274,13 @@ module _ (f : List ℕ) (octets : Octets f) where
             room = λ uss c p q s t u _. h uss c p q s t u;
           }
 
-          no-end : end ≡ 0 → Gathers f count at spare out Short
+          no-end : end ≡ 0 → GathersTracks f count at spare out Short
           no-end e = short (λ uss c p q s t u. omega (arith, all uss c .1 .roomy p q s t))
 
-          too-long : 0xFFFFFFFF < end → Gathers f count at spare out Short
+          too-long : 0xFFFFFFFF < end → GathersTracks f count at spare out Short
           too-long e = short (λ uss c p q s t u. let l = all uss c .1 in let size = l .size in let long = l .long in let room = r .room in omega arith)
 
-          ends : 0 < end → end ≤ 0xFFFFFFFF → Gathers f count at spare out (To end)
+          ends : 0 < end → end ≤ 0xFFFFFFFF → GathersTracks f count at spare out (To end)
           unfolding mergedWith
           ends some high = record {
             told = λ _. told;
@@ -288,22 +288,22 @@ module _ (f : List ℕ) (octets : Octets f) where
             merged = λ uss c end' e.
                 let same : end ≡ end' = cc in
                 let (nothing', l, is) = all uss c in
-                let events : l .acc ≡ allOf uss = ap (mergedWith (l .acc)) (sym is) ∙ l .merged in
-                let stands : Stands out 22 end (allOf uss) = subst (Stands out 22 end) events (track-of (l .held some)) in
+                let events : l .acc ≡ mergedAll uss = ap (mergedWith (l .acc)) (sym is) ∙ l .merged in
+                let stands : TrackStands out 22 end (mergedAll uss) = subst (TrackStands out 22 end) events (track-of (l .held some)) in
                 let low = r .some some in
                 let within = r .within in
-                (omega arith, omega arith, omega arith, subst (λ (n : ℕ). Stands out 22 n (allOf uss)) same stands);
+                (omega arith, omega arith, omega arith, subst (λ (n : ℕ). TrackStands out 22 n (mergedAll uss)) same stands);
             room = λ uss c p q s t u e. let z : _≡_ {A = ℕ} 0 1 = cc in omega arith;
           }
 
-        pub closes : Gathers f count at spare out (closedOf (trackAt f place) end)
-        unfolding closedOf
+        pub closes : GathersTracks f count at spare out (gatheredTo (trackAt f place) end)
+        unfolding gatheredTo
         closes = go (trackAt f place) refl
           where
-            go : (q : Found) → trackAt f place ≡ q → Gathers f count at spare out (closedOf q end)
+            go : (q : Found) → trackAt f place ≡ q → GathersTracks f count at spare out (gatheredTo q end)
             go (found.Track chunk) e = no-more (found.Track chunk) e (λ k. let z : _≡_ {A = ℕ} 0 1 = cc in omega arith)
             go (found.Broken why) e = no-more (found.Broken why) e (λ k. let z : _≡_ {A = ℕ} 0 1 = cc in omega arith)
             go found.Nothing e =
-                both (Gathers f count at spare out) (eqb end 0) _ _ (λ k. no-end e (eqb-true end 0 k))
-                (λ k. both (Gathers f count at spare out) (ltb 0xFFFFFFFF end) _ _ (λ h. too-long e (ltb-true 0xFFFFFFFF end h))
+                both (GathersTracks f count at spare out) (eqb end 0) _ _ (λ k. no-end e (eqb-true end 0 k))
+                (λ k. both (GathersTracks f count at spare out) (ltb 0xFFFFFFFF end) _ _ (λ h. too-long e (ltb-true 0xFFFFFFFF end h))
                 (λ h. ends e (positive end (eqb-false end 0 k)) (ltb-false 0xFFFFFFFF end h)))

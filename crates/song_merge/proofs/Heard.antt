@@ -11,8 +11,8 @@ use Rattle.song_grammar.specs.Grammar.{File}
 use Rattle.song_grammar.specs.First.{Early}
 use Rattle.song_grammar.specs.Judged.{Grammatical}
 use Rattle.song_grammar.proofs.Judged.{judged}
-use Rattle.song_merge.specs.Merges.{sooner, among, mergedOf, mergedWith, allOf, Ticked, ticksOf, placed, byTick, byTrack}
-use Rattle.song_merge.specs.Heard.{MergedInto, Heard}
+use Rattle.song_merge.specs.Merges.{sooner, among, mergedOf, mergedWith, mergedAll, Ticked, ticksOf, placed, byTick, byTrack}
+use Rattle.song_merge.specs.Heard.{MergedInto, MergedHeard}
 
 -- ---- by ticks since the start
 abbrev At : ℕ → Timed → Ticked
@@ -59,23 +59,23 @@ unfolding mergedWith byTrack
 by-track ts [] = refl
 by-track ts (us ∷ tss) = by-track (mergedOf ts us) tss ∙ ap (λ (l : List Ticked). byTrack l tss) (by-tick ts 0 us)
 
-ordered : (tss : List (List Timed)) → ticksOf 0 (allOf tss) ≡ byTrack [] tss
+ordered : (tss : List (List Timed)) → ticksOf 0 (mergedAll tss) ≡ byTrack [] tss
 unfolding ticksOf
 ordered tss = by-track [] tss
 
 -- ---- as it is read
 module _ (g : List ℕ) (division : ℕ) (tss : List (List Timed)) (m : MergedInto g division tss) where
-  spelt : File g division (allOf tss)
-  spelt = subst (λ (l : List ℕ). File l division (allOf tss)) (m .front) (m .answers .merged division tss (m .song) (m .zero) .1)
+  spelt : File g division (mergedAll tss)
+  spelt = subst (λ (l : List ℕ). File l division (mergedAll tss)) (m .front) (m .answers .merged division tss (m .song) (m .zero) .1)
 
-  abbrev grammatical : (rate : ℕ) → Early rate division (allOf tss) → Grammatical rate g
-  grammatical rate early = record { division = division; events = allOf tss; spelt = spelt; early = early }
+  abbrev grammatical : (rate : ℕ) → Early rate division (mergedAll tss) → Grammatical rate g
+  grammatical rate early = record { division = division; events = mergedAll tss; spelt = spelt; early = early }
 
-pub heard : Heard
+pub heard : MergedHeard
 heard = record {
   good = λ g division tss m rate early. judged .good rate g (m .bytes) .1 (grammatical g division tss m rate early);
   listed = λ g division tss m rate early. judged .listed rate g (m .bytes) (grammatical g division tss m rate early);
   takes = λ g division tss m rate room good early fits. judged .takes g rate room (m .bytes) good (grammatical g division tss m rate early) fits;
-  only-late = λ g division tss m rate why e. judged .only-late rate g (m .bytes) division (allOf tss) (spelt g division tss m) why e;
+  only-late = λ g division tss m rate why e. judged .only-late rate g (m .bytes) division (mergedAll tss) (spelt g division tss m) why e;
   ordered = ordered;
 }

@@ -17,10 +17,10 @@ use Rattle.song_grammar.specs.Grammar.Digits.{last}
 use Rattle.song_grammar.proofs.Segments.{From, from-length}
 use Rattle.song_merge.specs.declared.cursors.Cursor.{Cursor}
 use Rattle.song_merge.specs.Merges.{mergedOf}
-use Rattle.song_merge.specs.Written.{deltaBytes, toldOf, eventBytes, endBytes}
+use Rattle.song_merge.specs.Written.{deltaBytes, wholeEvent, eventBytes, endBytes}
 use Rattle.song_merge.specs.Gathers.{Joined}
-use Rattle.song_merge.specs.Standing.{Sized, Held, Before, Views, Placed}
-use Rattle.song_merge.specs.Standing.Sized.{ended, then}
+use Rattle.song_merge.specs.Standing.{TrackSized, Held, Before, Views, CursorPlaced}
+use Rattle.song_merge.specs.Standing.TrackSized.{ended, then}
 use Rattle.song_merge.proofs.Bytes.{from-more, bytes-are, sets-long}
 use Rattle.song_merge.proofs.Deltas.{quantity-of, shrinks, some-delta, long-4}
 use Rattle.song_merge.proofs.Events.{told-is, told-long, event-short}
@@ -28,12 +28,12 @@ use Rattle.song_merge.proofs.Merges.{later, NoEarlier, left-goes, Later
 
 -- ---- a track that has begun: with the rest of one it is one
 abbrev pub Begun : List ℕ → List Timed → Type 0
-Begun pre done = (rest : List ℕ) (ts : List Timed) (k : ℕ) → ((r : ℕ) → Sized r rest ts k) → (r : ℕ) → Sized r (pre ++ rest) (done ++ ts) (length pre + k)
+Begun pre done = (rest : List ℕ) (ts : List Timed) (k : ℕ) → ((r : ℕ) → TrackSized r rest ts k) → (r : ℕ) → TrackSized r (pre ++ rest) (done ++ ts) (length pre + k)
 
-resized : {running : ℕ} {bytes : List ℕ} {ts : List Timed} {k : ℕ} (m : ℕ) → k ≡ m → Sized running bytes ts k → Sized running bytes ts m
-resized {running} {bytes} {ts} m e s = subst (Sized running bytes ts) e s
+resized : {running : ℕ} {bytes : List ℕ} {ts : List Timed} {k : ℕ} (m : ℕ) → k ≡ m → TrackSized running bytes ts k → TrackSized running bytes ts m
+resized {running} {bytes} {ts} m e s = subst (TrackSized running bytes ts) e s
 
-pub at-most : {running : ℕ} {bytes : List ℕ} {ts : List Timed} {k : ℕ} (m : ℕ) → k ≤ m → Sized running bytes ts k → Sized running bytes ts m
+pub at-most : {running : ℕ} {bytes : List ℕ} {ts : List Timed} {k : ℕ} (m : ℕ) → k ≤ m → TrackSized running bytes ts k → TrackSized running bytes ts m
 at-most m h (ended body q r fits) = ended {k = m} body q r (omega arith)
 at-most m h (then {k = k} {j = j} q o told fits more) =
     let same : m - j + j ≡ m = omega arith in
@@ -47,13 +47,13 @@ pub one-more : (pre : List ℕ) (done : List Timed) → Begun pre done → {d ev
     → Begun (pre ++ (d ++ event)) (done ++ (record { delta = ticks; event = e } ∷ []))
 one-more pre done b {d} {event} {ticks} {status} {e} q high o rest ts k t r =
     let new : Timed = record { delta = ticks; event = e } in
-    let one : (r : ℕ) → Sized r (d ++ (event ++ rest)) (new ∷ ts) (length d + length event + k) = (λ r. then {k = length d + length event} q (o r) (λ small. absurd (omega arith)) (omega arith) (t status)) in
+    let one : (r : ℕ) → TrackSized r (d ++ (event ++ rest)) (new ∷ ts) (length d + length event + k) = (λ r. then {k = length d + length event} q (o r) (λ small. absurd (omega arith)) (omega arith) (t status)) in
     let all = b (d ++ (event ++ rest)) (new ∷ ts) (length d + length event + k) one r in
     let bytes : pre ++ (d ++ (event ++ rest)) ≡ (pre ++ (d ++ event)) ++ rest = simp append-assoc in
     let events : done ++ (new ∷ ts) ≡ (done ++ (new ∷ [])) ++ ts = simp append-assoc in
     resized (length (pre ++ (d ++ event)) + k) (omega (arith, length-append pre (d ++ event), length-append d event))
-    (subst (λ (l : List ℕ). Sized r l ((done ++ (new ∷ [])) ++ ts) (length pre + (length d + length event + k))) bytes
-    (subst (λ (l : List Timed). Sized r (pre ++ (d ++ (event ++ rest))) l (length pre + (length d + length event + k))) events all))
+    (subst (λ (l : List ℕ). TrackSized r l ((done ++ (new ∷ [])) ++ ts) (length pre + (length d + length event + k))) bytes
+    (subst (λ (l : List Timed). TrackSized r (pre ++ (d ++ (event ++ rest))) l (length pre + (length d + length event + k))) events all))
 
 -- ---- cursors
 never : {A : Type 0} {b : Bool} → b ≡ true → b ≡ false → A
@@ -65,7 +65,7 @@ waitedOf c ticks = record { ended = c .ended; wait = c .wait - ticks; before = c
 
 module _ (f : List ℕ) (end : ℕ) (c : Cursor) where
   pub waits : (ticks : ℕ) (ts : List Timed) (k : ℕ) → Views f end c ts k → Views f end (waitedOf c ticks) (later ticks ts) k
-  unfolding toldOf
+  unfolding wholeEvent
   waits ticks [] k (over, size) = (
     over,
     omega (arith, shrinks (c .wait - ticks) (c .wait) (omega arith), length-append (deltaBytes (c .wait)) (0xFF ∷ 0x2F ∷ 0 ∷ []), length-append (deltaBytes (c .wait - ticks)) (0xFF ∷ 0x2F ∷ 0 ∷ [])),
@@ -78,7 +78,7 @@ module _ (f : List ℕ) (end : ℕ) (c : Cursor) where
     rest = b .rest;
     size =
         let size = b .size in
-        omega (arith, shrinks (c .wait - ticks) (c .wait) (omega arith), length-append (deltaBytes (c .wait)) (toldOf f c), length-append (deltaBytes (c .wait - ticks)) (toldOf f c));
+        omega (arith, shrinks (c .wait - ticks) (c .wait) (omega arith), length-append (deltaBytes (c .wait)) (wholeEvent f c), length-append (deltaBytes (c .wait - ticks)) (wholeEvent f c));
   }
 
   -- the event that is next
@@ -109,7 +109,7 @@ module _ (f : List ℕ) (end : ℕ) (c : Cursor) where
 
   -- what it takes
   pub takes : (t : Timed) (ts : List Timed) (k : ℕ) → Before f end c t ts k → 1 + (c .next - c .from) ≤ k
-  takes t ts k b = let size = b .size in omega (arith, length-append (deltaBytes (c .wait)) (toldOf f c), some-delta (c .wait), told-long f c)
+  takes t ts k b = let size = b .size in omega (arith, length-append (deltaBytes (c .wait)) (wholeEvent f c), some-delta (c .wait), told-long f c)
 
 -- ---- written
 pub record Put (out : List ℕ) (w : ℕ) (done : List Timed) : Type 0 where
@@ -237,8 +237,8 @@ module _ (a : List ℕ) (a-end : ℕ) (f : List ℕ) (end : ℕ) where
       let all = p .begun (endBytes m) [] (length (deltaBytes m) + 3) (λ r. ended {k = length (deltaBytes m) + 3} {size = 0 ∷ []} [] (quantity-of m small) (last {b = 0} (omega arith)) (omega arith)) 0 in
       let bytes = bytes-are out' (p .pre ++ endBytes m) 0 w' (there p) in
       at-most total (omega (arith, over-size x y w out whole total s x-over y-over m is, from-length out 0 (p .pre) w (p .there), length-append (deltaBytes m) (0xFF ∷ 0x2F ∷ 0 ∷ [])))
-      (subst (λ (l : List ℕ). Sized 0 l whole (length (p .pre) + (length (deltaBytes m) + 3))) (sym bytes)
-      (subst (λ (ts : List Timed). Sized 0 (p .pre ++ endBytes m) ts (length (p .pre) + (length (deltaBytes m) + 3))) events all))
+      (subst (λ (l : List ℕ). TrackSized 0 l whole (length (p .pre) + (length (deltaBytes m) + 3))) (sym bytes)
+      (subst (λ (ts : List Timed). TrackSized 0 (p .pre ++ endBytes m) ts (length (p .pre) + (length (deltaBytes m) + 3))) events all))
     where
       there : (p : Put out w (s .done)) → From out' 0 (p .pre ++ endBytes m) w'
       there p =
@@ -277,7 +277,7 @@ pub record Fits (end : ℕ) (c : Cursor) : Type 0 where
   pub up : c .from ≤ c .next
   pub going : c .ended ≡ false → c .next ≤ end
 
-pub fits : (end at : ℕ) (c : Cursor) → Placed end at c → Fits end c
+pub fits : (end at : ℕ) (c : Cursor) → CursorPlaced end at c → Fits end c
 fits end at c p = record { small = p .small; up = p .up; going = λ e. p .going e .1 }
 
 pub fits-later : (end ticks : ℕ) (c c' : Cursor) → Fits end c → c' ≡ waitedOf c ticks → Fits end c'
@@ -287,7 +287,7 @@ fits-later end ticks c c' p e = subst (Fits end) (sym e) (record { small = (let 
 abbrev pub leftOf : ℕ → Cursor → ℕ
 leftOf end c = end - c .next + cond (c .ended) 0 1
 
-pub less : (end : ℕ) (c c' : Cursor) → Fits end c → c .ended ≡ false → Placed end (c .next) c' → leftOf end c' < leftOf end c
+pub less : (end : ℕ) (c c' : Cursor) → Fits end c → c .ended ≡ false → CursorPlaced end (c .next) c' → leftOf end c' < leftOf end c
 less end c c' p e q = rw e (go (c' .ended) refl)
   where
     go : (b : Bool) → c' .ended ≡ b → end - c' .next + cond (c' .ended) 0 1 < end - c .next + 1
@@ -312,8 +312,8 @@ pub record Going (a : List ℕ) (a-end : ℕ) (f : List ℕ) (at end : ℕ) (bef
   pub so : (ts us : List Timed) (j k : ℕ) → Held a 0 22 a-end ts j → Held f 0 at end us k → So a a-end f end x y w out (mergedOf ts us) (j + k)
 
 pub begins : (a : List ℕ) (a-end : ℕ) (f : List ℕ) (at end : ℕ) (out : List ℕ) (x y : Cursor)
-    → Placed a-end 22 x × ((ts : List Timed) (k : ℕ) → Held a 0 22 a-end ts k → Views a a-end x ts k)
-    → Placed end at y × ((ts : List Timed) (k : ℕ) → Held f 0 at end ts k → Views f end y ts k)
+    → CursorPlaced a-end 22 x × ((ts : List Timed) (k : ℕ) → Held a 0 22 a-end ts k → Views a a-end x ts k)
+    → CursorPlaced end at y × ((ts : List Timed) (k : ℕ) → Held f 0 at end ts k → Views f end y ts k)
     → Going a a-end f at end out out x y 0
 begins a a-end f at end out x y (px, vx) (py, vy) = record {
   within = omega arith;
@@ -384,7 +384,7 @@ module _ (a : List ℕ) (a-end : ℕ) (f : List ℕ) (at end : ℕ) (before out 
   -- the next turn
   module _ (x' y' : Cursor) (w' : ℕ) (out' : List ℕ) where
     pub left-again : goes ≡ true → w + 5 + (x .next - x .from) ≤ length out → w' ≡ w + length (eventBytes a x) → out' ≡ sets out w (eventBytes a x) → y' ≡ waitedOf y (x .wait)
-        → Placed a-end (x .next) x' × ((ts : List Timed) (k : ℕ) → Held a (x .after) (x .next) a-end ts k → Views a a-end x' ts k) → Going a a-end f at end before out' x' y' w'
+        → CursorPlaced a-end (x .next) x' × ((ts : List Timed) (k : ℕ) → Held a (x .after) (x .next) a-end ts k → Views a a-end x' ts k) → Going a a-end f at end before out' x' y' w'
     left-again e room ew eo ey (px, vx) =
         let first = first-true (x .ended) (y .ended) (x .wait) (y .wait) e in
         let short = event-short a x in
@@ -400,7 +400,7 @@ module _ (a : List ℕ) (a-end : ℕ) (f : List ℕ) (at end : ℕ) (before out 
         }
 
     pub right-again : goes ≡ false → y .ended ≡ false → w + 5 + (y .next - y .from) ≤ length out → w' ≡ w + length (eventBytes f y) → out' ≡ sets out w (eventBytes f y) → x' ≡ waitedOf x (y .wait)
-        → Placed end (y .next) y' × ((ts : List Timed) (k : ℕ) → Held f (y .after) (y .next) end ts k → Views f end y' ts k) → Going a a-end f at end before out' x' y' w'
+        → CursorPlaced end (y .next) y' × ((ts : List Timed) (k : ℕ) → Held f (y .after) (y .next) end ts k → Views f end y' ts k) → Going a a-end f at end before out' x' y' w'
     right-again e going room ew eo ex (py, vy) =
         let first = first-false (x .ended) (y .ended) (x .wait) (y .wait) e .1 going in
         let short = event-short f y in
@@ -415,13 +415,13 @@ module _ (a : List ℕ) (a-end : ℕ) (f : List ℕ) (at end : ℕ) (before out 
               (right-on a a-end f end x y w out (mergedOf ts us) (j + k) (g .so ts us j k hx hy) (g .right .small) going first y' vy w' out' (omega arith) ew eo);
         }
 
-    pub left-less : goes ≡ true → y' ≡ waitedOf y (x .wait) → Placed a-end (x .next) x' → leftOf a-end x' + leftOf end y' < leftOf a-end x + leftOf end y
+    pub left-less : goes ≡ true → y' ≡ waitedOf y (x .wait) → CursorPlaced a-end (x .next) x' → leftOf a-end x' + leftOf end y' < leftOf a-end x + leftOf end y
     left-less e ey px =
         let fewer = less a-end x x' (g .left) (first-true (x .ended) (y .ended) (x .wait) (y .wait) e .0) px in
         let same : leftOf end y' ≡ leftOf end y = ap (leftOf end) ey in
         omega arith
 
-    pub right-less : y .ended ≡ false → x' ≡ waitedOf x (y .wait) → Placed end (y .next) y' → leftOf a-end x' + leftOf end y' < leftOf a-end x + leftOf end y
+    pub right-less : y .ended ≡ false → x' ≡ waitedOf x (y .wait) → CursorPlaced end (y .next) y' → leftOf a-end x' + leftOf end y' < leftOf a-end x + leftOf end y
     right-less e ex py =
         let fewer = less end y y' (g .right) e py in
         let same : leftOf a-end x' ≡ leftOf a-end x = ap (leftOf a-end) ex in

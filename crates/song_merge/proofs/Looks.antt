@@ -22,9 +22,9 @@ use Rattle.song_grammar.proofs.Shown.{Counts, counts}
 use Rattle.song_grammar.proofs.Taken.{some-bytes, digits-taken, event-taken, end-event}
 use Rattle.song_grammar.proofs.Wholes.{Octets}
 use Rattle.song_merge.specs.declared.cursors.Cursor.{Cursor}
-use Rattle.song_merge.specs.Written.{deltaBytes, toldOf, eventBytes}
-use Rattle.song_merge.specs.Standing.{Sized, Held, Before, Views, Placed}
-use Rattle.song_merge.specs.Standing.Sized.{ended, then}
+use Rattle.song_merge.specs.Written.{deltaBytes, wholeEvent, eventBytes}
+use Rattle.song_merge.specs.Standing.{TrackSized, Held, Before, Views, CursorPlaced}
+use Rattle.song_merge.specs.Standing.TrackSized.{ended, then}
 use Rattle.song_merge.proofs.Bytes.{bytes-from, bytes-are, bytes-long}
 use Rattle.song_merge.proofs.Deltas.{digits-small, shortest}
 
@@ -55,7 +55,7 @@ module _ (f : List ℕ) (octets : Octets f) (end running at : ℕ) where
   -- what it takes to write the event
   fit : (mid behind : ℕ) (delta event : List ℕ) (ticks status k j : ℕ) → (byteAt event 0 < 128 → length delta + length event + 1 ≤ k) → length delta + length event ≤ k
       → From f mid event behind → length (deltaBytes ticks) ≤ length delta → length (eventBytes f (goingAt ticks running status mid behind)) + j ≤ k + j
-  unfolding toldOf
+  unfolding wholeEvent
   fit mid behind delta event ticks status k j told fits there short =
       let d = deltaBytes ticks in
       let l = bytesAt (behind - mid) f mid in
@@ -66,7 +66,7 @@ module _ (f : List ℕ) (octets : Octets f) (end running at : ℕ) where
       (λ e. omega (arith, length-append d l))
 
   -- ---- it sees what stands there
-  looks : {bytes : List ℕ} {ts : List Timed} {k : ℕ} → Sized running bytes ts k → From f at bytes end → Views f end (lookOf f end running at) ts k
+  looks : {bytes : List ℕ} {ts : List Timed} {k : ℕ} → TrackSized running bytes ts k → From f at bytes end → Views f end (lookOf f end running at) ts k
   looks (ended {ticks = ticks} {k = k} {delta} {size} body q r fits) from =
       let apart = split f at delta (0xFF ∷ 0x2F ∷ (size ++ body)) end from in
       let up = apart .up in
@@ -92,30 +92,30 @@ module _ (f : List ℕ) (octets : Octets f) (end running at : ℕ) where
         wait = refl;
         event = subst (λ (l : List ℕ). OneEvent running l e status) (sym bytes) o;
         left = j;
-        rest = subst (λ (l : List ℕ). Sized status l ts j) (sym (bytes-are f rest (second .mid) end (second .right))) more;
+        rest = subst (λ (l : List ℕ). TrackSized status l ts j) (sym (bytes-are f rest (second .mid) end (second .right))) more;
         size = fit (apart .mid) (second .mid) delta event ticks status k j told fits (second .left) short;
       })
 
   -- ---- and lies where it should
-  read-placed : (wait from : ℕ) → at < from → wait < 2 ^ 28 → (r : Read) → Inside end from r → Placed end at (lookRead running at wait from r)
+  read-placed : (wait from : ℕ) → at < from → wait < 2 ^ 28 → (r : Read) → Inside end from r → CursorPlaced end at (lookRead running at wait from r)
   read-placed wait from h small (Is event status behind) k = record { small = small; up = omega arith; low = omega arith; going = λ _. (omega arith, k .1) }
   read-placed wait from h small (End behind) k = record { small = small; up = omega arith; low = omega arith; going = λ e. let z : _≡_ {A = ℕ} 0 1 = cc in absurd (omega arith) }
   read-placed wait from h small (Broken why) k = record { small = omega arith; up = omega arith; low = omega arith; going = λ e. let z : _≡_ {A = ℕ} 0 1 = cc in absurd (omega arith) }
 
-  placed : Placed end at (lookOf f end running at)
+  placed : CursorPlaced end at (lookOf f end running at)
   placed = go (quantityAt f end at) refl
     where
-      go : (q : fields.Quantity) → quantityAt f end at ≡ q → Placed end at (lookQuantity f end running at q)
+      go : (q : fields.Quantity) → quantityAt f end at ≡ q → CursorPlaced end at (lookQuantity f end running at q)
       go (quantity.Is wait from) is =
           let ends = quantity-ends f end at wait from is in
           let c = subst (Counts f end 3 0 at) is (counts f end 3 0 at (omega arith)) in
           read-placed wait from (ends .0) (digits-small f octets (c .is) at from (c .there)) (eventAt f end running from) (event-inside f end running from)
       go (quantity.Broken why) is = record { small = omega arith; up = omega arith; low = omega arith; going = λ e. let z : _≡_ {A = ℕ} 0 1 = cc in absurd (omega arith) }
 
-  some : {bytes : List ℕ} {ts : List Timed} {k : ℕ} → Sized running bytes ts k → 0 < length bytes
+  some : {bytes : List ℕ} {ts : List Timed} {k : ℕ} → TrackSized running bytes ts k → 0 < length bytes
   some (ended {delta = delta} {size = size} body q r fits) = omega (arith, some-bytes f end q, length-append delta (0xFF ∷ 0x2F ∷ (size ++ body)))
   some (then {delta = delta} {event = event} {rest = rest} q o told fits more) = omega (arith, some-bytes f end q, length-append delta (event ++ rest))
 
   -- a cursor that is the one that is made
-  pub shown : (c : Cursor) → lookOf f end running at ≡ c → Placed end at c × ((ts : List Timed) (k : ℕ) → Held f running at end ts k → Views f end c ts k)
-  shown c is = (subst (Placed end at) is placed, λ ts k h. subst (λ (c : Cursor). Views f end c ts k) is (looks h (bytes-from f at end (omega (arith, some h, bytes-long f (end - at) at)))))
+  pub shown : (c : Cursor) → lookOf f end running at ≡ c → CursorPlaced end at c × ((ts : List Timed) (k : ℕ) → Held f running at end ts k → Views f end c ts k)
+  shown c is = (subst (CursorPlaced end at) is placed, λ ts k h. subst (λ (c : Cursor). Views f end c ts k) is (looks h (bytes-from f at end (omega (arith, some h, bytes-long f (end - at) at)))))

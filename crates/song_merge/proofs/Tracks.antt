@@ -27,8 +27,8 @@ use Rattle.song_grammar.proofs.Taken.{some-bytes, step-taken, end-step}
 use Rattle.song_grammar.proofs.Tracks.{event-before, Steps, steps}
 use Rattle.song_merge.specs.Written.{deltaBytes, endBytes}
 use Rattle.song_merge.specs.Merges.{mergedOf}
-use Rattle.song_merge.specs.Standing.{Stands, Sized, Held, Whole, ChunkEnd}
-use Rattle.song_merge.specs.Standing.Sized.{ended as sized-ended, then as sized-then}
+use Rattle.song_merge.specs.Standing.{TrackStands, TrackSized, Held, WholeTrack, ChunkEnd}
+use Rattle.song_merge.specs.Standing.TrackSized.{ended as sized-ended, then as sized-then}
 use Rattle.song_merge.specs.Gathers.{Joined, Grown, Started}
 use Rattle.song_merge.proofs.Bytes.{bytes-from, bytes-are, bytes-long, from-sets, sets-long}
 use Rattle.song_merge.proofs.Events.{told-of}
@@ -77,8 +77,8 @@ module _ (f : List ℕ) (end : ℕ) where
   pub record Walks (at running place : ℕ) : Type 0 where
     pub valid : Running running
     pub room : place ≤ end
-    pub back : (ts : List Timed) → Rest running place ts → (us : List Timed) × Stands f at end us
-    pub on : (us : List Timed) → Stands f at end us → (ts : List Timed) × Rest running place ts
+    pub back : (ts : List Timed) → Rest running place ts → (us : List Timed) × TrackStands f at end us
+    pub on : (us : List Timed) → TrackStands f at end us → (ts : List Timed) × Rest running place ts
 
   pub walks : (at : ℕ) → at ≤ end → Walks at 0 at
   walks at room = record { valid = inl refl; room = room; back = λ ts t. (ts, t); on = λ us t. (us, t) }
@@ -87,7 +87,7 @@ module _ (f : List ℕ) (end : ℕ) where
     abbrev Here : Step
     Here = stepAt f end running place
 
-    wrong : (r : Bool) → r ≡ false → ((ts : List Timed) → Rest running place ts → ⊥) → Whole f at end r
+    wrong : (r : Bool) → r ≡ false → ((ts : List Timed) → Rest running place ts → ⊥) → WholeTrack f at end r
     wrong r e h = record {
       told = λ k. absurd (let z : _≡_ {A = ℕ} 0 1 = cc in omega arith);
       taken = λ us t. let o = w .on us t in absurd (h (o .0) (o .1));
@@ -117,7 +117,7 @@ module _ (f : List ℕ) (end : ℕ) where
             let n : mid ≡ next = cc in
             (o .others, subst (λ (k : ℕ). Rest status k (o .others)) n (subst (λ (k : ℕ). Rest k mid (o .others)) s (o .rest)))
 
-    pub walks-over : (next : ℕ) → Here ≡ step.End next → Whole f at end (eqb next end)
+    pub walks-over : (next : ℕ) → Here ≡ step.End next → WholeTrack f at end (eqb next end)
     walks-over next is =
         let s = subst (Steps f end running place) is (steps f end running place (w .valid) (w .room)) in
         record {
@@ -131,7 +131,7 @@ module _ (f : List ℕ) (end : ℕ) where
         follow (inl over) = let n : next ≡ end = cc in eq-eqb next end n
         follow (inr (ticks, e, status, mid, o)) = let read = o .is in absurd (let z : _≡_ {A = ℕ} 0 1 = cc in omega arith)
 
-    pub walks-broken : (why : Fault) → Here ≡ step.Broken why → Whole f at end false
+    pub walks-broken : (why : Fault) → Here ≡ step.Broken why → WholeTrack f at end false
     walks-broken why is = wrong false refl (λ ts t. follow (moves t place (there running place ts t)))
       where
         follow : (Here ≡ step.End end) ⊎ ((ticks : ℕ) × (e : Event) × (status : ℕ) × (mid : ℕ) × Onward running place ticks e status mid) → ⊥
@@ -146,7 +146,7 @@ module _ (f : List ℕ) (at : ℕ) where
   pub no-chunk : length f < full → ChunkEnd f at 0
   no-chunk h = record { told = λ z. absurd (omega arith); taken = λ ts end e room t. absurd (omega arith) }
 
-  module _ (end : ℕ) (is : end ≡ full) (b : Bool) (w : Whole f (at + 8) end b) where
+  module _ (end : ℕ) (is : end ≡ full) (b : Bool) (w : WholeTrack f (at + 8) end b) where
     pub a-chunk : end ≤ length f → b ≡ true → ChunkEnd f at end
     a-chunk room e = record {
       told = λ z. let t = w .told e in (is, room, t .0, t .1);
@@ -157,13 +157,13 @@ module _ (f : List ℕ) (at : ℕ) where
     a-broken e = record {
       told = λ z. absurd (omega arith);
       taken = λ ts n e' r t.
-          let k = w .taken ts (subst (λ (m : ℕ). Stands f (at + 8) m ts) (e' ∙ sym is) t) in
+          let k = w .taken ts (subst (λ (m : ℕ). TrackStands f (at + 8) m ts) (e' ∙ sym is) t) in
           absurd (let z : _≡_ {A = ℕ} 0 1 = cc in omega arith);
     }
 
 -- ---- written out it has no more than twice its bytes
 module _ (f : List ℕ) where
-  pub sized-of : {running : ℕ} {bytes : List ℕ} {ts : List Timed} → Track running bytes ts → Sized running bytes ts (2 * length bytes)
+  pub sized-of : {running : ℕ} {bytes : List ℕ} {ts : List Timed} → Track running bytes ts → TrackSized running bytes ts (2 * length bytes)
   sized-of (ended {delta = delta} {size = size} body q r) =
       sized-ended {k = 2 * length (delta ++ (0xFF ∷ 0x2F ∷ (size ++ body)))} body q r
       (omega (arith, some-bytes f 0 q, some-bytes f 0 r, length-append delta (0xFF ∷ 0x2F ∷ (size ++ body)), length-append size body))
@@ -171,14 +171,14 @@ module _ (f : List ℕ) where
       let some = some-bytes f 0 q in
       let d = told-of o .some in
       let n : 2 * (length delta + length event) + 2 * length rest ≡ 2 * length (delta ++ (event ++ rest)) = omega (arith, length-append delta (event ++ rest), length-append event rest) in
-      subst (Sized running (delta ++ (event ++ rest)) (record { delta = ticks; event = e } ∷ ts)) n
+      subst (TrackSized running (delta ++ (event ++ rest)) (record { delta = ticks; event = e } ∷ ts)) n
       (sized-then {k = 2 * (length delta + length event)} {j = 2 * length rest} q o (λ _. omega arith) (omega arith) (sized-of more))
 
-pub track-of : {running : ℕ} {bytes : List ℕ} {ts : List Timed} {k : ℕ} → Sized running bytes ts k → Track running bytes ts
+pub track-of : {running : ℕ} {bytes : List ℕ} {ts : List Timed} {k : ℕ} → TrackSized running bytes ts k → Track running bytes ts
 track-of (sized-ended body q r fits) = ended body q r
 track-of (sized-then q o told fits more) = then q o (track-of more)
 
-pub some-sized : {running : ℕ} {bytes : List ℕ} {ts : List Timed} {k : ℕ} → Sized running bytes ts k → 0 < length bytes
+pub some-sized : {running : ℕ} {bytes : List ℕ} {ts : List Timed} {k : ℕ} → TrackSized running bytes ts k → 0 < length bytes
 some-sized s = some-track [] 0 (track-of s)
 
 -- ---- one without events
@@ -199,7 +199,7 @@ started l out r room er eo =
     record {
       within = omega arith;
       some = λ _. omega arith;
-      empty = λ _. subst (λ (b : List ℕ). Sized 0 b [] 4) (sym (bytes-are out (endBytes 0) 22 r there)) (sized-ended {k = 4} {delta = 0 ∷ []} {size = 0 ∷ []} [] (last {b = 0} (omega arith)) (last {b = 0} (omega arith)) (omega arith));
+      empty = λ _. subst (λ (b : List ℕ). TrackSized 0 b [] 4) (sym (bytes-are out (endBytes 0) 22 r there)) (sized-ended {k = 4} {delta = 0 ∷ []} {size = 0 ∷ []} [] (last {b = 0} (omega arith)) (last {b = 0} (omega arith)) (omega arith));
       long = omega arith;
       room = λ _. omega arith;
     }
@@ -237,7 +237,7 @@ module _ (before : List ℕ) (a-end : ℕ) (f : List ℕ) (at end spare : ℕ) w
           within = omega arith;
           some = λ _. (omega arith, first);
           merged = λ ts us m k hx hy z.
-              subst (λ (b : List ℕ). Sized 0 b (mergedOf ts us) (m + k)) (ap (λ (n : ℕ). bytesAt n lent 0) none ∙ sym bytes) (j .merged ts us m k hx hy some);
+              subst (λ (b : List ℕ). TrackSized 0 b (mergedOf ts us) (m + k)) (ap (λ (n : ℕ). bytesAt n lent 0) none ∙ sym bytes) (j .merged ts us m k hx hy some);
           long = λ ts us m k hx hy. omega (arith, j .long ts us m k hx hy);
           room = λ ts us m k hx hy r s. omega arith;
         }

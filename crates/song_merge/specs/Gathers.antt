@@ -12,8 +12,8 @@ use Rattle.smf.specs.declared.chunks.Found.the-variants as found
 use Rattle.song_merge.specs.declared.merging.Gathered.{Gathered}
 use Rattle.song_merge.specs.declared.merging.Gathered.the-variants.{To, Short, Broken}
 use Rattle.song_merge.specs.Songs.{Tracks}
-use Rattle.song_merge.specs.Merges.{mergedOf, allOf}
-use Rattle.song_merge.specs.Standing.{Stands, Held}
+use Rattle.song_merge.specs.Merges.{mergedOf, mergedAll}
+use Rattle.song_merge.specs.Standing.{TrackStands, Held}
 
 -- what holds of two tracks, with their sizes: one that stands in a list from 22 up to a place, and one of a file
 abbrev pub OfTwo : List ℕ → ℕ → List ℕ → ℕ → ℕ → (List Timed → List Timed → ℕ → ℕ → Type 0) → Type 0
@@ -43,20 +43,20 @@ pub record Started (out : List ℕ) (r : ℕ) : Type 0 where
   pub room : 29 ≤ length out → 0 < r
 
 -- what is found behind the last track, where the merged one ends at a place; a chunk has less than 2 ^ 32 bytes
-unfoldable pub closedOf : Found → ℕ → Gathered
-closedOf found.Nothing end = cond (eqb end 0) Short (cond (ltb 0xFFFFFFFF end) Short (To end))
-closedOf (found.Track place) end = Broken
-closedOf (found.Broken why) end = Broken
+unfoldable pub gatheredTo : Found → ℕ → Gathered
+gatheredTo found.Nothing end = cond (eqb end 0) Short (cond (ltb 0xFFFFFFFF end) Short (To end))
+gatheredTo (found.Track place) end = Broken
+gatheredTo (found.Broken why) end = Broken
 
 -- so many tracks stand in a file from a place on
-abbrev pub Counted : List ℕ → ℕ → ℕ → List (List Timed) → Type 0
-Counted f at count tss = Tracks (bytesAt (length f - at) f at) tss × (length tss ≡ count)
+abbrev pub TracksFrom : List ℕ → ℕ → ℕ → List (List Timed) → Type 0
+TracksFrom f at count tss = Tracks (bytesAt (length f - at) f at) tss × (length tss ≡ count)
 
 -- `Broken` where they don't; `To` the end of the merged track, which begins at 22; `Short` where it has no room
-pub record Gathers (f : List ℕ) (count at spare : ℕ) (out : List ℕ) (r : Gathered) : Type 0 where
-  pub told : (r ≡ Broken → ⊥) → (tss : List (List Timed)) × Counted f at count tss
-  pub taken : (tss : List (List Timed)) → Counted f at count tss → r ≡ Broken → ⊥
-  pub merged : (tss : List (List Timed)) → Counted f at count tss → (end : ℕ) → r ≡ To end
-      → (22 ≤ end) × (end ≤ length out) × (end < 2 ^ 32) × Stands out 22 end (allOf tss)
-  pub room : (tss : List (List Timed)) → Counted f at count tss → 14 ≤ at → at < length f → 2 * length f ≤ spare
+pub record GathersTracks (f : List ℕ) (count at spare : ℕ) (out : List ℕ) (r : Gathered) : Type 0 where
+  pub told : (r ≡ Broken → ⊥) → (tss : List (List Timed)) × TracksFrom f at count tss
+  pub taken : (tss : List (List Timed)) → TracksFrom f at count tss → r ≡ Broken → ⊥
+  pub merged : (tss : List (List Timed)) → TracksFrom f at count tss → (end : ℕ) → r ≡ To end
+      → (22 ≤ end) × (end ≤ length out) × (end < 2 ^ 32) × TrackStands out 22 end (mergedAll tss)
+  pub room : (tss : List (List Timed)) → TracksFrom f at count tss → 14 ≤ at → at < length f → 2 * length f ≤ spare
       → 2 * length f ≤ length out → length f < 2 ^ 31 → r ≡ Short → ⊥

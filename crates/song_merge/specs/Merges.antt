@@ -26,8 +26,8 @@ unfoldable pub mergedWith : List Timed → List (List Timed) → List Timed
 mergedWith ts [] = ts
 mergedWith ts (us ∷ tss) = mergedWith (mergedOf ts us) tss
 
-abbrev pub allOf : List (List Timed) → List Timed
-allOf tss = mergedWith [] tss
+abbrev pub mergedAll : List (List Timed) → List Timed
+mergedAll tss = mergedWith [] tss
 
 -- ---- the same with the ticks since the start: of two lists in the order of their ticks one in that order, in which of
 -- two events at one tick the first list's is the first

@@ -20,6 +20,6 @@ pub data Tracks : List ℕ → List (List Timed) → Type 0 where
       → Aliens before → Chunk MTrk body chunk → Track 0 body ts → Tracks rest tss
       → Tracks (before ++ (chunk ++ rest)) (ts ∷ tss)
 
-pub data Songs : List ℕ → ℕ → List (List Timed) → Type 0 where
+pub data ManyTracks : List ℕ → ℕ → List (List Timed) → Type 0 where
   songs : {head bytes : List ℕ} {division : ℕ} {tss : List (List Timed)}
-      → Heading head division (length tss) → Tracks bytes tss → Songs (head ++ bytes) division tss
+      → Heading head division (length tss) → Tracks bytes tss → ManyTracks (head ++ bytes) division tss

@@ -14,23 +14,23 @@ use Rattle.song_merge.specs.declared.cursors.Cursor.{Cursor}
 use Rattle.song_merge.specs.Written.{eventOf, eventBytes, endBytes}
 
 -- the bytes from a place up to another are a track
-abbrev pub Stands : List ℕ → ℕ → ℕ → List Timed → Type 0
-Stands f at end ts = Track 0 (bytesAt (end - at) f at) ts
+abbrev pub TrackStands : List ℕ → ℕ → ℕ → List Timed → Type 0
+TrackStands f at end ts = Track 0 (bytesAt (end - at) f at) ts
 
 -- a track, which with every status byte written out has k bytes at most
-pub data Sized : ℕ → List ℕ → List Timed → ℕ → Type 0 where
+pub data TrackSized : ℕ → List ℕ → List Timed → ℕ → Type 0 where
   ended : {running ticks k : ℕ} {delta size : List ℕ} (body : List ℕ) → Quantity delta ticks
       → Quantity size (length body) → length delta + 3 ≤ k
-      → Sized running (delta ++ (0xFF ∷ 0x2F ∷ (size ++ body))) [] k
+      → TrackSized running (delta ++ (0xFF ∷ 0x2F ∷ (size ++ body))) [] k
   then : {running ticks status k j : ℕ} {delta event rest : List ℕ} {e : Event} {ts : List Timed}
       → Quantity delta ticks → OneEvent running event e status
       → (byteAt event 0 < 128 → length delta + length event + 1 ≤ k) → length delta + length event ≤ k
-      → Sized status rest ts j
-      → Sized running (delta ++ (event ++ rest)) (record { delta = ticks; event = e } ∷ ts) (k + j)
+      → TrackSized status rest ts j
+      → TrackSized running (delta ++ (event ++ rest)) (record { delta = ticks; event = e } ∷ ts) (k + j)
 
 -- the bytes from a place up to another are such a track, behind a running status
 abbrev pub Held : List ℕ → ℕ → ℕ → ℕ → List Timed → ℕ → Type 0
-Held f running at end ts k = Sized running (bytesAt (end - at) f at) ts k
+Held f running at end ts k = TrackSized running (bytesAt (end - at) f at) ts k
 
 -- a cursor before an event of a track that ends at `end`, and those behind it
 pub record Before (f : List ℕ) (end : ℕ) (c : Cursor) (t : Timed) (ts : List Timed) (k : ℕ) : Type 0 where
@@ -47,19 +47,19 @@ Views f end c [] k = (c .ended ≡ true) × (length (endBytes (c .wait)) ≤ k)
 Views f end c (t ∷ ts) k = Before f end c t ts k
 
 -- a cursor that was made at a place lies behind it and before the end, or at it where the track is over
-pub record Placed (end at : ℕ) (c : Cursor) : Type 0 where
+pub record CursorPlaced (end at : ℕ) (c : Cursor) : Type 0 where
   pub small : c .wait < 2 ^ 28
   pub up : c .from ≤ c .next
   pub low : at ≤ c .next
   pub going : c .ended ≡ false → (at < c .next) × (c .next ≤ end)
 
 -- whether a track stands from a place to another
-pub record Whole (f : List ℕ) (at end : ℕ) (r : Bool) : Type 0 where
-  pub told : r ≡ true → (ts : List Timed) × Stands f at end ts
-  pub taken : (ts : List Timed) → Stands f at end ts → r ≡ true
+pub record WholeTrack (f : List ℕ) (at end : ℕ) (r : Bool) : Type 0 where
+  pub told : r ≡ true → (ts : List Timed) × TrackStands f at end ts
+  pub taken : (ts : List Timed) → TrackStands f at end ts → r ≡ true
 
 -- the end of the track chunk at a place, or 0
 pub record ChunkEnd (f : List ℕ) (at r : ℕ) : Type 0 where
-  pub told : 0 < r → (r ≡ at + 8 + fourAt f (at + 4)) × (r ≤ length f) × (ts : List Timed) × Stands f (at + 8) r ts
+  pub told : 0 < r → (r ≡ at + 8 + fourAt f (at + 4)) × (r ≤ length f) × (ts : List Timed) × TrackStands f (at + 8) r ts
   pub taken : (ts : List Timed) (end : ℕ) → end ≡ at + 8 + fourAt f (at + 4) → end ≤ length f
-      → Stands f (at + 8) end ts → r ≡ end
+      → TrackStands f (at + 8) end ts → r ≡ end

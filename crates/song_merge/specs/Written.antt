@@ -18,11 +18,11 @@ deltaBytes n =
 abbrev pub eventOf : List ℕ → Cursor → List ℕ
 eventOf f c = bytesAt (c .next - c .from) f (c .from)
 
-unfoldable pub toldOf : List ℕ → Cursor → List ℕ
-toldOf f c = cond (ltb (byteAt f (c .from)) 128) (c .before ∷ eventOf f c) (eventOf f c)
+unfoldable pub wholeEvent : List ℕ → Cursor → List ℕ
+wholeEvent f c = cond (ltb (byteAt f (c .from)) 128) (c .before ∷ eventOf f c) (eventOf f c)
 
 abbrev pub eventBytes : List ℕ → Cursor → List ℕ
-eventBytes f c = deltaBytes (c .wait) ++ toldOf f c
+eventBytes f c = deltaBytes (c .wait) ++ wholeEvent f c
 
 abbrev pub endBytes : ℕ → List ℕ
 endBytes wait = deltaBytes wait ++ (0xFF ∷ 0x2F ∷ 0 ∷ [])

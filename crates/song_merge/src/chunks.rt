@@ -5,7 +5,7 @@ ghost use lib.ListN.{length};
 ghost use Rattle.smf.specs.Faults.{faultAt};
 ghost use Rattle.song_merge.specs.declared.chunks.Opened.the-variants.{Broken};
 ghost use Rattle.song_merge.specs.Headings.{fieldsOf, openingOf};
-ghost use Rattle.song_merge.specs.Standing.{Whole, ChunkEnd};
+ghost use Rattle.song_merge.specs.Standing.{WholeTrack, ChunkEnd};
 use smf::chunks::HEADER_TYPE;
 use smf::events::Step;
 use smf::events::step_at;
@@ -92,7 +92,7 @@ pub fn opening(file: &[u8]) -> Opened
 // Whether a track stands from a place to another.
 fn whole(file: &[u8], at: usize, end: usize) -> bool
     requires { ⌜ (at ≤ end) × (end ≤ length (now file)) ⌝ }
-    ensures { λ r. ⌜ Whole (now (file .entry)) at end r ⌝ }
+    ensures { λ r. ⌜ WholeTrack (now (file .entry)) at end r ⌝ }
 {
     let mut place = at;
     let mut running: u8 = 0;

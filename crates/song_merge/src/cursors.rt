@@ -5,7 +5,7 @@ ghost use mathlib.Core.List.{List};
 ghost use Prim.Native.Nat.{ℕ, _-_, _^_, _≤_, _<_};
 ghost use lib.Dec.{leb};
 ghost use Rattle.smf.specs.Promised.{Timed};
-ghost use Rattle.song_merge.specs.Standing.{Held, Views, Placed};
+ghost use Rattle.song_merge.specs.Standing.{Held, Views, CursorPlaced};
 use smf::events::Read;
 use smf::events::event_at;
 use smf::fields::Quantity;
@@ -45,7 +45,7 @@ fn over(wait: u32, at: usize) -> Cursor
 // What a track that ends at `end` has at a place.
 pub fn look(list: &[u8], end: usize, running: u8, at: usize) -> Cursor
     requires { ⌜ end < 2 ^ 63 ⌝ }
-    ensures { λ r. ⌜ Placed end at r ⌝ }
+    ensures { λ r. ⌜ CursorPlaced end at r ⌝ }
     ensures { λ r. ⌜ ((ts : List Timed) (k : ℕ) → Held (now (list .entry)) running at end ts k
         → Views (now (list .entry)) end r ts k) ⌝ }
 {

@@ -2,7 +2,7 @@
 ghost use mathlib.Core.Path.{_≡_};
 ghost use Prim.Native.Nat.{_≤_, _<_, max};
 ghost use lib.ListN.{length};
-ghost use Rattle.song_merge.specs.Gathers.{Joined, Grown, Started, closedOf, Gathers};
+ghost use Rattle.song_merge.specs.Gathers.{Joined, Grown, Started, gatheredTo, GathersTracks};
 use crate::chunks::chunk_end;
 use crate::cursors::goes_first;
 use crate::cursors::look;
@@ -99,7 +99,7 @@ fn start(out: &mut [u8]) -> usize
 
 // Behind the last track no other stands, and the merged one is short enough for a chunk.
 fn closed(found: Found, end: usize) -> Gathered
-    ensures { λ r. ⌜ r ≡ closedOf found end ⌝ }
+    ensures { λ r. ⌜ r ≡ gatheredTo found end ⌝ }
 {
     match found {
         Found::Nothing => {
@@ -119,7 +119,7 @@ fn closed(found: Found, end: usize) -> Gathered
 // So many tracks of the file from a place on.
 pub fn gather(file: &[u8], count: u32, at: usize, spare: &mut [u8], out: &mut [u8]) -> Gathered
     requires { ⌜ at ≤ length (now file) ⌝ }
-    ensures { λ r. ⌜ Gathers (now (file .entry)) count at (length (now (spare .entry))) (now (out .exit)) r ⌝ }
+    ensures { λ r. ⌜ GathersTracks (now (file .entry)) count at (length (now (spare .entry))) (now (out .exit)) r ⌝ }
 {
     let mut place = at;
     let mut end = start(out);

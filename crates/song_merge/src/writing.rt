@@ -4,7 +4,7 @@ ghost use Prim.Native.Nat.{_+_, _-_, _^_, _≤_, _<_};
 ghost use lib.ListN.{length};
 ghost use lib.Seq.{sets};
 ghost use Rattle.octets.specs.Octets.{bytesAt};
-ghost use Rattle.song_merge.specs.Written.{deltaBytes, toldOf, eventBytes, endBytes, headingBytes};
+ghost use Rattle.song_merge.specs.Written.{deltaBytes, wholeEvent, eventBytes, endBytes, headingBytes};
 use crate::cursors::Cursor;
 use octets::byte_at;
 
@@ -50,8 +50,8 @@ pub fn copy(list: &[u8], from: usize, size: usize, out: &mut [u8], at: usize)
 // The event before which a cursor stands, with its status byte.
 fn put_told(list: &[u8], c: Cursor, out: &mut [u8], at: usize) -> usize
     requires { ⌜ (c .from ≤ c .next) × (at + 1 + (c .next - c .from) ≤ length (now out)) ⌝ }
-    ensures { λ r. ⌜ r ≡ at + length (toldOf (now (list .entry)) c) ⌝ }
-    ensures { λ r. ⌜ now (out .exit) ≡ sets (now (out .entry)) at (toldOf (now (list .entry)) c) ⌝ }
+    ensures { λ r. ⌜ r ≡ at + length (wholeEvent (now (list .entry)) c) ⌝ }
+    ensures { λ r. ⌜ now (out .exit) ≡ sets (now (out .entry)) at (wholeEvent (now (list .entry)) c) ⌝ }
 {
     let from = c.from;
     let size = c.next - c.from;

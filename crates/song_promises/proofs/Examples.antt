@@ -20,7 +20,7 @@ use Rattle.promises.specs.Runs.{World, setUp, frame, run, chan, one, frames, ma
 use Rattle.promises.specs.Demands.{FirstIn}
 use Rattle.promises.proofs.Examples.{computing, plain, init, cells, recorded}
 use Rattle.song_promises.specs.Songs.{handOf, hands, Rising}
-use Rattle.song_promises.specs.Heard.{Turn, Host, begins, called, turnedAll, InStep, Heard}
+use Rattle.song_promises.specs.Heard.{HostTurn, Host, hostBegins, called, turnedAll, InStep, StartHeard}
 use Rattle.song_promises.proofs.Heard.{heard}
 
 -- one tick a quarter note: a start at 0; 4 ticks later, at 2 seconds, a stop of that note and a start of another one
@@ -60,13 +60,13 @@ starts = refl
 abbrev ready : World
 ready = makes (setUp 2 init cells) (map one recorded)
 
-abbrev quiet : Turn
+abbrev quiet : HostTurn
 quiet = record { calls = frames (zero32 ∷ zero32 ∷ zero32 ∷ zero32 ∷ []) plain ∷ []; span = 2 }
 
 abbrev host : Host
-host = turnedAll list plain (begins ready) (quiet ∷ [])
+host = turnedAll list plain (hostBegins ready) (quiet ∷ [])
 
-in-step : InStep 1 list plain (begins ready) (quiet ∷ [])
+in-step : InStep 1 list plain (hostBegins ready) (quiet ∷ [])
 unfolding computing reading InStep Rising callOf oneMore cuesOf playedOf playOf dueOf makes made
 in-step = (record { clock = refl; some = omega arith; cut = λ _. (omega arith, (omega arith, tt)) }, tt)
 
@@ -74,7 +74,7 @@ there : host .at ≡ 2
 unfolding turnedAll
 there = refl
 
-met : Heard ready 1 list plain host second
+met : StartHeard ready 1 list plain host second
 unfolding computing
 met = heard .on-time 2 init cells refl (map one recorded) 1 (omega arith) ready refl song 1 lent 3 read list refl (record { frame = 0; key = 0x7F3C00 } ∷ stopped ∷ []) started [] entries second refl starts plain (quiet ∷ []) in-step there
 

@@ -24,7 +24,7 @@ use Rattle.common_types.specs.declared.Params.{Params}
 use Rattle.common_types.specs.Settings.{beyondLimits}
 use Rattle.sampler.specs.Refusals.{row, goodWith, roomOf, setUpNumber, runNumber, doneOf}
 use lib.Seq.{take-at, length-take-le}
-use Rattle.smf.specs.Cues.{Entry, songOf, numbersOf, countedOf, listOf, numberOf, cueOf}
+use Rattle.smf.specs.Cues.{Entry, songOf, numbersOf, countedOf, listOf, cuesNumber, cueOf}
 use Rattle.smf.specs.declared.Counted.the-variants.{Done}
 use Rattle.smf.specs.declared.Cue.{Cue}
 use Rattle.smf.proofs.Promised.{promised}
@@ -36,7 +36,7 @@ use Rattle.promises.specs.Demands.{FirstIn, Demand3}
 use Rattle.promises.proofs.Makes.{third, count-makes}
 use Rattle.promises.proofs.Turns.{in-turn}
 use Rattle.song_promises.specs.Songs.{hands, leftIn, dueIn, Rising, played}
-use Rattle.song_promises.specs.Heard.{Turn, Host, begins, called, turned, turnedAll, Keeps, InStep, Heard, SongHeard}
+use Rattle.song_promises.specs.Heard.{HostTurn, Host, hostBegins, called, turnTaken, turnedAll, Keeps, InStep, StartHeard, SongHeard}
 use Rattle.song_promises.proofs.Songs.{makes-more, makes-each, left-behind, songs}
 
 -- ---- one entry of a list, as it comes nearer
@@ -76,11 +76,11 @@ cues-append (x ∷ xs) ys = ap (λ (l : List Cue). cueOf (x .frame) (x .key) ∷
 
 module _ (f : List ℕ) (rate : ℕ) (lent : List ℕ) (n : ℕ) (read : countedOf f rate (length lent) ≡ Done n) where
   list-is : take (2 * n) (listOf f rate lent) ≡ numbersOf (songOf rate f .entries)
-  unfolding numberOf
+  unfolding cuesNumber
   list-is =
       let es = songOf rate f .entries in
       let size : length (numbersOf (songOf rate f .entries)) ≡ 2 * n = omega (arith, numbers-length (songOf rate f .entries), promised .counted f rate (length lent) n read .1) in
-      ap (take (2 * n)) (promised .written f rate lent (ap numberOf read))
+      ap (take (2 * n)) (promised .written f rate lent (ap cuesNumber read))
       ∙ take-at (numbersOf (songOf rate f .entries)) _ (2 * n) size
 
 -- ---- along the turns
@@ -97,11 +97,11 @@ module _ (count : ℕ) (q : InitParams) (m : List ℕ) (good : setUpNumber count
   standing : (h : Host) → Nearing h → chan (called list p h) j .head .now ≡ chan w j .head .now + h .at
   standing h i = songs .time .no-time count q m good (i .calls) j k list (h .next) (h .at) p (h .world) (i .from) ∙ i .clock
 
-  moved : (h : Host) (t : Turn) → Nearing h → Keeps j list p h t → h .at + t .span ≤ c .frame → Nearing (turned list p h t)
+  moved : (h : Host) (t : HostTurn) → Nearing h → Keeps j list p h t → h .at + t .span ≤ c .frame → Nearing (turnTaken list p h t)
   moved h t i keeps before =
       let due = dueIn list (h .next) (h .at) in
       let some = keeps .some in
-      let next : turned list p h t .next ≡ h .next + length due = by-hand (h .world .sampler) list (h .next) (h .at) p .places in
+      let next : turnTaken list p h t .next ≡ h .next + length due = by-hand (h .world .sampler) list (h .next) (h .at) p .places in
       let s = stays (h .at) c ys (i .sooner) (omega arith) in
       let gone : leftIn list (h .next + length due) ≡ drop (length due) (leftIn list (h .next)) = left-behind list (h .next) (length due) in
       record {
@@ -119,27 +119,27 @@ module _ (count : ℕ) (q : InitParams) (m : List ℕ) (good : setUpNumber count
         left = ap (leftIn list) next ∙ gone ∙ (rw (i .left) (s .1));
       }
     where
-      go : (b : Bool) → leb (t .span) 1 ≡ b → Rising (h .at + t .span) (leftIn list (turned list p h t .next))
+      go : (b : Bool) → leb (t .span) 1 ≡ b → Rising (h .at + t .span) (leftIn list (turnTaken list p h t .next))
       go true e =
           let one-frame : h .at + 1 ≡ h .at + t .span = (let few = leb-true (t .span) 1 e in let some = keeps .some in omega arith) in
-          subst (λ (n : ℕ). Rising n (leftIn list (turned list p h t .next))) one-frame
+          subst (λ (n : ℕ). Rising n (leftIn list (turnTaken list p h t .next))) one-frame
           (subst (λ (n : ℕ). Rising (h .at + 1) (leftIn list n)) (sym (by-hand (h .world .sampler) list (h .next) (h .at) p .places))
           (songs .turn .turns list (h .next) (h .at) (i .rising) .1))
       go false e = keeps .cut (leb-false (t .span) 1 e)
 
-  later : (h : Host) (ts : List Turn) → h .at ≤ turnedAll list p h ts .at
+  later : (h : Host) (ts : List HostTurn) → h .at ≤ turnedAll list p h ts .at
   unfolding turnedAll
   later h [] = omega arith
-  later h (t ∷ ts) = omega (arith, later (turned list p h t) ts)
+  later h (t ∷ ts) = omega (arith, later (turnTaken list p h t) ts)
 
-  arrives : (h : Host) (ts : List Turn) → Nearing h → InStep j list p h ts → turnedAll list p h ts .at ≤ c .frame → Nearing (turnedAll list p h ts)
+  arrives : (h : Host) (ts : List HostTurn) → Nearing h → InStep j list p h ts → turnedAll list p h ts .at ≤ c .frame → Nearing (turnedAll list p h ts)
   unfolding turnedAll InStep
   arrives h [] i steps before = i
   arrives h (t ∷ ts) i steps before =
-      arrives (turned list p h t) ts (moved h t i (steps .0) (omega (arith, later (turned list p h t) ts))) (steps .1) before
+      arrives (turnTaken list p h t) ts (moved h t i (steps .0) (omega (arith, later (turnTaken list p h t) ts))) (steps .1) before
 
   -- at its count
-  there : (h : Host) → Nearing h → h .at ≡ c .frame → c .starts ≡ true → Heard w j list p h c
+  there : (h : Host) → Nearing h → h .at ≡ c .frame → c .starts ≡ true → StartHeard w j list p h c
   there h i is starts =
       record {
         due = (
@@ -222,8 +222,8 @@ module _ (count : ℕ) (q : InitParams) (m : List ℕ) (good : setUpNumber count
       → (list : List ℕ) → list ≡ take (2 * n) (listOf f rate lent)
       → (before : List Entry) (e : Entry) (behind : List Entry) → songOf rate f .entries ≡ before ++ (e ∷ behind)
       → (c : Cue) → c ≡ cueOf (e .frame) (e .key) → c .starts ≡ true
-      → (p : Params) (ts : List Turn) → InStep j list p (begins w) ts → turnedAll list p (begins w) ts .at ≡ e .frame
-      → Heard w j list p (turnedAll list p (begins w) ts) c
+      → (p : Params) (ts : List HostTurn) → InStep j list p (hostBegins w) ts → turnedAll list p (hostBegins w) ts .at ≡ e .frame
+      → StartHeard w j list p (turnedAll list p (hostBegins w) ts) c
   unfolding numbersOf cuesOf cueOf
   on-time f rate lent n read list is before e behind split c cue starts p ts steps at =
       let song : list ≡ numbersOf (songOf rate f .entries) = is ∙ list-is f rate lent n read in
@@ -232,8 +232,8 @@ module _ (count : ℕ) (q : InitParams) (m : List ℕ) (good : setUpNumber count
       ∙ cues-append before (e ∷ behind)
       ∙ ap (λ (d : Cue). cuesOf (numbersOf before) ++ (d ∷ cuesOf (numbersOf behind))) (sym cue) in
       let frame-is : e .frame ≡ c .frame = sym (ap (λ (d : Cue). d .frame) cue) in
-      there count q m good j k w list p c (cuesOf (numbersOf behind)) (turnedAll list p (begins w) ts)
-      (arrives count q m good j k w list p c (cuesOf (numbersOf behind)) (begins w) ts
+      there count q m good j k w list p c (cuesOf (numbersOf behind)) (turnedAll list p (hostBegins w) ts)
+      (arrives count q m good j k w list p c (cuesOf (numbersOf behind)) (hostBegins w) ts
       (record {
         calls = hs;
         from = from;

@@ -35,7 +35,7 @@ use Rattle.fates.specs.Places.{stoppedIn}
 use Rattle.promises.specs.Runs.{World, setUp, Call, stop, frame, code, withSampler, after, run, chan, doneTo, event, events, isResetCall, Made, one, made as made-by, makes}
 use Rattle.promises.specs.Demands.{isEmpty, FirstIn, Demand3}
 use Rattle.promises.proofs.Makes.{third}
-use Rattle.song_promises.specs.Songs.{startOf, handOf, hands, leftIn, dueIn, Rising, played, hosted, woven, Songs}
+use Rattle.song_promises.specs.Songs.{startCall, handOf, hands, leftIn, dueIn, Rising, played, hosted, woven, Songs}
 
 -- ---- by hand
 
@@ -54,7 +54,7 @@ made p w c = go (c .starts)
 
     go : (b : Bool)
         → withSampler (cond b (startPlayingOf (w .sampler) (asFloat 0) note (c .velocity) p) (stopPlayingOf (w .sampler) note p) .sampler) w
-        ≡ after w (cond b (startOf p c) (stop note p))
+        ≡ after w (cond b (startCall p c) (stop note p))
     go true = refl
     go false = refl
 
@@ -137,7 +137,7 @@ unfolding any handOf isResetCall isReset
 no-reset p [] = refl
 no-reset p (c ∷ cs) = rw (keeps (c .starts)) (no-reset p cs)
   where
-    keeps : (b : Bool) → isResetCall (cond b (startOf p c) (stop (fromU64Of (c .note)) p)) ≡ false
+    keeps : (b : Bool) → isResetCall (cond b (startCall p c) (stop (fromU64Of (c .note)) p)) ≡ false
     keeps true = refl
     keeps false = refl
 
@@ -151,15 +151,15 @@ unfolding any events handOf event doneTo
 no-sample p w [] j = refl
 no-sample p w (c ∷ cs) j = rw (keeps (c .starts)) (no-sample p (after w (handOf p c)) cs j)
   where
-    keeps : (b : Bool) → isSample (event w (cond b (startOf p c) (stop (fromU64Of (c .note)) p)) j) ≡ false
-    keeps true = silent (eqb (code w (startOf p c)) 0) _
+    keeps : (b : Bool) → isSample (event w (cond b (startCall p c) (stop (fromU64Of (c .note)) p)) j) ≡ false
+    keeps true = silent (eqb (code w (startCall p c)) 0) _
     keeps false = silent (eqb (code w (stop (fromU64Of (c .note)) p)) 0) _
 
 -- ---- on time
 
-started : (p : Params) (c : Cue) → c .starts ≡ true → handOf p c ≡ startOf p c
+started : (p : Params) (c : Cue) → c .starts ≡ true → handOf p c ≡ startCall p c
 unfolding handOf
-started p c h = ap (λ (b : Bool). cond b (startOf p c) (stop (fromU64Of (c .note)) p)) h
+started p c h = ap (λ (b : Bool). cond b (startCall p c) (stop (fromU64Of (c .note)) p)) h
 
 -- a host's calls one by one
 pub makes-more : (w : World) (hs ks : List Made) → makes w (hs ++ ks) ≡ makes (makes w hs) ks
@@ -194,22 +194,22 @@ module _ (count : ℕ) (q : InitParams) (m : List ℕ) (good : setUpNumber count
     holds : Demand3 u j
     holds = holds-on p w from earlier u then
 
-    reached : run u (startOf p c ∷ hands p later) ≡ played w list next (c .frame) p
+    reached : run u (startCall p c ∷ hands p later) ≡ played w list next (c .frame) p
     reached =
-        ap (λ (v : World). run v (startOf p c ∷ hands p later)) then
-        ∙ sym (run-more w (hands p earlier) (startOf p c ∷ hands p later))
+        ap (λ (v : World). run v (startCall p c ∷ hands p later)) then
+        ∙ sym (run-more w (hands p earlier) (startCall p c ∷ hands p later))
         ∙ ap (λ (d : Call). run w (hands p earlier ++ (d ∷ hands p later))) (sym (started p c starts))
         ∙ ap (run w) (sym (map-append (handOf p) earlier (c ∷ later)))
         ∙ ap (λ (l : List Cue). run w (hands p l)) (sym split)
         ∙ sym (plays w list next (c .frame) p)
 
-    same : chan (run u (startOf p c ∷ hands p later)) j .head .now ≡ chan u j .head .now
+    same : chan (run u (startCall p c ∷ hands p later)) j .head .now ≡ chan u j .head .now
     same =
         subst (λ (d : Call). chan (run u (d ∷ hands p later)) j .head .now ≡ chan u j .head .now) (started p c starts)
         (holds .stands (hands p (c ∷ later)) (no-reset p (c ∷ later)) (no-sample p u (c ∷ later) j))
 
-    in-time : code u (startOf p c) ≡ 0 → isEmpty (chan u j) ≡ false
-        → stoppedIn (events (after u (startOf p c)) (hands p later) j) (chan (after u (startOf p c)) j) (length (live (chan u j))) ≡ false
+    in-time : code u (startCall p c) ≡ 0 → isEmpty (chan u j) ≡ false
+        → stoppedIn (events (after u (startCall p c)) (hands p later) j) (chan (after u (startCall p c)) j) (length (live (chan u j))) ≡ false
         → (s : Call) (sp : Params) (x : Float) (part : List ℕ) → event (played w list next (c .frame) p) s j ≡ sounds sp x part
         → emptyAt part (chan (played w list next (c .frame) p) j) (bornOf p (asFloat 0) (fromU64Of (c .note)) (c .velocity) (chan u j)) ≡ false
         → FirstIn (played w list next (c .frame) p) s j sp x part (length (live (chan u j)))

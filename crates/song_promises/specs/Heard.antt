@@ -41,10 +41,10 @@ use Rattle.promises.specs.Runs.{
   makes,
 }
 use Rattle.promises.specs.Demands.{isEmpty, FirstIn}
-use Rattle.song_promises.specs.Songs.{startOf, hands, leftIn, dueIn, Rising, played}
+use Rattle.song_promises.specs.Songs.{startCall, hands, leftIn, dueIn, Rising, played}
 
 -- what a host does between two plays of the song, and how many frames it takes it for
-pub record Turn : Type 0 where
+pub record HostTurn : Type 0 where
   pub calls : List Made
   pub span : ℕ
 
@@ -54,46 +54,46 @@ pub record Host : Type 0 where
   pub next : ℕ
   pub at : ℕ
 
-abbrev pub begins : World → Host
-begins w = record { world = w; next = 0; at = 0 }
+abbrev pub hostBegins : World → Host
+hostBegins w = record { world = w; next = 0; at = 0 }
 
 -- after `songs::play`
 abbrev pub called : List ℕ → Params → Host → World
 called list p h = played (h .world) list (h .next) (h .at) p
 
 -- and after a turn behind it
-abbrev pub turned : List ℕ → Params → Host → Turn → Host
-turned list p h t = record {
+abbrev pub turnTaken : List ℕ → Params → Host → HostTurn → Host
+turnTaken list p h t = record {
   world = makes (called list p h) (t .calls);
   next = playOf (h .world .sampler) list (h .next) (h .at) p .next;
   at = h .at + t .span;
 }
 
-unfoldable pub turnedAll : List ℕ → Params → Host → List Turn → Host
+unfoldable pub turnedAll : List ℕ → Params → Host → List HostTurn → Host
 turnedAll list p h [] = h
-turnedAll list p h (t ∷ ts) = turnedAll list p (turned list p h t) ts
+turnedAll list p h (t ∷ ts) = turnedAll list p (turnTaken list p h t) ts
 
 -- by channel j's clock a turn has the frames that it is taken for, one at least; one of several frames ends where the
 -- next entry is due, or before
-pub record Keeps (j : ℕ) (list : List ℕ) (p : Params) (h : Host) (t : Turn) : Type 0 where
-  pub clock : chan (turned list p h t .world) j .head .now ≡ chan (called list p h) j .head .now + t .span
+pub record Keeps (j : ℕ) (list : List ℕ) (p : Params) (h : Host) (t : HostTurn) : Type 0 where
+  pub clock : chan (turnTaken list p h t .world) j .head .now ≡ chan (called list p h) j .head .now + t .span
   pub some : 0 < t .span
-  pub cut : 1 < t .span → Rising (turned list p h t .at) (leftIn list (turned list p h t .next))
+  pub cut : 1 < t .span → Rising (turnTaken list p h t .at) (leftIn list (turnTaken list p h t .next))
 
-unfoldable pub InStep : ℕ → List ℕ → Params → Host → List Turn → Type 0
+unfoldable pub InStep : ℕ → List ℕ → Params → Host → List HostTurn → Type 0
 InStep j list p h [] = Unit {0}
-InStep j list p h (t ∷ ts) = Keeps j list p h t × InStep j list p (turned list p h t) ts
+InStep j list p h (t ∷ ts) = Keeps j list p h t × InStep j list p (turnTaken list p h t) ts
 
 -- The start c is heard on channel j by a host that stands at its count and began the song at w: it is due now; the next
 -- sample of the channel has c's count from w on; and if the call is accepted on a recording that isn't empty, and no
 -- stop that is due behind it finds that very voice, then this sample is the first in which it sounds, unless it finds
 -- the recording empty.
-pub record Heard (w : World) (j : ℕ) (list : List ℕ) (p : Params) (h : Host) (c : Cue) : Type 0 where
+pub record StartHeard (w : World) (j : ℕ) (list : List ℕ) (p : Params) (h : Host) (c : Cue) : Type 0 where
   pub due : (earlier later : List Cue) × (dueIn list (h .next) (h .at) ≡ earlier ++ (c ∷ later))
   pub count : chan (called list p h) j .head .now ≡ chan w j .head .now + c .frame
   pub sounds : (earlier later : List Cue) → dueIn list (h .next) (h .at) ≡ earlier ++ (c ∷ later)
-      → (u : World) → u ≡ run (h .world) (hands p earlier) → code u (startOf p c) ≡ 0 → isEmpty (chan u j) ≡ false
-      → stoppedIn (events (after u (startOf p c)) (hands p later) j) (chan (after u (startOf p c)) j)
+      → (u : World) → u ≡ run (h .world) (hands p earlier) → code u (startCall p c) ≡ 0 → isEmpty (chan u j) ≡ false
+      → stoppedIn (events (after u (startCall p c)) (hands p later) j) (chan (after u (startCall p c)) j)
       (length (live (chan u j))) ≡ false
       → (s : Call) (sp : Params) (x : Float) (part : List ℕ)
       → event (called list p h) s j ≡ sounds sp x part
@@ -110,9 +110,9 @@ pub record SongHeard : Type 0 where
       → (list : List ℕ) → list ≡ take (2 * n) (listOf f rate lent)
       → (before : List Entry) (e : Entry) (behind : List Entry) → songOf rate f .entries ≡ before ++ (e ∷ behind)
       → (c : Cue) → c ≡ cueOf (e .frame) (e .key) → c .starts ≡ true
-      → (p : Params) (ts : List Turn) → InStep j list p (begins w) ts
-      → turnedAll list p (begins w) ts .at ≡ e .frame
-      → Heard w j list p (turnedAll list p (begins w) ts) c
+      → (p : Params) (ts : List HostTurn) → InStep j list p (hostBegins w) ts
+      → turnedAll list p (hostBegins w) ts .at ≡ e .frame
+      → StartHeard w j list p (turnedAll list p (hostBegins w) ts) c
   -- an accepted frame with an entry for the channel keeps the clock of a turn of one frame,
   pub frame-turn : (count : ℕ) (q : InitParams) (m : List ℕ) → setUpNumber count (length m) ≡ 0
       → (hs : List Made) (j : ℕ) → j < count → (w : World) → w ≡ makes (setUp count q m) hs

@@ -42,11 +42,11 @@ use Rattle.promises.specs.Runs.{
 use Rattle.promises.specs.Demands.{isEmpty, FirstIn}
 
 -- the call that a host would make by hand for a start, and for a start or a stop
-abbrev pub startOf : Params → Cue → Call
-startOf p c = start (asFloat 0) (fromU64Of (c .note)) (c .velocity) p
+abbrev pub startCall : Params → Cue → Call
+startCall p c = start (asFloat 0) (fromU64Of (c .note)) (c .velocity) p
 
 unfoldable pub handOf : Params → Cue → Call
-handOf p c = cond (c .starts) (startOf p c) (stop (fromU64Of (c .note)) p)
+handOf p c = cond (c .starts) (startCall p c) (stop (fromU64Of (c .note)) p)
 
 abbrev pub hands : Params → List Cue → List Call
 hands p cs = map (handOf p) cs
@@ -106,8 +106,8 @@ pub record SongOnTime : Type 0 where
       → (earlier : List Cue) (c : Cue) (later : List Cue) → dueIn list next (c .frame) ≡ earlier ++ (c ∷ later)
       → c .starts ≡ true
       → (u : World) → u ≡ run w (hands p earlier)
-      → code u (startOf p c) ≡ 0 → isEmpty (chan u j) ≡ false
-      → stoppedIn (events (after u (startOf p c)) (hands p later) j) (chan (after u (startOf p c)) j)
+      → code u (startCall p c) ≡ 0 → isEmpty (chan u j) ≡ false
+      → stoppedIn (events (after u (startCall p c)) (hands p later) j) (chan (after u (startCall p c)) j)
       (length (live (chan u j))) ≡ false
       → (s : Call) (sp : Params) (x : Float) (part : List ℕ)
       → event (played w list next (c .frame) p) s j ≡ sounds sp x part

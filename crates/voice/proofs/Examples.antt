@@ -14,7 +14,7 @@ use Rattle.volume.specs.Levels.{levelOf, steppedOf, keepsOf, goodVolume}
 use Rattle.clip.specs.declared.Clip.{Clip}
 use Rattle.clip.specs.declared.Mode.{Mode}
 use Rattle.clip.specs.declared.Mode.the-variants.{Loop, PingPong}
-use Rattle.clip.specs.Positions.{positionOf, leadOf, travelAt, loopedOf, wrappedOf, placedOf, clipOffsetAt, clipToDataOf, offsetAt, indexAt, aheadOf, nextAt}
+use Rattle.clip.specs.Positions.{positionOf, leadOf, travelAt, loopedOf, wrappedOf, placedOf, clipOffsetAt, clipToDataOf, offsetAt, indexAt, oneFurther, nextAt}
 use Rattle.clip.specs.Refusals.{goodLength, goodClip}
 use Rattle.clip.specs.Updates.{madeOf, withLength, withSpeed, withDataLength, withMode}
 use Rattle.voice.specs.Voices.{lateOf, overOf, shouldRemoveOf, movedOf, betweenOf, valueOf, productOf, soundedOf, playedOutOf, endedOf, volumeStepped, turnOf, goodVoice}
@@ -25,7 +25,7 @@ use Rattle.voice.specs.declared.Tick.{Tick}
 
 -- whatever a turn computes by
 unfoldable computing : Unit {0}
-unfolding glidesOf glidedAt agreesOf keepsOf turnOf volumeStepped endedOf playedOutOf shouldRemoveOf overOf lateOf soundedOf productOf valueOf betweenOf positionOf movedOf withLength withSpeed withDataLength withMode madeOf indexAt nextAt aheadOf offsetAt clipToDataOf clipOffsetAt placedOf wrappedOf loopedOf travelAt leadOf levelOf steppedOf floorOf minOf crossingOf ofInt ofBits neg add sub mul div rem lt le eq isNan toUnsigned
+unfolding glidesOf glidedAt agreesOf keepsOf turnOf volumeStepped endedOf playedOutOf shouldRemoveOf overOf lateOf soundedOf productOf valueOf betweenOf positionOf movedOf withLength withSpeed withDataLength withMode madeOf indexAt nextAt oneFurther offsetAt clipToDataOf clipOffsetAt placedOf wrappedOf loopedOf travelAt leadOf levelOf steppedOf floorOf minOf crossingOf ofInt ofBits neg add sub mul div rem lt le eq isNan toUnsigned
 computing = tt
 
 -- a tick at a time, on either setting, with a decay of 3

@@ -20,21 +20,21 @@ use Rattle.binary32.proofs.Zeros.{plus-none, equal-times}
 use Rattle.volume.specs.Levels.{levelOf}
 use Rattle.clip.specs.declared.Clip.{Clip}
 use Rattle.clip.specs.declared.Position.{Position}
-use Rattle.clip.specs.Positions.{positionAt, indexAt, nextAt, besideOf}
+use Rattle.clip.specs.Positions.{positionAt, indexAt, nextAt, nextIfSmooth}
 use Rattle.clip.proofs.Indices.{position-index}
 use Rattle.voice.specs.Voices.{movedOf, recordedValueOf, betweenOf, valueAt, valueOf, productOf}
 use Rattle.voice.specs.declared.Voice.{Voice}
 use Rattle.voice.specs.declared.Tick.{Tick}
 
 module _ (t : Tick) (m : List ℕ) (c : Clip) where
-  pub value-beside : valueAt t m (positionAt c (t .now)) (besideOf c (t .now) (t .interpolates)) ≡ valueOf t m c
+  pub value-beside : valueAt t m (positionAt c (t .now)) (nextIfSmooth c (t .now) (t .interpolates)) ≡ valueOf t m c
   unfolding valueOf
   value-beside = go (t .interpolates)
     where
       p : Position
       p = positionAt c (t .now)
 
-      go : (b : Bool) → cond b (betweenOf (recordedValueOf m (p .index)) (recordedValueOf m (besideOf c (t .now) b)) (p .fraction)) (recordedValueOf m (p .index))
+      go : (b : Bool) → cond b (betweenOf (recordedValueOf m (p .index)) (recordedValueOf m (nextIfSmooth c (t .now) b)) (p .fraction)) (recordedValueOf m (p .index))
           ≡ cond b (betweenOf (recordedValueOf m (p .index)) (recordedValueOf m (nextAt c (t .now))) (p .fraction)) (recordedValueOf m (p .index))
       go true = refl
       go false = refl

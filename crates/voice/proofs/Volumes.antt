@@ -6,7 +6,7 @@ use lib.Ieee.{Float, binary32, sub, mul}
 use lib.Ieee.Fits.{add-fits}
 use Rattle.volume.specs.declared.Volume.{Volume}
 use Rattle.volume.specs.declared.Volume.the-variants.{Static, Linear}
-use Rattle.volume.specs.Levels.{progressOf, levelOf, laterOf, towardOf, steppedOf}
+use Rattle.volume.specs.Levels.{progressOf, levelOf, timeAfter, towardOf, steppedOf}
 use Rattle.volume.proofs.Goodness.{good-static, good-later, good-stepped, good-toward}
 use Rattle.voice.specs.Soundness.{Fits, FittingVolume, SoundVolume}
 
@@ -20,7 +20,7 @@ toward-fits : (v : Volume) (now duration : ℕ) (target : Float) → FittingVolu
 unfolding towardOf FittingVolume
 toward-fits v now duration target h t = go (eqb duration 0)
   where
-    go : (b : Bool) → FittingVolume (cond b (Static target) (Linear now (laterOf now duration) (levelOf v now) target))
+    go : (b : Bool) → FittingVolume (cond b (Static target) (Linear now (timeAfter now duration) (levelOf v now) target))
     go true = t
     go false = (level-fits v now h, t)
 

@@ -6,10 +6,10 @@ use lib.Ieee.{Float}
 use borrow.Author.Tests.{ne-eqb}
 use Rattle.volume.specs.declared.Volume.{Volume}
 use Rattle.volume.specs.declared.Volume.the-variants.{Static, Linear}
-use Rattle.volume.specs.Levels.{levelOf, laterOf, towardOf}
+use Rattle.volume.specs.Levels.{levelOf, timeAfter, towardOf}
 
 -- within the limits the sum is not cut
-pub later-sum : (now duration : ℕ) → now ≤ 2 ^ 48 → duration ≤ 2 ^ 24 → laterOf now duration ≡ now + duration
+pub later-sum : (now duration : ℕ) → now ≤ 2 ^ 48 → duration ≤ 2 ^ 24 → timeAfter now duration ≡ now + duration
 later-sum now duration h k = omega arith
 
 pub toward-at-once : (v : Volume) (now : ℕ) (target : Float) → towardOf v now 0 target ≡ Static target

@@ -42,13 +42,13 @@ levelOf (Linear a b x y) now = add binary32 x (mul binary32 (sub binary32 y x) (
 -- ---- changes
 
 -- a time that many samples later, at most the last that a machine word holds
-abbrev pub laterOf : ℕ → ℕ → ℕ
-laterOf now duration = min (now + duration) (2 ^ 64 - 1)
+abbrev pub timeAfter : ℕ → ℕ → ℕ
+timeAfter now duration = min (now + duration) (2 ^ 64 - 1)
 
 -- steady at the target at once, or a ramp from the level now
 unfoldable pub towardOf : Volume → ℕ → ℕ → Float → Volume
 towardOf v now duration target =
-    cond (eqb duration 0) (Static target) (Linear now (laterOf now duration) (levelOf v now) target)
+    cond (eqb duration 0) (Static target) (Linear now (timeAfter now duration) (levelOf v now) target)
 
 -- a ramp is steady at its last level from its end on
 unfoldable pub steppedOf : Volume → ℕ → Volume

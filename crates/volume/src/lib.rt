@@ -9,7 +9,7 @@ ghost use Rattle.volume.specs.Levels.{
   isStaticAndMuteOf,
   progressOf,
   levelOf,
-  laterOf,
+  timeAfter,
   towardOf,
   steppedOf,
   keepsOf,
@@ -249,7 +249,7 @@ pub fn since(start: usize, now: usize) -> usize
 }
 
 fn later(now: usize, duration: usize) -> usize
-    ensures { λ r. ⌜ r ≡ laterOf now duration ⌝ }
+    ensures { λ r. ⌜ r ≡ timeAfter now duration ⌝ }
 {
     if duration > usize::MAX - now {
         usize::MAX

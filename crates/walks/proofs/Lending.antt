@@ -1,13 +1,9 @@
--- Walks of whole functions that hand on what they are lent, over any record: a call by value on a record that is lent
--- (`Thin`, `Peek`, `PeekFill`), another lent call under a name (`Named`), a lent or shared record handed on as it is
--- (`Passing`), a lent call on a record of one's own (`Own`, `Keys`); and what these share.
+-- Walks of whole functions that hand on what they are lent, over any record: another lent call under a name (`Named`), a
+-- lent or shared record handed on as it is (`Passing`), a lent call on a record of one's own (`Own`, `Keys`); and what
+-- these share.
 pub mod Arguments
-pub mod Copied
 pub mod Middle
 pub mod Named
 pub mod Passing
-pub mod Thin
-pub mod Peek
-pub mod PeekFill
 pub mod Own
 pub mod Keys

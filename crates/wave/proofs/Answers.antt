@@ -18,7 +18,7 @@ use Rattle.wave.specs.Fields.{twoAt, fourAt, riffId, waveId, factId, wor
 use Rattle.wave.specs.Files.{formatOf}
 use Rattle.wave.specs.Reader.{missing, nowhere, walkOf, goodRiff, channelsAt, goodFormat, goodFact, countedOf, judgedAt, judgedIn, judgedOf, wordsIn, readIn, readOf}
 use Rattle.wave.specs.Reader.Reading.{is}
-use Rattle.wave.specs.Grammar.{Chunk, Framed, IsWave}
+use Rattle.wave.specs.Grammar.{Chunk, InChunks, IsWave}
 use Rattle.wave.specs.declared.chunks.Places.{Places}
 use Rattle.wave.specs.declared.chunks.Met.{Met}
 use Rattle.wave.specs.declared.chunks.Met.the-variants as met
@@ -260,7 +260,7 @@ judged-by f p rate channels samples some format more c r size fact =
     judged-is f p some (format-good f (p .format) format) ∙ rw (c, size) (counted ∙ rw (c, r, count))
 
 module _ (f : List ℕ) (rate channels : ℕ) (words : List ℕ) (g : IsWave f rate channels words) where
-  abbrev pub framed : Framed f (g .format) (g .sound) (g .facts)
+  abbrev pub framed : InChunks f (g .format) (g .sound) (g .facts)
   framed = record {
     chunks = g .chunks;
     riff = g .riff;

@@ -15,7 +15,7 @@ use Rattle.octets.specs.Octets.{littleBytes}
 use Rattle.octets.proofs.Orders.{length-little}
 use Rattle.wave.specs.Fields.{fourAt, wordBytes, listed}
 use Rattle.wave.specs.Reader.{wordsIn}
-use Rattle.wave.specs.Memory.{startAt, wordOf, framesOf, channelOf, channelStored, storedOf}
+use Rattle.wave.specs.Memory.{startAt, wordOf, framesOf, channelWords, channelStored, storedOf}
 use Rattle.wave.specs.declared.Layout.{Layout}
 use Rattle.wave.specs.declared.Wave.{Wave}
 use Rattle.wave.proofs.Standing.{length-words, length-listed}
@@ -133,10 +133,10 @@ unfolding storedOf
 length-stored l words m = go (eqb (l .channels) 2)
   where
     one : length (channelStored l words 0 m) ≡ length m
-    one = length-sets m _ (channelOf (l .channels) (l .samples) 0 words)
+    one = length-sets m _ (channelWords (l .channels) (l .samples) 0 words)
 
     go : (t : Bool) → length (cond t (channelStored l words 1 (channelStored l words 0 m)) (channelStored l words 0 m)) ≡ length m
-    go true = length-sets (channelStored l words 0 m) _ (channelOf (l .channels) (l .samples) 1 words) ∙ one
+    go true = length-sets (channelStored l words 0 m) _ (channelWords (l .channels) (l .samples) 1 words) ∙ one
     go false = one
 
 -- ---- what a run of stores leaves

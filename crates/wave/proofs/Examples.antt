@@ -9,7 +9,7 @@ use Rattle.octets.specs.Octets.{bytesAt, littleOf, littleBytes}
 use Rattle.octets.proofs.Hex.{digitsOf, pairs, fromHex}
 use Rattle.wave.specs.Fields.{twoAt, fourAt, riffId, waveId, formatId, factId, dataId, wordBytes, listed}
 use Rattle.wave.specs.Files.{formatOf, riffRow, formatRow, factRow, dataRow, headerOf, fileOf}
-use Rattle.wave.specs.Reader.{paddedAt, metOf, chunkAt, walkFrom, walkOf, goodRiff, goodFormat, goodFact, countedOf, judgedAt, judgedOf, numberOf, Reading, readOf}
+use Rattle.wave.specs.Reader.{paddedAt, metOf, chunkAt, walkFrom, walkOf, goodRiff, goodFormat, goodFact, countedOf, judgedAt, judgedOf, judgedNumber, Reading, readOf}
 use Rattle.wave.specs.Reader.Reading.{is, refused}
 use Rattle.wave.specs.Memory.{fitsMemory, framesOf, storedOf, fitsFile, writes, writtenOf, outputOf, loads, loadedOf}
 use Rattle.wave.specs.declared.Starts.{Starts}
@@ -17,7 +17,7 @@ use Rattle.wave.specs.declared.Layout.{Layout}
 
 -- whatever an answer computes by
 computing : Unit {0}
-unfolding fromHex pairs digitsOf bytesAt littleOf littleBytes twoAt fourAt wordBytes listed formatOf riffRow formatRow factRow dataRow headerOf paddedAt metOf chunkAt walkFrom walkOf goodRiff goodFormat goodFact countedOf judgedAt judgedOf numberOf readOf fitsMemory framesOf storedOf fitsFile writes writtenOf outputOf loads loadedOf
+unfolding fromHex pairs digitsOf bytesAt littleOf littleBytes twoAt fourAt wordBytes listed formatOf riffRow formatRow factRow dataRow headerOf paddedAt metOf chunkAt walkFrom walkOf goodRiff goodFormat goodFact countedOf judgedAt judgedOf judgedNumber readOf fitsMemory framesOf storedOf fitsFile writes writtenOf outputOf loads loadedOf
 computing = tt
 
 -- the ids are their letters
@@ -126,7 +126,7 @@ formats-hold : holds formats
 unfolding computing formats row
 formats-hold = refl
 
-numbers : map (λ (f : List ℕ). numberOf (judgedOf f)) (wave good ∷ wave "" ∷ []) ≡ 0 ∷ 17 ∷ []
+numbers : map (λ (f : List ℕ). judgedNumber (judgedOf f)) (wave good ∷ wave "" ∷ []) ≡ 0 ∷ 17 ∷ []
 unfolding computing
 numbers = refl
 

@@ -11,7 +11,7 @@ use Rattle.octets.specs.Octets.{Bytes, littleBytes}
 use Rattle.octets.proofs.Orders.{length-little}
 use Rattle.wave.specs.Fields.{twoAt, fourAt, riffId, waveId, formatId, dataId}
 use Rattle.wave.specs.Reader.{nowhere, walkOf, goodRiff}
-use Rattle.wave.specs.Grammar.{Chunk, Chunks, Framed}
+use Rattle.wave.specs.Grammar.{Chunk, Chunks, InChunks}
 use Rattle.wave.specs.declared.chunks.Places.{Places}
 use Rattle.wave.specs.declared.chunks.Met.the-variants as met
 use Rattle.wave.proofs.Judgements.{RiffIs, riff-true}
@@ -48,7 +48,7 @@ pub record Found (f : List ℕ) (p : Places) : Type 0 where
   pub format : Chunk
   pub sound : Chunk
   pub facts : List Chunk
-  pub framed : Framed f format sound facts
+  pub framed : InChunks f format sound facts
   pub format-at : At f (p .format) formatId format
   pub sound-at : At f (p .words) dataId sound
   pub facts-at : Facts f (p .fact) facts
@@ -110,7 +110,7 @@ riff-good : (f : List ℕ) → RiffIs f → goodRiff f ≡ true
 unfolding goodRiff
 riff-good f r = simp (le-leb _ _ (r .long), eq-eqb _ _ (r .riff), eq-eqb _ _ (r .size), eq-eqb _ _ (r .wave))
 
-module _ (f : List ℕ) (format sound : Chunk) (facts : List Chunk) (g : Framed f format sound facts) where
+module _ (f : List ℕ) (format sound : Chunk) (facts : List Chunk) (g : InChunks f format sound facts) where
   riff-fields : RiffIs f × (drop 12 f ≡ g .chunks)
   riff-fields =
       let e0 : drop 0 f ≡ littleBytes 4 riffId ++ (littleBytes 4 (4 + length (g .chunks)) ++ (littleBytes 4 waveId ++ g .chunks)) = simp append-assoc at (g .riff) in

@@ -15,10 +15,10 @@ use Rattle.octets.specs.Octets.{littleBytes}
 use Rattle.octets.proofs.Orders.{length-little}
 use Rattle.wave.specs.Fields.{fourAt, riffId, waveId, formatId, factId, dataId, wordBytes, listed}
 use Rattle.wave.specs.Files.{formatOf, riffRow, formatRow, factRow, dataRow, headerOf, fileOf}
-use Rattle.wave.specs.Reader.{judgedOf, numberOf, wordsIn}
-use Rattle.wave.specs.Grammar.{Chunk, Whole, chunkBytes, IsWave}
+use Rattle.wave.specs.Reader.{judgedOf, judgedNumber, wordsIn}
+use Rattle.wave.specs.Grammar.{Chunk, WholeChunk, chunkBytes, IsWave}
 use Rattle.wave.specs.Grammar.Chunks.{none, main, fact}
-use Rattle.wave.specs.Memory.{startAt, fitsMemory, wordOf, framesOf, channelOf, channelStored, storedOf, bytesOf, fitsFile, writes, writtenOf, outputOf, layoutOf, loadsIn, loads, loadedIn, loadedOf}
+use Rattle.wave.specs.Memory.{startAt, fitsMemory, wordOf, framesOf, channelWords, channelStored, storedOf, bytesOf, fitsFile, writes, writtenOf, outputOf, layoutOf, loadsIn, loads, loadedIn, loadedOf}
 use Rattle.wave.specs.Promised.{Sized, recordingAt, Rows, Promised}
 use Rattle.wave.specs.declared.Starts.{Starts}
 use Rattle.wave.specs.declared.Layout.{Layout}
@@ -37,7 +37,7 @@ even-size : (n : ℕ) → 4 * n % 2 ≡ 0
 even-size n = omega arith
 
 -- a chunk of an even number of bytes has no pad byte
-whole-chunk : (id : ℕ) (body : List ℕ) (n : ℕ) → id < 2 ^ 32 → length body ≡ n → n < 2 ^ 32 → n % 2 ≡ 0 → Whole (record { id = id; body = body; pad = [] })
+whole-chunk : (id : ℕ) (body : List ℕ) (n : ℕ) → id < 2 ^ 32 → length body ≡ n → n < 2 ^ 32 → n % 2 ≡ 0 → WholeChunk (record { id = id; body = body; pad = [] })
 whole-chunk id body n h e k even = record { named = h; sized = rw e k; padded = rw e (sym even) }
 
 module _ (rate channels samples : ℕ) (words : List ℕ) (s : Sized rate channels samples words) where
@@ -123,20 +123,20 @@ module _ (starts : Starts) (n j : ℕ) (m : List ℕ) where
 
 -- ---- a memory afterwards
 module _ (l : Layout) (words m : List ℕ) (fits : Fits l (length m)) where
-  long : (j : ℕ) → length (channelOf (l .channels) (l .samples) j words) ≡ l .samples
+  long : (j : ℕ) → length (channelWords (l .channels) (l .samples) j words) ≡ l .samples
   long j = length-listed _ 0 (l .samples)
 
   -- a channel's words leave what stands beside them
   beside : (j : ℕ) (x : ℕ) (before : List ℕ) → (x < startAt (l .starts) j) ⊎ (startAt (l .starts) j + l .samples ≤ x)
       → getD (channelStored l words j before) x 0 ≡ getD before x 0
   beside j x before h =
-      run-else 0 (channelOf (l .channels) (l .samples) j words) before (startAt (l .starts) j) x
+      run-else 0 (channelWords (l .channels) (l .samples) j words) before (startAt (l .starts) j) x
       (subst (λ (n : ℕ). (x < startAt (l .starts) j) ⊎ (startAt (l .starts) j + n ≤ x)) (sym (long j)) h)
 
   inside : (j i : ℕ) (before : List ℕ) → length before ≡ length m → j < l .channels → i < l .samples
-      → getD (channelStored l words j before) (startAt (l .starts) j + i) 0 ≡ getD (channelOf (l .channels) (l .samples) j words) i 0
+      → getD (channelStored l words j before) (startAt (l .starts) j + i) 0 ≡ getD (channelWords (l .channels) (l .samples) j words) i 0
   inside j i before e h k =
-      run-at 0 (channelOf (l .channels) (l .samples) j words) before (startAt (l .starts) j) i (omega (arith, long j))
+      run-at 0 (channelWords (l .channels) (l .samples) j words) before (startAt (l .starts) j) i (omega (arith, long j))
       (omega (arith, long j, start-fits l (length m) fits j h))
 
   -- what holds of a memory with one channel stored, and of one with both
@@ -149,17 +149,17 @@ module _ (l : Layout) (words m : List ℕ) (fits : Fits l (length m)) where
       go false e = subst P (sym (stored-one l words m (eqb-false _ _ e))) (one (eqb-false _ _ e))
 
   stored-at : (j i : ℕ) → j < l .channels → i < l .samples
-      → getD (storedOf l words m) (startAt (l .starts) j + i) 0 ≡ getD (channelOf (l .channels) (l .samples) j words) i 0
+      → getD (storedOf l words m) (startAt (l .starts) j + i) 0 ≡ getD (channelWords (l .channels) (l .samples) j words) i 0
   stored-at zero i h k =
       let first = inside 0 i m refl h k in
-      cases (λ (x : List ℕ). getD x (l .starts .first + i) 0 ≡ getD (channelOf (l .channels) (l .samples) 0 words) i 0) (λ _. first)
+      cases (λ (x : List ℕ). getD x (l .starts .first + i) 0 ≡ getD (channelWords (l .channels) (l .samples) 0 words) i 0) (λ _. first)
       (λ two. beside 1 (l .starts .first + i) (channelStored l words 0 m) (inl (omega (arith, fits .apart two))) ∙ first)
   stored-at (suc j) i h k =
       let one : suc j ≡ 1 = omega (arith, fits .few) in
       let two : l .channels ≡ 2 = omega (arith, fits .few) in
-      rw (one, stored-two l words m two) (inside 1 i (channelStored l words 0 m) (length-sets m _ (channelOf (l .channels) (l .samples) 0 words)) (omega arith) k)
+      rw (one, stored-two l words m two) (inside 1 i (channelStored l words 0 m) (length-sets m _ (channelWords (l .channels) (l .samples) 0 words)) (omega arith) k)
 
-  stored-recording : (j : ℕ) → j < l .channels → recordingAt (l .starts) (l .samples) j (storedOf l words m) ≡ channelOf (l .channels) (l .samples) j words
+  stored-recording : (j : ℕ) → j < l .channels → recordingAt (l .starts) (l .samples) j (storedOf l words m) ≡ channelWords (l .channels) (l .samples) j words
   stored-recording j h =
       let n = recording-length (l .starts) (l .samples) j (storedOf l words m) (omega (arith, start-fits l (length m) fits j h, length-stored l words m)) in
       ext-getD 0 _ _ (n ∙ sym (long j))
@@ -173,7 +173,7 @@ module _ (l : Layout) (words m : List ℕ) (fits : Fits l (length m)) where
 -- ---- reading
 module _ (f : List ℕ) (w : Wave) (starts : Starts) (m : List ℕ) (e : judgedOf f ≡ Is w) where
   loaded-recording : fitsMemory (layoutOf w starts) (length m) ≡ true → (j : ℕ) → j < w .channels
-      → recordingAt starts (w .samples) j (loadedOf f starts m) ≡ channelOf (w .channels) (w .samples) j (wordsIn f w)
+      → recordingAt starts (w .samples) j (loadedOf f starts m) ≡ channelWords (w .channels) (w .samples) j (wordsIn f w)
   loaded-recording h j k =
       ap (recordingAt starts (w .samples) j) (sym (load-done f starts m w e h .1)) ∙ stored-recording (layoutOf w starts) (wordsIn f w) m (fits-true _ _ h) j k
 
@@ -207,11 +207,11 @@ write-rows l size room = record {
   done-row = λ h s k. rw (h, file-fits l room s, le-leb _ _ k);
 }
 
-numbers : (f : List ℕ) → (numberOf (judgedOf f) ≡ 0) ⊎ (numberOf (judgedOf f) ≡ 17)
-unfolding numberOf
+numbers : (f : List ℕ) → (judgedNumber (judgedOf f) ≡ 0) ⊎ (judgedNumber (judgedOf f) ≡ 17)
+unfolding judgedNumber
 numbers f = go (judgedOf f)
   where
-    go : (j : Judged) → (numberOf j ≡ 0) ⊎ (numberOf j ≡ 17)
+    go : (j : Judged) → (judgedNumber j ≡ 0) ⊎ (judgedNumber j ≡ 17)
     go (Is w) = inl refl
     go Refused = inr refl
 
@@ -224,7 +224,7 @@ one-reading f rate channels rate₁ channels₁ words words₁ g h =
 
 -- ---- a channel's words, frame by frame and in the memory
 pub frames-recording : (l : Layout) (m : List ℕ) → Fits l (length m) → (j : ℕ) → j < l .channels
-    → channelOf (l .channels) (l .samples) j (framesOf l m) ≡ recordingAt (l .starts) (l .samples) j m
+    → channelWords (l .channels) (l .samples) j (framesOf l m) ≡ recordingAt (l .starts) (l .samples) j m
 frames-recording l m fits j h =
     let n = length-listed (λ (i : ℕ). getD (framesOf l m) (i * l .channels + j) 0) 0 (l .samples) in
     ext-getD 0 _ _ (n ∙ sym (recording-length (l .starts) (l .samples) j m (start-fits l (length m) fits j h)))
@@ -269,7 +269,7 @@ module _ (rate : ℕ) (l : Layout) (m : List ℕ) (small : rate < 2 ^ 32) (words
       let c : w .channels ≡ l .channels = known .same-channels in
       let n : w .samples ≡ l .samples = known .same-samples ∙ file-samples rate (l .channels) (l .samples) (framesOf l m) sized in
       let there : fitsMemory (layoutOf w starts) (length m₁) ≡ true = rw (c, n) fits₁ in
-      let words : channelOf (w .channels) (w .samples) j (wordsIn whole w) ≡ recordingAt (l .starts) (l .samples) j m =
+      let words : channelWords (w .channels) (w .samples) j (wordsIn whole w) ≡ recordingAt (l .starts) (l .samples) j m =
       rw (known .same-words, c, n) (frames-recording l m (fits-true l (length m) fits) j h) in
       rw n at (loaded-recording whole w starts m₁ (known .judged) there j (rw c h) ∙ words)
 

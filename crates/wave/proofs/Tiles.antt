@@ -10,11 +10,11 @@ use Rattle.octets.specs.Octets.{Bytes, littleBytes}
 use Rattle.octets.proofs.Orders.{length-little}
 use Rattle.wave.specs.Fields.{fourAt}
 use Rattle.wave.specs.Reader.{paddedAt}
-use Rattle.wave.specs.Grammar.{Chunk, Whole, chunkBytes}
+use Rattle.wave.specs.Grammar.{Chunk, WholeChunk, chunkBytes}
 use Rattle.wave.proofs.Standing.{stands-next, four-stands, behind-four, four-splits, four-below}
 
 pub record Stands (f : List ℕ) (at : ℕ) (c : Chunk) : Type 0 where
-  pub whole : Whole c
+  pub whole : WholeChunk c
   pub rest : List ℕ
   pub here : drop at f ≡ chunkBytes c ++ rest
 

@@ -16,7 +16,7 @@ pub record Chunk : Type 0 where
   pub body : List ℕ
   pub pad : List ℕ
 
-pub record Whole (c : Chunk) : Type 0 where
+pub record WholeChunk (c : Chunk) : Type 0 where
   pub named : c .id < 2 ^ 32
   pub sized : length (c .body) < 2 ^ 32
   pub padded : length (c .pad) ≡ length (c .body) % 2
@@ -28,16 +28,16 @@ chunkBytes c = littleBytes 4 (c .id) ++ littleBytes 4 (length (c .body)) ++ c .b
 -- their order; the others are "unknown chunks anywhere"
 pub data Chunks : List ℕ → List Chunk → List Chunk → Type 0 where
   none : Chunks [] [] []
-  main : (c : Chunk) {f : List ℕ} {mains facts : List Chunk} → Whole c → (c .id ≡ formatId) ⊎ (c .id ≡ dataId)
+  main : (c : Chunk) {f : List ℕ} {mains facts : List Chunk} → WholeChunk c → (c .id ≡ formatId) ⊎ (c .id ≡ dataId)
       → Chunks f mains facts → Chunks (chunkBytes c ++ f) (c ∷ mains) facts
-  fact : (c : Chunk) {f : List ℕ} {mains facts : List Chunk} → Whole c → c .id ≡ factId
+  fact : (c : Chunk) {f : List ℕ} {mains facts : List Chunk} → WholeChunk c → c .id ≡ factId
       → Chunks f mains facts → Chunks (chunkBytes c ++ f) mains (c ∷ facts)
-  other : (c : Chunk) {f : List ℕ} {mains facts : List Chunk} → Whole c
+  other : (c : Chunk) {f : List ℕ} {mains facts : List Chunk} → WholeChunk c
       → (c .id ≡ formatId → ⊥) → (c .id ≡ dataId → ⊥) → (c .id ≡ factId → ⊥)
       → Chunks f mains facts → Chunks (chunkBytes c ++ f) mains facts
 
 -- ---- what a file of any form has in common: its chunks, with one `fmt `, one `data` behind it, and at most one `fact`
-pub record Framed (f : List ℕ) (format sound : Chunk) (facts : List Chunk) : Type 0 where
+pub record InChunks (f : List ℕ) (format sound : Chunk) (facts : List Chunk) : Type 0 where
   pub chunks : List ℕ
   pub riff : f ≡ littleBytes 4 riffId ++ littleBytes 4 (4 + length chunks) ++ littleBytes 4 waveId ++ chunks
   pub riff-size : 4 + length chunks < 2 ^ 32

@@ -39,12 +39,12 @@ framesOf l m = listed (wordOf l m) 0 (l .channels * l .samples)
 -- ---- and back
 
 -- the words of channel j, of words that stand frame by frame
-abbrev pub channelOf : ℕ → ℕ → ℕ → List ℕ → List ℕ
-channelOf channels samples j words = listed (λ (i : ℕ). getD words (i * channels + j) 0) 0 samples
+abbrev pub channelWords : ℕ → ℕ → ℕ → List ℕ → List ℕ
+channelWords channels samples j words = listed (λ (i : ℕ). getD words (i * channels + j) 0) 0 samples
 
 -- a memory once those of channel j stand in it, from its start on,
 abbrev pub channelStored : Layout → List ℕ → ℕ → List ℕ → List ℕ
-channelStored l words j m = sets m (startAt (l .starts) j) (channelOf (l .channels) (l .samples) j words)
+channelStored l words j m = sets m (startAt (l .starts) j) (channelWords (l .channels) (l .samples) j words)
 
 -- and once those of each of one or two channels do
 unfoldable pub storedOf : Layout → List ℕ → List ℕ → List ℕ

@@ -10,14 +10,14 @@ use Rattle.walks.specs.Each.{Each}
 use Rattle.octets.specs.Octets.{Bytes}
 use Rattle.wave.specs.Fields.{fourAt}
 use Rattle.wave.specs.Files.{fileOf}
-use Rattle.wave.specs.Reader.{judgedOf, numberOf, readOf, wordsIn}
+use Rattle.wave.specs.Reader.{judgedOf, judgedNumber, readOf, wordsIn}
 use Rattle.wave.specs.Reader.Reading.{is}
 use Rattle.wave.specs.Grammar.{IsWave}
 use Rattle.wave.specs.Memory.{
   startAt,
   fitsMemory,
   framesOf,
-  channelOf,
+  channelWords,
   bytesOf,
   fitsFile,
   writtenOf,
@@ -57,7 +57,7 @@ pub record Promised : Type 0 where
       → IsWave f rate channels words
   pub good : (f : List ℕ) (rate channels : ℕ) (words : List ℕ) → IsWave f rate channels words
       → readOf f ≡ is rate channels words
-  pub numbers : (f : List ℕ) → (numberOf (judgedOf f) ≡ 0) ⊎ (numberOf (judgedOf f) ≡ 17)
+  pub numbers : (f : List ℕ) → (judgedNumber (judgedOf f) ≡ 0) ⊎ (judgedNumber (judgedOf f) ≡ 17)
   -- a file holds one recording
   pub one-reading : (f : List ℕ) (rate channels rate₁ channels₁ : ℕ) (words words₁ : List ℕ)
       → IsWave f rate channels words → IsWave f rate₁ channels₁ words₁
@@ -77,7 +77,7 @@ pub record Promised : Type 0 where
   pub loaded-recording : (f : List ℕ) (w : Wave) (starts : Starts) (m : List ℕ) → judgedOf f ≡ Is w
       → fitsMemory (layoutOf w starts) (length m) ≡ true → (j : ℕ) → j < w .channels
       → recordingAt starts (w .samples) j (loadedOf f starts m)
-      ≡ channelOf (w .channels) (w .samples) j (wordsIn f w)
+      ≡ channelWords (w .channels) (w .samples) j (wordsIn f w)
   pub loaded-else : (f : List ℕ) (w : Wave) (starts : Starts) (m : List ℕ) → judgedOf f ≡ Is w → (x : ℕ)
       → ((j : ℕ) → j < w .channels → (x < startAt starts j) ⊎ (startAt starts j + w .samples ≤ x))
       → getD (loadedOf f starts m) x 0 ≡ getD m x 0

@@ -107,9 +107,9 @@ unfoldable pub judgedOf : List ℕ → Judged
 judgedOf f = cond (goodRiff f) (judgedIn f (walkOf f)) Refused
 
 -- the number of the answer
-unfoldable pub numberOf : Judged → ℕ
-numberOf (Is w) = 0
-numberOf Refused = 17
+unfoldable pub judgedNumber : Judged → ℕ
+judgedNumber (Is w) = 0
+judgedNumber Refused = 17
 
 -- ---- the rate, the number of channels and the words of all channels, frame by frame
 pub data Reading : Type 0 where

@@ -12,7 +12,7 @@ ghost use mathlib.Core.Path.{_≡_};
 ghost use Prim.Native.Nat.{_^_, _≤_, _<_};
 ghost use lib.ListN.{length};
 ghost use Rattle.wave.specs.Files.{headPut, wordPut};
-ghost use Rattle.wave.specs.Reader.{goodRiff, goodFormat, goodFact, countedOf, judgedAt, judgedOf, numberOf};
+ghost use Rattle.wave.specs.Reader.{goodRiff, goodFormat, goodFact, countedOf, judgedAt, judgedOf, judgedNumber};
 ghost use Rattle.wave.specs.Memory.{fitsFile, writtenOf, outputOf, loads, loadedOf};
 use chunks::Met;
 use chunks::Places;
@@ -57,7 +57,7 @@ pub struct Layout {
 impl Judged {
     // The number of the refusal; 0 where the file is good.
     pub fn number(self) -> u8
-        ensures { λ r. ⌜ r ≡ numberOf self ⌝ }
+        ensures { λ r. ⌜ r ≡ judgedNumber self ⌝ }
     {
         match self {
             Judged::Is(_) => 0,

@@ -8,7 +8,7 @@ ghost use lib.ListN.{length};
 ghost use lib.Seq.{sets};
 ghost use Rattle.wave.specs.Fields.{wordBytes, listed};
 ghost use Rattle.wave.specs.Reader.{wordsIn};
-ghost use Rattle.wave.specs.Memory.{fitsMemory, wordOf, framesOf, channelOf, storedOf, layoutOf};
+ghost use Rattle.wave.specs.Memory.{fitsMemory, wordOf, framesOf, channelWords, storedOf, layoutOf};
 use crate::Layout;
 use crate::Starts;
 use crate::Wave;
@@ -78,7 +78,7 @@ fn take_channel(file: &[u8], w: Wave, j: usize, start: usize, memory: &mut [u32]
     requires { ⌜ w .first + 4 * (w .channels * w .samples) ≤ length (now file) ⌝ }
     requires { ⌜ (j < w .channels) × (start + w .samples ≤ length (now memory)) ⌝ }
     ensures { λ _. ⌜ now (memory .exit)
-        ≡ sets (now (memory .entry)) start (channelOf (w .channels) (w .samples) j (wordsIn (now (file .entry)) w)) ⌝ }
+        ≡ sets (now (memory .entry)) start (channelWords (w .channels) (w .samples) j (wordsIn (now (file .entry)) w)) ⌝ }
 {
     let mut i: usize = 0;
     while i < w.samples {

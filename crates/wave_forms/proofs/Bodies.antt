@@ -14,7 +14,7 @@ use Rattle.wave.specs.Fields.{twoAt, fourAt}
 use Rattle.wave.proofs.Standing.{two-stands, four-stands, four-below}
 use Rattle.wave.proofs.Frames.{two-to, four-to, two-from, four-from}
 use Rattle.wave.proofs.Answers.{seven}
-use Rattle.wave_forms.specs.Reader.{plainAt, subFormatAt, extensibleAt, tagAt}
+use Rattle.wave_forms.specs.Reader.{bareFormat, subFormatAt, extensibleAt, tagAt}
 use Rattle.wave_forms.specs.Grammar.{subFormat, Tail, bodyOf}
 use Rattle.wave_forms.specs.Grammar.Tail.{plain, empty, extensible}
 
@@ -108,8 +108,8 @@ module _ (f : List ℕ) (bytes : Bytes f) (at : ℕ) (long : at + 8 + fourAt f (
           (four-to f bytes (at + 28) (at + 32) (omega arith) (omega arith))
           (sub-format-splits h (i .sub))
 
-  plain-shaped : plainAt f at ≡ true → Shaped f at (twoAt f (at + 8))
-  unfolding plainAt littleBytes
+  plain-shaped : bareFormat f at ≡ true → Shaped f at (twoAt f (at + 8))
+  unfolding bareFormat littleBytes
   plain-shaped = go (eqb (fourAt f (at + 4)) 16) refl
     where
       go : (b : Bool) → eqb (fourAt f (at + 4)) 16 ≡ b → (b || (eqb (fourAt f (at + 4)) 18 && eqb (twoAt f (at + 24)) 0)) ≡ true → Shaped f at (twoAt f (at + 8))
@@ -128,9 +128,9 @@ module _ (f : List ℕ) (bytes : Bytes f) (at : ℕ) (long : at + 8 + fourAt f (
   -- a tag that isn't 0 was read from one of the three shapes
   pub shaped : (tagAt f at ≡ 0 → ⊥) → Shaped f at (tagAt f at)
   unfolding tagAt
-  shaped some = go (plainAt f at) (extensibleAt f at) refl refl
+  shaped some = go (bareFormat f at) (extensibleAt f at) refl refl
     where
-      go : (b d : Bool) → plainAt f at ≡ b → extensibleAt f at ≡ d → Shaped f at (tagAt f at)
+      go : (b d : Bool) → bareFormat f at ≡ b → extensibleAt f at ≡ d → Shaped f at (tagAt f at)
       go true d h k = rw h (plain-shaped h)
       go false true h k = rw (h, k) (extensible-shaped (extensible-true f at k))
       go false false h k = absurd (some (rw (h, k)))
@@ -198,7 +198,7 @@ module _ (f : List ℕ) (at : ℕ) where
 
   pub tail-tag : {tag bits field : ℕ} {tail : List ℕ} (rest : List ℕ) → Tail tag bits field tail → tag < 2 ^ 16 → bits < 2 ^ 16 → twoAt f (at + 8) ≡ field → twoAt f (at + 22) ≡ bits
       → fourAt f (at + 4) ≡ 16 + length tail → drop (at + 24) f ≡ tail ++ rest → tagAt f at ≡ tag
-  unfolding tagAt plainAt extensibleAt
+  unfolding tagAt bareFormat extensibleAt
   tail-tag rest plain hs hb is same size h = simp (size, is)
   tail-tag rest empty hs hb is same size h =
       let long : fourAt f (at + 4) ≡ 18 = size ∙ ap (λ (n : ℕ). 16 + n) (length-little 2 0) in

@@ -11,7 +11,7 @@ use Rattle.wave.specs.Fields.{twoAt, fourAt, wordBytes, listed}
 use Rattle.wave.specs.Files.{formatOf, riffRow, formatRow, factRow, dataRow, headerOf}
 use Rattle.wave.specs.Reader.{paddedAt, metOf, chunkAt, walkFrom, walkOf, goodRiff}
 use Rattle.wave_forms.specs.Values.{wordOf}
-use Rattle.wave_forms.specs.Reader.{plainAt, subFormatAt, extensibleAt, tagAt, formAt, known, goodForm, countedOf, judgedAt, judgedOf, numberAt}
+use Rattle.wave_forms.specs.Reader.{bareFormat, subFormatAt, extensibleAt, tagAt, formAt, knownForm, goodForm, countedOf, judgedAt, judgedOf, numberAt}
 use Rattle.wave_forms.specs.Turns.{turnedOf, outputOf}
 use Rattle.wave_forms.specs.declared.Turned.{Turned}
 
@@ -42,7 +42,7 @@ own = refl
 -- ---- files
 -- whatever an answer computes by
 computing : Unit {0}
-unfolding fromHex pairs digitsOf bytesAt littleOf littleBytes twoAt fourAt wordBytes listed formatOf riffRow formatRow factRow dataRow headerOf paddedAt metOf chunkAt walkFrom walkOf goodRiff plainAt subFormatAt extensibleAt tagAt formAt known goodForm countedOf judgedAt judgedOf numberAt turnedOf outputOf wordOf round toBits
+unfolding fromHex pairs digitsOf bytesAt littleOf littleBytes twoAt fourAt wordBytes listed formatOf riffRow formatRow factRow dataRow headerOf paddedAt metOf chunkAt walkFrom walkOf goodRiff bareFormat subFormatAt extensibleAt tagAt formAt knownForm goodForm countedOf judgedAt judgedOf numberAt turnedOf outputOf wordOf round toBits
 computing = tt
 
 -- chunks under a header of their length

@@ -12,7 +12,7 @@ use Rattle.wave.specs.Fields.{fourAt}
 use Rattle.wave.specs.Reader.{walkOf, goodRiff}
 use Rattle.wave.specs.declared.chunks.Places.{Places}
 use Rattle.wave.specs.declared.chunks.Met.{Met}
-use Rattle.wave_forms.specs.Reader.{known, goodForm, formAt, countedOf, judgedAt, judgedIn, judgedOf}
+use Rattle.wave_forms.specs.Reader.{knownForm, goodForm, formAt, countedOf, judgedAt, judgedIn, judgedOf}
 use Rattle.wave_forms.specs.Grammar.{Kind}
 use Rattle.wave_forms.specs.declared.formats.Form.{Form}
 use Rattle.wave_forms.specs.declared.Judged.{Judged}
@@ -29,7 +29,7 @@ pub record FormIs (o : Form) : Type 0 where
 pub form-true : (o : Form) → goodForm o ≡ true → FormIs o
 unfolding goodForm
 form-true o e =
-    let a = and-both (leb 1 (o .channels) && leb (o .channels) 0x3fff && known (o .tag) (o .bits)) _ e in
+    let a = and-both (leb 1 (o .channels) && leb (o .channels) 0x3fff && knownForm (o .tag) (o .bits)) _ e in
     let b = and-both (leb 1 (o .channels) && leb (o .channels) 0x3fff) _ (a .0) in
     let c = and-both (leb 1 (o .channels)) _ (b .0) in
     record { some = leb-true _ _ (c .0); few = leb-true _ _ (c .1); kind = kind-of _ _ (b .1); block = eqb-true _ _ (a .1) }

@@ -24,12 +24,12 @@ use Rattle.wave.proofs.Standing.{Word, words-are}
 use Rattle.wave.proofs.Answers.{framed}
 use Rattle.wave.proofs.Calls.{length-file}
 use Rattle.wave.proofs.Promised as wave
-use Rattle.wave_forms.specs.Values.{negative, sizeOf, wholeOf, narrowOf, wordOf}
+use Rattle.wave_forms.specs.Values.{negative, magnitude, wholeOf, narrowOf, wordOf}
 use Rattle.wave_forms.specs.Reader.{judgedOf, numbersIn, wordsIn}
 use Rattle.wave_forms.specs.Grammar.{Kind, IsForm, bodyOf, wordsOf}
 use Rattle.wave_forms.specs.Grammar.Kind.{whole16, whole24, whole32, float32, float64}
 use Rattle.wave_forms.specs.Grammar.Tail.{empty}
-use Rattle.wave_forms.specs.Turns.{bytesOf, turnedIn, turnedOf, fileFrom, outputIn, outputOf}
+use Rattle.wave_forms.specs.Turns.{bytesOf, turnedInto, turnedOf, fileFrom, outputIn, outputOf}
 use Rattle.wave_forms.specs.Promised.{Formed, Promised}
 use Rattle.wave_forms.specs.declared.Source.{Source}
 use Rattle.wave_forms.specs.declared.Judged.{Judged}
@@ -45,7 +45,7 @@ answered : (f : List ℕ) (room : ℕ) → Bytes f → (turnedOf f room .number 
 unfolding turnedOf
 answered f room bytes = go (judgedOf f) refl
   where
-    go : (j : Judged) → judgedOf f ≡ j → (turnedIn room j .number ≡ 17 → ⊥) → Formed f
+    go : (j : Judged) → judgedOf f ≡ j → (turnedInto room j .number ≡ 17 → ⊥) → Formed f
     go (Is s) e h = record { rate = s .form .rate; channels = s .form .channels; tag = s .form .tag; bits = s .form .bits; numbers = numbersIn f s; form = answer-good f bytes s e }
     go Refused e h = absurd (h refl)
 
@@ -57,7 +57,7 @@ numbered f room = go (judgedOf f)
     pick true P = inr (inl refl)
     pick false P = inl refl
 
-    go : (j : Judged) → (turnedIn room j .number ≡ 0) ⊎ (turnedIn room j .number ≡ 8) ⊎ (turnedIn room j ≡ record { length = 0; number = 17 })
+    go : (j : Judged) → (turnedInto room j .number ≡ 0) ⊎ (turnedInto room j .number ≡ 8) ⊎ (turnedInto room j ≡ record { length = 0; number = 17 })
     go (Is s) = pick (ltb room (bytesOf s)) _
     go Refused = inr (inr refl)
 
@@ -69,7 +69,7 @@ held f out = go (judgedOf f)
     pick true x h = refl
     pick false x h = absurd (h refl)
 
-    go : (j : Judged) → (turnedIn (length out) j .number ≡ 0 → ⊥) → outputIn f out j ≡ out
+    go : (j : Judged) → (turnedInto (length out) j .number ≡ 0 → ⊥) → outputIn f out j ≡ out
     go (Is s) h = pick (ltb (length out) (bytesOf s)) (fileFrom f s ++ drop (bytesOf s) out) h
     go Refused h = refl
 
@@ -183,11 +183,11 @@ own-form f rate channels words g h = (
 )
 
 -- ---- 24 bits and less lose nothing
-exact : (bits n : ℕ) → 1 ≤ bits → bits ≤ 24 → n < 2 ^ bits → HasValue (wholeOf bits n) (negative bits n) (sizeOf bits n) (2 ^ (bits - 1))
+exact : (bits n : ℕ) → 1 ≤ bits → bits ≤ 24 → n < 2 ^ bits → HasValue (wholeOf bits n) (negative bits n) (magnitude bits n) (2 ^ (bits - 1))
 exact bits n some few small =
     let j = 149 - (bits - 1) in
     let same : j + (bits - 1) ≡ 149 = omega arith in
-    let m = sizeOf bits n in
+    let m = magnitude bits n in
     let under : m < 2 ^ 24 = lt-of-le-of-lt (size-small (leb (2 ^ (bits - 1)) n) refl) (pow-lt {i = bits - 1} {j = 24} (omega arith)) in
     round-exact binary32 (negative bits n) m (2 ^ (bits - 1)) m j (pow-pos (bits - 1)) under
     (lt-of-lt-of-le (shl-lt 24 j under) (pow-mono {i = 24 + j} {j = 277} (omega arith)))

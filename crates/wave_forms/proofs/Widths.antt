@@ -6,12 +6,12 @@ use native.Mathlib.Omega.{arith}
 use lib.Dec.{eqb}
 use borrow.Author.Tests.{eqb-true}
 use Rattle.walks.proofs.Lists.Every.{both as and-both}
-use Rattle.wave_forms.specs.Reader.{known}
+use Rattle.wave_forms.specs.Reader.{knownForm}
 use Rattle.wave_forms.specs.Grammar.{Kind}
 use Rattle.wave_forms.specs.Grammar.Kind.{whole16, whole24, whole32, float32, float64}
 
-pub known-is : {tag bits : ℕ} → Kind tag bits → known tag bits ≡ true
-unfolding known
+pub known-is : {tag bits : ℕ} → Kind tag bits → knownForm tag bits ≡ true
+unfolding knownForm
 known-is whole16 = refl
 known-is whole24 = refl
 known-is whole32 = refl
@@ -23,8 +23,8 @@ either : (P : Type 0) (a b : Bool) → (a || b) ≡ true → (a ≡ true → P) 
 either P true b e f g = f refl
 either P false b e f g = g e
 
-pub kind-of : (tag bits : ℕ) → known tag bits ≡ true → Kind tag bits
-unfolding known
+pub kind-of : (tag bits : ℕ) → knownForm tag bits ≡ true → Kind tag bits
+unfolding knownForm
 kind-of tag bits e =
     either (Kind tag bits) (eqb tag 1 && (eqb bits 16 || eqb bits 24 || eqb bits 32)) _ e
     (λ h. let a = and-both (eqb tag 1) _ h in

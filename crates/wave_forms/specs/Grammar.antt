@@ -8,7 +8,7 @@ use lib.ListN.{length}
 use Rattle.walks.specs.Each.{Each}
 use Rattle.octets.specs.Octets.{littleBytes}
 use Rattle.wave.specs.Fields.{numberBytes}
-use Rattle.wave.specs.Grammar.{Chunk, Framed}
+use Rattle.wave.specs.Grammar.{Chunk, InChunks}
 use Rattle.wave_forms.specs.Values.{wordOf}
 
 -- ---- what the numbers are: WAVE_FORMAT_PCM is 1, WAVE_FORMAT_IEEE_FLOAT is 3
@@ -44,7 +44,7 @@ pub record IsForm (f : List ℕ) (rate channels tag bits : ℕ) (numbers : List 
   pub format : Chunk
   pub sound : Chunk
   pub facts : List Chunk
-  pub framed : Framed f format sound facts
+  pub framed : InChunks f format sound facts
   -- "nBlockAlign: nChannels * wBitsPerSample / 8". Bytes a second aren't judged, nor what `fact` says
   pub kind : Kind tag bits
   pub field : ℕ

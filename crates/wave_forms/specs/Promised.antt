@@ -13,7 +13,7 @@ use Rattle.wave.specs.Files.{fileOf}
 use Rattle.wave.specs.Reader.{readOf}
 use Rattle.wave.specs.Reader.Reading.{is}
 use Rattle.wave.specs.Grammar.{IsWave}
-use Rattle.wave_forms.specs.Values.{negative, sizeOf, wholeOf, narrowOf, wordOf}
+use Rattle.wave_forms.specs.Values.{negative, magnitude, wholeOf, narrowOf, wordOf}
 use Rattle.wave_forms.specs.Grammar.{IsForm, wordsOf}
 use Rattle.wave_forms.specs.Turns.{turnedOf, outputOf}
 
@@ -57,7 +57,7 @@ pub record Promised : Type 0 where
       → getD (wordsOf tag bits numbers) k 0 ≡ wordOf tag bits (getD numbers k 0)
   -- 16 and 24 bits lose nothing: the value is exactly the number over 2 ^ (bits - 1)
   pub exact : (bits n : ℕ) → 1 ≤ bits → bits ≤ 24 → n < 2 ^ bits
-      → HasValue (wholeOf bits n) (negative bits n) (sizeOf bits n) (2 ^ (bits - 1))
+      → HasValue (wholeOf bits n) (negative bits n) (magnitude bits n) (2 ^ (bits - 1))
   -- and a float of 64 bits that 32 hold is kept
   pub kept : (x : Float) → T (fits binary32 x) → narrowOf x ≡ x
   -- a file of 10/12's form is of a known one, and its words are kept

@@ -19,8 +19,8 @@ use Rattle.wave_forms.specs.declared.Judged.the-variants.{Is, Refused}
 -- ---- `fmt `, whose body begins 8 bytes behind its place
 
 -- 16 bytes, or 18 of which the last two say that none follow
-unfoldable pub plainAt : List ℕ → ℕ → Bool
-plainAt f at = eqb (fourAt f (at + 4)) 16 || (eqb (fourAt f (at + 4)) 18 && eqb (twoAt f (at + 24)) 0)
+unfoldable pub bareFormat : List ℕ → ℕ → Bool
+bareFormat f at = eqb (fourAt f (at + 4)) 16 || (eqb (fourAt f (at + 4)) 18 && eqb (twoAt f (at + 24)) 0)
 
 -- the 14 bytes of a sub-format behind its tag
 unfoldable pub subFormatAt : List ℕ → ℕ → Bool
@@ -37,7 +37,7 @@ extensibleAt f at =
 
 -- 0 where it is neither
 unfoldable pub tagAt : List ℕ → ℕ → ℕ
-tagAt f at = cond (plainAt f at) (twoAt f (at + 8)) (cond (extensibleAt f at) (twoAt f (at + 32)) 0)
+tagAt f at = cond (bareFormat f at) (twoAt f (at + 8)) (cond (extensibleAt f at) (twoAt f (at + 32)) 0)
 
 unfoldable pub formAt : List ℕ → ℕ → Form
 formAt f at = record {
@@ -49,14 +49,14 @@ formAt f at = record {
 }
 
 -- whole numbers of 16, 24 or 32 bits, floats of 32 or 64
-unfoldable pub known : ℕ → ℕ → Bool
-known tag bits =
+unfoldable pub knownForm : ℕ → ℕ → Bool
+knownForm tag bits =
     (eqb tag 1 && (eqb bits 16 || eqb bits 24 || eqb bits 32)) || (eqb tag 3 && (eqb bits 32 || eqb bits 64))
 
 -- at least a channel, and no more than a block of 10/12's form has room for; blocks of whole numbers, unwrapped
 unfoldable pub goodForm : Form → Bool
 goodForm o =
-    leb 1 (o .channels) && leb (o .channels) 0x3fff && known (o .tag) (o .bits)
+    leb 1 (o .channels) && leb (o .channels) 0x3fff && knownForm (o .tag) (o .bits)
     && eqb (o .block) (o .channels * (o .bits / 8))
 
 -- ---- so many bytes of data from a place on: whole frames, and no more than 10/12's form has room for

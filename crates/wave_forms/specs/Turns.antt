@@ -14,12 +14,12 @@ use Rattle.wave_forms.specs.declared.Turned.{Turned}
 abbrev pub bytesOf : Source → ℕ
 bytesOf s = 58 + 4 * s .count
 
-abbrev pub turnedIn : ℕ → Judged → Turned
-turnedIn room (Is s) = record { length = bytesOf s; number = cond (ltb room (bytesOf s)) 8 0 }
-turnedIn room Refused = record { length = 0; number = 17 }
+abbrev pub turnedInto : ℕ → Judged → Turned
+turnedInto room (Is s) = record { length = bytesOf s; number = cond (ltb room (bytesOf s)) 8 0 }
+turnedInto room Refused = record { length = 0; number = 17 }
 
 unfoldable pub turnedOf : List ℕ → ℕ → Turned
-turnedOf f room = turnedIn room (judgedOf f)
+turnedOf f room = turnedInto room (judgedOf f)
 
 -- the file of 10/12's form; a longer output keeps its rest
 abbrev pub fileFrom : List ℕ → Source → List ℕ

@@ -10,11 +10,11 @@ use lib.Ieee.{Float, nan, inf, fin, binary32, binary64, up, down, round, ofBits,
 abbrev pub negative : ℕ → ℕ → Bool
 negative bits n = leb (2 ^ (bits - 1)) n
 
-abbrev pub sizeOf : ℕ → ℕ → ℕ
-sizeOf bits n = cond (negative bits n) (2 ^ bits - n) n
+abbrev pub magnitude : ℕ → ℕ → ℕ
+magnitude bits n = cond (negative bits n) (2 ^ bits - n) n
 
 abbrev pub wholeOf : ℕ → ℕ → Float
-wholeOf bits n = round binary32 (negative bits n) (sizeOf bits n) (2 ^ (bits - 1))
+wholeOf bits n = round binary32 (negative bits n) (magnitude bits n) (2 ^ (bits - 1))
 
 -- ---- a float of any format: NaN, infinities and the signs of zeros are kept
 abbrev pub narrowOf : Float → Float

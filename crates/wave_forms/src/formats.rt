@@ -1,7 +1,7 @@
 // `fmt `: how the numbers of a file are written.
 ghost use mathlib.Core.Path.{_≡_};
 ghost use Prim.Native.Nat.{_^_, _<_};
-ghost use Rattle.wave_forms.specs.Reader.{plainAt, subFormatAt, extensibleAt, tagAt, formAt, known, goodForm};
+ghost use Rattle.wave_forms.specs.Reader.{bareFormat, subFormatAt, extensibleAt, tagAt, formAt, knownForm, goodForm};
 use wave::fields::four_at;
 use wave::fields::two_at;
 
@@ -17,7 +17,7 @@ pub struct Form {
 // 16 bytes, or 18 of which the last two say that none follow.
 fn plain_at(file: &[u8], at: usize) -> bool
     requires { ⌜ at < 2 ^ 63 ⌝ }
-    ensures { λ r. ⌜ r ≡ plainAt (now (file .entry)) at ⌝ }
+    ensures { λ r. ⌜ r ≡ bareFormat (now (file .entry)) at ⌝ }
 {
     let size = four_at(file, at + 4);
     (size == 16) | ((size == 18) & (two_at(file, at + 24) == 0))
@@ -72,7 +72,7 @@ pub fn form_at(file: &[u8], at: usize) -> Form
 }
 
 fn known(tag: u32, bits: u32) -> bool
-    ensures { λ r. ⌜ r ≡ known tag bits ⌝ }
+    ensures { λ r. ⌜ r ≡ knownForm tag bits ⌝ }
 {
     ((tag == 1) & ((bits == 16) | (bits == 24) | (bits == 32)))
         | ((tag == 3) & ((bits == 32) | (bits == 64)))

@@ -5,7 +5,7 @@ ghost use Prim.Native.Nat.{_+_, _*_, _/_, _^_, _≤_, _<_};
 ghost use lib.ListN.{length};
 ghost use lib.Seq.{sets};
 ghost use Rattle.wave.specs.Fields.{wordBytes};
-ghost use Rattle.wave_forms.specs.Reader.{numberAt, known, wordsIn};
+ghost use Rattle.wave_forms.specs.Reader.{numberAt, knownForm, wordsIn};
 use crate::Source;
 use crate::values::word_of;
 use octets::byte_at;
@@ -27,7 +27,7 @@ fn number_at(file: &[u8], at: usize, bytes: usize) -> u64
 
 // Writes the words of a file's numbers behind a header of 58 bytes.
 pub fn put_words(file: &[u8], s: Source, out: &mut [u8])
-    requires { ⌜ known (s .form .tag) (s .form .bits) ≡ true ⌝ }
+    requires { ⌜ knownForm (s .form .tag) (s .form .bits) ≡ true ⌝ }
     requires { ⌜ (s .first < 2 ^ 63 + 8) × (s .count < 2 ^ 30) × (58 + 4 * s .count ≤ length (now out)) ⌝ }
     ensures { λ _. ⌜ now (out .exit) ≡ sets (now (out .entry)) 58 (wordBytes (wordsIn (now (file .entry)) s)) ⌝ }
 {

@@ -4,7 +4,7 @@ ghost use mathlib.Core.Bool.{true, false};
 ghost use Prim.Native.Nat.{_-_, _*_, _/_, _^_, _≤_, _<_};
 ghost use lib.Ieee.{binary32, binary64, round, ofBits, toBits, ofFields};
 ghost use Rattle.wave_forms.specs.Values.{wholeOf, narrowOf, wordOf};
-ghost use Rattle.wave_forms.specs.Reader.{known};
+ghost use Rattle.wave_forms.specs.Reader.{knownForm};
 
 // a - b, or 0 where b is more.
 fn less(a: u32, b: u32) -> u32
@@ -81,7 +81,7 @@ fn double_word(n: u64) -> u32
 }
 
 pub fn word_of(tag: u32, bits: u32, n: u64) -> u32
-    requires { ⌜ known tag bits ≡ true ⌝ }
+    requires { ⌜ knownForm tag bits ≡ true ⌝ }
     requires { ⌜ n < 256 ^ (bits / 8) ⌝ }
     ensures { λ r. ⌜ r ≡ wordOf tag bits n ⌝ }
 {

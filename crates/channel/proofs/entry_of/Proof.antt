@@ -3,7 +3,7 @@ use mathlib.Core.Path.{_≡_, sym, subst}
 use mathlib.Core.Bool.{Bool}
 use Prim.Native.Nat.{_<_}
 use Rattle.phrases.specs.declared.Phrase.{Phrase}
-use Rattle.channel.specs.Tables.{entryOf}
+use Rattle.channel.specs.Tables.{entryStored}
 use Rattle.channel.specs.declared.Change.{Change}
 use Rattle.channel.specs.declared.Entry.{Entry}
 use Rattle.channel.specs.declared.Head.{Head}
@@ -13,7 +13,7 @@ use Rattle.channel.proofs.entry_of.Statement.{statement}
 use Rattle.channel.proofs.entry_of.Tie as tie
 
 -- with it, its place is below eight
-placed : (x : Change) (h : Head) (several : Bool) (entry : Phrase) (e : Entry) → e ≡ entryOf x h several entry → (e ≡ entryOf x h several entry) × (e .place < 8)
+placed : (x : Change) (h : Head) (several : Bool) (entry : Phrase) (e : Entry) → e ≡ entryStored x h several entry → (e ≡ entryStored x h several entry) × (e .place < 8)
 placed x h several entry e is = (is, subst (λ (z : Entry). z .place < 8) (sym is) (entry-below x h several entry))
 
 enum-told : tie.Need-enum-told
@@ -47,23 +47,23 @@ as-is-requires-4 : tie.Need-as-is-requires-4
 as-is-requires-4 c κs = search needs
 
 returns : tie.Need-returns
-unfolding entryOf
+unfolding entryStored
 returns c = let a = c .before .before .before .args in placed (a .change) (a .head) (a .several) (a .entry) _ (simp (c .as-is .ensures, c .before .enum-told .given .1))
 
 returns-2 : tie.Need-returns-2
-unfolding entryOf
+unfolding entryStored
 returns-2 c = let a = c .before .before .before .args in placed (a .change) (a .head) (a .several) (a .entry) _ (simp (c .as-is2 .ensures, c .before .enum-told2 .given .1))
 
 returns-3 : tie.Need-returns-3
-unfolding entryOf
+unfolding entryStored
 returns-3 c = let a = c .before .before .before .args in placed (a .change) (a .head) (a .several) (a .entry) _ (simp (c .as-is3 .ensures, c .before .enum-told3 .given .1))
 
 returns-4 : tie.Need-returns-4
-unfolding entryOf
+unfolding entryStored
 returns-4 c = let a = c .before .before .before .before .args in placed (a .change) (a .head) (a .several) (a .entry) _ (simp (c .head-entry .ensures, c .before .before .change .given .1))
 
 returns-5 : tie.Need-returns-5
-unfolding entryOf
+unfolding entryStored
 returns-5 c = let a = c .before .before .before .args in placed (a .change) (a .head) (a .several) (a .entry) _ (simp (c .as-is4 .ensures, c .before .enum-told4 .given .1))
 
 pub entry-of-spec : {M : Type 1} → statement M

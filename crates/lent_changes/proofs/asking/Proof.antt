@@ -1,6 +1,6 @@
 -- `asking` meets its contract. Assumes nothing.
 use borrow.Author.Needs.{needs}
-use Rattle.lent_changes.specs.Changes.{askingOf}
+use Rattle.lent_changes.specs.Changes.{asksVoices}
 use lib.Ieee.{ofBits}
 use Rattle.lent_changes.proofs.asking.Statement.{statement}
 use Rattle.lent_changes.proofs.asking.Tie as tie
@@ -9,7 +9,7 @@ default-requires : tie.Need-default-requires
 default-requires c κs = search needs
 
 returns : tie.Need-returns
-unfolding askingOf ofBits
+unfolding asksVoices ofBits
 returns c = simp (c .default .ensures)
 
 pub asking-spec : {M : Type 1} → statement M

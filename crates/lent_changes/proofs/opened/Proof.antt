@@ -1,6 +1,6 @@
 -- `opened` meets its contract, by its cases. Assumes nothing.
 use borrow.Author.Needs.{needs}
-use Rattle.lent_changes.specs.Changes.{openedOf}
+use Rattle.lent_changes.specs.Changes.{startedVoice}
 use Rattle.lent_changes.proofs.opened.Statement.{statement}
 use Rattle.lent_changes.proofs.opened.Tie as tie
 
@@ -38,23 +38,23 @@ blank-requires-4 : tie.Need-blank-requires-4
 blank-requires-4 c κs = search needs
 
 returns : tie.Need-returns
-unfolding openedOf
+unfolding startedVoice
 returns c = simp (c .new .ensures, c .before .moment .ensures, c .before .before .before .change .given .1)
 
 returns-2 : tie.Need-returns-2
-unfolding openedOf
+unfolding startedVoice
 returns-2 c = simp (c .blank .ensures, c .before .enum-told .given .1)
 
 returns-3 : tie.Need-returns-3
-unfolding openedOf
+unfolding startedVoice
 returns-3 c = simp (c .blank2 .ensures, c .before .enum-told2 .given .1)
 
 returns-4 : tie.Need-returns-4
-unfolding openedOf
+unfolding startedVoice
 returns-4 c = simp (c .blank3 .ensures, c .before .enum-told3 .given .1)
 
 returns-5 : tie.Need-returns-5
-unfolding openedOf
+unfolding startedVoice
 returns-5 c = simp (c .blank4 .ensures, c .before .enum-told4 .given .1)
 
 pub opened-spec : {M : Type 1} → statement M

@@ -1,21 +1,30 @@
--- `lent_sampler::process_sample` meets its contract: `Thin.antt`'s walk, over `sample_of`.
+-- `lent_sampler::process_sample` meets its contract: `Single.antt`'s walk, over `sample_asked`, `refused`, `part_start`, `part_sample` and `answered`, by the laws in `Singles.antt`.
 use contract.Running.{givenOf, tables, tablesOf}
-use denote.Ref.{now}
 use denote.Triple.Spec.{tripleOf}
 use denote.Triple.Table.{entered, cited}
-use lib.Ieee.{binary32}
-use mathlib.Core.Path.{_≡_}
-use mathlib.Core.List.{[], _∷_}
-use mir.Syntax.{w32, w64}
-use Rattle.sampler.specs.Samplers.{processSampleOf, sampleMemory}
-use Rattle.lent_sampler.proofs.sample_of as g
-use Rattle.lent_sampler.proofs.sample_of.Symbol as g-def
-use Rattle.lent_sampler.proofs.sample_of.Symbol.{name as #g}
-use Rattle.lent_sampler.proofs.sample_of.Met as g-thm
-use Rattle.walks.proofs.Steps.Data.{word, float}
-use Rattle.lent_sampler.proofs.Lent.{sampler, params, sampled, sampling}
-use Rattle.walks.proofs.Lending.Arguments.{value, slice, twice}
-use Rattle.walks.proofs.Lending.Thin.{thin}
+use Rattle.sampler.proofs.part_start.Symbol as start-def
+use Rattle.sampler.proofs.part_start.Symbol.{name as #start}
+use Rattle.sampler.proofs.part_start.Met as start-thm
+use Rattle.lent_channel.proofs.Holding.{channel}
+use Rattle.lent_sampler.proofs.Lent.{sampler, params, sampled, sounded}
+use Rattle.lent_sampler.proofs.Seats.{seats}
+use Rattle.lent_sampler.proofs.Single.{samples-one}
+use Rattle.lent_sampler.proofs.Singles.{single}
+use Rattle.lent_sampler.proofs.sample_asked as asked
+use Rattle.lent_sampler.proofs.sample_asked.Symbol as asked-def
+use Rattle.lent_sampler.proofs.sample_asked.Symbol.{name as #asked}
+use Rattle.lent_sampler.proofs.sample_asked.Met as asked-thm
+use Rattle.lent_sampler.proofs.refused.Symbol as refused-def
+use Rattle.lent_sampler.proofs.refused.Symbol.{name as #refused}
+use Rattle.lent_sampler.proofs.refused.Met as refused-thm
+use Rattle.lent_sampler.proofs.part_sample as sample
+use Rattle.lent_sampler.proofs.part_sample.Symbol as sample-def
+use Rattle.lent_sampler.proofs.part_sample.Symbol.{name as #sample}
+use Rattle.lent_sampler.proofs.part_sample.Met as sample-thm
+use Rattle.lent_sampler.proofs.answered as answered
+use Rattle.lent_sampler.proofs.answered.Symbol as answered-def
+use Rattle.lent_sampler.proofs.answered.Symbol.{name as #answered}
+use Rattle.lent_sampler.proofs.answered.Met as answered-thm
 use Rattle.lent_sampler.proofs.process_sample.Key.{name as #f}
 use Rattle.lent_sampler.proofs.process_sample as f
 use Rattle.lent_sampler.proofs.process_sample.Statement as stated
@@ -26,8 +35,9 @@ unfolding code.routine tablesOf
 process-sample-spec 𝓤 H 𝓜 𝓖 𝓡 =
     entered 𝓤 H (tripleOf 𝓤 H (𝓖 .A) f.signature (f.spec 𝓤 H (𝓖 .A) (𝓜 .mem) (𝓡 .run)))
     (tables 𝓤 H 𝓜 𝓡 code.env .C) (tables 𝓤 H 𝓜 𝓡 code.env .Λ) #f code.function (code.unfolded 𝓤 H 𝓜 𝓡)
-    (thin sampler sampled sampling 1 (value (word w64) ∷ value (float binary32) ∷ value params ∷ slice 0 tt (word w32) ∷ []) #g
-    (twice (λ κs s v r e. record { sampler = r .sampler; output = r .sampled .output; number = r .sampled .number; moved = r .sampled .moved } ≡ processSampleOf s (v .0) (v .1 .0) (v .1 .1 .0) (now (v .1 .1 .1 .0)))
-    (λ κs s v r e. now (e .1 .1 .1 .0) ≡ sampleMemory s (v .0) (v .1 .0) (v .1 .1 .0) (now (v .1 .1 .1 .0))))
-    𝓤 H (𝓖 .A) (givenOf 𝓤 H 𝓜 𝓖) (tablesOf 𝓤 H 𝓜 (tables 𝓤 H 𝓜 𝓡 code.env))
-    (cited 𝓤 H (tripleOf 𝓤 H (𝓖 .A) g.signature (g.spec 𝓤 H (𝓖 .A) (𝓜 .mem) (𝓡 .run))) 𝓜 𝓡 code.env #g g-def.routine code.calls-lent-sampler·sample-of (g-thm.met 𝓤 H 𝓜 𝓖 𝓡)))
+    (samples-one sampler channel params sampled sounded seats #asked #refused #start #sample #answered single 𝓤 H (𝓖 .A) (givenOf 𝓤 H 𝓜 𝓖) (tablesOf 𝓤 H 𝓜 (tables 𝓤 H 𝓜 𝓡 code.env))
+    (cited 𝓤 H (tripleOf 𝓤 H (𝓖 .A) asked.signature (asked.spec 𝓤 H (𝓖 .A) (𝓜 .mem) (𝓡 .run))) 𝓜 𝓡 code.env #asked asked-def.routine code.calls-lent-sampler·sample-asked (asked-thm.met 𝓤 H 𝓜 𝓖 𝓡))
+    (record { met = cited 𝓤 H _ 𝓜 𝓡 code.env #refused refused-def.routine code.calls-lent-sampler·refused (refused-thm.met 𝓤 H 𝓜 𝓖 𝓡) })
+    (record { met = cited 𝓤 H _ 𝓜 𝓡 code.env #start start-def.routine code.calls-sampler·part-start (start-thm.met 𝓤 H 𝓜 𝓖 𝓡) })
+    (cited 𝓤 H (tripleOf 𝓤 H (𝓖 .A) sample.signature (sample.spec 𝓤 H (𝓖 .A) (𝓜 .mem) (𝓡 .run))) 𝓜 𝓡 code.env #sample sample-def.routine code.calls-lent-sampler·part-sample (sample-thm.met 𝓤 H 𝓜 𝓖 𝓡))
+    (cited 𝓤 H (tripleOf 𝓤 H (𝓖 .A) answered.signature (answered.spec 𝓤 H (𝓖 .A) (𝓜 .mem) (𝓡 .run))) 𝓜 𝓡 code.env #answered answered-def.routine code.calls-lent-sampler·answered (answered-thm.met 𝓤 H 𝓜 𝓖 𝓡)))

@@ -94,7 +94,7 @@ use Rattle.lent_channel.proofs.Holding.{channel, voice, headed, phrase, room, p
 use Rattle.lent_channel.proofs.Branches.{then-part}
 use Rattle.lent_channel.proofs.Parts.{startOf, start-is, partOf, shares-part}
 use Rattle.plain_channel.specs.declared.Side.{Side}
-use Rattle.plain_channel.specs.Ahead.{tickIn, heldIn, Eases}
+use Rattle.plain_channel.specs.Ahead.{tickIn, recordingHeld, Eases}
 use Rattle.plain_channel.proofs.Hotting.{side, hot, beat, hot-bytes, IsSide, IsHot, hot-at, with-hot, hots-are, points-hot, copies-hot, stores-hot-last}
 use Rattle.plain_channel.proofs.Filling.{pour, pour-at, pour-is, sums-are, values-are}
 use Rattle.plain_channel.proofs.Summing.{with-sums, sums-at, values-spot}
@@ -200,7 +200,7 @@ module _ {M : Type 1} (𝓤 : URA M) (H : Heap 𝓤) (A : Atoms 𝓤) (W : Given
   abbrev ys : List Float
   ys = l .pour .sums
 
-  abbrev vs : List Float
+  abbrev vs : List ℕ
   vs = l .pour .values
 
   size : length ms * 4 < 2 ^ 63
@@ -276,7 +276,7 @@ module _ {M : Type 1} (𝓤 : URA M) (H : Heap 𝓤) (A : Atoms 𝓤) (W : Given
 
       module _ (ist : Is (tick .like) t (tick .val t ∷ [])) where
         -- it was poured, or not
-        module _ (r : Pouring) (zs us : List Float) (said : Pours h v t (beatOf t) m′ n ys zs r) (isr : Is G.the-row r (pouring .val r ∷ [])) where
+        module _ (r : Pouring) (zs : List Float) (us : List ℕ) (said : Pours h v t (beatOf t) m′ n ys zs r) (isr : Is G.the-row r (pouring .val r ∷ [])) where
           abbrev l₁ : Side
           l₁ = with-sums zs us l
 
@@ -290,9 +290,9 @@ module _ {M : Type 1} (𝓤 : URA M) (H : Heap 𝓤) (A : Atoms 𝓤) (W : Given
           Given-so = read (some (phrase .val ph) ∷ some (tick .val t) ∷ some (room .val rm) ∷ some (pouring .val r) ∷ [])
 
           -- what it says, of what the voice goes by
-          said-so : Pours h (getD (c .voices) i blankVoice) (tickIn p c (getD (c .voices) i blankVoice)) (beatOf t) (heldIn ms c (getD (c .voices) i blankVoice)) n ys zs r
-          said-so = subst (λ (u : Voice). Pours h u (tickIn p c u) (beatOf t) (heldIn ms c u) n ys zs r) (sym same-voice)
-              (subst (λ (u : Tick). Pours h v u (beatOf t) (heldIn ms c v) n ys zs r) (tick-is p m c k (may .2)) (subst (λ (u : List ℕ). Pours h v t (beatOf t) u n ys zs r) (room-stored ph ms) said))
+          said-so : Pours h (getD (c .voices) i blankVoice) (tickIn p c (getD (c .voices) i blankVoice)) (beatOf t) (recordingHeld ms c (getD (c .voices) i blankVoice)) n ys zs r
+          said-so = subst (λ (u : Voice). Pours h u (tickIn p c u) (beatOf t) (recordingHeld ms c u) n ys zs r) (sym same-voice)
+              (subst (λ (u : Tick). Pours h v u (beatOf t) (recordingHeld ms c v) n ys zs r) (tick-is p m c k (may .2)) (subst (λ (u : List ℕ). Pours h v t (beatOf t) u n ys zs r) (room-stored ph ms) said))
 
           full-so : eqb (phraseAt c (getD (c .voices) i blankVoice .phrase) .length) 0 ≡ false
           full-so = subst (λ (u : Voice). eqb (phraseAt c (u .phrase) .length) 0 ≡ false) (sym same-voice) full

@@ -1,5 +1,5 @@
 -- `add_levels` meets its contract. The invariant: so many terms are added. The measure is how many are left. Assumes nothing.
-use mathlib.Core.Path.{ap, subst}
+use mathlib.Core.Path.{ap₂, subst}
 use Prim.Native.Nat.{ℕ, _-_, _≤_, _<_, zero-le}
 use native.Mathlib.Omega.{arith}
 use lib.Ieee.{Float, nan, binary32, add, mul}
@@ -26,11 +26,14 @@ mul-sums c = search needs
 slice-read-sums : tie.Need-slice-read-sums Inv-loop μ-loop
 slice-read-sums c = search needs
 
-mul-sums-2 : tie.Need-mul-sums-2 Inv-loop μ-loop
-mul-sums-2 c = search needs
+mul-from-bits : tie.Need-mul-from-bits Inv-loop μ-loop
+mul-from-bits c = search needs
 
-shared-slice-read-sums : tie.Need-shared-slice-read-sums Inv-loop μ-loop
-shared-slice-read-sums c = search needs
+shared-slice-read-from-bits : tie.Need-shared-slice-read-from-bits Inv-loop μ-loop
+shared-slice-read-from-bits c = search needs
+
+from-bits-requires : tie.Need-from-bits-requires Inv-loop μ-loop
+from-bits-requires c κs = search needs
 
 add-level : tie.Need-add-level Inv-loop μ-loop
 add-level c = search needs
@@ -38,8 +41,8 @@ add-level c = search needs
 level-requires : tie.Need-level-requires Inv-loop μ-loop
 level-requires c κs = search needs
 
-mul-sums-3 : tie.Need-mul-sums-3 Inv-loop μ-loop
-mul-sums-3 c = search needs
+mul-sums-2 : tie.Need-mul-sums-2 Inv-loop μ-loop
+mul-sums-2 c = search needs
 
 slice-write-sums : tie.Need-slice-write-sums Inv-loop μ-loop
 slice-write-sums c = search needs
@@ -52,11 +55,11 @@ loop-less c = search needs
 
 loop-again : tie.Need-loop-again Inv-loop μ-loop
 loop-again c =
-    let s = c .before .before .before .before .before .before .before in
-    let l = c .before .before .before .before .loop in
-    let below : l .k < s .args .n = c .before .before .before .loop-test .taken in (
+    let s = c .before .before .before .before .before .before .before .before in
+    let l = c .before .before .before .before .before .loop in
+    let below : l .k < s .args .n = c .before .before .before .before .loop-test .taken in (
       omega (arith, below),
-      one (l .inv .1) _ zero-le (omega (arith, below, s .pre .3)) (ap (λ (x : Float). add binary32 (getD (l .sums) (l .k) nan) (mul binary32 (getD (s .args .values .now) (l .k) nan) x)) (c .level .ensures)),
+      one (l .inv .1) _ zero-le (omega (arith, below, s .pre .3)) (ap₂ (λ (x y : Float). add binary32 (getD (l .sums) (l .k) nan) (mul binary32 x y)) (c .before .from-bits .ensures) (c .level .ensures)),
     )
 
 same-length : tie.Need-same-length Inv-loop μ-loop
@@ -77,11 +80,12 @@ add-levels-spec =
     loop-holds
     mul-sums
     slice-read-sums
-    mul-sums-2
-    shared-slice-read-sums
+    mul-from-bits
+    shared-slice-read-from-bits
+    from-bits-requires
     add-level
     level-requires
-    mul-sums-3
+    mul-sums-2
     slice-write-sums
     add-k
     loop-less

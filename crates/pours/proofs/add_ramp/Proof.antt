@@ -1,18 +1,18 @@
 -- `add_ramp` meets its contract. The invariant: so many terms are added. The measure is how many are left. Assumes nothing.
-use mathlib.Core.Path.{ap, subst}
+use mathlib.Core.Path.{ap₂, subst}
 use Prim.Native.Nat.{ℕ, _+_, _-_, _≤_, _<_, zero-le}
 use native.Mathlib.Omega.{arith}
 use lib.Ieee.{Float, nan, binary32, add, mul}
 use lib.ListN.{getD}
 use borrow.Author.Needs.{needs}
-use Rattle.pours.specs.Eases.{Added}
+use Rattle.pours.specs.Eases.{termAt, Added}
 use Rattle.pours.specs.Steady.{rampBy}
 use Rattle.pours.proofs.Added.{none, one}
 use Rattle.pours.proofs.add_ramp.Statement.{statement}
 use Rattle.pours.proofs.add_ramp.Tie as tie
 
 abbrev Inv-loop : tie.InvT-loop
-Inv-loop values from over low rise sums₀ n k₀ sums k = (k ≤ n) × Added (λ (j : ℕ). mul binary32 (getD values j nan) (rampBy over low rise (from + j))) 0 k sums₀ sums
+Inv-loop values from over low rise sums₀ n k₀ sums k = (k ≤ n) × Added (λ (j : ℕ). termAt values (rampBy over low rise (from + j)) j) 0 k sums₀ sums
 
 abbrev μ-loop : tie.MeasureT-loop
 μ-loop values from over low rise sums₀ n k₀ sums k = n - k
@@ -26,11 +26,14 @@ mul-sums c = search needs
 slice-read-sums : tie.Need-slice-read-sums Inv-loop μ-loop
 slice-read-sums c = search needs
 
-mul-sums-2 : tie.Need-mul-sums-2 Inv-loop μ-loop
-mul-sums-2 c = search needs
+mul-from-bits : tie.Need-mul-from-bits Inv-loop μ-loop
+mul-from-bits c = search needs
 
-shared-slice-read-sums : tie.Need-shared-slice-read-sums Inv-loop μ-loop
-shared-slice-read-sums c = search needs
+shared-slice-read-from-bits : tie.Need-shared-slice-read-from-bits Inv-loop μ-loop
+shared-slice-read-from-bits c = search needs
+
+from-bits-requires : tie.Need-from-bits-requires Inv-loop μ-loop
+from-bits-requires c κs = search needs
 
 cast-ramp-level : tie.Need-cast-ramp-level Inv-loop μ-loop
 cast-ramp-level c = search needs
@@ -41,8 +44,8 @@ add-ramp-level c = search needs
 ramp-level-requires : tie.Need-ramp-level-requires Inv-loop μ-loop
 ramp-level-requires c κs = search needs
 
-mul-sums-3 : tie.Need-mul-sums-3 Inv-loop μ-loop
-mul-sums-3 c = search needs
+mul-sums-2 : tie.Need-mul-sums-2 Inv-loop μ-loop
+mul-sums-2 c = search needs
 
 slice-write-sums : tie.Need-slice-write-sums Inv-loop μ-loop
 slice-write-sums c = search needs
@@ -55,11 +58,11 @@ loop-less c = search needs
 
 loop-again : tie.Need-loop-again Inv-loop μ-loop
 loop-again c =
-    let s = c .before .before .before .before .before .before .before in
-    let l = c .before .before .before .before .loop in
-    let below : l .k < s .args .n = c .before .before .before .loop-test .taken in (
+    let s = c .before .before .before .before .before .before .before .before in
+    let l = c .before .before .before .before .before .loop in
+    let below : l .k < s .args .n = c .before .before .before .before .loop-test .taken in (
       omega (arith, below),
-      one (l .inv .1) _ zero-le (omega (arith, below, s .pre .2)) (ap (λ (x : Float). add binary32 (getD (l .sums) (l .k) nan) (mul binary32 (getD (s .args .values .now) (l .k) nan) x)) (c .ramp-level .ensures)),
+      one (l .inv .1) _ zero-le (omega (arith, below, s .pre .2)) (ap₂ (λ (x y : Float). add binary32 (getD (l .sums) (l .k) nan) (mul binary32 x y)) (c .before .from-bits .ensures) (c .ramp-level .ensures)),
     )
 
 same-length : tie.Need-same-length Inv-loop μ-loop
@@ -69,7 +72,7 @@ returns : tie.Need-returns Inv-loop μ-loop
 returns c =
     let a = c .before .before .before .before .args in
     let l = c .before .loop in
-    subst (λ (k : ℕ). Added (λ (j : ℕ). mul binary32 (getD (a .values .now) j nan) (rampBy (a .over) (a .low) (a .rise) (a .from + j))) 0 k (a .sums .now) (l .sums)) (omega (arith, l .inv .0, c .loop-test .left)) (l .inv .1)
+    subst (λ (k : ℕ). Added (λ (j : ℕ). termAt (a .values .now) (rampBy (a .over) (a .low) (a .rise) (a .from + j)) j) 0 k (a .sums .now) (l .sums)) (omega (arith, l .inv .0, c .loop-test .left)) (l .inv .1)
 
 pub add-ramp-spec : {M : Type 1} → statement M
 add-ramp-spec =
@@ -80,12 +83,13 @@ add-ramp-spec =
     loop-holds
     mul-sums
     slice-read-sums
-    mul-sums-2
-    shared-slice-read-sums
+    mul-from-bits
+    shared-slice-read-from-bits
+    from-bits-requires
     cast-ramp-level
     add-ramp-level
     ramp-level-requires
-    mul-sums-3
+    mul-sums-2
     slice-write-sums
     add-k
     loop-less

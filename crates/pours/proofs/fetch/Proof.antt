@@ -4,16 +4,15 @@ use mathlib.Core.Bool.{true}
 use Prim.Native.Nat.{ℕ, _-_, _≤_, _<_, zero-le}
 use native.Mathlib.Nat.{le-refl}
 use native.Mathlib.Omega.{arith}
-use lib.Ieee.{nan}
 use lib.ListN.{length, getD}
 use borrow.Author.Needs.{needs}
-use Rattle.pours.specs.Steady.{Low, Fetches}
+use Rattle.pours.specs.Steady.{Fetches}
 use Rattle.pours.proofs.Filling.{nothing, one-more, left}
 use Rattle.pours.proofs.fetch.Statement.{statement}
 use Rattle.pours.proofs.fetch.Tie as tie
 
 abbrev Inv-loop : tie.InvT-loop
-Inv-loop «data» played by values₀ n index₀ sum₀ k₀ values index sum k = (k ≤ n) × Fetches «data» played by k values₀ values (record { index = index; played = sum; told = true }) × ((j : ℕ) → k ≤ j → getD values j nan ≡ getD values₀ j nan)
+Inv-loop «data» played by values₀ n index₀ sum₀ k₀ values index sum k = (k ≤ n) × Fetches «data» played by k values₀ values (record { index = index; played = sum; told = true }) × ((j : ℕ) → k ≤ j → getD values j 0 ≡ getD values₀ j 0)
 
 abbrev μ-loop : tie.MeasureT-loop
 μ-loop «data» played by values₀ n index₀ sum₀ k₀ values index sum k = n - k
@@ -23,19 +22,17 @@ loop-holds c =
     let a = c .before .before .args in
     (zero-le, nothing (a .«data» .now) (a .played) (a .by) (a .values .now), λ j h. refl)
 
-mul-whole-of : tie.Need-mul-whole-of Inv-loop μ-loop
-mul-whole-of c = search needs
+mul-index : tie.Need-mul-index Inv-loop μ-loop
+mul-index c = search needs
 
-slice-read-whole-of : tie.Need-slice-read-whole-of Inv-loop μ-loop
-slice-read-whole-of c = search needs
+slice-read-index : tie.Need-slice-read-index Inv-loop μ-loop
+slice-read-index c = search needs
 
-whole-of-requires : tie.Need-whole-of-requires Inv-loop μ-loop
-whole-of-requires c κs =
-    let l = c .before .before .loop in
-    subst Low (sym (l .inv .2 (l .k) (le-refl (l .k)))) (c .before .before .before .before .before .pre .1 (l .k) (c .before .loop-test .taken))
+cast-index : tie.Need-cast-index Inv-loop μ-loop
+cast-index c = record { fits = omega (arith, c .slice-known2 .given (c .before .before .loop .k)) }
 
-recorded-requires : tie.Need-recorded-requires Inv-loop μ-loop
-recorded-requires c κs = search needs
+pattern-at-requires : tie.Need-pattern-at-requires Inv-loop μ-loop
+pattern-at-requires c κs = search needs
 
 mul-values : tie.Need-mul-values Inv-loop μ-loop
 mul-values c = search needs
@@ -51,13 +48,13 @@ loop-less c = search needs
 
 loop-again : tie.Need-loop-again Inv-loop μ-loop
 loop-again c =
-    let s = c .before .before .before .before .before .before .before in
+    let s = c .before .before .before .before .before .before in
     let a = s .args in
-    let l = c .before .before .before .before .loop in
-    let below : l .k < a .n = c .before .before .before .loop-test .taken in
-    let room : l .k < length (a .values .now) = omega (arith, below, s .pre .0) in (
+    let l = c .before .before .before .loop in
+    let below : l .k < a .n = c .before .before .loop-test .taken in
+    let room : l .k < length (a .values .now) = omega (arith, below, s .pre) in (
       omega (arith, below),
-      one-more (a .«data» .now) (a .played) (a .by) (a .values .now) (l .k) (l .values) _ (l .inv .1) room (l .inv .2) _ _ (c .before .whole-of .ensures) (c .recorded .ensures),
+      one-more (a .«data» .now) (a .played) (a .by) (a .values .now) (l .k) (l .values) _ (l .inv .1) room (l .inv .2) _ _ refl (c .pattern-at .ensures),
       left (a .«data» .now) (a .played) (a .by) (a .values .now) (l .k) (l .values) _ (l .inv .1) room (l .inv .2) _,
     )
 
@@ -77,10 +74,10 @@ fetch-spec =
     Inv-loop
     μ-loop
     loop-holds
-    mul-whole-of
-    slice-read-whole-of
-    whole-of-requires
-    recorded-requires
+    mul-index
+    slice-read-index
+    cast-index
+    pattern-at-requires
     mul-values
     slice-write-values
     add-k

@@ -1,6 +1,6 @@
--- `heard` meets its contract: the voice is `heardOf`'s, field by field. Assumes nothing.
+-- `heard` meets its contract: the voice is `lastHeard`'s, field by field. Assumes nothing.
 use borrow.Author.Needs.{needs}
-use Rattle.pours.specs.Eases.{heardOf}
+use Rattle.pours.specs.Eases.{lastHeard}
 use Rattle.pours.proofs.heard.Statement.{statement}
 use Rattle.pours.proofs.heard.Tie as tie
 
@@ -8,7 +8,7 @@ crossing-requires : tie.Need-crossing-requires
 crossing-requires c κs = search needs
 
 returns : tie.Need-returns
-unfolding heardOf
+unfolding lastHeard
 returns c = simp (c .crossing .ensures)
 
 pub heard-spec : {M : Type 1} → statement M

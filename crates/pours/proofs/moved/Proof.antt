@@ -5,7 +5,7 @@ use native.Mathlib.Nat.{add-zero, mod-lt, mod-eq-of-lt, div-eq-of-lt, div-le-sel
 use native.Mathlib.Omega.{arith}
 use mathlib.Core.Bool.{true}
 use borrow.Author.Needs.{needs}
-use Rattle.pours.specs.Eases.{movedOf}
+use Rattle.pours.specs.Eases.{movedOn}
 use Rattle.pours.proofs.moved.Statement.{statement}
 use Rattle.pours.proofs.moved.Tie as tie
 
@@ -19,7 +19,7 @@ cast-t7 : tie.Need-cast-t7
 cast-t7 c = search needs
 
 returns : tie.Need-returns
-unfolding movedOf
+unfolding movedOn
 returns c =
     let h = c .before .before .args .h in
     ap₂ (λ (p l : ℕ). record { place = p; lap = l; start = h .start; plain = true })
@@ -44,7 +44,7 @@ add-t11 : tie.Need-add-t11
 add-t11 c = let a = c .before .before .before .args in record { fits = omega (arith, div-le-self (a .h .place + a .n) (a .round), c .before .before .before .pre) }
 
 returns-2 : tie.Need-returns-2
-unfolding movedOf
+unfolding movedOn
 returns-2 c = refl
 
 pub moved-spec : {M : Type 1} → statement M

@@ -1,16 +1,18 @@
 -- `value_at` meets its contract. Assumes nothing.
-use mathlib.Core.Path.{ap}
-use lib.Ieee.{nan, binary32, mul}
-use lib.ListN.{getD}
+use mathlib.Core.Path.{ap₂}
+use lib.Ieee.{binary32, mul}
 use borrow.Author.Needs.{needs}
 use Rattle.pours.proofs.value_at.Statement.{statement}
 use Rattle.pours.proofs.value_at.Tie as tie
 
-mul-result : tie.Need-mul-result
-mul-result c = search needs
+mul-from-bits : tie.Need-mul-from-bits
+mul-from-bits c = search needs
 
-shared-slice-read-result : tie.Need-shared-slice-read-result
-shared-slice-read-result c = search needs
+shared-slice-read-from-bits : tie.Need-shared-slice-read-from-bits
+shared-slice-read-from-bits c = search needs
+
+from-bits-requires : tie.Need-from-bits-requires
+from-bits-requires c κs = search needs
 
 add-level : tie.Need-add-level
 add-level c = search needs
@@ -19,8 +21,15 @@ level-requires : tie.Need-level-requires
 level-requires c κs = search needs
 
 returns : tie.Need-returns
-returns c = let a = c .before .before .before .args in ap (mul binary32 (getD (a .values .now) (a .k) nan)) (c .level .ensures)
+returns c = ap₂ (mul binary32) (c .before .from-bits .ensures) (c .level .ensures)
 
 pub value-at-spec : {M : Type 1} → statement M
 value-at-spec =
-    tie.close (tie.spec mul-result shared-slice-read-result add-level level-requires returns)
+    tie.close
+    (tie.spec
+    mul-from-bits
+    shared-slice-read-from-bits
+    from-bits-requires
+    add-level
+    level-requires
+    returns)

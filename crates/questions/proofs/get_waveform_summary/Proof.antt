@@ -1,93 +1,21 @@
--- `get_waveform_summary` meets its contract: the table's rows in its order, and then the columns of the recording's stretch of the memory. Assumes nothing.
-use mathlib.Core.Path.{sym, _∙_}
-use lib.Ieee.{ofBits}
-use Rattle.questions.proofs.Summaries.{waveform-refused, ends-inside, end-few, asked-for, room-left, taken-count, summary-done}
+-- `get_waveform_summary` meets its contract: what it answers of what is seen is what it answers of the record. Assumes nothing.
 use borrow.Author.Needs.{needs}
+use Rattle.questions.proofs.Seats.{waveform-seen, list-seen}
 use Rattle.questions.proofs.get_waveform_summary.Statement.{statement}
 use Rattle.questions.proofs.get_waveform_summary.Tie as tie
 
-waveform-number-requires : tie.Need-waveform-number-requires
-waveform-number-requires c κs = search needs
+look-requires : tie.Need-look-requires
+look-requires c κs = search needs
 
-returns : tie.Need-returns
-unfolding ofBits
-returns c = waveform-refused _ _ _ _ _ (c .before .waveform-number .ensures) (c .if1 .taken)
-
-channel-at-requires : tie.Need-channel-at-requires
-channel-at-requires c κs = search needs
-
-add-end : tie.Need-add-end
-add-end c =
-    let b = c .before .before in
-    let a = b .before .before .before .before .before .args in
-    let few = end-few (a .s) (a .columns) (a .list .now) (a .memory .now) _ (b .channel-at .ensures) (sym (b .before .before .waveform-number .ensures) ∙ b .before .if1 .left) in
-    search needs
-
-mul-write-columns : tie.Need-mul-write-columns
-mul-write-columns c =
-    let b = c .before .before in
-    let a = b .before .before .before .before .before .args in
-    let few = end-few (a .s) (a .columns) (a .list .now) (a .memory .now) _ (b .channel-at .ensures) (sym (b .before .before .waveform-number .ensures) ∙ b .before .if1 .left) in
-    search needs
-
-sub-write-columns : tie.Need-sub-write-columns
-sub-write-columns c = search needs
-
-part-write-columns-start : tie.Need-part-write-columns-start
-part-write-columns-start c = search needs
-
-part-write-columns-end : tie.Need-part-write-columns-end
-part-write-columns-end c =
-    let b = c .before .before in
-    let a = b .before .before .before .before .before .args in
-    ends-inside (a .s) (a .columns) (a .list .now) (a .memory .now) _ (b .channel-at .ensures) (sym (b .before .before .waveform-number .ensures) ∙ b .before .if1 .left)
-
-write-columns-requires : tie.Need-write-columns-requires
-write-columns-requires c κs =
-    let b = c .before .before .before .before in
-    let a = b .before .before .before .before .before .args in
-    asked-for (a .s) (a .columns) (a .list .now) (a .memory .now) _ (b .channel-at .ensures) (sym (b .before .before .waveform-number .ensures) ∙ b .before .if1 .left)
-
-slice-reshare-prefix-largest : tie.Need-slice-reshare-prefix-largest
-slice-reshare-prefix-largest c =
-    let b = c .before .before .before .before .before .before .before in
-    let a = b .before .before .before .before .before .args in
-    room-left (a .s) (a .columns) (a .list .now) (a .memory .now) _ (b .channel-at .ensures) (sym (b .before .before .waveform-number .ensures) ∙ b .before .if1 .left) _ (c .before .before .write-columns .ensures)
-
-slice-aggregate-largest : tie.Need-slice-aggregate-largest
-slice-aggregate-largest c =
-    let b = c .before .before .before .before .before .before .before .before in
-    let a = b .before .before .before .before .before .args in
-    taken-count (a .s) (a .columns) (a .list .now) (a .memory .now) _ (b .channel-at .ensures) (sym (b .before .before .waveform-number .ensures) ∙ b .before .if1 .left) _ (c .before .before .before .write-columns .ensures)
-
-largest-requires : tie.Need-largest-requires
-largest-requires c κs = search needs
+waveform-in-requires : tie.Need-waveform-in-requires
+waveform-in-requires c κs = search needs
 
 same-length : tie.Need-same-length
 same-length c = search needs
 
-returns-2 : tie.Need-returns-2
-unfolding ofBits
-returns-2 c =
-    let b = c .before .before .before .before .before .before .before .before .before in
-    let a = b .before .before .before .before .before .args in
-    summary-done (a .s) (a .columns) (a .list .now) (a .memory .now) _ (b .channel-at .ensures) (sym (b .before .before .waveform-number .ensures) ∙ b .before .if1 .left) _ (c .before .before .before .before .write-columns .ensures) _ (c .largest .ensures)
+returns : tie.Need-returns
+returns c =
+    (simp (c .before .before .waveform-in .ensures .0, c .before .before .before .before .look .ensures) (waveform-seen _ _ _ _), simp (c .before .before .waveform-in .ensures .1, c .before .before .before .before .look .ensures) (list-seen _ _ _ _))
 
 pub get-waveform-summary-spec : {M : Type 1} → statement M
-get-waveform-summary-spec =
-    tie.close
-    (tie.spec
-    waveform-number-requires
-    returns
-    channel-at-requires
-    add-end
-    mul-write-columns
-    sub-write-columns
-    part-write-columns-start
-    part-write-columns-end
-    write-columns-requires
-    slice-reshare-prefix-largest
-    slice-aggregate-largest
-    largest-requires
-    same-length
-    returns-2)
+get-waveform-summary-spec = tie.close (tie.spec look-requires waveform-in-requires same-length returns)

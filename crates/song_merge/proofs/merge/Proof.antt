@@ -5,7 +5,7 @@ use Prim.Native.Nat.{ℕ}
 use native.Mathlib.Omega.{arith}
 use lib.ListN.{length}
 use Rattle.song_grammar.proofs.Wholes.{Octets}
-use Rattle.song_merge.specs.Gathers.{Gathers}
+use Rattle.song_merge.specs.Gathers.{GathersTracks}
 use Rattle.song_merge.specs.Answers.{Answers}
 use Rattle.song_merge.proofs.Answered.{refused-heading, in-file, small, refused-tracks, no-room, fits, done}
 use borrow.Author.Needs.{needs}
@@ -50,19 +50,19 @@ enum-known-end c = search needs
 sub-put-heading : tie.Need-sub-put-heading
 sub-put-heading c = let a = c .before .before .before .before .before .before .before .before .before .before .before .before .before .before .before .before .before .before .args in
     let octets : Octets (a .file .now) = (λ i. omega (arith, c .before .before .before .before .before .before .before .before .before .before .before .before .before .before .before .before .before .shared-slice-known .given i)) in
-    let fit = fits (a .file .now) octets (length (a .spare .now)) (c .before .before .before .before .before .before .before .before .gather .last .1 .1 .1 .1 .0) _ _ _ (sym (c .before .before .before .before .before .before .before .before .before .before .before .before .before .before .opening .ensures) ∙ c .before .before .before .before .before .before .before .before .before .before .before .before .division .given .1) _ (subst (Gathers (a .file .now) _ _ (length (a .spare .now)) (c .before .before .before .before .before .before .before .before .gather .last .1 .1 .1 .1 .0)) (c .before .before .end .given .1) (c .before .before .before .before .before .before .before .before .gather .ensures)) in
+    let fit = fits (a .file .now) octets (length (a .spare .now)) (c .before .before .before .before .before .before .before .before .gather .last .1 .1 .1 .1 .0) _ _ _ (sym (c .before .before .before .before .before .before .before .before .before .before .before .before .before .before .opening .ensures) ∙ c .before .before .before .before .before .before .before .before .before .before .before .before .division .given .1) _ (subst (GathersTracks (a .file .now) _ _ (length (a .spare .now)) (c .before .before .before .before .before .before .before .before .gather .last .1 .1 .1 .1 .0)) (c .before .before .end .given .1) (c .before .before .before .before .before .before .before .before .gather .ensures)) in
     omega arith
 
 cast-put-heading : tie.Need-cast-put-heading
 cast-put-heading c = let a = c .before .before .before .before .before .before .before .before .before .before .before .before .before .before .before .before .before .before .args in
     let octets : Octets (a .file .now) = (λ i. omega (arith, c .before .before .before .before .before .before .before .before .before .before .before .before .before .before .before .before .before .shared-slice-known .given i)) in
-    let fit = fits (a .file .now) octets (length (a .spare .now)) (c .before .before .before .before .before .before .before .before .gather .last .1 .1 .1 .1 .0) _ _ _ (sym (c .before .before .before .before .before .before .before .before .before .before .before .before .before .before .opening .ensures) ∙ c .before .before .before .before .before .before .before .before .before .before .before .before .division .given .1) _ (subst (Gathers (a .file .now) _ _ (length (a .spare .now)) (c .before .before .before .before .before .before .before .before .gather .last .1 .1 .1 .1 .0)) (c .before .before .end .given .1) (c .before .before .before .before .before .before .before .before .gather .ensures)) in
+    let fit = fits (a .file .now) octets (length (a .spare .now)) (c .before .before .before .before .before .before .before .before .gather .last .1 .1 .1 .1 .0) _ _ _ (sym (c .before .before .before .before .before .before .before .before .before .before .before .before .before .before .opening .ensures) ∙ c .before .before .before .before .before .before .before .before .before .before .before .before .division .given .1) _ (subst (GathersTracks (a .file .now) _ _ (length (a .spare .now)) (c .before .before .before .before .before .before .before .before .gather .last .1 .1 .1 .1 .0)) (c .before .before .end .given .1) (c .before .before .before .before .before .before .before .before .gather .ensures)) in
     omega arith
 
 put-heading-requires : tie.Need-put-heading-requires
 put-heading-requires c κs = let a = c .before .before .before .before .before .before .before .before .before .before .before .before .before .before .before .before .before .before .args in
     let octets : Octets (a .file .now) = (λ i. omega (arith, c .before .before .before .before .before .before .before .before .before .before .before .before .before .before .before .before .before .shared-slice-known .given i)) in
-    let fit = fits (a .file .now) octets (length (a .spare .now)) (c .before .before .before .before .before .before .before .before .gather .last .1 .1 .1 .1 .0) _ _ _ (sym (c .before .before .before .before .before .before .before .before .before .before .before .before .before .before .opening .ensures) ∙ c .before .before .before .before .before .before .before .before .before .before .before .before .division .given .1) _ (subst (Gathers (a .file .now) _ _ (length (a .spare .now)) (c .before .before .before .before .before .before .before .before .gather .last .1 .1 .1 .1 .0)) (c .before .before .end .given .1) (c .before .before .before .before .before .before .before .before .gather .ensures)) in
+    let fit = fits (a .file .now) octets (length (a .spare .now)) (c .before .before .before .before .before .before .before .before .gather .last .1 .1 .1 .1 .0) _ _ _ (sym (c .before .before .before .before .before .before .before .before .before .before .before .before .before .before .opening .ensures) ∙ c .before .before .before .before .before .before .before .before .before .before .before .before .division .given .1) _ (subst (GathersTracks (a .file .now) _ _ (length (a .spare .now)) (c .before .before .before .before .before .before .before .before .gather .last .1 .1 .1 .1 .0)) (c .before .before .end .given .1) (c .before .before .before .before .before .before .before .before .gather .ensures)) in
     let few = small (a .file .now) octets (length (a .spare .now)) (c .before .before .before .before .before .before .before .before .gather .last .1 .1 .1 .1 .0) _ _ _ (sym (c .before .before .before .before .before .before .before .before .before .before .before .before .before .before .opening .ensures) ∙ c .before .before .before .before .before .before .before .before .before .before .before .before .division .given .1) in
     (omega arith, omega arith)
 
@@ -82,7 +82,7 @@ returns-2 : tie.Need-returns-2
 returns-2 c = let a = c .before .before .before .before .before .before .before .before .before .before .before .before .before .before .before .before .before .args in
     let octets : Octets (a .file .now) = (λ i. omega (arith, c .before .before .before .before .before .before .before .before .before .before .before .before .before .before .before .before .shared-slice-known .given i)) in
     subst (Answers (a .file .now) (length (a .spare .now)) _) (sym (c .refused2 .ensures))
-    (refused-tracks (a .file .now) octets (length (a .spare .now)) (c .before .before .before .before .before .before .before .gather .last .1 .1 .1 .1 .0) _ _ _ (sym (c .before .before .before .before .before .before .before .before .before .before .before .before .before .opening .ensures) ∙ c .before .before .before .before .before .before .before .before .before .before .before .division .given .1) (subst (Gathers (a .file .now) _ _ (length (a .spare .now)) (c .before .before .before .before .before .before .before .gather .last .1 .1 .1 .1 .0)) (c .before .enum-told .given .1) (c .before .before .before .before .before .before .before .gather .ensures)))
+    (refused-tracks (a .file .now) octets (length (a .spare .now)) (c .before .before .before .before .before .before .before .gather .last .1 .1 .1 .1 .0) _ _ _ (sym (c .before .before .before .before .before .before .before .before .before .before .before .before .before .opening .ensures) ∙ c .before .before .before .before .before .before .before .before .before .before .before .division .given .1) (subst (GathersTracks (a .file .now) _ _ (length (a .spare .now)) (c .before .before .before .before .before .before .before .gather .last .1 .1 .1 .1 .0)) (c .before .enum-told .given .1) (c .before .before .before .before .before .before .before .gather .ensures)))
 
 same-length-3 : tie.Need-same-length-3
 same-length-3 c = search needs
@@ -93,7 +93,7 @@ same-length-4 c = search needs
 returns-3 : tie.Need-returns-3
 returns-3 c = let a = c .before .before .before .before .before .before .before .before .before .before .before .before .before .before .before .before .args in
     let octets : Octets (a .file .now) = (λ i. omega (arith, c .before .before .before .before .before .before .before .before .before .before .before .before .before .before .before .shared-slice-known .given i)) in
-    no-room (a .file .now) octets (length (a .spare .now)) (c .before .before .before .before .before .before .gather .last .1 .1 .1 .1 .0) _ _ _ (sym (c .before .before .before .before .before .before .before .before .before .before .before .before .opening .ensures) ∙ c .before .before .before .before .before .before .before .before .before .before .division .given .1) (subst (Gathers (a .file .now) _ _ (length (a .spare .now)) (c .before .before .before .before .before .before .gather .last .1 .1 .1 .1 .0)) (c .enum-told2 .given .1) (c .before .before .before .before .before .before .gather .ensures))
+    no-room (a .file .now) octets (length (a .spare .now)) (c .before .before .before .before .before .before .gather .last .1 .1 .1 .1 .0) _ _ _ (sym (c .before .before .before .before .before .before .before .before .before .before .before .before .opening .ensures) ∙ c .before .before .before .before .before .before .before .before .before .before .division .given .1) (subst (GathersTracks (a .file .now) _ _ (length (a .spare .now)) (c .before .before .before .before .before .before .gather .last .1 .1 .1 .1 .0)) (c .enum-told2 .given .1) (c .before .before .before .before .before .before .gather .ensures))
 
 same-length-5 : tie.Need-same-length-5
 same-length-5 c = search needs
@@ -104,7 +104,7 @@ same-length-6 c = search needs
 returns-4 : tie.Need-returns-4
 returns-4 c = let a = c .before .before .before .before .before .before .before .before .before .before .before .before .before .before .before .before .before .before .before .before .before .args in
     let octets : Octets (a .file .now) = (λ i. omega (arith, c .before .before .before .before .before .before .before .before .before .before .before .before .before .before .before .before .before .before .before .before .shared-slice-known .given i)) in
-    done (a .file .now) octets (length (a .spare .now)) (c .before .before .before .before .before .before .before .before .before .before .before .gather .last .1 .1 .1 .1 .0) _ _ _ (sym (c .before .before .before .before .before .before .before .before .before .before .before .before .before .before .before .before .before .opening .ensures) ∙ c .before .before .before .before .before .before .before .before .before .before .before .before .before .before .before .division .given .1) _ (subst (Gathers (a .file .now) _ _ (length (a .spare .now)) (c .before .before .before .before .before .before .before .before .before .before .before .gather .last .1 .1 .1 .1 .0)) (c .before .before .before .before .before .end .given .1) (c .before .before .before .before .before .before .before .before .before .before .before .gather .ensures)) _ (c .before .before .put-heading .ensures)
+    done (a .file .now) octets (length (a .spare .now)) (c .before .before .before .before .before .before .before .before .before .before .before .gather .last .1 .1 .1 .1 .0) _ _ _ (sym (c .before .before .before .before .before .before .before .before .before .before .before .before .before .before .before .before .before .opening .ensures) ∙ c .before .before .before .before .before .before .before .before .before .before .before .before .before .before .before .division .given .1) _ (subst (GathersTracks (a .file .now) _ _ (length (a .spare .now)) (c .before .before .before .before .before .before .before .before .before .before .before .gather .last .1 .1 .1 .1 .0)) (c .before .before .before .before .before .end .given .1) (c .before .before .before .before .before .before .before .before .before .before .before .gather .ensures)) _ (c .before .before .put-heading .ensures)
 
 pub merge-spec : {M : Type 1} → statement M
 merge-spec =

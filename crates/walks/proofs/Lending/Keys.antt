@@ -12,15 +12,15 @@ use mir.Syntax.{Name, Fn, named, erased, mut, tyRef, place, copy, local, valueLo
 use mir.Val.{Val, vptr}
 use base.Logic.{SProp, ent, sep, id⊢, via, emp, fst∗}
 use base.Fml.{GName, ftrue, fat, flft, flent}
-use prog.Wp.{Heap, Calls, Loops, WpFn, Tables}
+use prog.Wp.{Heap, Calls, Loops, WpFn, Tables, spotOf}
 use ghost.Atoms.{Atoms, sem}
 use contract.Monad.{fact}
 use sound.WpLaws.{FmC, fmOf, WpFn-mono}
-use types.Kit.{Given, ‵, raw, _⊛_, some, later, ⋆, _$_, _∵_, !, qed, by, move, use1, use2, use3, drop, split, join, pick, rewrite, fsplit, fjoin, suffices, frame, await, done}
+use types.Kit.{Given, ‵, raw, _⊛_, some, later, ⋆, _$_, _∵_, !, qed, by, move, use1, use2, use3, drop, split, join, pick, fsplit, fjoin, suffices, frame, await, done}
 use types.Part.{agg}
 use types.SemTy.{Body}
 use types.Tokens.{lft-new, lft-end}
-use types.Run.{look, init, forget, stop, from, load, addr, of-opd, and-then, no-more, assigns, land, returns, enter, alloc1, alloc0, params1, pass1, pass0, free1, free0}
+use types.Run.{stop, from, addr, of-opd, and-then, no-more, enter, params1, pass0}
 use denote.Exit.{yes}
 use denote.RattleType.{RattleType, owns}
 use denote.Memory.{mem, partAt, pointee}
@@ -29,7 +29,7 @@ use denote.Ref.{RefT, MutRef, now}
 use denote.Lend.{lends-ref, ref-back}
 use denote.Signature.{plain}
 use denote.Builtin.{RefMutOf}
-use denote.Steps.{only, owned, peeks, heard, nothing}
+use denote.Steps.{only, owned, facts, heard, nothing}
 use denote.Triple.Entry.{onEntry}
 use denote.Triple.Spec.{Meets, tripleOf}
 use denote.Triple.Statement.{Contract, Triple}
@@ -38,6 +38,7 @@ use denote.Triple.Clauses.{Ended, Clauses, ensured, lasts, closing}
 use denote.Triple.Walked.{says, Stays, stay-none, walkOf, ends-at, walked, goes-none, walk-meets}
 use borrow.Table.OneValue.{part-in}
 use Rattle.walks.proofs.Steps.Inside.{opened}
+use Rattle.walks.proofs.Steps.Locals.{its, fills, puts, arrives, gives, env, allocated, lifts, lays, passed, all-freed}
 use Rattle.walks.proofs.Steps.Data.{Datum, row}
 use Rattle.walks.proofs.Lending.Own.{Answered, answered, pair}
 
@@ -118,31 +119,26 @@ module _ (T X Q : Datum) (S : Answered T Q) (k : Name) (Says : T .like .Denot �
       walk : ent 𝓤 (onEntry 𝓤 H A (ended .signature) tt tt a vals) (WpFn 𝓤 H C Λ function (T .val h ∷ X .val x ∷ []) Post)
       walk =
           qed W (‵ ftrue ∷ ‵ (owns (Tr ∷ row X ∷ []) a vals) ∷ []) ∵ enter ! C Λ function (T .val h ∷ X .val x ∷ []) _ $
-          alloc1 ! (λ l₀. alloc1 ! (λ l₁. alloc1 ! (λ l₂. alloc1 ! (λ l₃. alloc1 ! (λ l₄. alloc1 ! (λ l₅. alloc1 ! (λ l₆. alloc0 ! $ params1 ! $
-          pass1 ! (init ! 10 refl (T .typed 𝓤 H A W h _ ish)) $ pass1 ! (init ! 8 refl (X .typed 𝓤 H A W x _ isx)) $ pass0 ! $
-          move ! (15 ∷ []) $ fsplit ! $ move ! (1 ∷ []) $ drop ! $
-          assigns ! (of-opd ! (load ! (from ! (stop !)) (look ! 11 refl))) (from ! (stop !)) (init ! 7 refl (T .typed 𝓤 H A W h _ ish)) $
-          move ! (7 ∷ 0 ∷ []) $ use2 W (‵ (partAt Tr fullShare h l₃ 0)) (part-in 𝓤 H A W Tr refl fullShare h l₃ 0 (T .val h)) $
-          assigns ! (addr ! (from ! (stop !))) (from ! (stop !)) (init ! 3 refl (tt, tt)) $
+          allocated ! (λ at. let b : ℕ = spotOf 𝓤 H (env (function .locals) at) 3 .1 in params1 ! $ passed ! 1 refl (T .typed 𝓤 H A W h _ ish) $ passed ! 2 refl (X .typed 𝓤 H A W x _ isx) $ pass0 ! $
+          move ! (1 ∷ []) $ fsplit ! $ move ! (1 ∷ []) $ drop ! $ puts ! (of-opd ! (its ! refl)) (fills ! refl (T .typed 𝓤 H A W h _ ish)) $
+          lifts ! 3 $ use2 W (‵ (partAt Tr fullShare h b 0)) (part-in 𝓤 H A W Tr refl fullShare h b 0 (T .val h)) $ puts ! (addr ! (from ! (stop !))) (fills ! refl (tt, tt)) $
           -- the record is lent
           lft-new ! tt (λ α. move ! (1 ∷ []) $
-          use1 W (later (some (λ (δ : GName). ‵ (MutRef (named 0) (α ∷ []) Tr .own (lent l₃ δ) (vptr l₃ 0 ∷ [])) ⊛ ‵ (flent (α ∷ []) (Body (mem Tr) l₃ 0 δ))))) (lends-ref 𝓤 H A W Tr (named 0) (α ∷ []) h l₃ 0) $ await ! tt $ pick ! (λ δ. split ! $
-          move ! (2 ∷ 16 ∷ []) $ join ! $ use2 W (raw (G 𝓤 H A .pre (to-g l₃ α δ))) (goes l₃ α δ) $
-          calls-at ! fm (G 𝓤 H A) known (to-g l₃ α δ) (and-then ! (load ! (from ! (stop !)) (look ! 4 refl)) (and-then ! (load ! (from ! (stop !)) (look ! 9 refl)) (no-more !))) (λ w.
-          use1 W (later (some (λ (r : Q .like .Denot). ((‵ (flft (α ∷ []) fullShare) ⊛ ‵ ftrue) ⊛ ‵ (Q .like .own r (w ∷ []))) ⊛ raw (ensured 𝓤 H A g-ended (g-clauses 𝓤) (α ∷ [], tt) (given l₃ δ) tt r)))) (id⊢ 𝓤 _) $ await ! tt $ pick ! (λ r.
-          split ! $ move ! (1 ∷ []) $ use1 W (some (λ (zs : T .like .Denot × (Unit {0} × Unit {0})). ‵ (lasts g-ended (α ∷ [], tt) (given l₃ δ) zs) ⊛ raw (fact 𝓤 (Says h x (S .make (zs .0) r))))) (id⊢ 𝓤 _) $ pick ! (λ zs.
+          use1 W (later (some (λ (δ : GName). ‵ (MutRef (named 0) (α ∷ []) Tr .own (lent b δ) (vptr b 0 ∷ [])) ⊛ ‵ (flent (α ∷ []) (Body (mem Tr) b 0 δ))))) (lends-ref 𝓤 H A W Tr (named 0) (α ∷ []) h b 0) $ await ! tt $ pick ! (λ δ. split ! $
+          move ! (2 ∷ 3 ∷ []) $ join ! $ use2 W (raw (G 𝓤 H A .pre (to-g b α δ))) (goes b α δ) $
+          calls-at ! fm (G 𝓤 H A) known (to-g b α δ) (and-then ! (its ! refl) (and-then ! (its ! refl) (no-more !))) (λ w.
+          use1 W (later (some (λ (r : Q .like .Denot). ((‵ (flft (α ∷ []) fullShare) ⊛ ‵ ftrue) ⊛ ‵ (Q .like .own r (w ∷ []))) ⊛ raw (ensured 𝓤 H A g-ended (g-clauses 𝓤) (α ∷ [], tt) (given b δ) tt r)))) (id⊢ 𝓤 _) $ await ! tt $ pick ! (λ r.
+          split ! $ move ! (1 ∷ []) $ use1 W (some (λ (zs : T .like .Denot × (Unit {0} × Unit {0})). ‵ (lasts g-ended (α ∷ [], tt) (given b δ) zs) ⊛ raw (fact 𝓤 (Says h x (S .make (zs .0) r))))) (id⊢ 𝓤 _) $ pick ! (λ zs.
           split ! $ move ! (1 ∷ []) $ heard ! (Says h x (S .make (zs .0) r)) (λ e. fsplit ! $ move ! (1 ∷ []) $ drop ! $
-          -- [the last record; the token and the result; the lender's part; _6; …]
-          move ! (1 ∷ []) $ split ! $ move ! (1 ∷ []) $ peeks ! (row Q) (Is (row Q)) (shows 𝓤 H A (row Q)) r (w ∷ []) (λ is. drop ! $ let isr : Is (Q .like) r (Q .val r ∷ []) = subst (Is (Q .like) r) (Q .tells r (w ∷ []) is) is in
-          land ! (from ! (stop !)) (init ! 7 refl (Q .typed 𝓤 H A W r w is)) $ rewrite ! 7 (λ (u : Val). ‵ (fat fullShare (Q .ty) l₄ 0 u)) (ap only (Q .tells r (w ∷ []) is)) refl $
-          split ! $ lft-end ! tt $ move ! (0 ∷ 3 ∷ 2 ∷ []) $ use3 W (later (‵ (partAt Tr fullShare (zs .0) l₃ 0))) (ref-back 𝓤 H A W Tr (α ∷ []) δ (zs .0) l₃ 0) $ await ! tt $
-          opened ! fullShare Tr (Is Tr) (shows 𝓤 H A Tr) (λ y. T .val y ∷ []) (T .tells) (zs .0) l₃ 0 (λ g.
-          use1 W (‵ (fat fullShare (T .ty) l₃ 0 (T .val (zs .0)))) (W .laws .raw-at fullShare (T .ty) l₃ 0 (T .val (zs .0))) $
-          assigns ! (of-opd ! (load ! (from ! (stop !)) (look ! 0 refl))) (from ! (stop !)) (init ! 3 refl (T .typed 𝓤 H A W (zs .0) _ g)) $
-          assigns ! (agg ! (and-then ! (load ! (from ! (stop !)) (look ! 3 refl)) (and-then ! (load ! (from ! (stop !)) (look ! 7 refl)) (no-more !)))) (from ! (stop !)) (init ! 14 refl (S .typed 𝓤 H A W (S .make (zs .0) r) _ (S .is (zs .0) r g isr))) $
-          returns ! (look ! 14 refl) $ forget ! 14 refl $ forget ! 12 refl $ forget ! 10 refl $ forget ! 0 refl $ forget ! 7 refl $ forget ! 5 refl $ forget ! 3 refl $
-          move ! (14 ∷ 15 ∷ []) $ free1 ! $ move ! (12 ∷ 13 ∷ []) $ free1 ! $ move ! (10 ∷ 11 ∷ []) $ free1 ! $ move ! (0 ∷ 9 ∷ []) $ free1 ! $ move ! (6 ∷ 7 ∷ []) $ free1 ! $ move ! (4 ∷ 5 ∷ []) $ free1 ! $ move ! (2 ∷ 3 ∷ []) $ free1 ! $ free0 ! $
-          by ! (exits r (zs .0) g isr e))))))))))))))))
+          -- [the last record; the token and the result; the lender's part]
+          move ! (1 ∷ []) $ split ! $ move ! (1 ∷ []) $ facts ! (Q .like) (Is (Q .like)) (shows 𝓤 H A (Q .like)) r (w ∷ []) (λ is. let isr : Is (Q .like) r (Q .val r ∷ []) = subst (Is (Q .like) r) (Q .tells r (w ∷ []) is) is in
+          arrives ! (ap only (Q .tells r (w ∷ []) is)) (fills ! refl (Q .typed 𝓤 H A W r _ isr)) $
+          split ! $ lft-end ! tt $ move ! (0 ∷ 3 ∷ 2 ∷ []) $ use3 W (later (‵ (partAt Tr fullShare (zs .0) b 0))) (ref-back 𝓤 H A W Tr (α ∷ []) δ (zs .0) b 0) $ await ! tt $
+          opened ! fullShare Tr (Is Tr) (shows 𝓤 H A Tr) (λ y. T .val y ∷ []) (T .tells) (zs .0) b 0 (λ g.
+          use1 W (‵ (fat fullShare (T .ty) b 0 (T .val (zs .0)))) (W .laws .raw-at fullShare (T .ty) b 0 (T .val (zs .0))) $ lays ! 3 $
+          puts ! (of-opd ! (its ! refl)) (fills ! refl (T .typed 𝓤 H A W (zs .0) _ g)) $
+          puts ! (agg ! (and-then ! (its ! refl) (and-then ! (its ! refl) (no-more !)))) (fills ! refl (S .typed 𝓤 H A W (S .make (zs .0) r) _ (S .is (zs .0) r g isr))) $
+          gives ! refl $ all-freed ! refl $ by ! (exits r (zs .0) g isr e))))))))))
 
   pub keyed : {M : Type 1} (𝓤 : URA M) (H : Heap 𝓤) (A : Atoms 𝓤) (W : Given 𝓤 H A) (𝓣 : Tables 𝓤 H) → Triple 𝓤 (𝓣 .C k) (G 𝓤 H A)
       → Meets 𝓤 H A (ended .signature) (WpFn 𝓤 H (𝓣 .C) (𝓣 .Λ) function) (closing 𝓤 H A ended (clauses 𝓤))

@@ -7,6 +7,7 @@
 -- The record lies in a local. It is lent for a lifetime that is made for the call, and comes back at its last value. The frame and the memory go to g for good. Assumes `Given`.
 use mathlib.Core.Path.{_≡_, refl, ap, subst}
 use Prim.Native.Nat.{ℕ}
+use mathlib.Core.Option.{none, some}
 use mathlib.Core.List.{List, [], _∷_}
 use lib.ListN.{length}
 use lib.Ieee.{Float, binary32}
@@ -16,15 +17,15 @@ use mir.Syntax.{Name, Fn, Ty, named, erased, mut, w32, tyInt, tyFloat, tyRef, de
 use mir.Val.{Val, vptr, vstruct, vcons, vnil}
 use base.Logic.{SProp, ent, sep, id⊢, via, emp, fst∗}
 use base.Fml.{Lft, GName, Share, ftrue, fat, flft, fres, flent}
-use prog.Wp.{Heap, Calls, Loops, WpFn, Tables}
+use prog.Wp.{Heap, Calls, Loops, WpFn, Tables, spotOf}
 use ghost.Atoms.{Atoms, sem}
 use contract.Monad.{fact}
 use sound.WpLaws.{FmC, fmOf, WpFn-mono}
-use types.Kit.{Given, ‵, raw, _⊛_, some, later, ⋆, _$_, _∵_, !, qed, by, move, use1, use2, use3, drop, split, join, pick, rewrite, fsplit, fjoin, feqL, suffices, frame, await, done}
-use types.Part.{agg, whole, sub, look-in}
+use types.Kit.{Given, ‵, raw, _⊛_, Item, some as any, later, ⋆, _$_, _∵_, !, qed, by, move, use1, use2, use3, drop, split, join, pick, fsplit, fjoin, feqL, suffices, frame, await, done}
+use types.Part.{agg}
 use types.SemTy.{Body}
 use types.Tokens.{lft-new, lft-end}
-use types.Run.{look, init, forget, stop, hop, fld, from, load, addr, of-opd, and-then, no-more, assigns, land, returns, enter, alloc1, alloc0, params1, pass1, pass0, free1, free0}
+use types.Run.{stop, from, addr, of-opd, and-then, no-more, enter, params1, pass0}
 use denote.Exit.{yes, unchanged}
 use denote.RattleType.{RattleType, owns}
 use denote.Memory.{mem, partAt, pointee}
@@ -34,7 +35,7 @@ use denote.Slice.{sliceTy, sliceVal, MutSlice, Room, finally, slice-vals, mut-sl
 use denote.Lend.{lends-ref, ref-back}
 use denote.Signature.{plain}
 use denote.Builtin.{u32, f32, RefMutOf, SliceRefMutOf}
-use denote.Steps.{only, owned, peeks, heard, nothing}
+use denote.Steps.{only, owned, facts, heard, nothing}
 use denote.Triple.Entry.{onEntry}
 use denote.Triple.Spec.{Meets, tripleOf}
 use denote.Triple.Statement.{Contract, Triple}
@@ -43,6 +44,7 @@ use denote.Triple.Clauses.{Ended, Clauses, ensured, lasts, closing}
 use denote.Triple.Walked.{says, Stays, stay-none, gave-slice, walkOf, ends-at, walked, goes-none, goes-gave-slice, walk-meets}
 use borrow.Table.OneValue.{part-in}
 use Rattle.walks.proofs.Steps.Inside.{opened}
+use Rattle.walks.proofs.Steps.Locals.{over, its, fills, field-of, beyond-field, puts, arrives, gives, Addresses, env, allocated, lifts, lays, passed, stands, all-freed}
 use Rattle.walks.proofs.Steps.Data.{Datum, Typed, row}
 
 -- what a T and a Q are put together to
@@ -181,42 +183,44 @@ module _ (T P Q : Datum) (S : Answered T Q) (k : Name) (Does : T .like .Denot �
         nothing ! $ move ! (1 ∷ 0 ∷ []) $ fjoin ! $ owned ! (row P) (Is (row P)) (P .makes 𝓤 H A W) p _ isp $ fjoin ! $ move ! (1 ∷ 0 ∷ []) $ fjoin ! $
         owned ! Tr (Is Tr) (T .makes 𝓤 H A W) h _ ish $ fjoin ! $ frame ! $ owned ! Sr (Is Sr) (S .makes 𝓤 H A W) (S .make t r) _ (S .is t r g isr) $ done !
 
+    -- what there is where the record is lent: the memory, the frame, what the record owns, the tokens, and the locals
+    abbrev Has : Addresses (function .locals) → List (Item 𝓤)
+    Has at = over (‵ (MutSlice (named 1) κ₂ u32 .own x₂ (s₂ ∷ [])) ∷ ‵ (MutSlice (named 0) κ₁ f32 .own x₁ (s₁ ∷ [])) ∷ ‵ (T .like .own h (T .val h ∷ [])) ∷ (‵ (flft κ₁ q₁) ⊛ ‵ (flft κ₂ q₂) ⊛ ‵ ftrue) ∷ []) (env (function .locals) at)
+        (none ∷ some (T .val h) ∷ some s₁ ∷ some (P .val p) ∷ some s₂ ∷ some (T .val h) ∷ none ∷ some (vptr (spotOf 𝓤 H (env (function .locals) at) 5 .1) 0) ∷ some (vptr b₁ o₁) ∷ some s₁ ∷ some (vptr b₂ o₂) ∷ some s₂ ∷ [])
+
     module _ (C : Calls 𝓤 H) (Λ : Loops 𝓤 H) (fm : FmC 𝓤 H (W .laws) C) (known : Triple 𝓤 (C k) (G 𝓤 H A)) where
       walk : ent 𝓤 (onEntry 𝓤 H A (ended .signature) (κ₁, (κ₂, tt)) (q₁, (q₂, tt)) a vals) (WpFn 𝓤 H C Λ function (T .val h ∷ s₁ ∷ P .val p ∷ s₂ ∷ []) Post)
       walk =
           qed W ((‵ (flft κ₁ q₁) ⊛ ‵ (flft κ₂ q₂) ⊛ ‵ ftrue) ∷ ‵ (owns (Tr ∷ MutSlice (named 0) κ₁ f32 ∷ row P ∷ MutSlice (named 1) κ₂ u32 ∷ []) a vals) ∷ []) ∵ enter ! C Λ function (T .val h ∷ s₁ ∷ P .val p ∷ s₂ ∷ []) _ $
-          alloc1 ! (λ l₀. alloc1 ! (λ l₁. alloc1 ! (λ l₂. alloc1 ! (λ l₃. alloc1 ! (λ l₄. alloc1 ! (λ l₅. alloc1 ! (λ l₆. alloc1 ! (λ l₇. alloc1 ! (λ l₈. alloc1 ! (λ l₉. alloc1 ! (λ l₁₀. alloc1 ! (λ l₁₁. alloc1 ! (λ l₁₂. alloc0 ! $ params1 ! $
-          pass1 ! (init ! 22 refl (T .typed 𝓤 H A W h _ ish)) $ pass1 ! (init ! 20 refl (tt, (tt, (record { fits = room₁ .0 }, tt)))) $ pass1 ! (init ! 18 refl (P .typed 𝓤 H A W p _ isp)) $ pass1 ! (init ! 16 refl (tt, (tt, (record { fits = room₂ .0 }, tt)))) $ pass0 ! $
-          -- [the memory; the frame; what the record owns; _11; …; the tokens]
-          move ! (27 ∷ []) $ fsplit ! $ move ! (1 ∷ []) $ fsplit ! $ move ! (1 ∷ []) $ fsplit ! $ drop ! $ fsplit ! $ move ! (1 ∷ []) $ drop ! $
-          assigns ! (of-opd ! (load ! (from ! (stop !)) (look ! 25 refl))) (from ! (stop !)) (init ! 17 refl (T .typed 𝓤 H A W h _ ish)) $
-          move ! (17 ∷ 2 ∷ []) $ use2 W (‵ (partAt Tr fullShare h l₅ 0)) (part-in 𝓤 H A W Tr refl fullShare h l₅ 0 (T .val h)) $
-          assigns ! (addr ! (from ! (stop !))) (from ! (stop !)) (init ! 13 refl (tt, tt)) $
-          assigns ! (addr ! (from ! (fld ! refl (hop ! (look-in ! 22 (sub ! 0 refl (whole !))) (stop !))))) (from ! (stop !)) (init ! 11 refl (tt, tt)) $
-          assigns ! (agg ! (and-then ! (load ! (from ! (stop !)) (look ! 11 refl)) (and-then ! (load ! (from ! (fld ! refl (stop !))) (look-in ! 22 (sub ! 1 refl (whole !)))) (no-more !)))) (from ! (stop !)) (init ! 9 refl (tt, (tt, (record { fits = room₁ .0 }, tt)))) $
-          assigns ! (addr ! (from ! (fld ! refl (hop ! (look-in ! 18 (sub ! 0 refl (whole !))) (stop !))))) (from ! (stop !)) (init ! 7 refl (tt, tt)) $
-          assigns ! (agg ! (and-then ! (load ! (from ! (stop !)) (look ! 7 refl)) (and-then ! (load ! (from ! (fld ! refl (stop !))) (look-in ! 18 (sub ! 1 refl (whole !)))) (no-more !)))) (from ! (stop !)) (init ! 5 refl (tt, (tt, (record { fits = room₂ .0 }, tt)))) $
+          allocated ! (λ at. let b : ℕ = spotOf 𝓤 H (env (function .locals) at) 5 .1 in params1 ! $
+          passed ! 1 refl (T .typed 𝓤 H A W h _ ish) $ passed ! 2 refl (tt, (tt, (record { fits = room₁ .0 }, tt))) $ passed ! 3 refl (P .typed 𝓤 H A W p _ isp) $ passed ! 4 refl (tt, (tt, (record { fits = room₂ .0 }, tt))) $ pass0 ! $
+          -- [the memory; the frame; what the record owns; the tokens]
+          move ! (1 ∷ []) $ fsplit ! $ move ! (1 ∷ []) $ fsplit ! $ move ! (1 ∷ []) $ fsplit ! $ drop ! $ fsplit ! $ move ! (1 ∷ []) $ drop ! $
+          puts ! (of-opd ! (its ! refl)) (fills ! refl (T .typed 𝓤 H A W h _ ish)) $
+          puts ! (addr ! (from ! (stop !))) (fills ! refl (tt, tt)) $
+          puts ! (addr ! (beyond-field ! refl refl refl (stop !))) (fills ! refl (tt, tt)) $
+          puts ! (agg ! (and-then ! (its ! refl) (and-then ! (field-of ! refl refl) (no-more !)))) (fills ! refl (tt, (tt, (record { fits = room₁ .0 }, tt)))) $
+          puts ! (addr ! (beyond-field ! refl refl refl (stop !))) (fills ! refl (tt, tt)) $
+          puts ! (agg ! (and-then ! (its ! refl) (and-then ! (field-of ! refl refl) (no-more !)))) (fills ! refl (tt, (tt, (record { fits = room₂ .0 }, tt)))) $
           -- the record is lent, and the frame and the memory go with it
-          lft-new ! tt (λ α. move ! (1 ∷ []) $
-          use1 W (later (some (λ (δ : GName). ‵ (MutRef (named 0) (α ∷ []) Tr .own (lent l₅ δ h) (vptr l₅ 0 ∷ [])) ⊛ ‵ (flent (α ∷ []) (Body (mem Tr) l₅ 0 δ))))) (lends-ref 𝓤 H A W Tr (named 0) (α ∷ []) h l₅ 0) $ await ! tt $ pick ! (λ δ. split ! $
-          move ! (4 ∷ 3 ∷ []) $ join ! $ move ! (3 ∷ 29 ∷ []) $ join ! $ move ! (0 ∷ 2 ∷ 1 ∷ []) $ use3 W (raw (G 𝓤 H A .pre (to-g l₅ α δ))) (goes l₅ α δ) $
-          calls-at ! fm (G 𝓤 H A) known (to-g l₅ α δ) (and-then ! (load ! (from ! (stop !)) (look ! 12 refl)) (and-then ! (load ! (from ! (stop !)) (look ! 8 refl)) (and-then ! (load ! (from ! (stop !)) (look ! 19 refl)) (and-then ! (load ! (from ! (stop !)) (look ! 4 refl)) (no-more !))))) (λ w.
-          use1 W (later (some (λ (r : Q .like .Denot). ((‵ (flft (α ∷ []) fullShare) ⊛ ‵ (flft κ₁ q₁) ⊛ ‵ (flft κ₂ q₂) ⊛ ‵ ftrue) ⊛ ‵ (Q .like .own r (w ∷ []))) ⊛ raw (ensured 𝓤 H A g-ended (g-clauses 𝓤) (α ∷ [], (κ₁, (κ₂, tt))) (given l₅ δ) tt r)))) (id⊢ 𝓤 _) $ await ! tt $ pick ! (λ r.
-          split ! $ move ! (1 ∷ []) $ use1 W (some (λ (zs : T .like .Denot × (List Float × (Unit {0} × (List ℕ × Unit {0})))). ‵ (lasts g-ended (α ∷ [], (κ₁, (κ₂, tt))) (given l₅ δ) zs) ⊛ raw (fact 𝓤 (Does h l p m r (zs .0) (zs .1 .0) (zs .1 .1 .1 .0))))) (id⊢ 𝓤 _) $ pick ! (λ zs.
+          stands ! (Has at) refl $ lifts ! 5 $ move ! (0 ∷ 3 ∷ []) $ use2 W (‵ (partAt Tr fullShare h b 0)) (part-in 𝓤 H A W Tr refl fullShare h b 0 (T .val h)) $ lft-new ! tt (λ α. move ! (1 ∷ []) $
+          use1 W (later (any (λ (δ : GName). ‵ (MutRef (named 0) (α ∷ []) Tr .own (lent b δ h) (vptr b 0 ∷ [])) ⊛ ‵ (flent (α ∷ []) (Body (mem Tr) b 0 δ))))) (lends-ref 𝓤 H A W Tr (named 0) (α ∷ []) h b 0) $ await ! tt $ pick ! (λ δ. split ! $
+          -- [the record; the lender's part; its token; the memory; the frame; the tokens]
+          move ! (4 ∷ 3 ∷ []) $ join ! $ move ! (3 ∷ 4 ∷ []) $ join ! $ move ! (0 ∷ 2 ∷ 1 ∷ []) $ use3 W (raw (G 𝓤 H A .pre (to-g b α δ))) (goes b α δ) $
+          calls-at ! fm (G 𝓤 H A) known (to-g b α δ) (and-then ! (its ! refl) (and-then ! (its ! refl) (and-then ! (its ! refl) (and-then ! (its ! refl) (no-more !))))) (λ w.
+          use1 W (later (any (λ (r : Q .like .Denot). ((‵ (flft (α ∷ []) fullShare) ⊛ ‵ (flft κ₁ q₁) ⊛ ‵ (flft κ₂ q₂) ⊛ ‵ ftrue) ⊛ ‵ (Q .like .own r (w ∷ []))) ⊛ raw (ensured 𝓤 H A g-ended (g-clauses 𝓤) (α ∷ [], (κ₁, (κ₂, tt))) (given b δ) tt r)))) (id⊢ 𝓤 _) $ await ! tt $ pick ! (λ r.
+          split ! $ move ! (1 ∷ []) $ use1 W (any (λ (zs : T .like .Denot × (List Float × (Unit {0} × (List ℕ × Unit {0})))). ‵ (lasts g-ended (α ∷ [], (κ₁, (κ₂, tt))) (given b δ) zs) ⊛ raw (fact 𝓤 (Does h l p m r (zs .0) (zs .1 .0) (zs .1 .1 .1 .0))))) (id⊢ 𝓤 _) $ pick ! (λ zs.
           split ! $ move ! (1 ∷ []) $ heard ! (Does h l p m r (zs .0) (zs .1 .0) (zs .1 .1 .1 .0)) (λ e.
           fsplit ! $ move ! (1 ∷ []) $ fsplit ! $ fsplit ! $ move ! (1 ∷ []) $ feqL ! (λ len₁. move ! (1 ∷ []) $ fsplit ! $ drop ! $ fsplit ! $ fsplit ! $ move ! (1 ∷ []) $ feqL ! (λ len₂. move ! (1 ∷ []) $ drop ! $
-          -- [the last memory; the last frame; the last record; the tokens and the result; the lender's part; _11; …]
-          move ! (3 ∷ []) $ split ! $ move ! (1 ∷ []) $ peeks ! (row Q) (Is (row Q)) (shows 𝓤 H A (row Q)) r (w ∷ []) (λ is. drop ! $ let isr : Is (Q .like) r (Q .val r ∷ []) = subst (Is (Q .like) r) (Q .tells r (w ∷ []) is) is in
-          land ! (from ! (stop !)) (init ! 17 refl (Q .typed 𝓤 H A W r w is)) $ rewrite ! 17 (λ (u : Val). ‵ (fat fullShare (Q .ty) l₆ 0 u)) (ap only (Q .tells r (w ∷ []) is)) refl $
-          split ! $ lft-end ! tt $ move ! (0 ∷ 5 ∷ 4 ∷ []) $ use3 W (later (‵ (partAt Tr fullShare (zs .0) l₅ 0))) (ref-back 𝓤 H A W Tr (α ∷ []) δ (zs .0) l₅ 0) $ await ! tt $
-          opened ! fullShare Tr (Is Tr) (shows 𝓤 H A Tr) (λ y. T .val y ∷ []) (T .tells) (zs .0) l₅ 0 (λ g.
-          use1 W (‵ (fat fullShare (T .ty) l₅ 0 (T .val (zs .0)))) (W .laws .raw-at fullShare (T .ty) l₅ 0 (T .val (zs .0))) $
-          assigns ! (of-opd ! (load ! (from ! (stop !)) (look ! 0 refl))) (from ! (stop !)) (init ! 5 refl (T .typed 𝓤 H A W (zs .0) _ g)) $
-          assigns ! (agg ! (and-then ! (load ! (from ! (stop !)) (look ! 5 refl)) (and-then ! (load ! (from ! (stop !)) (look ! 17 refl)) (no-more !)))) (from ! (stop !)) (init ! 28 refl (S .typed 𝓤 H A W (S .make (zs .0) r) _ (S .is (zs .0) r g isr))) $
-          returns ! (look ! 28 refl) $ forget ! 28 refl $ forget ! 26 refl $ forget ! 24 refl $ forget ! 22 refl $ forget ! 20 refl $ forget ! 0 refl $ forget ! 17 refl $ forget ! 15 refl $ forget ! 13 refl $ forget ! 11 refl $ forget ! 9 refl $ forget ! 7 refl $ forget ! 5 refl $
-          move ! (28 ∷ 29 ∷ []) $ free1 ! $ move ! (26 ∷ 27 ∷ []) $ free1 ! $ move ! (24 ∷ 25 ∷ []) $ free1 ! $ move ! (22 ∷ 23 ∷ []) $ free1 ! $ move ! (20 ∷ 21 ∷ []) $ free1 ! $ move ! (0 ∷ 19 ∷ []) $ free1 ! $
-          move ! (16 ∷ 17 ∷ []) $ free1 ! $ move ! (14 ∷ 15 ∷ []) $ free1 ! $ move ! (12 ∷ 13 ∷ []) $ free1 ! $ move ! (10 ∷ 11 ∷ []) $ free1 ! $ move ! (8 ∷ 9 ∷ []) $ free1 ! $ move ! (6 ∷ 7 ∷ []) $ free1 ! $ move ! (4 ∷ 5 ∷ []) $ free1 ! $ free0 ! $
-          by ! (exits r (zs .0) (zs .1 .0) (zs .1 .1 .1 .0) g isr e len₁ len₂))))))))))))))))))))))))
+          -- [the last memory; the last frame; the last record; the tokens and the result; the lender's part]
+          move ! (3 ∷ []) $ split ! $ move ! (1 ∷ []) $ facts ! (Q .like) (Is (Q .like)) (shows 𝓤 H A (Q .like)) r (w ∷ []) (λ is. let isr : Is (Q .like) r (Q .val r ∷ []) = subst (Is (Q .like) r) (Q .tells r (w ∷ []) is) is in
+          arrives ! (ap only (Q .tells r (w ∷ []) is)) (fills ! refl (Q .typed 𝓤 H A W r _ isr)) $
+          split ! $ lft-end ! tt $ move ! (0 ∷ 5 ∷ 4 ∷ []) $ use3 W (later (‵ (partAt Tr fullShare (zs .0) b 0))) (ref-back 𝓤 H A W Tr (α ∷ []) δ (zs .0) b 0) $ await ! tt $
+          opened ! fullShare Tr (Is Tr) (shows 𝓤 H A Tr) (λ y. T .val y ∷ []) (T .tells) (zs .0) b 0 (λ g.
+          use1 W (‵ (fat fullShare (T .ty) b 0 (T .val (zs .0)))) (W .laws .raw-at fullShare (T .ty) b 0 (T .val (zs .0))) $ lays ! 5 $
+          puts ! (of-opd ! (its ! refl)) (fills ! refl (T .typed 𝓤 H A W (zs .0) _ g)) $
+          puts ! (agg ! (and-then ! (its ! refl) (and-then ! (its ! refl) (no-more !)))) (fills ! refl (S .typed 𝓤 H A W (S .make (zs .0) r) _ (S .is (zs .0) r g isr))) $
+          gives ! refl $ all-freed ! refl $ by ! (exits r (zs .0) (zs .1 .0) (zs .1 .1 .1 .0) g isr e len₁ len₂))))))))))))
 
   pub own : {M : Type 1} (𝓤 : URA M) (H : Heap 𝓤) (A : Atoms 𝓤) (W : Given 𝓤 H A) (𝓣 : Tables 𝓤 H) → Triple 𝓤 (𝓣 .C k) (G 𝓤 H A)
       → Meets 𝓤 H A (ended .signature) (WpFn 𝓤 H (𝓣 .C) (𝓣 .Λ) function) (closing 𝓤 H A ended (clauses 𝓤))

@@ -20,8 +20,8 @@ use prog.Wp.{Heap, Env, Calls, Loops, WpFn, Tables}
 use ghost.Atoms.{Atoms, sem}
 use contract.Monad.{fact}
 use contract.Lifetimes.{Lfts, Shares, toks}
-use types.Kit.{Given, Item, Post, Seq, Step, step, Goal, ‵, raw, some, later, _⊛_, ⋆, atRet, runs, lands, frees, allocs, prop, _$_, _∵_, !, qed, by, move, drop, use1, use2, split, join, pick, regoal, fsplit, fjoin, suffices, frame, await, done}
-use types.Run.{Opd, Opds, look, init, forget, stop, hop, from, load, addr, and-then, no-more, assigns, land, returns, enter, alloc1, alloc0, params1, pass1, free1, free0}
+use types.Kit.{Given, Item, Post, Seq, Step, step, Goal, ‵, raw, some, later, _⊛_, nth, ⋆, atRet, runs, lands, frees, allocs, prop, _$_, _∵_, !, qed, by, move, drop, use1, use2, split, join, pick, regoal, fsplit, fjoin, suffices, frame, await, done}
+use types.Run.{Opd, Opds, look, init, forget, stop, hop, from, load, addr, and-then, no-more, assigns, land, returns, enter, alloc1, alloc0, params1, free1, free0}
 use sound.WpLaws.{fmOf, WpFn-mono}
 use denote.RattleType.{owns}
 use denote.Memory.{pointee}
@@ -39,8 +39,9 @@ use denote.Triple.Clauses.{Ended, Clauses, Lasts, ensured, lasts, closing}
 use denote.Triple.Walked.{says, Stay, Stays, gave-ref, stay-dropped, fitsOf, hasOf, walkOf, Goes, goes-gave-ref, goes-dropped, ends-at, walked, walk-meets}
 use denote.Exit.{Seen, Last, left, see, yes}
 use Rattle.walks.proofs.Steps.Data.{Datum, row}
+use Rattle.walks.proofs.Steps.Locals.{home, no-local, from-at, finds, its-at, lifted, lifts, lays, fetches, passed as taken, freed}
 use Rattle.walks.proofs.Steps.Calls.{Says as Answers, asks}
-use Rattle.walks.proofs.Lending.Arguments.{Arg, outer, In, Out, Sound, Blocks, Again, Stand-again, handed, locals, again, past, lends, operands, env, env-again, no-local, behind, stands, stands-again, spells-out, each-out, machine-out, same-machine, tell-all, are-sound, stays, lets-go, ends-out, allocates, allocates-again, passes-all, lends-all, reads-all, frees-all, frees-again, from-at, finds}
+use Rattle.walks.proofs.Lending.Arguments.{Arg, outer, In, Out, Sound, Blocks, Again, Stand-again, handed, locals, again, past, lends, operands, env, env-again, behind, stands, stands-again, spells-out, each-out, machine-out, same-machine, tell-all, are-sound, stays, lets-go, ends-out, allocates, allocates-again, passes-all, lends-all, reads-all, frees-all, frees-again}
 
 -- ---- how the record is handed on: one that is lent by a local more, and one that is seen as it is
 pub data Way : Type 0 where
@@ -147,10 +148,10 @@ module _ (T : Datum) where
       lends-at t p lent l e₁ e = assigns t (addr t (from-at t e₁ (hop t (look t 1 refl) (stop t)))) (finds t e) (init t 0 refl (tt, tt))
       lends-at t p seen l e₁ e = step (λ s. s)
 
-      reads-at : K → (p : ℕ) (w : Way) (l : On w) → getD E 1 no-local ≡ (mine w, l₁) → Stands-on E w l p → {i j k : Item 𝓤}
-          → Opd K W (i ∷ j ∷ k ∷ ‵ (on-cell w l (vptr b o)) ∷ ‵ (fat fullShare (mine w) l₁ 0 (vptr b o)) ∷ Γ) E (handed-on w p) (vptr b o)
-      reads-at t p lent l e₁ e = load t (finds t e) (look t 3 refl)
-      reads-at t p seen l e₁ e = load t (finds t e₁) (look t 4 refl)
+      reads-at : K → (p : ℕ) (w : Way) (l : On w) → getD E 1 no-local ≡ (mine w, l₁) → Stands-on E w l p → nth 𝓤 H A (home Γ 4) Γ ≡ ‵ (on-cell w l (vptr b o)) → nth 𝓤 H A (home Γ 1) Γ ≡ ‵ (fat fullShare (mine w) l₁ 0 (vptr b o))
+          → Opd K W Γ E (handed-on w p) (vptr b o)
+      reads-at t p lent l e₁ e at at₁ = its-at t 4 e at
+      reads-at t p seen l e₁ e at at₁ = its-at t 1 e₁ at₁
 
 -- ---- what becomes of g's answer: one that is turned stands in a local of its own
 pub data Turn (I : Datum) : Type 2 where
@@ -341,23 +342,22 @@ module _ (T : Datum) (w : Way) (m : ℕ) (As : List (Arg m)) where
           walk : ent 𝓤 (onEntry 𝓤 H A (taking Q .signature) κs qs a vals) (WpFn 𝓤 H (𝓣 .C) (𝓣 .Λ) function (at ∷ machine-out As κs xs) Ends)
           walk =
               qed W (raw tokens ∷ ‵ owned-in ∷ []) ∵ enter ! (𝓣 .C) (𝓣 .Λ) function (at ∷ machine-out As κs xs) _ $
-              alloc1 ! (λ l₀. alloc1 ! (λ l₁. allocates ! As (λ bs. allocates-aside I ! u (λ z. allocates-on T ! w (λ l. allocates-again ! As (λ ts. alloc0 ! $ params1 ! $
-              pass1 ! (init ! 6 refl (tt, tt)) $ move ! (5 ∷ []) $ passes-all ! As κs xs bs (rear z l ts) sd $
-              -- [the arguments; lent on; the record lent on, 2; g's answer, 2; the record; …; the result; …; the tokens; what the arguments own]
-              move ! (2 ∷ 6 ∷ []) $ lends-at T ! on w l refl (stands-on T I As bs (Q .ty, l₀) (mine T w, l₁) u z w l (env-again As ts [])) $
-              move ! (2 ∷ 3 ∷ []) $ lends-all ! As (κs .1) v bs ts (locally l₀ l₁ bs z l ts) 2 rest (stands As bs (Q .ty, l₀) (mine T w, l₁) (rear z l ts)) (stands-rest T I As bs (Q .ty, l₀) (mine T w, l₁) ts u z w l) sd _ $
-              move ! (10 ∷ 11 ∷ []) $ use2 W (raw (agreed 𝓤 H A I Says .pre to-g)) goes $
-              calls-at ! (fmOf 𝓤 H (W .laws) 𝓣) (agreed 𝓤 H A I Says) known to-g (and-then ! (reads-at T ! on w l refl (stands-on T I As bs (Q .ty, l₀) (mine T w, l₁) u z w l (env-again As ts [])))
-              (subst (Opds _ W _ (locally l₀ l₁ bs z l ts) (operands 2 rest As)) (same-machine As κs xs) (reads-all ! As (κs .1) v bs ts (locally l₀ l₁ bs z l ts) 2 rest (stands As bs (Q .ty, l₀) (mine T w, l₁) (rear z l ts)) (stands-rest T I As bs (Q .ty, l₀) (mine T w, l₁) ts u z w l)))) (λ y.
+              alloc1 ! (λ l₀. alloc1 ! (λ l₁. allocates ! As (λ bs. allocates-aside I ! u (λ z. allocates-on T ! w (λ l. allocates-again ! As (λ ts. alloc0 ! $ params1 ! $ fetches ! 0 $
+              taken ! 1 refl (tt, tt) $ lifts ! 2 $ passes-all ! As κs xs bs (rear z l ts) sd $ lays ! 2 $
+              lifts ! 1 $ lifts ! 4 $ lends-at T ! on w l refl (stands-on T I As bs (Q .ty, l₀) (mine T w, l₁) u z w l (env-again As ts [])) $ lays ! 4 $ lays ! 1 $
+              lifts ! 5 $ lifts ! 2 $ lends-all ! As (κs .1) v bs ts (locally l₀ l₁ bs z l ts) 2 rest (stands As bs (Q .ty, l₀) (mine T w, l₁) (rear z l ts)) (stands-rest T I As bs (Q .ty, l₀) (mine T w, l₁) ts u z w l) sd _ $ lays ! 2 $ lays ! 5 $
+              use2 W (raw (agreed 𝓤 H A I Says .pre to-g)) goes $
+              calls-at ! (fmOf 𝓤 H (W .laws) 𝓣) (agreed 𝓤 H A I Says) known to-g (and-then ! (reads-at T ! on w l refl (stands-on T I As bs (Q .ty, l₀) (mine T w, l₁) u z w l (env-again As ts [])) refl refl)
+              (subst (Opds _ W _ (locally l₀ l₁ bs z l ts) (operands 2 rest As)) (same-machine As κs xs) (lifted ! 5 (lifted ! 2 (reads-all ! As (κs .1) v bs ts (locally l₀ l₁ bs z l ts) 2 rest (stands As bs (Q .ty, l₀) (mine T w, l₁) (rear z l ts)) (stands-rest T I As bs (Q .ty, l₀) (mine T w, l₁) ts u z w l)))))) (λ y.
               use1 W (later (some (λ (i : I .like .Denot). (raw tokens ⊛ ‵ (I .like .own i (y ∷ []))) ⊛ raw (ensured 𝓤 H A (taking I) (saying 𝓤 I Says) κs a tt i)))) (id⊢ 𝓤 _) $ await ! tt $ pick ! (λ i. split ! $ move ! (1 ∷ []) $
               use1 W (some (λ (zs : Lasts (taking I) κs a). ‵ (lasts (taking I) κs a zs) ⊛ raw (fact 𝓤 (Of zs i)))) (id⊢ 𝓤 _) $ pick ! (λ zs. split ! $ move ! (1 ∷ []) $ heard ! (Of zs i) (λ e.
               fsplit ! $ ends-at-way T m ! w κs x (zs .0) (ptr-vals s) (λ fit. move ! (1 ∷ []) $ ends-out ! As κs xs (zs .1) (each-out As κs xs) (λ fits. move ! (1 ∷ 0 ∷ []) $ fjoin ! $
               move ! (1 ∷ []) $ split ! $ move ! (1 ∷ []) $ facts ! (I .like) (Is (I .like)) (shows 𝓤 H A (I .like)) i (y ∷ []) (λ is.
               regoal ! (λ (n : Val). lands (𝓣 .C) (𝓣 .Λ) (locally l₀ l₁ bs z l ts) (place (goal I u aside) []) n (then I u aside) (atRet (locally l₀ l₁ bs z l ts) Ends)) (ap only (I .tells i _ is)) refl $
-              -- [the tokens; what is had; the arguments; lent on; the record lent on; the record; …; g's answer; …; …; the result; …]
-              move ! (10 ∷ 7 ∷ []) $ answers I ! u z i (subst (Is (I .like) i) (I .tells i _ is) is) 𝓣 known-k aside (stands-aside T I As bs (Q .ty, l₀) (mine T w, l₁) u z (on-env T w l (env-again As ts []))) (λ isy.
-              move ! (0 ∷ 11 ∷ []) $ free1 ! $ forget ! 6 refl $ move ! (6 ∷ 9 ∷ []) $ free1 ! $ move ! (3 ∷ []) $ frees-all ! As (κs .1) bs v $ move ! (0 ∷ 6 ∷ []) $ frees-aside I ! u z $
-              move ! (3 ∷ 4 ∷ []) $ frees-on T ! w l at $ move ! (2 ∷ []) $ frees-again ! As (κs .1) ts v $ free0 ! $ by ! (exits zs i isy (fit, fits) e)))))))))))))))
+              -- [the tokens; what is had]
+              lifts ! 3 $ lifts ! 0 $ answers I ! u z i (subst (Is (I .like) i) (I .tells i _ is) is) 𝓣 known-k aside (stands-aside T I As bs (Q .ty, l₀) (mine T w, l₁) u z (on-env T w l (env-again As ts []))) (λ isy. lays ! 0 $ lays ! 3 $
+              freed ! 2 refl $ fetches ! 0 $ frees-all ! As (κs .1) bs v $ fetches ! 0 $ frees-aside I ! u z $ fetches ! 0 $ frees-on T ! w l at $ fetches ! 0 $ frees-again ! As (κs .1) ts v $ free0 ! $
+              by ! (exits zs i isy (fit, fits) e)))))))))))))))
 
       meets : {M : Type 1} (𝓤 : URA M) (H : Heap 𝓤) (A : Atoms 𝓤) (W : Given 𝓤 H A) (𝓣 : Tables 𝓤 H) → Triple 𝓤 (𝓣 .C g) (agreed 𝓤 H A I Says) → Known I 𝓤 H A 𝓣 u → Meeting 𝓤 H A 𝓣 function Q Said
       meets 𝓤 H A W 𝓣 known known-k =

@@ -10,15 +10,15 @@ blank-requires c κs = search needs
 none-requires : tie.Need-none-requires
 none-requires c κs = search needs
 
-first-level-requires : tie.Need-first-level-requires
-first-level-requires c κs = search needs
+full-requires : tie.Need-full-requires
+full-requires c κs = search needs
 
 new-requires : tie.Need-new-requires
 new-requires c κs = search needs
 
 returns : tie.Need-returns
 unfolding channelOf
-returns c = simp (c .new .ensures, c .before .first-level .ensures, c .before .before .none .ensures, c .before .before .before .blank .ensures)
+returns c = simp (c .new .ensures, c .before .full .ensures, c .before .before .none .ensures, c .before .before .before .blank .ensures)
 
 pub new-spec : {M : Type 1} → statement M
-new-spec = tie.close (tie.spec blank-requires none-requires first-level-requires new-requires returns)
+new-spec = tie.close (tie.spec blank-requires none-requires full-requires new-requires returns)

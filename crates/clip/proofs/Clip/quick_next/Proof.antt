@@ -8,7 +8,7 @@ use lib.Ieee.Fits.{and-l, and-r}
 use Rattle.binary32.specs.Leaves.{zero32}
 use Rattle.binary32.proofs.Truth.{yes}
 use Rattle.binary32.proofs.Between.{eq-not-nan}
-use Rattle.clip.specs.Positions.{travelAt, wrappedOf, clampedOf, indexOf, aheadOf, nextAt}
+use Rattle.clip.specs.Positions.{travelAt, wrappedOf, clampedOf, indexOf, oneFurther, nextAt}
 use Rattle.clip.specs.Updates.{sameMode, sameValues, sameAll}
 use Rattle.clip.specs.declared.Mode.{Mode}
 use Rattle.clip.proofs.Equal.{same-modes}
@@ -46,7 +46,7 @@ returns c some speed same =
     let s = a .self in
     let l = a .length in
     let m = a .data-length in
-    let x = aheadOf (travelAt s (a .now)) (s .speed) in
+    let x = oneFurther (travelAt s (a .now)) (s .speed) in
     let all : Bool = sameValues s l speed m in
     let modes : Bool = sameMode (a .mode) (s .mode) in
     let told : T (all && modes) = yes same in
@@ -55,7 +55,7 @@ returns c some speed same =
     let y : d .quick-stepped .result ≡ wrappedOf (s .mode) x l =
     d .quick-stepped .ensures (yes (c .before .before .before .if2 .taken))
     ∙ ap₂ (λ (k : Mode) (z : Float). wrappedOf k z l) (same-modes (a .mode) (s .mode) (and-r all modes told))
-    (d .before .ahead .ensures ∙ ap (λ (z : Float). aheadOf z (s .speed)) (d .before .before .quick-travel .ensures)) in
+    (d .before .ahead .ensures ∙ ap (λ (z : Float). oneFurther z (s .speed)) (d .before .before .quick-travel .ensures)) in
     got .1
     ∙ ap indexOf
     (ap (λ (z : Float). rem binary32 (add binary32 (s .start) z) m) (c .before .before .clamped .ensures ∙ ap (λ (z : Float). clampedOf z l) y)

@@ -21,14 +21,14 @@ loop-holds : tie.Need-loop-holds Inv-loop μ-loop
 unfolding latestOf
 loop-holds c = begins (fold laterOf 0) (c .before .args .t1 .channels) (c .before .args .t1 .count) _ 2 (long _ (c .before .args .t1 .channels) 2 (c .before .good .0 .1 .1 .0 .1 .0 .1)) (c .places .ensures)
 
-mul-later : tie.Need-mul-later Inv-loop μ-loop
-mul-later c = search needs
+mul-larger : tie.Need-mul-larger Inv-loop μ-loop
+mul-larger c = search needs
 
-element-copy-out-later : tie.Need-element-copy-out-later Inv-loop μ-loop
-element-copy-out-later c = search needs
+element-copy-out-larger : tie.Need-element-copy-out-larger Inv-loop μ-loop
+element-copy-out-larger c = search needs
 
-later-requires : tie.Need-later-requires Inv-loop μ-loop
-later-requires c κs = search needs
+larger-requires : tie.Need-larger-requires Inv-loop μ-loop
+larger-requires c κs = search needs
 
 add-j : tie.Need-add-j Inv-loop μ-loop
 add-j c = search needs
@@ -38,7 +38,7 @@ loop-less c = search needs
 
 loop-again : tie.Need-loop-again Inv-loop μ-loop
 unfolding fold
-loop-again c = turns none (c .before .before .loop .inv) (search needs) (λ xs. simp (c .later .ensures))
+loop-again c = turns none (c .before .before .loop .inv) (search needs) (λ xs. simp (c .larger .ensures))
 
 returns : tie.Need-returns Inv-loop μ-loop
 unfolding fold
@@ -52,9 +52,9 @@ latest-spec =
     μ-loop
     places-requires
     loop-holds
-    mul-later
-    element-copy-out-later
-    later-requires
+    mul-larger
+    element-copy-out-larger
+    larger-requires
     add-j
     loop-less
     loop-again

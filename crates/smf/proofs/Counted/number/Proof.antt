@@ -1,5 +1,5 @@
 -- `Counted::number` meets its contract. Assumes nothing.
-use Rattle.smf.specs.Cues.{numberOf}
+use Rattle.smf.specs.Cues.{cuesNumber}
 use borrow.Author.Needs.{needs}
 use Rattle.smf.proofs.Counted.number.Statement.{statement}
 use Rattle.smf.proofs.Counted.number.Tie as tie
@@ -20,19 +20,19 @@ enum-told-3 : tie.Need-enum-told-3
 enum-told-3 c = search needs
 
 returns : tie.Need-returns
-unfolding numberOf
+unfolding cuesNumber
 returns c = simp (c .enum-told .given .1)
 
 returns-2 : tie.Need-returns-2
-unfolding numberOf
+unfolding cuesNumber
 returns-2 c = simp (c .enum-told2 .given .1)
 
 returns-3 : tie.Need-returns-3
-unfolding numberOf
+unfolding cuesNumber
 returns-3 c = simp (c .refusal .ensures, c .before .before .self .given .1)
 
 returns-4 : tie.Need-returns-4
-unfolding numberOf
+unfolding cuesNumber
 returns-4 c = simp (c .enum-told3 .given .1)
 
 pub number-spec : {M : Type 1} → statement M

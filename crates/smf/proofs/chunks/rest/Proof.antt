@@ -1,7 +1,7 @@
 -- `rest` meets its contract. Assumes nothing.
 use mathlib.Core.Path.{sym, _∙_}
 use native.Mathlib.Omega.{arith}
-use Rattle.smf.specs.Files.{restOf}
+use Rattle.smf.specs.Files.{restAt}
 use Rattle.smf.proofs.Searches.{track-placed}
 use borrow.Author.Needs.{needs}
 use Rattle.smf.proofs.chunks.rest.Statement.{statement}
@@ -23,15 +23,15 @@ enum-told : tie.Need-enum-told
 enum-told c = search needs
 
 returns : tie.Need-returns
-unfolding restOf
+unfolding restAt
 returns c = simp (sym (c .before .before .before .track-at .ensures) ∙ c .before .fault .given .1)
 
 returns-2 : tie.Need-returns-2
-unfolding restOf
+unfolding restAt
 returns-2 c = simp (sym (c .before .before .before .track-at .ensures) ∙ c .before .place .given .1)
 
 returns-3 : tie.Need-returns-3
-unfolding restOf
+unfolding restAt
 returns-3 c = simp (sym (c .before .before .track-at .ensures) ∙ c .enum-told .given .1)
 
 pub rest-spec : {M : Type 1} → statement M

@@ -1,7 +1,7 @@
 -- `channel_at` meets its contract. Assumes nothing.
 use mathlib.Core.Path.{sym, _∙_}
 use native.Mathlib.Omega.{arith}
-use Rattle.smf.specs.Events.{channelAt}
+use Rattle.smf.specs.Events.{channelEvent}
 use Rattle.smf.proofs.Inside.{seen}
 use borrow.Author.Needs.{needs}
 use Rattle.smf.proofs.events.channel_at.Statement.{statement}
@@ -23,7 +23,7 @@ add-t13 : tie.Need-add-t13
 add-t13 c = omega (arith, seen _ _ _ _ (sym (c .before .before .before .before .before .data-at .ensures) ∙ c .before .before .before .first .given .1))
 
 returns : tie.Need-returns
-unfolding channelAt
+unfolding channelEvent
 returns c = simp (sym (c .before .before .before .before .before .data-at .ensures) ∙ c .before .before .before .first .given .1, sym (c .before .one-byte .ensures) ∙ c .if1 .taken)
 
 add-data-at : tie.Need-add-data-at
@@ -45,15 +45,15 @@ add-t18 : tie.Need-add-t18
 add-t18 c = omega (arith, seen _ _ _ _ (sym (c .before .before .before .before .data-at2 .ensures) ∙ c .before .before .second .given .1))
 
 returns-2 : tie.Need-returns-2
-unfolding channelAt
+unfolding channelEvent
 returns-2 c = simp (sym (c .before .before .before .data-at .ensures) ∙ c .before .fault .given .1)
 
 returns-3 : tie.Need-returns-3
-unfolding channelAt
+unfolding channelEvent
 returns-3 c = simp (sym (c .before .before .before .before .before .before .before .before .before .data-at .ensures) ∙ c .before .before .before .before .before .before .before .first .given .1, sym (c .before .before .before .before .before .one-byte .ensures) ∙ c .before .before .before .before .if1 .left, sym (c .before .before .before .data-at2 .ensures) ∙ c .before .fault2 .given .1)
 
 returns-4 : tie.Need-returns-4
-unfolding channelAt
+unfolding channelEvent
 returns-4 c = simp (sym (c .before .before .before .before .before .before .before .before .before .before .data-at .ensures) ∙ c .before .before .before .before .before .before .before .before .first .given .1, sym (c .before .before .before .before .before .before .one-byte .ensures) ∙ c .before .before .before .before .before .if1 .left, sym (c .before .before .before .before .data-at2 .ensures) ∙ c .before .before .second .given .1, c .message .ensures)
 
 pub channel-at-spec : {M : Type 1} → statement M

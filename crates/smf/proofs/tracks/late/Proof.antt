@@ -1,5 +1,5 @@
 -- `late` meets its contract. Assumes nothing.
-use Rattle.smf.specs.Cues.{lateOf}
+use Rattle.smf.specs.Cues.{tooLate}
 use borrow.Author.Needs.{needs}
 use Rattle.smf.proofs.tracks.late.Statement.{statement}
 use Rattle.smf.proofs.tracks.late.Tie as tie
@@ -14,15 +14,15 @@ enum-told-3 : tie.Need-enum-told-3
 enum-told-3 c = search needs
 
 returns : tie.Need-returns
-unfolding lateOf
+unfolding tooLate
 returns c = simp (c .enum-told .given .1)
 
 returns-2 : tie.Need-returns-2
-unfolding lateOf
+unfolding tooLate
 returns-2 c = simp (c .enum-told2 .given .1)
 
 returns-3 : tie.Need-returns-3
-unfolding lateOf
+unfolding tooLate
 returns-3 c = simp (c .enum-told3 .given .1)
 
 pub late-spec : {M : Type 1} → statement M

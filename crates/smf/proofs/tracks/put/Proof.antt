@@ -3,7 +3,7 @@ use mathlib.Core.Path.{refl, sym, ap, _∙_}
 use native.Mathlib.Numerals.{add-one}
 use native.Mathlib.Omega.{arith}
 use lib.ListN.{length-set}
-use Rattle.smf.specs.Cues.{entriesOf, numbersOf}
+use Rattle.smf.specs.Cues.{eventEntries, numbersOf}
 use borrow.Author.Needs.{needs}
 use Rattle.smf.proofs.tracks.put.Statement.{statement}
 use Rattle.smf.proofs.tracks.put.Tie as tie
@@ -15,7 +15,7 @@ add-result : tie.Need-add-result
 add-result c = search needs
 
 returns : tie.Need-returns
-unfolding entriesOf numbersOf
+unfolding eventEntries numbersOf
 returns c = let is = c .before .before .event .given .1 in (simp is, λ room. absurd (omega arith))
 
 mul-at : tie.Need-mul-at
@@ -49,15 +49,15 @@ same-length : tie.Need-same-length
 same-length c = search needs
 
 returns-2 : tie.Need-returns-2
-unfolding entriesOf numbersOf
+unfolding eventEntries numbersOf
 returns-2 c = let is = c .before .before .event .given .1 in (simp is, λ room. simp (is, add-one))
 
 returns-3 : tie.Need-returns-3
-unfolding entriesOf numbersOf
+unfolding eventEntries numbersOf
 returns-3 c = let is = c .enum-told .given .1 in (simp is (omega arith), λ room. simp is)
 
 returns-4 : tie.Need-returns-4
-unfolding entriesOf numbersOf
+unfolding eventEntries numbersOf
 returns-4 c = let is = c .enum-told2 .given .1 in (simp is (omega arith), λ room. simp is)
 
 pub put-spec : {M : Type 1} → statement M

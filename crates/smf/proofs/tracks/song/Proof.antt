@@ -1,7 +1,7 @@
 -- `song` meets its contract. Assumes nothing.
 use mathlib.Core.Path.{_≡_, refl, sym, ap, _∙_}
 use native.Mathlib.Omega.{arith}
-use Rattle.smf.specs.Cues.{closedOf, numbersOf, songIn, songOf}
+use Rattle.smf.specs.Cues.{countClosed, numbersOf, songIn, songOf}
 use Rattle.smf.proofs.Searches.{header-divided}
 use borrow.Author.Needs.{needs}
 use Rattle.smf.proofs.tracks.song.Statement.{statement}
@@ -20,7 +20,7 @@ tracks-requires : tie.Need-tracks-requires
 tracks-requires c κs = let h = header-divided _ _ _ (sym (c .before .before .before .before .header .ensures) ∙ c .before .before .division .given .1) in (omega arith, h .0, h .1)
 
 returns : tie.Need-returns
-unfolding closedOf numbersOf songOf
+unfolding countClosed numbersOf songOf
 returns c = let e = ap (songIn (c .before .before .before .before .before .before .args .rate) (c .before .before .before .before .before .before .args .file .now)) (sym (c .before .before .before .header .ensures) ∙ c .before .fault .given .1) in rw e (refl, λ _. refl)
 
 same-length : tie.Need-same-length

@@ -3,7 +3,7 @@ use mathlib.Core.Path.{sym, ap, _∙_}
 use Prim.Native.Nat.{ℕ, _+_}
 use native.Mathlib.Omega.{arith}
 use Rattle.smf.specs.Files.{chunkEvents}
-use Rattle.smf.specs.Cues.{closedOf}
+use Rattle.smf.specs.Cues.{countClosed}
 use Rattle.smf.proofs.Searches.{track-short, track-long}
 use Rattle.smf.proofs.Turns.{over-now}
 use borrow.Author.Needs.{needs}
@@ -14,7 +14,7 @@ sub-if1 : tie.Need-sub-if1
 sub-if1 c = search needs
 
 returns : tie.Need-returns
-unfolding closedOf
+unfolding countClosed
 returns c = over-now _ _ _ _ _ (track-short _ _ (omega arith) (c .if1 .taken))
 
 add-full : tie.Need-add-full

@@ -1,7 +1,7 @@
 -- `tracks` meets its contract. Assumes nothing.
 use mathlib.Core.Path.{sym, _∙_}
 use native.Mathlib.Omega.{arith}
-use Rattle.smf.specs.Cues.{closedOf}
+use Rattle.smf.specs.Cues.{countClosed}
 use Rattle.smf.proofs.Searches.{track-placed, events-found}
 use Rattle.smf.proofs.Turns.{over-now}
 use borrow.Author.Needs.{needs}
@@ -24,11 +24,11 @@ track-requires : tie.Need-track-requires
 track-requires c κs = let h = track-placed _ _ _ (sym (c .before .before .before .before .track-at .ensures) ∙ c .before .before .place .given .1) in ((omega arith, omega arith, omega arith), omega arith)
 
 returns : tie.Need-returns
-unfolding closedOf
+unfolding countClosed
 returns c = over-now _ _ _ _ _ (events-found _ _ _ (sym (c .before .before .before .track-at .ensures) ∙ c .before .fault .given .1))
 
 returns-2 : tie.Need-returns-2
-unfolding closedOf
+unfolding countClosed
 returns-2 c = over-now _ _ _ _ _ (events-found _ _ _ (sym (c .before .before .track-at .ensures) ∙ c .enum-told .given .1))
 
 same-length : tie.Need-same-length

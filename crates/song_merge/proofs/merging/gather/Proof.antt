@@ -8,7 +8,7 @@ use Rattle.smf.specs.declared.chunks.Found.{Found}
 use Rattle.smf.specs.declared.chunks.Found.the-variants as found
 use Rattle.song_grammar.proofs.Wholes.{Octets}
 use Rattle.song_merge.specs.Standing.{ChunkEnd}
-use Rattle.song_merge.specs.Gathers.{Grown, closedOf, Gathers}
+use Rattle.song_merge.specs.Gathers.{Grown, gatheredTo, GathersTracks}
 use Rattle.song_merge.proofs.Gathering.{Round, begins, no-track, no-chunk, found-inside, again, closes}
 use Rattle.song_merge.proofs.merging.gather.Statement.{statement}
 use Rattle.song_merge.proofs.merging.gather.Tie as tie
@@ -143,7 +143,7 @@ returns-4 c = let s = c .before .before .before .before .before .before .before 
     let a = s .args in
     let l = c .before .before .before .loop in
     let octets : Octets (a .file .now) = (λ i. omega (arith, c .before .before .before .before .before .before .before .before .before .before .shared-slice-known .given i)) in
-    subst (Gathers (a .file .now) (a .count) (a .at) (length (a .spare .now)) (l .out)) (sym (c .closed .ensures ∙ ap (λ (q : Found). closedOf q (l .end)) (c .before .track-at2 .ensures)))
+    subst (GathersTracks (a .file .now) (a .count) (a .at) (length (a .spare .now)) (l .out)) (sym (c .closed .ensures ∙ ap (λ (q : Found). gatheredTo q (l .end)) (c .before .track-at2 .ensures)))
     (closes (a .file .now) octets (a .count) (a .at) (length (a .spare .now)) _ _ (l .place) (l .end) (l .i) (l .inv .0) (omega arith))
 
 pub gather-spec : {M : Type 1} → statement M

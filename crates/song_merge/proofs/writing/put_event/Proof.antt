@@ -1,7 +1,7 @@
 -- `put_event` meets its contract. Assumes nothing.
 use native.Mathlib.Omega.{arith}
 use lib.ListN.{length-append}
-use Rattle.song_merge.specs.Written.{deltaBytes, toldOf}
+use Rattle.song_merge.specs.Written.{deltaBytes, wholeEvent}
 use Rattle.song_merge.proofs.Bytes.{behind}
 use Rattle.song_merge.proofs.Deltas.{long-4}
 use borrow.Author.Needs.{needs}
@@ -22,7 +22,7 @@ same-length c = search needs
 returns : tie.Need-returns
 returns c = let a = c .before .before .before .before .before .before .before .before .before .before .args in
     let d = deltaBytes (a .c .wait) in
-    let t = toldOf (a .list .now) (a .c) in
+    let t = wholeEvent (a .list .now) (a .c) in
     let first = c .before .before .before .before .before .before .put-delta .ensures in (
       omega (arith, c .before .before .put-told .ensures .0, first .0, length-append d t),
       behind (a .out .now) d t (a .at) _ (first .0) (first .1) (c .before .before .put-told .ensures .1),

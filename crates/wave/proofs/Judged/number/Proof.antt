@@ -1,5 +1,5 @@
 -- `Judged::number` meets its contract. Assumes nothing.
-use Rattle.wave.specs.Reader.{numberOf}
+use Rattle.wave.specs.Reader.{judgedNumber}
 use borrow.Author.Needs.{needs}
 use Rattle.wave.proofs.Judged.number.Statement.{statement}
 use Rattle.wave.proofs.Judged.number.Tie as tie
@@ -11,11 +11,11 @@ enum-told-2 : tie.Need-enum-told-2
 enum-told-2 c = search needs
 
 returns : tie.Need-returns
-unfolding numberOf
+unfolding judgedNumber
 returns c = simp (c .enum-told .given .1)
 
 returns-2 : tie.Need-returns-2
-unfolding numberOf
+unfolding judgedNumber
 returns-2 c = simp (c .enum-told2 .given .1)
 
 pub number-spec : {M : Type 1} → statement M

@@ -5,7 +5,7 @@ use Prim.Native.Nat.{ℕ}
 use native.Mathlib.Omega.{arith}
 use lib.Seq.{sets}
 use Rattle.wave.specs.Reader.{wordsIn}
-use Rattle.wave.specs.Memory.{channelOf, layoutOf}
+use Rattle.wave.specs.Memory.{channelWords, layoutOf}
 use Rattle.wave.proofs.Layouts.{fits-true}
 use Rattle.wave.proofs.Copies.{stored-one, stored-two}
 use borrow.Author.Needs.{needs}
@@ -27,7 +27,7 @@ same-length c = search needs
 returns : tie.Need-returns
 returns c =
     let a = c .before .before .before .before .before .before .before .before .before .before .before .before .args in
-    let second = channelOf (a .w .channels) (a .w .samples) 1 (wordsIn (a .file .now) (a .w)) in
+    let second = channelWords (a .w .channels) (a .w .samples) 1 (wordsIn (a .file .now) (a .w)) in
     c .before .before .take-channel2 .ensures ∙ ap (λ (m : List ℕ). sets m (a .starts .second) second) (c .before .before .before .before .before .before .before .before .take-channel .ensures) ∙ sym (stored-two (layoutOf (a .w) (a .starts)) _ _ (c .before .before .before .before .if1 .taken))
 
 same-length-2 : tie.Need-same-length-2

@@ -1,5 +1,5 @@
 -- `formats::plain_at` meets its contract. Assumes nothing.
-use Rattle.wave_forms.specs.Reader.{plainAt}
+use Rattle.wave_forms.specs.Reader.{bareFormat}
 use borrow.Author.Needs.{needs}
 use Rattle.wave_forms.proofs.formats.plain_at.Statement.{statement}
 use Rattle.wave_forms.proofs.formats.plain_at.Tie as tie
@@ -17,7 +17,7 @@ two-at-requires : tie.Need-two-at-requires
 two-at-requires c κs = search needs
 
 returns : tie.Need-returns
-unfolding plainAt
+unfolding bareFormat
 returns c = simp (c .before .four-at .ensures, c .two-at .ensures .0)
 
 pub plain-at-spec : {M : Type 1} → statement M
