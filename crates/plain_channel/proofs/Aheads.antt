@@ -1,6 +1,6 @@
 -- Voices that are ahead of their channel: where there are none of them, or by no sample, it is what it was; and but for its voices it always is. Assumes nothing.
 use mathlib.Core.Path.{_≡_, refl, sym, ap, _∙_}
-use Prim.Native.Nat.{ℕ, _<_, min, zero-le}
+use Prim.Native.Nat.{ℕ, _≤_, _<_, min, zero-le}
 use native.Mathlib.Nat.{zero-add}
 use native.Mathlib.Omega.{arith}
 use mathlib.Core.List.{List, [], _∷_}
@@ -86,6 +86,15 @@ module _ (p : Params) (m : List ℕ) where
     channel = sym (ahead-nobody n d);
     hots = sym (hots-nobody n d hs);
     adds = λ k low. empty k low ∙ sym (sum-nobody d k);
+  }
+
+  -- where none is ahead by n samples, none is by fewer
+  pub ahead-fewer : (n j : ℕ) (sums : List Float) {d c : Channel} {hs ks : List Hot} → j ≤ n → Ahead p m 0 n sums d hs c ks → Ahead p m 0 j sums d hs c ks
+  ahead-fewer n j sums {d} {hs = hs} low ahead = record {
+    eased = eased-nobody j d;
+    channel = ahead .channel ∙ ahead-nobody n d ∙ sym (ahead-nobody j d);
+    hots = ahead .hots ∙ hots-nobody n d hs ∙ sym (hots-nobody j d hs);
+    adds = λ k below. ahead .adds k (omega (arith, below, low));
   }
 
 -- ---- a sample behind none is the sample

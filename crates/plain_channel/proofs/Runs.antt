@@ -1,14 +1,14 @@
 -- The steps of a run: before voices are poured none are ahead, what is poured over a stretch is what they are then ahead by, and a sample of the run takes the first of it. Assumes nothing.
 use mathlib.Core.Path.{_≡_, refl, sym, _∙_, ap, subst}
-use Prim.Native.Nat.{ℕ, suc, _+_, _-_, _≤_, _<_}
+use Prim.Native.Nat.{ℕ, suc, _+_, _-_, _%_, _≤_, _<_}
 use native.Mathlib.Omega.{arith}
 use mathlib.Core.Bool.{Bool, true, false, cond}
 use mathlib.Core.List.{List, [], _∷_, map}
 use lib.ListN.{length, take, drop, getD, getD-replicate, length-map}
 use lib.Seq.{length-front, drop-cons}
-use lib.Dec.{ltb}
+use lib.Dec.{eqb, ltb}
 use lib.Ieee.{Float}
-use borrow.Author.Tests.{ltb-true, ltb-false}
+use borrow.Author.Tests.{ltb-true, ltb-false, eqb-true}
 use Rattle.binary32.specs.Leaves.{zero32}
 use Rattle.walks.proofs.Tests.{one-more}
 use Rattle.common_types.specs.declared.Params.{Params}
@@ -20,8 +20,8 @@ use Rattle.channel.specs.Channels.{memoryOf, processSampleOf}
 use Rattle.lent_channel.specs.Turns.{heardOf}
 use Rattle.plain_channel.specs.declared.Side.{Side}
 use Rattle.plain_channel.specs.Sides.{noPour, withHots, sideAfter}
-use Rattle.plain_channel.specs.Ahead.{onBy, aheadOf, hotsOn, behindOf, hotsBehind, sideBehind, BehindSome, mayEase, stretchOf, Ahead, AheadBy, Easing, EasedBy, Refilled, Underway, Along}
-use Rattle.plain_channel.proofs.Aheads.{ahead-memory, ahead-now, hots-now, ahead-nothing}
+use Rattle.plain_channel.specs.Ahead.{onBy, aheadOf, hotsOn, behindOf, hotsBehind, sideBehind, BehindSome, mayEase, stretchOf, leftOf, Ahead, AheadBy, Easing, EasedBy, Refilled, Underway, Along}
+use Rattle.plain_channel.proofs.Aheads.{ahead-memory, ahead-now, hots-now, ahead-nothing, ahead-fewer}
 use Rattle.plain_channel.proofs.Eases.{asks-inside, asks-unfinished}
 use Rattle.plain_channel.proofs.Frames.{ahead-heard, ahead-on}
 use Rattle.plain_channel.proofs.Filling.{with-pour, with-eased, with-next, with-left}
@@ -44,6 +44,23 @@ module _ (togo : ℕ) where
   pub stretch-some : 0 < togo → 0 < stretchOf togo
   stretch-some some = by-test (λ n. 0 < n) (λ _. some) (λ _. omega arith)
 
+-- ---- what is left of one
+module _ (togo n r : ℕ) where
+  by-none : (P : ℕ → Type 0) → (r ≡ 0 → 1 < n → P 1) → P n → P (leftOf togo n r)
+  by-none P none whole = choose (eqb r 0) refl (eqb (togo % 2) 0) (ltb 1 n) refl
+    where
+      choose : (b : Bool) → eqb r 0 ≡ b → (even d : Bool) → ltb 1 n ≡ d → P (cond b (cond even (cond d 1 n) n) n)
+      choose false e even d f = whole
+      choose true e false d f = whole
+      choose true e true false f = whole
+      choose true e true true f = none (eqb-true r 0 e) (ltb-true 1 n f)
+
+  left-few : leftOf togo n r ≤ n
+  left-few = by-none (λ i. i ≤ n) (λ _ more. omega (arith, more)) (omega arith)
+
+  left-some : 0 < n → 0 < leftOf togo n r
+  left-some some = by-none (λ i. 0 < i) (λ _ _. omega arith) some
+
 -- ---- a refill
 empty : (j : ℕ) → j < 64 → getD (noPour .sums) j zero32 ≡ zero32
 unfolding noPour
@@ -63,16 +80,22 @@ module _ (p : Params) (m : List ℕ) (togo : ℕ) (c : Channel) (k : Side) where
   -- none is poured
   pub unfilled : Refilled p m togo c k c emptied
   unfolding noPour
-  unfilled = record { ahead = none-ahead; next = refl; left = refl }
+  unfilled = record { ahead = none-ahead; next = refl; left = omega arith; some = stretch-some togo }
 
-  -- the first r are
-  pub filled : (r : ℕ) (e : Channel) (l : Side) → EasedBy p m (stretchOf togo) c emptied r e l → Refilled p m togo c k e (with-pour (with-eased r (l .pour)) l)
+  -- the first r are, over the stretch or what is left of it
+  ahead-left : (r : ℕ) (sums : List Float) (e : Channel) (ks : List Hot) → Ahead p m r (stretchOf togo) sums c (k .hots) e ks → Ahead p m r (leftOf togo (stretchOf togo) r) sums c (k .hots) e ks
+  ahead-left r sums e ks ahead =
+      by-none togo (stretchOf togo) r (λ i. Ahead p m r i sums c (k .hots) e ks)
+      (λ none more. subst (λ (j : ℕ). Ahead p m j 1 sums c (k .hots) e ks) (sym none) (ahead-fewer p m (stretchOf togo) 1 sums (omega (arith, more)) (subst (λ (j : ℕ). Ahead p m j (stretchOf togo) sums c (k .hots) e ks) none ahead)))
+      ahead
+
+  pub filled : (r : ℕ) (e : Channel) (l : Side) → EasedBy p m (stretchOf togo) c emptied r e l → Refilled p m togo c k e (with-pour (with-eased r (with-left (leftOf togo (stretchOf togo) r) (l .pour))) l)
   unfolding noPour
   filled r e l by-these = record {
-    ahead = subst (λ (n : ℕ). Ahead p m r n (drop (l .pour .next) (l .pour .sums)) c (k .hots) e (l .hots)) (sym (by-these .else .left))
-        (subst (λ (i : ℕ). Ahead p m r (stretchOf togo) (drop i (l .pour .sums)) c (k .hots) e (l .hots)) (sym (by-these .else .next)) (by-these .ahead));
+    ahead = ahead-left r (drop (l .pour .next) (l .pour .sums)) e (l .hots) (subst (λ (i : ℕ). Ahead p m r (stretchOf togo) (drop i (l .pour .sums)) c (k .hots) e (l .hots)) (sym (by-these .else .next)) (by-these .ahead));
     next = by-these .else .next;
-    left = by-these .else .left;
+    left = left-few togo (stretchOf togo) r;
+    some = λ more. left-some togo (stretchOf togo) r (stretch-some togo more);
   }
 
 -- ---- a run is under way where it was, and a sample is poured
@@ -97,7 +120,7 @@ module _ (p : Params) (m : List ℕ) (togo : ℕ) (c : Channel) (k : Side) where
           room = let few = stretch-few togo in omega (arith, few, filled .next, filled .left);
           left = let low = stretch-low togo in omega (arith, low, filled .left);
         };
-    some = let some-so = stretch-some togo some in omega (arith, some-so, filled .left);
+    some = filled .some some;
   }
 
 -- ---- a sample of it

@@ -1,7 +1,7 @@
 -- In a run of frames the first voices of a channel may be some samples ahead of it, each poured into the sums of these
 -- samples, and the others play behind them. Definitions only. Assumes nothing.
 use mathlib.Core.Path.{_≡_}
-use Prim.Native.Nat.{ℕ, _+_, _-_, _≤_, _<_, min}
+use Prim.Native.Nat.{ℕ, _+_, _-_, _%_, _≤_, _<_, min}
 use mathlib.Core.Bool.{Bool, true, false, not, _&&_, cond}
 use mathlib.Core.List.{List, [], _∷_, _++_, map}
 use lib.Dec.{eqb, ltb, leb}
@@ -127,6 +127,10 @@ mayEase h n = not (isRecordingOf (h .recorder)) && leb (h .now + n) lastTime
 abbrev pub stretchOf : ℕ → ℕ
 stretchOf togo = cond (ltb togo 64) togo 64
 
+-- where none eases over a stretch of n samples, at an even number to go, one is played, and then it is tried again
+abbrev pub leftOf : ℕ → ℕ → ℕ → ℕ
+leftOf togo n eased = cond (eqb eased 0) (cond (eqb (togo % 2) 0) (cond (ltb 1 n) 1 n) n) n
+
 -- the channel with the positions beside it is ahead by what stands in the side's pour
 abbrev pub AheadBy : Params → List ℕ → Channel → List Hot → Channel → Side → Type 0
 AheadBy p m d hs c k =
@@ -163,7 +167,8 @@ pub record EasedBy (p : Params) (m : List ℕ) (n : ℕ) (c : Channel) (k : Side
 pub record Refilled (p : Params) (m : List ℕ) (togo : ℕ) (c : Channel) (k : Side) (e : Channel) (l : Side) : Type 0 where
   pub ahead : AheadBy p m c (k .hots) e l
   pub next : l .pour .next ≡ 0
-  pub left : l .pour .left ≡ stretchOf togo
+  pub left : l .pour .left ≤ stretchOf togo
+  pub some : 0 < togo → 0 < l .pour .left
 
 -- a run that has so many samples to go is under way
 pub record Underway (p : Params) (m : List ℕ) (togo : ℕ) (d : Channel) (hs : List Hot) (c : Channel) (k : Side) : Type 0 where

@@ -25,6 +25,7 @@ ghost use Rattle.plain_channel.specs.Ahead.{
   restedSide,
   mayEase,
   stretchOf,
+  leftOf,
   Easing,
   Eases,
   EasedBy,
@@ -340,6 +341,21 @@ fn stretch_of(togo: usize) -> usize
     if togo < STRETCH { togo } else { STRETCH }
 }
 
+// Where none eases one sample is left to the turns, since in the next the voices may; but not twice, since those that
+// interpolate never do.
+fn left_of(togo: usize, n: usize, eased: usize) -> usize
+    ensures { λ r. ⌜ r ≡ leftOf togo n eased ⌝ }
+{
+    if eased == 0 {
+        if togo % 2 == 0 {
+            if 1 < n {
+                return 1;
+            }
+        }
+    }
+    n
+}
+
 // Whether voices may be ahead by n samples: nothing is recorded, and the clock doesn't end.
 fn may_ease(head: Head, n: usize) -> bool
     ensures { λ r. ⌜ r ≡ mayEase head n ⌝ }
@@ -363,6 +379,8 @@ fn refill(c: &mut Channel, side: &mut Side, params: Params, togo: usize, data: &
     side.pour.left = n;
     if may_ease(c.head, n) {
         let eased = ease(c, side, params, n, data);
+        let left = left_of(togo, n, eased);
+        side.pour.left = left;
         side.pour.eased = eased;
     }
 }

@@ -31,7 +31,7 @@ use Rattle.lent_channel.proofs.Holding.{headed, params}
 use Rattle.lent_channel.proofs.Sharing.{copies-head}
 use Rattle.plain_channel.specs.declared.Side.{Side}
 use Rattle.plain_channel.specs.Sides.{noPour}
-use Rattle.plain_channel.specs.Ahead.{mayEase, stretchOf}
+use Rattle.plain_channel.specs.Ahead.{mayEase, stretchOf, leftOf}
 use Rattle.plain_channel.proofs.Pairing.{Args, Fine, Start, Post, pairing, lends, exits, takes-over, closes, meets}
 use Rattle.plain_channel.proofs.Filling.{empties, with-pour, with-eased, with-left, is-poured, is-left, is-eased, pour-is, spells-side, side-again, stores-pour, stores-left, stores-eased-last}
 use Rattle.plain_channel.proofs.Easings.{easing-all}
@@ -43,6 +43,9 @@ use Rattle.plain_channel.proofs.Pour.new.Met as none-thm
 use Rattle.plain_channel.proofs.stretch_of.Symbol as stretch-def
 use Rattle.plain_channel.proofs.stretch_of.Symbol.{name as #stretch}
 use Rattle.plain_channel.proofs.stretch_of.Met as stretch-thm
+use Rattle.plain_channel.proofs.left_of.Symbol as left-def
+use Rattle.plain_channel.proofs.left_of.Symbol.{name as #left}
+use Rattle.plain_channel.proofs.left_of.Met as left-thm
 use Rattle.plain_channel.proofs.may_ease.Symbol as may-def
 use Rattle.plain_channel.proofs.may_ease.Symbol.{name as #may}
 use Rattle.plain_channel.proofs.may_ease.Met as may-thm
@@ -59,6 +62,7 @@ record Known {M : Type 1} (𝓤 : URA M) (H : Heap 𝓤) (A : Atoms 𝓤) (𝓣 
   stretches : Says 𝓤 H A 𝓣 #stretch (record { takes = word w64 ∷ []; gives = word w64; says = λ a. stretchOf (a .0) })
   none : Says 𝓤 H A 𝓣 #none empties
   may : Says 𝓤 H A 𝓣 #may (record { takes = headed ∷ word w64 ∷ []; gives = truth; says = λ a. mayEase (a .0) (a .1 .0) })
+  lefts : Says 𝓤 H A 𝓣 #left (record { takes = word w64 ∷ word w64 ∷ word w64 ∷ []; gives = word w64; says = λ a. leftOf (a .0) (a .1 .0) (a .1 .1 .0) })
   eases : Triple 𝓤 (𝓣 .C #ease) (pairing easing-all 𝓤 H A)
 
 module _ {M : Type 1} (𝓤 : URA M) (H : Heap 𝓤) (A : Atoms 𝓤) (W : Given 𝓤 H A) (𝓣 : Tables 𝓤 H) (known : Known 𝓤 H A 𝓣)
@@ -121,12 +125,15 @@ module _ {M : Type 1} (𝓤 : URA M) (H : Heap 𝓤) (A : Atoms 𝓤) (W : Given
       (λ z. puts ! (addr ! (beyond ! (held ! refl) (stop !))) (fills ! refl (tt, tt)) $ puts ! (addr ! (beyond ! (held ! refl) (stop !))) (fills ! refl (tt, tt)) $ move ! (0 ∷ 1 ∷ 5 ∷ 4 ∷ []) $
       lends easing-all b o b₁ o₁ c k₁ κ₂ q₂ (λ _. (p, (n, (x₂, tt)))) x₂ (λ _. refl) 𝓣 ! (known .eases) (λ _. (fine .0, (isn, (fine .1 .1 .0, tt)))) (λ _. easing-begins p (x₂ .now) togo c k (holds (mayEase (c .head) n) z))
       (λ α β δ ε. and-then ! (its ! refl) (and-then ! (its ! refl) (and-then ! (its ! refl) (and-then ! (its ! refl) (and-then ! (its ! refl) (no-more !)))))) (λ α β r d l said isr isd isl.
-      arrives ! refl (fills ! refl (tt, record { fits = isr .1 })) $ move ! (1 ∷ []) $
-      spells-side b₁ o₁ l ! (λ _. stores-eased-last b₁ o₁ l ! r (isr .1) (its ! refl) (held ! refl) $ side-again b₁ o₁ (with-pour (with-eased r (l .pour)) l) ! (is-poured l (with-eased r (l .pour)) isl (is-eased (l .pour) (pour-is l isl) r (isr .1))) $
+      arrives ! refl (fills ! refl (tt, record { fits = isr .1 })) $
+      -- and what is left of the stretch
+      asks ! (known .lefts) (togo, (n, (r, tt))) (fine .1 .0, (isn, (isr, tt))) (and-then ! (its ! refl) (and-then ! (its ! refl) (and-then ! (its ! refl) (no-more !)))) (fills ! refl) (λ isu′. let u = with-left (leftOf togo n r) (l .pour) in move ! (1 ∷ []) $
+      spells-side b₁ o₁ l ! (λ _. stores-left b₁ o₁ l ! (leftOf togo n r) (isu′ .1) (its ! refl) (held ! refl) $ stores-eased-last b₁ o₁ (with-pour u l) ! r (isr .1) (its ! refl) (held ! refl) $
+      side-again b₁ o₁ (with-pour (with-eased r u) l) ! (is-poured l (with-eased r u) isl (is-eased u (is-left (l .pour) (pour-is l isl) (leftOf togo n r) (isu′ .1)) r (isr .1))) $
       exec ! (𝓣 .C) (𝓣 .Λ) (En at) (after 7 (code.function .body)) (atRet (En at) Ends) $ puts ! (of-opd ! (unit-lit !)) (fills ! refl (tt, tt)) $
       -- [the side; the channel; the token; what is kept of both]
-      move ! (1 ∷ 0 ∷ 3 ∷ 4 ∷ []) $ closes refilling κs q q₁ q₂ x y a ! tt d (with-pour (with-eased r (l .pour)) l) $ gives ! refl $ all-freed ! refl $
-      by ! (exits refilling κs q q₁ q₂ x y a 𝓤 H A W tt d (with-pour (with-eased r (l .pour)) l) refl (filled p (x₂ .now) togo c k r d l said)))))
+      move ! (1 ∷ 0 ∷ 3 ∷ 4 ∷ []) $ closes refilling κs q q₁ q₂ x y a ! tt d (with-pour (with-eased r u) l) $ gives ! refl $ all-freed ! refl $
+      by ! (exits refilling κs q q₁ q₂ x y a 𝓤 H A W tt d (with-pour (with-eased r u) l) refl (filled p (x₂ .now) togo c k r d l said))))))
       -- none may
       (λ _. skips ! $ exec ! (𝓣 .C) (𝓣 .Λ) (En at) (after 7 (code.function .body)) (atRet (En at) Ends) $ puts ! (of-opd ! (unit-lit !)) (fills ! refl (tt, tt)) $
       move ! (5 ∷ []) $ drop ! $ closes refilling κs q q₁ q₂ x y a ! tt c k₁ $ gives ! refl $ all-freed ! refl $
@@ -143,5 +150,6 @@ refill-spec 𝓤 H 𝓜 𝓖 𝓡 =
       stretches = record { met = cited 𝓤 H _ 𝓜 𝓡 code.env #stretch stretch-def.routine code.calls-plain-channel·stretch-of (stretch-thm.met 𝓤 H 𝓜 𝓖 𝓡) };
       none = record { met = cited 𝓤 H _ 𝓜 𝓡 code.env #none none-def.routine code.calls-plain-channel·Pour·new (none-thm.met 𝓤 H 𝓜 𝓖 𝓡) };
       may = record { met = cited 𝓤 H _ 𝓜 𝓡 code.env #may may-def.routine code.calls-plain-channel·may-ease (may-thm.met 𝓤 H 𝓜 𝓖 𝓡) };
+      lefts = record { met = cited 𝓤 H _ 𝓜 𝓡 code.env #left left-def.routine code.calls-plain-channel·left-of (left-thm.met 𝓤 H 𝓜 𝓖 𝓡) };
       eases = cited 𝓤 H _ 𝓜 𝓡 code.env #ease ease-def.routine code.calls-plain-channel·ease (ease-thm.met 𝓤 H 𝓜 𝓖 𝓡);
     }) κs q q₁ q₂ x y a fine)))
