@@ -20,7 +20,6 @@ ghost use Rattle.plain_channel.specs.Sides.{
 ghost use Rattle.plain_channel.specs.Ahead.{
   behindOf,
   sideBehind,
-  BehindSome,
   PlaysFrom,
   restedSide,
   mayEase,
@@ -248,7 +247,7 @@ pub fn behind(
     from: usize,
     first: f32,
 ) -> Heard
-    requires { ⌜ BehindSome from (now c) ⌝ }
+    requires { ⌜ from ≤ min (now c .count) 32 ⌝ }
     ensures { λ r. ⌜ (r ≡ heardOf (behindOf params input from first (now (c .entry)) (now («data» .entry))))
         × (now (c .exit) ≡ behindOf params input from first (now (c .entry)) (now («data» .entry)) .channel)
         × (now («data» .exit) ≡ memoryOf input (now (c .entry)) (now («data» .entry)))
@@ -256,11 +255,10 @@ pub fn behind(
 {
     lent_channel::record(c, input, data);
     let mut played = heard_ahead(first);
-    let mut unfinished = 0 < from;
     if c.count != from {
         played = play(c, side, params, from, first, data);
-        unfinished = lent_channel::any_unfinished(c);
     }
+    let unfinished = lent_channel::any_unfinished(c);
     lent_channel::close(c, params, unfinished, input, played)
 }
 
