@@ -70,7 +70,7 @@ pub use Rattle.sampler.specs.Refusals.{
   atEnd,
   row,
   setUpNumber,
-  roomOf,
+  framesLeft,
   runNumber,
 }
 pub use Rattle.questions.specs.declared.VoiceInfo.{VoiceInfo}
