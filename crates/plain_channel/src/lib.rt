@@ -15,7 +15,6 @@ ghost use Rattle.plain_channel.specs.Sides.{
   GoTogether,
   GlideTogether,
   Paced,
-  FirstPlain,
 };
 ghost use Rattle.plain_channel.specs.Ahead.{
   behindOf,
@@ -87,19 +86,31 @@ impl Side {
     }
 }
 
-// The place of the first plain voice from that one on and before the n-th; else n.
-fn next_plain(side: &Side, from: usize, n: usize) -> usize
-    requires { ⌜ (from ≤ n) × (n ≤ 32) ⌝ }
-    ensures { λ r. ⌜ FirstPlain (now (side .entry)) from n r ⌝ }
+// Voices of the tick's phrase take their turns in place, from the next on and before the n-th, up to the first that is plain
+// or doesn't glide.
+fn cool_glide(c: &mut Channel, side: &mut Side, t: Tick, g: Going, n: usize, data: &[u32]) -> Going
+    requires { ⌜ Stands n g × (g .kept ≡ g .place) ⌝ }
+    ensures { λ r. ⌜ GlideTogether t (now («data» .entry)) n (now (c .entry)) (now (side .entry)) g (now (c .exit))
+        (now (side .exit)) r ⌝ }
 {
-    let mut i: usize = from;
+    let mut output = g.output;
+    let mut i = g.place;
     while i < n {
-        if side.hots[i].plain {
-            return i;
+        let h = side.hots[i];
+        if h.plain {
+            return lent_channel::glided(i, output);
         }
+        let v = c.voices[i];
+        let q = v.quick(t, data);
+        if !q.glides {
+            return lent_channel::glided(i, output);
+        }
+        let w = q.voice;
+        c.voices[i] = w;
+        output = lent_channel::added(output, w);
         i = i + 1;
     }
-    n
+    lent_channel::glided(i, output)
 }
 
 // Plain voices take their turns in place, from the next on and before the n-th, up to the first that isn't plain or
@@ -146,7 +157,13 @@ fn followed(c: &Channel, side: &mut Side, g: Going, r: Going) -> Going
 {
     if g.kept < r.kept {
         let h = side.hots[g.place];
-        side.hots[g.kept] = h.judged(c.voices[g.kept].clip2, c.head.now, c.head.interpolates);
+        if h.plain {
+            side.hots[g.kept] = h.judged(c.voices[g.kept].clip2, c.head.now, c.head.interpolates);
+        } else {
+            if g.kept < g.place {
+                side.hots[g.kept] = h;
+            }
+        }
     }
     r
 }
@@ -159,13 +176,16 @@ fn stretch(c: &mut Channel, side: &mut Side, t: Tick, g: Going, n: usize, data: 
         × GoTogether t (now («data» .entry)) n (now (c .entry)) (now (side .entry)) g (now (c .exit)) (now (side .exit)) r ⌝ }
 {
     if g.glides {
-        let upto = next_plain(side, g.place, n);
-        let mut h = lent_channel::glide(c, t, g, upto, data);
-        if (upto <= h.place) & (upto < n) {
-            h = hot_glide(c, side, t, Beat::of(t), h, n, data);
-        }
+        let h = cool_glide(c, side, t, g, n, data);
         if g.place < h.place {
             return h;
+        }
+        let p = side.hots[g.place];
+        if p.plain {
+            let h = hot_glide(c, side, t, Beat::of(t), g, n, data);
+            if g.place < h.place {
+                return h;
+            }
         }
     }
     let r = lent_channel::turn_next(c, t, g, data);

@@ -276,8 +276,8 @@ module _ {M : Type 1} (𝓤 : URA M) (H : Heap 𝓤) (A : Atoms 𝓤) (W : Given
         goes-further plain glides = record {
           left = omega (arith, g .left);
           from = omega (arith, g .from);
-          goes = goes-together (g .goes) (hot-on t pace ms n (turned l) (beside hs) i out v p w few small (g .all) (g .beside-all) (getD-any l i blankVoice none inside) refl (paced l) quickly
-              (not-false (p .plain) (denied (not (p .plain)) plain)) (not-false (w .glides) (denied (not (w .glides)) glides)));
+          goes = goes-together (g .goes) (hot-on t ms n (turned l) (beside hs) i out v w few small (g .all) (g .beside-all) (getD-any l i blankVoice none inside) (quickly (may .2 .beat) .0)
+              (not-false (w .glides) (denied (not (w .glides)) glides)) pace p refl (paced l) quickly (not-false (p .plain) (denied (not (p .plain)) plain)));
           same = λ e. absurd (omega (arith, g .from, e));
           all = length-set l i (w .voice) ∙ g .all;
           beside-all = length-set hs i stepped ∙ g .beside-all;
