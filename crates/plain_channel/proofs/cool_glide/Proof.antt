@@ -304,9 +304,9 @@ module _ {M : Type 1} (𝓤 : URA M) (H : Heap 𝓤) (A : Atoms 𝓤) (W : Given
           qed W (At s) ∵ exec ! (𝓣 .C) (𝓣 .Λ) En code.Mir.turn-1 (anyQ (afterTurn 𝓤 H X Left)) $ puts ! (less ! (its ! refl) (its ! refl) small) (fills ! refl (tt, tt)) $ stays ! (its ! refl) $
           points-hot i b₁ o₁ ! hot-fits (its ! refl) (fills ! refl (tt, record { fits = hot-fits })) (held ! refl) (fills ! refl (tt, tt)) (held ! refl) (held ! refl) (fills ! refl (tt, tt)) $ move ! (1 ∷ []) $
           visits-hot i b₁ o₁ fullShare k k (hot-at k i) ! (reads-hot 𝓤 H A W fullShare k i b₁ o₁ beside-inside) (λ is. is) (λ _. step (λ s.
-            use1 W (‵ (fat fullShare O′.mir b₁ (hot-spot o₁ i) (hot .val (hot-at k i)))) (W .laws .raw-at fullShare O′.mir b₁ (hot-spot o₁ i) (hot .val (hot-at k i))) $
-            puts ! (of-opd ! (load ! (beyond ! (held ! refl) (fld ! refl (stop !))) (look-in ! 0 (sub ! 3 refl (whole !))))) (refills ! refl (tt, tt)) $
-            use1 W (‵ (cellAt fullShare (O.the-row .mir) (hot .val (hot-at k i) ∷ []) b₁ (hot-spot o₁ i))) (W .laws .at-raw fullShare O′.mir b₁ (hot-spot o₁ i) (hot .val (hot-at k i))) $ s)) (λ _. 
+          use1 W (‵ (fat fullShare O′.mir b₁ (hot-spot o₁ i) (hot .val (hot-at k i)))) (W .laws .raw-at fullShare O′.mir b₁ (hot-spot o₁ i) (hot .val (hot-at k i))) $
+          puts ! (of-opd ! (load ! (beyond ! (held ! refl) (fld ! refl (stop !))) (look-in ! 0 (sub ! 3 refl (whole !))))) (refills ! refl (tt, tt)) $
+          use1 W (‵ (cellAt fullShare (O.the-row .mir) (hot .val (hot-at k i) ∷ []) b₁ (hot-spot o₁ i))) (W .laws .at-raw fullShare O′.mir b₁ (hot-spot o₁ i) (hot .val (hot-at k i))) $ s)) (λ _.
           move ! (1 ∷ []) $ first ! $ branches ! (its ! refl)
           -- it is plain
           (λ _. leaves-only ! En 9 refl $ returns s (suc r) g refl)

@@ -173,9 +173,9 @@ module _ {M : Type 1} (𝓤 : URA M) (H : Heap 𝓤) (A : Atoms 𝓤) (W : Given
           qed W (Now k []) ∵ exec ! (𝓣 .C) (𝓣 .Λ) (En at) staying (anyQ Behind) $
           points-hot (g .place) b₁ o₁ ! from-fits (field-of ! refl refl) (fills ! refl (tt, record { fits = from-fits })) (held ! refl) (fills ! refl (tt, tt)) (held ! refl) (held ! refl) (fills ! refl (tt, tt)) $
           move ! (1 ∷ []) $ visits-hot (g .place) b₁ o₁ fullShare k k (hot-at k (g .place)) ! (reads-hot 𝓤 H A W fullShare k (g .place) b₁ o₁ inside) (λ is. is) (λ _. step (λ s.
-            use1 W (‵ (fat fullShare O′.mir b₁ (hot-spot o₁ (g .place)) (hot .val (hot-at k (g .place))))) (W .laws .raw-at fullShare O′.mir b₁ (hot-spot o₁ (g .place)) (hot .val (hot-at k (g .place)))) $
-            puts ! (of-opd ! (load ! (beyond ! (held ! refl) (fld ! refl (stop !))) (look-in ! 0 (sub ! 3 refl (whole !))))) (fills ! refl (tt, tt)) $
-            use1 W (‵ (cellAt fullShare (O.the-row .mir) (hot .val (hot-at k (g .place)) ∷ []) b₁ (hot-spot o₁ (g .place)))) (W .laws .at-raw fullShare O′.mir b₁ (hot-spot o₁ (g .place)) (hot .val (hot-at k (g .place)))) $ s)) (λ _. 
+          use1 W (‵ (fat fullShare O′.mir b₁ (hot-spot o₁ (g .place)) (hot .val (hot-at k (g .place))))) (W .laws .raw-at fullShare O′.mir b₁ (hot-spot o₁ (g .place)) (hot .val (hot-at k (g .place)))) $
+          puts ! (of-opd ! (load ! (beyond ! (held ! refl) (fld ! refl (stop !))) (look-in ! 0 (sub ! 3 refl (whole !))))) (fills ! refl (tt, tt)) $
+          use1 W (‵ (cellAt fullShare (O.the-row .mir) (hot .val (hot-at k (g .place)) ∷ []) b₁ (hot-spot o₁ (g .place)))) (W .laws .at-raw fullShare O′.mir b₁ (hot-spot o₁ (g .place)) (hot .val (hot-at k (g .place)))) $ s)) (λ _.
           move ! (1 ∷ []) $ branches ! (its ! refl)
           (λ _. leaves-only ! (En at) 5 refl $ by ! judges-it)
           -- it isn't: it moves up with its voice
