@@ -96,8 +96,7 @@ fn cool_glide(c: &mut Channel, side: &mut Side, t: Tick, g: Going, n: usize, dat
     let mut output = g.output;
     let mut i = g.place;
     while i < n {
-        let h = side.hots[i];
-        if h.plain {
+        if side.hots[i].plain {
             return lent_channel::glided(i, output);
         }
         let v = c.voices[i];
@@ -156,13 +155,11 @@ fn followed(c: &Channel, side: &mut Side, g: Going, r: Going) -> Going
     ensures { λ q. ⌜ (q ≡ r) × (now (side .exit) ≡ followedBy (now (c .entry)) g r (now (side .entry))) ⌝ }
 {
     if g.kept < r.kept {
-        let h = side.hots[g.place];
-        if h.plain {
+        if side.hots[g.place].plain {
+            let h = side.hots[g.place];
             side.hots[g.kept] = h.judged(c.voices[g.kept].clip2, c.head.now, c.head.interpolates);
         } else {
-            if g.kept < g.place {
-                side.hots[g.kept] = h;
-            }
+            side.hots[g.kept] = side.hots[g.place];
         }
     }
     r
@@ -176,13 +173,14 @@ fn stretch(c: &mut Channel, side: &mut Side, t: Tick, g: Going, n: usize, data: 
         × GoTogether t (now («data» .entry)) n (now (c .entry)) (now (side .entry)) g (now (c .exit)) (now (side .exit)) r ⌝ }
 {
     if g.glides {
-        let h = cool_glide(c, side, t, g, n, data);
-        if g.place < h.place {
-            return h;
-        }
         let p = side.hots[g.place];
         if p.plain {
             let h = hot_glide(c, side, t, Beat::of(t), g, n, data);
+            if g.place < h.place {
+                return h;
+            }
+        } else {
+            let h = cool_glide(c, side, t, g, n, data);
             if g.place < h.place {
                 return h;
             }
