@@ -19,7 +19,7 @@ use Rattle.voice.specs.Voices.{soundedOf, endedOf, finishOf, atSpeedOf}
 use Rattle.voice.proofs.PhraseKept.{finish-phrase, at-speed-phrase, stepped-phrase, ended-phrase, sounded-phrase}
 use Rattle.channel.specs.declared.Channel.{Channel}
 use Rattle.channel.specs.declared.Change.the-variants as change
-use Rattle.channel.specs.Channels.{live, sameNote, findOf, spedOf, tidiedOf, heardOf, playedOf, addedOf, resting, turningAt, turningOf, phraseAt, momentFor, takenOf, memoryOf}
+use Rattle.channel.specs.Channels.{live, sameNote, findOf, spedOf, tidiedOf, heardSum, playedOf, addedOf, resting, turningAt, turningOf, phraseAt, momentFor, takenOf, memoryOf}
 use Rattle.channel.proofs.Samples.{memory-kept}
 use Rattle.fates.specs.Engine.{passesOver, voiceTurned, leavesOf, turnsBy, momentAt, heldAt, turnsIn, stepOf}
 use Rattle.fates.specs.Events.{Event, idle, changes, gathers, sounds, lengthAt, emptyAt, tickAt, SampledIn}
@@ -124,6 +124,6 @@ module _ (p : Params) (x : Float) (m : List ℕ) (c : Channel) where
   step-moved = refl
 
   pub step-output : stepOf p x c m .output
-      ≡ add binary32 (add binary32 zero32 (heardOf (turnsIn p x m c) (live c))) (mul binary32 x (levelOf (c .head .«passthru_volume») (c .head .now)))
+      ≡ add binary32 (add binary32 zero32 (heardSum (turnsIn p x m c) (live c))) (mul binary32 x (levelOf (c .head .«passthru_volume») (c .head .now)))
   unfolding stepOf playedOf takenOf
   step-output = refl

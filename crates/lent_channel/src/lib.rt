@@ -339,7 +339,7 @@ pub fn glided(upto: usize, output: f32) -> Going
 
 // Voices of the tick's phrase take their turns in place, from the next on and before the n-th, up to the first that does
 // not glide.
-pub fn glide(c: &mut Channel, t: Tick, g: Going, n: usize, data: &[u32]) -> Going
+fn glide(c: &mut Channel, t: Tick, g: Going, n: usize, data: &[u32]) -> Going
     requires { ⌜ Stands n g × (g .kept ≡ g .place) ⌝ }
     ensures { λ r. ⌜ Glides t (now («data» .entry)) n (now (c .entry)) g (now (c .exit)) r ⌝ }
 {

@@ -24,7 +24,7 @@ use Rattle.phrases.specs.Phrases.{noSamples, endsBy, reachOf, storedIn, roomOf,
 use Rattle.voice.specs.Voices.{spanOf, tickOf, lateOf, overOf, shouldRemoveOf, movedOf, betweenOf, valueOf, productOf, soundedOf, finishOf, playedOutOf, endedOf, volumeStepped, turnOf, freshOf, blankVoice, atSpeedOf, goodVoice}
 use Rattle.channel.specs.Heads.{phraseBy, beginsAt, writtenIn, nextTime, headOf, phraseAfter, recorderAfter, interpolatesAfter, chosenAfter, headChangedOf, rampOf, passthruOf, closedOf, goodHead}
 use Rattle.channel.specs.Tables.{goodTable, tableAfter, severalAfter, headNames, foundBy, headAsks, asksOf, leavingOf, blockedBy, shortBy}
-use Rattle.channel.specs.Channels.{channelOf, resetOf, usesOf, headChangedIn, anyUnfinishedOf, handledOf, pushedOf, startPlayingOf, wantedOf, findOf, finishedAtOf, stopPlayingOf, spedOf, setNoteSpeedOf, keptOf, addedOf, heardOf, playedOf, turningBy, resting, turningAt, turningOf, turningIn, takenOf, memoryOf, processSampleOf, changedOf, goodVoicesOf, goodChannel}
+use Rattle.channel.specs.Channels.{channelOf, resetOf, usesOf, headChangedIn, anyUnfinishedOf, handledOf, pushedOf, startPlayingOf, wantedOf, findOf, finishedAtOf, stopPlayingOf, spedOf, setNoteSpeedOf, keptOf, addedOf, heardSum, playedOf, turningBy, resting, turningAt, turningOf, turningIn, takenOf, memoryOf, processSampleOf, changedOf, goodVoicesOf, goodChannel}
 use Rattle.sampler.specs.Refusals.{goodSizes, goodSampler, capacityOf, goodWith, againstAny, setUpNumber, startRows, stopRows, speedRows, frameNumber}
 use Rattle.sampler.specs.Samplers.{setUpOf, eachOf, answerOf, partOf, playedAt, channelSteppedOf as steppedAt, outputOf, memoryAt, entryOf, entriesOf, framedOf}
 use Rattle.decimal.specs.Decimal.{digits, decimal}
@@ -59,7 +59,7 @@ text (line ∷ lines) = bytes line ++ newline ++ text lines
 
 -- whatever a listing computes by
 computing : Unit {0}
-unfolding text fromHex pairs bytes lineOf textOf digits decimal printedFrom printed hexDigit hexDigits outputText outputsOf answerLine frameLine badLine halfAt wordAt floatAt goodHeader headerOf kindLength toRead goodSettings goodRecord loopModeOf noteOffOf lengthByKind transportOf paramsOf frameCallOf callOf recordOf clockOf voicesOf answerPlayed settingsOf frameOf callPlayed memoryAfter playerOf laterBy openedOf recordStep stepMemory floorOf minOf maxOf crossingOf any every without fold seek speedOf quarterNotesPerBarOf samplesPerQuarterNoteOf samplesPerBarOf asSamplesOf timeLengthOf lengthOf loopLengthOf lengthBeyond beyondLimits progressOf levelOf towardOf steppedOf goodRamp goodVolume raised inState misusedOf skippedOf startOf stopOf isRecordingOf recordedOf dataAfter goodRecorder leadOf travelAt loopedOf roundTripOf mirroredOf bouncedOf wrappedOf placedOf clipOffsetAt clipToDataOf offsetAt indexAt madeOf backOf foundAt reversingAt shiftFor settledOf withSpeed withMode withLength withDataLength goodLength goodClip spanOf tickOf lateOf overOf shouldRemoveOf movedOf positionOf oneFurther nextAt betweenOf valueOf productOf soundedOf finishOf playedOutOf endedOf volumeStepped turnOf freshOf blankVoice atSpeedOf goodVoice nextTime headOf rampOf passthruOf closedOf goodHead channelOf resetOf anyUnfinishedOf handledOf pushedOf startPlayingOf wantedOf findOf finishedAtOf stopPlayingOf spedOf setNoteSpeedOf headChangedOf keptOf addedOf heardOf playedOf turningBy resting turningAt turningOf turningIn noSamples endsBy reachOf storedIn roomOf othersOf besideWith besideOf phraseBy beginsAt writtenIn phraseAfter recorderAfter interpolatesAfter chosenAfter goodTable tableAfter severalAfter headNames foundBy headAsks asksOf leavingOf blockedBy shortBy usesOf headChangedIn takenOf memoryOf processSampleOf changedOf goodVoicesOf goodChannel goodSizes goodSampler capacityOf goodWith againstAny setUpNumber startRows stopRows speedRows frameNumber setUpOf eachOf answerOf partOf playedAt steppedAt outputOf memoryAt entryOf entriesOf framedOf add sub mul div rem neg lt le eq ofInt toUnsigned isNan ofBits toBits nanBits ofFields
+unfolding text fromHex pairs bytes lineOf textOf digits decimal printedFrom printed hexDigit hexDigits outputText outputsOf answerLine frameLine badLine halfAt wordAt floatAt goodHeader headerOf kindLength toRead goodSettings goodRecord loopModeOf noteOffOf lengthByKind transportOf paramsOf frameCallOf callOf recordOf clockOf voicesOf answerPlayed settingsOf frameOf callPlayed memoryAfter playerOf laterBy openedOf recordStep stepMemory floorOf minOf maxOf crossingOf any every without fold seek speedOf quarterNotesPerBarOf samplesPerQuarterNoteOf samplesPerBarOf asSamplesOf timeLengthOf lengthOf loopLengthOf lengthBeyond beyondLimits progressOf levelOf towardOf steppedOf goodRamp goodVolume raised inState misusedOf skippedOf startOf stopOf isRecordingOf recordedOf dataAfter goodRecorder leadOf travelAt loopedOf roundTripOf mirroredOf bouncedOf wrappedOf placedOf clipOffsetAt clipToDataOf offsetAt indexAt madeOf backOf foundAt reversingAt shiftFor settledOf withSpeed withMode withLength withDataLength goodLength goodClip spanOf tickOf lateOf overOf shouldRemoveOf movedOf positionOf oneFurther nextAt betweenOf valueOf productOf soundedOf finishOf playedOutOf endedOf volumeStepped turnOf freshOf blankVoice atSpeedOf goodVoice nextTime headOf rampOf passthruOf closedOf goodHead channelOf resetOf anyUnfinishedOf handledOf pushedOf startPlayingOf wantedOf findOf finishedAtOf stopPlayingOf spedOf setNoteSpeedOf headChangedOf keptOf addedOf heardSum playedOf turningBy resting turningAt turningOf turningIn noSamples endsBy reachOf storedIn roomOf othersOf besideWith besideOf phraseBy beginsAt writtenIn phraseAfter recorderAfter interpolatesAfter chosenAfter goodTable tableAfter severalAfter headNames foundBy headAsks asksOf leavingOf blockedBy shortBy usesOf headChangedIn takenOf memoryOf processSampleOf changedOf goodVoicesOf goodChannel goodSizes goodSampler capacityOf goodWith againstAny setUpNumber startRows stopRows speedRows frameNumber setUpOf eachOf answerOf partOf playedAt steppedAt outputOf memoryAt entryOf entriesOf framedOf add sub mul div rem neg lt le eq ofInt toUnsigned isNan ofBits toBits nanBits ofFields
 computing = tt
 
 -- ---- document 01's example

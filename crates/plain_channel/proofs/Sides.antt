@@ -20,7 +20,7 @@ use Rattle.voice.proofs.Gliding.{glides}
 use Rattle.voice.proofs.PhraseKept.{turn-phrase}
 use Rattle.plain_voice.specs.declared.Hot.{Hot}
 use Rattle.plain_voice.specs.declared.Beat.{Beat}
-use Rattle.plain_voice.specs.Hots.{cold, judgedOf, steppedOf, PlainQuickly}
+use Rattle.plain_voice.specs.Hots.{cold, judgedOf, steppedHot, PlainQuickly}
 use Rattle.channel.specs.declared.Channel.{Channel}
 use Rattle.channel.specs.Channels.{withVoices, Turning, turningBy}
 use Rattle.lent_channel.specs.declared.Going.{Going}
@@ -114,9 +114,9 @@ module _ (t : Tick) (m : List ℕ) (n : ℕ) (c : Channel) (k : Side) (i : ℕ) 
   cool-on full = glides-beside k (sym (ap (λ (l : List Hot). withHots l k) (ap (set (k .hots) i) (unjudged (getD (k .hots) i cold) (c .head .interpolates) (r .voice .clip2) (c .head .now) full) ∙ set-getD (k .hots) i cold)))
 
   -- a plain one: its position moves by one
-  pub hot-on : (b : Beat) (h : Hot) → getD (k .hots) i cold ≡ h → Paced c t b → PlainQuickly h v t b m r → h .plain ≡ true → GoesBeside (withHots (set (k .hots) i (steppedOf h (b .length))) k)
+  pub hot-on : (b : Beat) (h : Hot) → getD (k .hots) i cold ≡ h → Paced c t b → PlainQuickly h v t b m r → h .plain ≡ true → GoesBeside (withHots (set (k .hots) i (steppedHot h (b .length))) k)
   hot-on b h is-hot paced quick plain =
-      let moved : steppedOf h (b .length) ≡ own =
+      let moved : steppedHot h (b .length) ≡ own =
       quick (paced .beat) .1 so plain ∙ ap₂ (λ (on : Bool) (now : ℕ). judgedOf h on (r .voice .clip2) now) (paced .setting) (paced .now) ∙ ap (λ (x : Hot). judgedOf x (c .head .interpolates) (r .voice .clip2) (c .head .now)) (sym is-hot) in
       glides-beside _ (ap (λ (x : Hot). withHots (set (k .hots) i x) k) moved)
 

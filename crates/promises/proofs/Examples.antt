@@ -40,7 +40,7 @@ use Rattle.channel.specs.declared.Head.{Head}
 use Rattle.channel.specs.Soundness.{FittingChange}
 use Rattle.channel.specs.Heads.{phraseBy, beginsAt, writtenIn, holdsOf, phraseAfter, recorderAfter, interpolatesAfter, chosenAfter, headChangedOf, nextTime, headOf, rampOf, passthruOf, closedOf, goodHead}
 use Rattle.channel.specs.Tables.{goodTable, tableAfter, severalAfter, headNames, foundBy, headAsks, asksOf, leavingOf, blockedBy, shortBy}
-use Rattle.channel.specs.Channels.{live, withHead, withVoices, channelOf, resetOf, usesOf, headChangedIn, gatheredIn, gatheredMemory, anyUnfinishedOf, handledOf, pushedOf, startPlayingOf, wantedOf, findOf, finishedAtOf, stopPlayingOf, spedOf, setNoteSpeedOf, keptOf, tidiedOf, addedOf, heardOf, playedOf, turningBy, resting, turningAt, turningOf, turningIn, takenOf, memoryOf, processSampleOf, changedOf, fullOf, goodVoicesOf, goodChannel, recordingOf}
+use Rattle.channel.specs.Channels.{live, withHead, withVoices, channelOf, resetOf, usesOf, headChangedIn, gatheredIn, gatheredMemory, anyUnfinishedOf, handledOf, pushedOf, startPlayingOf, wantedOf, findOf, finishedAtOf, stopPlayingOf, spedOf, setNoteSpeedOf, keptOf, tidiedOf, addedOf, heardSum, playedOf, turningBy, resting, turningAt, turningOf, turningIn, takenOf, memoryOf, processSampleOf, changedOf, fullOf, goodVoicesOf, goodChannel, recordingOf}
 use Rattle.sampler.specs.Refusals.{goodSizes, goodSampler, againstAny, capacityOf, goodWith, setUpNumber, gatherNumber, startRows, stopRows, speedRows, sampleNumber, frameNumber, latestOf, framesLeft, runNumber, doneOf, channelNumber}
 use Rattle.sampler.specs.declared.Sampler.{Sampler}
 use Rattle.sampler.specs.declared.Ran.{Ran}
@@ -66,7 +66,7 @@ use Rattle.promises.proofs.TruePositions.{true-positions}
 
 -- whatever a run computes by
 unfoldable pub computing : Unit {0}
-unfolding floorOf minOf maxOf crossingOf any every without behind fold seek speedOf timeLengthOf lengthOf loopLengthOf lengthBeyond beyondLimits progressOf levelOf towardOf steppedOf goodRamp goodVolume raised inState misusedOf skippedOf startOf stopOf recordedOf dataAfter isRecordingOf goodRecorder leadOf travelAt loopedOf roundTripOf mirroredOf bouncedOf wrappedOf placedOf clipOffsetAt clipToDataOf offsetAt indexAt madeOf backOf foundAt reversingAt shiftFor settledOf withSpeed withMode withLength withDataLength goodLength goodClip spanOf tickOf lateOf overOf shouldRemoveOf movedOf positionOf oneFurther nextAt betweenOf valueOf productOf soundedOf finishOf playedOutOf endedOf volumeStepped turnOf freshOf blankVoice atSpeedOf goodVoice noSamples endsBy reachOf apartOf storedIn roomOf othersOf everyBelow goodAt goodPhrases besideWith besideOf firstBelow movedDown gatherPhrase gatherNext gatherTurns gatheringOf phraseBy beginsAt writtenIn holdsOf phraseAfter recorderAfter interpolatesAfter chosenAfter nextTime headOf rampOf passthruOf closedOf goodHead goodTable tableAfter severalAfter headNames foundBy headAsks asksOf leavingOf blockedBy shortBy channelOf resetOf usesOf headChangedIn gatheredIn gatheredMemory anyUnfinishedOf handledOf pushedOf startPlayingOf wantedOf findOf finishedAtOf stopPlayingOf spedOf setNoteSpeedOf headChangedOf keptOf tidiedOf addedOf heardOf playedOf turningBy resting turningAt turningOf turningIn takenOf begunOf passesOver voiceTurned letsGo leavesOf turnsBy momentAt heldAt stepOf memoryOf processSampleOf changedOf fullOf goodVoicesOf goodChannel goodSizes goodSampler againstAny capacityOf goodWith setUpNumber gatherNumber startRows stopRows speedRows sampleNumber frameNumber channelNumber notesOf listNumber setUpOf eachOf answerOf partOf playedAt sampledOf outputOf movedAt memoryAt sampleOf sampleMemory gatherChannel gatherChannels gatherOf gatherMemory entryOf entriesOf entriesMoved framedOf frameMoved act isReset isSample decayOf fateOf follow stops becomes addedBy outOf playsOut followAll stoppedIn finishedIn agreesOf disagrees alters alteredIn setUp questionNumber code after run doneTo event events isResetCall rewrites output before add sub mul div rem neg lt le eq ofInt toUnsigned isNan ofBits toBits nanBits ofFields latestOf framesLeft runNumber doneOf framesOf ranOf runAnswer
+unfolding floorOf minOf maxOf crossingOf any every without behind fold seek speedOf timeLengthOf lengthOf loopLengthOf lengthBeyond beyondLimits progressOf levelOf towardOf steppedOf goodRamp goodVolume raised inState misusedOf skippedOf startOf stopOf recordedOf dataAfter isRecordingOf goodRecorder leadOf travelAt loopedOf roundTripOf mirroredOf bouncedOf wrappedOf placedOf clipOffsetAt clipToDataOf offsetAt indexAt madeOf backOf foundAt reversingAt shiftFor settledOf withSpeed withMode withLength withDataLength goodLength goodClip spanOf tickOf lateOf overOf shouldRemoveOf movedOf positionOf oneFurther nextAt betweenOf valueOf productOf soundedOf finishOf playedOutOf endedOf volumeStepped turnOf freshOf blankVoice atSpeedOf goodVoice noSamples endsBy reachOf apartOf storedIn roomOf othersOf everyBelow goodAt goodPhrases besideWith besideOf firstBelow movedDown gatherPhrase gatherNext gatherTurns gatheringOf phraseBy beginsAt writtenIn holdsOf phraseAfter recorderAfter interpolatesAfter chosenAfter nextTime headOf rampOf passthruOf closedOf goodHead goodTable tableAfter severalAfter headNames foundBy headAsks asksOf leavingOf blockedBy shortBy channelOf resetOf usesOf headChangedIn gatheredIn gatheredMemory anyUnfinishedOf handledOf pushedOf startPlayingOf wantedOf findOf finishedAtOf stopPlayingOf spedOf setNoteSpeedOf headChangedOf keptOf tidiedOf addedOf heardSum playedOf turningBy resting turningAt turningOf turningIn takenOf begunOf passesOver voiceTurned letsGo leavesOf turnsBy momentAt heldAt stepOf memoryOf processSampleOf changedOf fullOf goodVoicesOf goodChannel goodSizes goodSampler againstAny capacityOf goodWith setUpNumber gatherNumber startRows stopRows speedRows sampleNumber frameNumber channelNumber notesOf listNumber setUpOf eachOf answerOf partOf playedAt sampledOf outputOf movedAt memoryAt sampleOf sampleMemory gatherChannel gatherChannels gatherOf gatherMemory entryOf entriesOf entriesMoved framedOf frameMoved act isReset isSample decayOf fateOf follow stops becomes addedBy outOf playsOut followAll stoppedIn finishedIn agreesOf disagrees alters alteredIn setUp questionNumber code after run doneTo event events isResetCall rewrites output before add sub mul div rem neg lt le eq ofInt toUnsigned isNan ofBits toBits nanBits ofFields latestOf framesLeft runNumber doneOf framesOf ranOf runAnswer
 computing = tt
 
 -- ---- parameters, keys, calls

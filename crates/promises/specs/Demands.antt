@@ -581,7 +581,7 @@ pub record OldRemoval (w : World) (j : ℕ) : Type 0 where
   pub outputs : (s : Call) (p : Params) (x : Float) (m : List ℕ) → event w s j ≡ sounds p x m
       → output w s j
       ≡ mul binary32 (p .volume)
-      (add binary32 (add binary32 zero32 (heardOf (turnsIn p x m (chan w j)) (live (chan w j))))
+      (add binary32 (add binary32 zero32 (heardSum (turnsIn p x m (chan w j)) (live (chan w j))))
       (mul binary32 x (levelOf (chan w j .head .«passthru_volume») (chan w j .head .now))))
 
 -- What holds beside it
