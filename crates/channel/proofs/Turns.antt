@@ -24,7 +24,7 @@ use Rattle.voice.specs.declared.Tick.{Tick}
 use Rattle.voice.specs.Voices.{tickOf, shouldRemoveOf, productOf, turnOf, soundedOf, endedOf, finishOf, volumeStepped, playedOutOf}
 use Rattle.voice.proofs.PhraseKept.{turn-phrase}
 use Rattle.channel.specs.Heads.{momentOn}
-use Rattle.channel.specs.Channels.{live, withVoices, Turning, keptOf, tidiedOf, heardOf, playedOf, addedOf, turningBy, resting, turningAt, turningOf, turnedOf, phraseAt, momentFor, turningIn}
+use Rattle.channel.specs.Channels.{live, withVoices, Turning, keptOf, tidiedOf, heardSum, playedOf, addedOf, turningBy, resting, turningAt, turningOf, turnedOf, phraseAt, momentFor, turningIn}
 use Rattle.channel.specs.declared.Channel.{Channel}
 use Rattle.channel.specs.declared.Played.{Played}
 use Rattle.channel.specs.declared.Turned.{Turned}
@@ -168,7 +168,7 @@ module _ (s : Turning) where
   }
 
   pub rest-start : (c : Channel) → restOf c 0 zero32 (live c) ≡ walked (playedOf s c)
-  unfolding playedOf heardOf
+  unfolding playedOf heardSum
   rest-start c = simp zero-add
 
   pub rest-end : (c : Channel) (k : ℕ) (out : Float) → restOf c k out [] ≡ record { channel = withVoices (c .voices) k c; output = out }
@@ -266,7 +266,7 @@ unfolding tidiedOf resting behind
 resting-tidied [] = refl
 resting-tidied (v ∷ vs) = resting-tidied vs
 
-pub resting-heard : (vs : List Voice) → heardOf resting vs ≡ zero32
-unfolding heardOf resting fold
+pub resting-heard : (vs : List Voice) → heardSum resting vs ≡ zero32
+unfolding heardSum resting fold
 resting-heard [] = refl
 resting-heard (v ∷ vs) = resting-heard vs

@@ -239,13 +239,13 @@ unfoldable pub tidiedOf : Turning → List Voice → ℕ
 tidiedOf s vs = length (behind (s .leaves) (map (s .turn) vs))
 
 -- what they add, in turn
-unfoldable pub heardOf : Turning → List Voice → Float
-heardOf s vs = fold (s .adds) zero32 vs
+unfoldable pub heardSum : Turning → List Voice → Float
+heardSum s vs = fold (s .adds) zero32 vs
 
 unfoldable pub playedOf : Turning → Channel → Played
 playedOf s c = record {
   channel = withVoices (sets (c .voices) 0 (keptOf s (live c))) (length (keptOf s (live c))) c;
-  output = heardOf s (live c);
+  output = heardSum s (live c);
   moved = tidiedOf s (live c);
 }
 

@@ -23,8 +23,8 @@ use Rattle.sampler.specs.declared.Sampler.{Sampler}
 use Rattle.questions.specs.Questions.{getVoiceInfoOf}
 use Rattle.questions.specs.declared.VoiceInfos.{VoiceInfos}
 
-abbrev pub silent : InitParams
-silent = record { «auto_passthru» = false }
+abbrev pub noPassthru : InitParams
+noPassthru = record { «auto_passthru» = false }
 
 abbrev pub key : Note
 key = noteOf 60 0
@@ -45,8 +45,8 @@ settings = record {
 }
 
 -- set up with two channels, and a frame recorded
-unfoldable pub recordedOf : List Float → List ℕ → Framed
-recordedOf frame m = framedOf (startRecordingOf (setUpOf 2 silent (length m) .sampler) .sampler) frame settings m
+unfoldable pub frameRecorded : List Float → List ℕ → Framed
+frameRecorded frame m = framedOf (startRecordingOf (setUpOf 2 noPassthru (length m) .sampler) .sampler) frame settings m
 
 -- the recording ended, and the key pressed at the recording's start, at its full level
 unfoldable pub pressedOf : Sampler → Sampler

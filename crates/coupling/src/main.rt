@@ -4,7 +4,7 @@ ghost use mathlib.Core.Path.{_≡_};
 ghost use lib.ListN.{length};
 ghost use Rattle.sampler.specs.Refusals.{frameNumber};
 ghost use Rattle.sampler.specs.Samplers.{Frames, framedOf, frameMoved, changeOf};
-ghost use Rattle.coupling.specs.Coupling.{silent, key, settings, recordedOf, pressedOf, toldOf};
+ghost use Rattle.coupling.specs.Coupling.{noPassthru, key, settings, frameRecorded, pressedOf, toldOf};
 use channel::Change;
 use channel::HeadChange;
 use common_types::InitParams;
@@ -28,7 +28,7 @@ fn params() -> Params
 
 // Set-up, and one frame recorded. The frame's entries become outputs.
 fn recorded(frame: &mut [f32], memory: &mut [u32]) -> Sampler
-    ensures { λ r. ⌜ Frames (recordedOf (now (frame .entry)) (now (memory .entry))) r (now (frame .exit))
+    ensures { λ r. ⌜ Frames (frameRecorded (now (frame .entry)) (now (memory .entry))) r (now (frame .exit))
         (now (memory .exit)) ⌝ }
 {
     let init = InitParams {

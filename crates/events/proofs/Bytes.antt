@@ -23,15 +23,15 @@ use lib.Seq.{
 use Rattle.decimal.specs.declared.Line.{Line}
 use Rattle.decimal.specs.Lines.{textOf, printedOf}
 use Rattle.decimal.proofs.Lines.{prints, text-length}
-use Rattle.listing.specs.Records.{restOf}
+use Rattle.listing.specs.Records.{toRead}
 
 -- all from a place on
 pub tail-is : (a : ℕ) (l : List ℕ) → take (length l - a) (drop a l) ≡ drop a l
 tail-is a l = take-all (length l - a) (drop a l) (omega (arith, length-drop a l))
 
 -- where the two bytes of a length aren't there it says nothing
-pub no-rest : (w : List ℕ) → length w < 2 → 2 ≡ 2 + restOf (take 2 w)
-unfolding restOf
+pub no-rest : (w : List ℕ) → length w < 2 → 2 ≡ 2 + toRead (take 2 w)
+unfolding toRead
 no-rest w h = simp (ne-eqb (length (take 2 w)) 2 (λ e. absurd (omega (arith, length-take 2 w))))
 
 module _ (line : Line) (out last : List ℕ) (at : ℕ) (whole : length (line .bytes) ≡ 64) (room : at + 64 ≤ length out)

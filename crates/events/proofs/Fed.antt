@@ -11,8 +11,8 @@ use lib.ListN.{length, take, drop, length-take, length-drop, length-replicate, d
 use lib.Seq.{take-nil, take-append-le, drop-append-le}
 use Rattle.walks.proofs.Tests.{and-true}
 use Rattle.decimal.specs.Lines.{textOf}
-use Rattle.listing.specs.Records.{halfAt, goodHeader, headerOf, restOf}
-use Rattle.listing.specs.Steps.{openedOf, openOf, stepOf, stepMemory}
+use Rattle.listing.specs.Records.{halfAt, goodHeader, headerOf, toRead}
+use Rattle.listing.specs.Steps.{openedOf, openOf, recordStep, stepMemory}
 use Rattle.listing.specs.Whole.{nextOf, printedFrom, printed}
 use Rattle.listing.specs.declared.Listing.{Listing}
 use Rattle.events.specs.declared.feeds.State.{State}
@@ -20,16 +20,16 @@ use Rattle.events.specs.Feeds.{
   sizeOf,
   readyOf,
   Handed,
-  partOf,
-  stepBy,
-  memoryBy,
+  nextPart,
+  partStep,
+  partMemory,
   oneBy,
   oneOf,
   none,
   behind,
   fedBy,
   fedOf,
-  begunOf,
+  unopened,
   blank,
   handedFrom,
   joined,
@@ -40,8 +40,8 @@ never : {A : Type 0} {b : Bool} → b ≡ true → b ≡ false → A
 never t f = let z : _≡_ {A = ℕ} 0 1 = cc in absurd (omega arith)
 
 -- ---- sizes
-rest-most : (b : List ℕ) → restOf b ≤ 45
-unfolding restOf
+rest-most : (b : List ℕ) → toRead b ≤ 45
+unfolding toRead
 rest-most b = go (eqb (length b) 2) (leb (halfAt b 0) 45) refl
   where
     go : (two low : Bool) → leb (halfAt b 0) 45 ≡ low → cond (two && low) (halfAt b 0) 0 ≤ 45
@@ -62,38 +62,38 @@ size-most false w = omega arith
 -- what is whole is the same with more bytes behind it
 size-more : (opened : Bool) (w more : List ℕ) → sizeOf opened w ≤ length w → sizeOf opened (w ++ more) ≡ sizeOf opened w
 unfolding sizeOf
-size-more true w more h = ap (λ (l : List ℕ). 2 + restOf l) (take-append-le 2 w more (omega arith))
+size-more true w more h = ap (λ (l : List ℕ). 2 + toRead l) (take-append-le 2 w more (omega arith))
 size-more false w more h = refl
 
 module _ (s : State) (w more : List ℕ) (h : sizeOf (s .opened) w ≤ length w) where
-  part-more : partOf s (w ++ more) ≡ partOf s w
-  unfolding partOf
+  part-more : nextPart s (w ++ more) ≡ nextPart s w
+  unfolding nextPart
   part-more = ap (λ (n : ℕ). take n (w ++ more)) (size-more (s .opened) w more h) ∙ take-append-le (sizeOf (s .opened) w) w more h
 
-pub part-length : (s : State) (w : List ℕ) → length (partOf s w) ≡ min (sizeOf (s .opened) w) (length w)
-unfolding partOf
+pub part-length : (s : State) (w : List ℕ) → length (nextPart s w) ≡ min (sizeOf (s .opened) w) (length w)
+unfolding nextPart
 part-length s w = length-take (sizeOf (s .opened) w) w
 
 -- ---- one header or record
 -- where there are no bytes at all the listing ends
-nothing-ends : (s : State) (m : List ℕ) → stepBy s m [] .listing .on ≡ false
-unfolding stepBy stepOf openedOf headerOf goodHeader
+nothing-ends : (s : State) (m : List ℕ) → partStep s m [] .listing .on ≡ false
+unfolding partStep recordStep openedOf headerOf goodHeader
 nothing-ends s m = go (s .opened)
   where
-    go : (opened : Bool) → cond opened (stepOf (s .listing) [] m) (openOf [] (length m)) .listing .on ≡ false
+    go : (opened : Bool) → cond opened (recordStep (s .listing) [] m) (openOf [] (length m)) .listing .on ≡ false
     go true = refl
     go false = refl
 
 -- if it goes on, bytes were used
-none-of : (s : State) → partOf s [] ≡ []
-unfolding partOf
+none-of : (s : State) → nextPart s [] ≡ []
+unfolding nextPart
 none-of s = take-nil (sizeOf (s .opened) [])
 
 uses : (s : State) (m w : List ℕ) → oneOf s m w .state .listing .on ≡ true → length (oneOf s m w .waiting) < length w
 unfolding oneBy
-uses s m [] on = never on (ap (λ (l : List ℕ). stepBy s m l .listing .on) (none-of s) ∙ nothing-ends s m)
+uses s m [] on = never on (ap (λ (l : List ℕ). partStep s m l .listing .on) (none-of s) ∙ nothing-ends s m)
 uses s m (b ∷ w) on = rw on
-    (omega (arith, length-drop (length (partOf s (b ∷ w))) (b ∷ w), part-length s (b ∷ w), size-least (s .opened) (b ∷ w)))
+    (omega (arith, length-drop (length (nextPart s (b ∷ w))) (b ∷ w), part-length s (b ∷ w), size-least (s .opened) (b ∷ w)))
 
 -- with more bytes behind what is whole, they wait behind it
 module _ (s : State) (m w more : List ℕ) (h : sizeOf (s .opened) w ≤ length w) where
@@ -105,10 +105,10 @@ module _ (s : State) (m w more : List ℕ) (h : sizeOf (s .opened) w ≤ length 
   one-more =
       ap (oneBy s m (w ++ more)) (part-more s w more h)
       ∙ ap (λ (l : List ℕ). record { state = oneOf s m w .state; memory = oneOf s m w .memory; waiting = l; text = oneOf s m w .text })
-      (go (stepBy s m (partOf s w) .listing .on))
+      (go (partStep s m (nextPart s w) .listing .on))
     where
-      go : (on : Bool) → cond on (drop (length (partOf s w)) (w ++ more)) (w ++ more) ≡ cond on (drop (length (partOf s w)) w) w ++ more
-      go true = drop-append-le (length (partOf s w)) w more (omega (arith, part-length s w))
+      go : (on : Bool) → cond on (drop (length (nextPart s w)) (w ++ more)) (w ++ more) ≡ cond on (drop (length (nextPart s w)) w) w ++ more
+      go true = drop-append-le (length (nextPart s w)) w more (omega (arith, part-length s w))
       go false = refl
 
 -- ---- a feed, turn by turn
@@ -277,25 +277,25 @@ printed-over zero l m w e = refl
 printed-over (suc n) l m w e = rw e
 
 as-printed-next : (n : ℕ) → ((l : Listing) (m w : List ℕ) → AsPrinted n l m w) → (l : Listing) (m w : List ℕ) → AsPrinted (suc n) l m w
-unfolding printedFrom oneBy partOf sizeOf stepBy memoryBy
+unfolding printedFrom oneBy nextPart sizeOf partStep partMemory
 as-printed-next n then l m w = go (l .on) refl
   where
     r : List ℕ
     r = nextOf w
 
-    on-with : (b : Bool) → stepOf l r m .listing .on ≡ b
-        → fedBy n true (opened (stepOf l r m .listing)) (stepMemory l r m) (cond (stepOf l r m .listing .on) (drop (length r) w) w) .text
-        ≡ printedFrom n (stepOf l r m .listing) (stepMemory l r m) (drop (length r) w)
-    on-with true e = rw e (then (stepOf l r m .listing) (stepMemory l r m) (drop (length r) w))
+    on-with : (b : Bool) → recordStep l r m .listing .on ≡ b
+        → fedBy n true (opened (recordStep l r m .listing)) (stepMemory l r m) (cond (recordStep l r m .listing .on) (drop (length r) w) w) .text
+        ≡ printedFrom n (recordStep l r m .listing) (stepMemory l r m) (drop (length r) w)
+    on-with true e = rw e (then (recordStep l r m .listing) (stepMemory l r m) (drop (length r) w))
     on-with false e =
-        ap (λ (h : Handed). h .text) (fed-none n true (opened (stepOf l r m .listing)) (stepMemory l r m) _ (off true (opened (stepOf l r m .listing)) _ e))
-        ∙ sym (printed-over n (stepOf l r m .listing) (stepMemory l r m) (drop (length r) w) e)
+        ap (λ (h : Handed). h .text) (fed-none n true (opened (recordStep l r m .listing)) (stepMemory l r m) _ (off true (opened (recordStep l r m .listing)) _ e))
+        ∙ sym (printed-over n (recordStep l r m .listing) (stepMemory l r m) (drop (length r) w) e)
 
     go : (b : Bool) → l .on ≡ b → AsPrinted (suc n) l m w
     go false e = rw (fed-none (suc n) true (opened l) m w (off true (opened l) w e)) (sym (printed-over (suc n) l m w e))
     go true e =
         rw (fed-next n true (opened l) m w (ready-last (opened l) w ∙ e))
-        (ap (λ (t : List ℕ). textOf (stepOf l r m .line) ++ t) (on-with (stepOf l r m .listing .on) refl) ∙ rw e)
+        (ap (λ (t : List ℕ). textOf (recordStep l r m .line) ++ t) (on-with (recordStep l r m .listing .on) refl) ∙ rw e)
 
 as-printed : (n : ℕ) (l : Listing) (m w : List ℕ) → AsPrinted n l m w
 unfolding fedBy printedFrom
@@ -317,10 +317,10 @@ headed input l = go (l .on) refl
         ∙ as-printed (length input + 1) l blank (drop 3 input)
     go false e = until-over (opened l) blank (cond (l .on) (drop (length (take 3 input)) input) input) e ∙ sym (printed-over (length input + 1) l blank (drop 3 input) e)
 
-until-printed : (input : List ℕ) → until begunOf blank input ≡ printed input
-unfolding printed oneBy partOf sizeOf stepBy memoryBy
+until-printed : (input : List ℕ) → until unopened blank input ≡ printed input
+unfolding printed oneBy nextPart sizeOf partStep partMemory
 until-printed input =
-    until-next begunOf blank input refl
+    until-next unopened blank input refl
     ∙ rw (length-replicate {A = ℕ} 8192 0)
     (ap (λ (t : List ℕ). textOf (openOf (take 3 input) 8192 .line) ++ t) (headed input (openOf (take 3 input) 8192 .listing)))
 
@@ -333,7 +333,7 @@ short s w on e =
 pub fed : Feeds
 unfolding fedOf
 fed = record {
-  prints = λ pieces. hands begunOf blank [] pieces ∙ until-printed (joined pieces);
+  prints = λ pieces. hands unopened blank [] pieces ∙ until-printed (joined pieces);
   ends = λ s m w. sym (ready-last (fedOf true s m w .state) (fedOf true s m w .waiting)) ∙ stops (length w + 1) true s m w (omega arith);
   over = λ s m w pieces e. hands s m w pieces ∙ until-over s m (w ++ joined pieces) e;
   prompt = λ s m w. stops (length w + 1) false s m w (omega arith);

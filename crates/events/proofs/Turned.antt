@@ -9,7 +9,7 @@ use lib.ListN.{length, take, drop, length-drop}
 use lib.Seq.{drop-drop, length-take-le, take-add}
 use Rattle.walks.proofs.Lists.Loops.{take-most}
 use Rattle.decimal.specs.Lines.{textOf}
-use Rattle.listing.specs.Steps.{openOf, stepOf, stepMemory}
+use Rattle.listing.specs.Steps.{openOf, recordStep, stepMemory}
 use Rattle.listing.specs.declared.Step.{Step}
 use Rattle.events.specs.declared.feeds.State.{State}
 use Rattle.events.specs.declared.feeds.Fed.{Fed}
@@ -18,9 +18,9 @@ use Rattle.events.specs.Feeds.{
   sizeOf,
   readyOf,
   Handed,
-  partOf,
-  stepBy,
-  memoryBy,
+  nextPart,
+  partStep,
+  partMemory,
   oneBy,
   oneOf,
   none,
@@ -28,10 +28,10 @@ use Rattle.events.specs.Feeds.{
   fedBy,
   fedOf,
   Lays,
-  Plays,
+  PlaysOne,
   Hands,
-  turnOf,
-  Turns,
+  pieceFed,
+  FeedsPiece,
 }
 use Rattle.events.proofs.Bytes.{tail-is}
 use Rattle.events.proofs.Fed.{part-length, fed-none, fed-next}
@@ -54,16 +54,16 @@ module _ (fed : Fed) (input m out : List ℕ) (n : ℕ) (within : fed .used ≤ 
     n-is : n ≡ min (sizeOf (s .opened) w) (length w)
     n-is = size ∙ rw (tail-is (fed .used) input)
 
-    part-is : part ≡ partOf s w
-    unfolding partOf
+    part-is : part ≡ nextPart s w
+    unfolding nextPart
     part-is =
         ap (λ (k : ℕ). take k w) (let e : fed .used + n - fed .used ≡ min (sizeOf (s .opened) w) (length w) = omega (arith, n-is) in e)
         ∙ take-most w (sizeOf (s .opened) w) (length w) refl
 
-    module _ (step : Step) (r : Fed) (m′ out′ : List ℕ) (stepped : step ≡ stepBy s m part) (memory : m′ ≡ memoryBy s m part)
+    module _ (step : Step) (r : Fed) (m′ out′ : List ℕ) (stepped : step ≡ partStep s m part) (memory : m′ ≡ partMemory s m part)
         (lays : Lays step (fed .used) (fed .used + n) (fed .size) out r out′) where
-      is : step ≡ stepBy s m (partOf s w)
-      is = stepped ∙ ap (stepBy s m) part-is
+      is : step ≡ partStep s m (nextPart s w)
+      is = stepped ∙ ap (partStep s m) part-is
 
       past-within : r .used ≤ length input
       past-within = rw (lays .used) (go (step .listing .on))
@@ -72,34 +72,34 @@ module _ (fed : Fed) (input m out : List ℕ) (n : ℕ) (within : fed .used ≤ 
           go true = omega (arith, n-is, length-drop (fed .used) input)
           go false = within
 
-      waits : drop (r .used) input ≡ cond (step .listing .on) (drop (length (partOf s w)) w) w
+      waits : drop (r .used) input ≡ cond (step .listing .on) (drop (length (nextPart s w)) w) w
       waits = rw (lays .used) (go (step .listing .on))
         where
-          go : (on : Bool) → drop (cond on (fed .used + n) (fed .used)) input ≡ cond on (drop (length (partOf s w)) w) w
+          go : (on : Bool) → drop (cond on (fed .used + n) (fed .used)) input ≡ cond on (drop (length (nextPart s w)) w) w
           go true =
               ap (λ (k : ℕ). drop (fed .used + k) input) (n-is ∙ sym (part-length s w))
-              ∙ sym (drop-drop (length (partOf s w)) (fed .used) input)
+              ∙ sym (drop-drop (length (nextPart s w)) (fed .used) input)
           go false = refl
 
-      pub one-is : Plays fed input m out r m′ out′
+      pub one-is : PlaysOne fed input m out r m′ out′
       unfolding oneBy
       one-is = record {
         state = lays .state ∙ ap (λ (t : Step). record { listing = t .listing; opened = true }) is;
-        memory = memory ∙ ap (memoryBy s m) part-is;
+        memory = memory ∙ ap (partMemory s m) part-is;
         used = past-within;
-        waiting = waits ∙ ap (λ (t : Step). cond (t .listing .on) (drop (length (partOf s w)) w) w) is;
+        waiting = waits ∙ ap (λ (t : Step). cond (t .listing .on) (drop (length (nextPart s w)) w) w) is;
         size = lays .size;
         text = lays .text ∙ ap (λ (t : Step). take (fed .size) out ++ textOf (t .line)) is;
       }
 
 -- by which the header or a record is played
 module _ (s : State) (m part : List ℕ) where
-  pub as-header : s .opened ≡ false → (openOf part (length m) ≡ stepBy s m part) × (m ≡ memoryBy s m part)
-  unfolding stepBy memoryBy
+  pub as-header : s .opened ≡ false → (openOf part (length m) ≡ partStep s m part) × (m ≡ partMemory s m part)
+  unfolding partStep partMemory
   as-header e = (simp e, simp e)
 
-  pub as-record : s .opened ≡ true → (stepOf (s .listing) part m ≡ stepBy s m part) × (stepMemory (s .listing) part m ≡ memoryBy s m part)
-  unfolding stepBy memoryBy
+  pub as-record : s .opened ≡ true → (recordStep (s .listing) part m ≡ partStep s m part) × (stepMemory (s .listing) part m ≡ partMemory s m part)
+  unfolding partStep partMemory
   as-record e = (simp e, simp e)
 
 -- ---- `feed`: what the turns that are left hand out, behind what was, is the goal
@@ -128,7 +128,7 @@ goes-first last s m input out room = record {
 
 module _ {goal : Handed} {turns : ℕ} {last : Bool} {input : List ℕ} {fed : Fed} {m out : List ℕ} (g : Goes goal turns last input fed m out) where
   pub goes-next : {r : Fed} {m′ out′ : List ℕ} → 0 < turns → readyOf last (fed .state) (drop (fed .used) input) ≡ true
-      → Plays fed input m out r m′ out′ → length out′ ≡ length out → Goes goal (turns - 1) last input r m′ out′
+      → PlaysOne fed input m out r m′ out′ → length out′ ≡ length out → Goes goal (turns - 1) last input r m′ out′
   goes-next {r} {m′} {out′} some ready p long = record {
     used = p .used;
     room = omega (arith, p .size, g .room);
@@ -174,7 +174,7 @@ pub turn-is : (run : Run) (m input input′ input″ m′ out : List ℕ) (got l
     → take (run .have) input′ ≡ take (run .have) input → run .have + got ≤ length input′
     → Hands (fedOf (eqb got 0) (run .state) m (take (run .have + got) input′)) (take (run .have + got) input′) fed m′ out
     → left ≤ length input″ → take left input″ ≡ drop (fed .used) (take (run .have + got) input′)
-    → Turns run m input (record { state = fed .state; have = left; size = fed .size }) m′ input″ out
+    → FeedsPiece run m input (record { state = fed .state; have = left; size = fed .size }) m′ input″ out
 turn-is run m input input′ input″ m′ out got left fed kept room h short front = record {
   piece = piece;
   room = short;
@@ -194,5 +194,5 @@ turn-is run m input input′ input″ m′ out got left fed kept room h short fr
     behind-it : take (run .have + got) input′ ≡ take (run .have) input ++ piece
     behind-it = take-add (run .have) got input′ ∙ ap (λ (l : List ℕ). l ++ piece) kept
 
-    is : fedOf (eqb got 0) (run .state) m (take (run .have + got) input′) ≡ turnOf run m input piece
+    is : fedOf (eqb got 0) (run .state) m (take (run .have + got) input′) ≡ pieceFed run m input piece
     is = rw (long, behind-it)

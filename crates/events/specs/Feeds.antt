@@ -8,8 +8,8 @@ use Prim.Native.Nat.{ℕ, zero, suc, _+_, _≤_, _<_}
 use lib.Dec.{leb, eqb}
 use lib.ListN.{length, take, drop, replicate}
 use Rattle.decimal.specs.Lines.{textOf}
-use Rattle.listing.specs.Records.{restOf}
-use Rattle.listing.specs.Steps.{noHeader, playerOf, openOf, stepOf, stepMemory}
+use Rattle.listing.specs.Records.{toRead}
+use Rattle.listing.specs.Steps.{noHeader, playerOf, openOf, recordStep, stepMemory}
 use Rattle.listing.specs.Whole.{printed}
 use Rattle.listing.specs.declared.Step.{Step}
 use Rattle.events.specs.declared.feeds.State.{State}
@@ -18,7 +18,7 @@ use Rattle.events.specs.declared.Run.{Run}
 
 -- how many bytes the header has, or the next record by its length
 unfoldable pub sizeOf : Bool → List ℕ → ℕ
-sizeOf opened w = cond opened (2 + restOf (take 2 w)) 3
+sizeOf opened w = cond opened (2 + toRead (take 2 w)) 3
 
 -- whether something is to be played of the bytes that wait: the header or a record that is whole, or where no more bytes
 -- come whatever there is of it, none at all included
@@ -33,26 +33,26 @@ pub record Handed : Type 0 where
   pub text : List ℕ
 
 -- ---- one header or record: as many bytes of it as there are
-unfoldable pub partOf : State → List ℕ → List ℕ
-partOf s w = take (sizeOf (s .opened) w) w
+unfoldable pub nextPart : State → List ℕ → List ℕ
+nextPart s w = take (sizeOf (s .opened) w) w
 
-unfoldable pub stepBy : State → List ℕ → List ℕ → Step
-stepBy s m part = cond (s .opened) (stepOf (s .listing) part m) (openOf part (length m))
+unfoldable pub partStep : State → List ℕ → List ℕ → Step
+partStep s m part = cond (s .opened) (recordStep (s .listing) part m) (openOf part (length m))
 
-unfoldable pub memoryBy : State → List ℕ → List ℕ → List ℕ
-memoryBy s m part = cond (s .opened) (stepMemory (s .listing) part m) m
+unfoldable pub partMemory : State → List ℕ → List ℕ → List ℕ
+partMemory s m part = cond (s .opened) (stepMemory (s .listing) part m) m
 
 -- what ends the listing is not used up
 unfoldable pub oneBy : State → List ℕ → List ℕ → List ℕ → Handed
 oneBy s m w part = record {
-  state = record { listing = stepBy s m part .listing; opened = true };
-  memory = memoryBy s m part;
-  waiting = cond (stepBy s m part .listing .on) (drop (length part) w) w;
-  text = textOf (stepBy s m part .line);
+  state = record { listing = partStep s m part .listing; opened = true };
+  memory = partMemory s m part;
+  waiting = cond (partStep s m part .listing .on) (drop (length part) w) w;
+  text = textOf (partStep s m part .line);
 }
 
 abbrev pub oneOf : State → List ℕ → List ℕ → Handed
-oneOf s m w = oneBy s m w (partOf s w)
+oneOf s m w = oneBy s m w (nextPart s w)
 
 -- ---- all that is ready, in n turns at most
 abbrev pub none : State → List ℕ → List ℕ → Handed
@@ -81,7 +81,7 @@ pub record Lays (step : Step) (start end at : ℕ) (out : List ℕ) (r : Fed) (o
   pub text : take (r .size) out′ ≡ take at out ++ textOf (step .line)
 
 -- what `one` answers, after what was played of `input` and stands in front of `out` so far
-pub record Plays (fed : Fed) (input m out : List ℕ) (r : Fed) (m′ out′ : List ℕ) : Type 0 where
+pub record PlaysOne (fed : Fed) (input m out : List ℕ) (r : Fed) (m′ out′ : List ℕ) : Type 0 where
   pub state : r .state ≡ oneOf (fed .state) m (drop (fed .used) input) .state
   pub memory : m′ ≡ oneOf (fed .state) m (drop (fed .used) input) .memory
   pub used : r .used ≤ length input
@@ -102,22 +102,22 @@ pub record Hands (h : Handed) (input : List ℕ) (r : Fed) (m out : List ℕ) : 
 
 -- a turn of the program: a piece is read behind what waits, and fed; where it is empty no more come. What waits then
 -- stands in front of the input, and the text in front of `out`
-abbrev pub turnOf : Run → List ℕ → List ℕ → List ℕ → Handed
-turnOf run m input piece =
+abbrev pub pieceFed : Run → List ℕ → List ℕ → List ℕ → Handed
+pieceFed run m input piece =
     fedOf (eqb (length piece) 0) (run .state) m (take (run .have) input ++ piece)
 
-pub record Turns (run : Run) (m input : List ℕ) (r : Run) (m′ input′ out : List ℕ) : Type 0 where
+pub record FeedsPiece (run : Run) (m input : List ℕ) (r : Run) (m′ input′ out : List ℕ) : Type 0 where
   pub piece : List ℕ
   pub room : r .have ≤ length input′
   pub fits : r .size ≤ length out
-  pub state : r .state ≡ turnOf run m input piece .state
-  pub memory : m′ ≡ turnOf run m input piece .memory
-  pub waiting : take (r .have) input′ ≡ turnOf run m input piece .waiting
-  pub text : take (r .size) out ≡ turnOf run m input piece .text
+  pub state : r .state ≡ pieceFed run m input piece .state
+  pub memory : m′ ≡ pieceFed run m input piece .memory
+  pub waiting : take (r .have) input′ ≡ pieceFed run m input piece .waiting
+  pub text : take (r .size) out ≡ pieceFed run m input piece .text
 
 -- before the header; the memory is 8,192 zeros
-abbrev pub begunOf : State
-begunOf = record {
+abbrev pub unopened : State
+unopened = record {
   listing = record { header = noHeader; player = playerOf noHeader 8192; offset = 0; on = true };
   opened = false;
 }
@@ -138,7 +138,7 @@ joined (piece ∷ pieces) = piece ++ joined pieces
 
 pub record Feeds : Type 0 where
   -- however its input arrives, the program hands out what is printed of all of it
-  pub prints : (pieces : List (List ℕ)) → handedFrom begunOf blank [] pieces ≡ printed (joined pieces)
+  pub prints : (pieces : List (List ℕ)) → handedFrom unopened blank [] pieces ≡ printed (joined pieces)
   -- after the last feed the listing is over
   pub ends : (s : State) (m w : List ℕ) → fedOf true s m w .state .listing .on ≡ false
   -- nothing is handed out once the listing is over, so that the program may end there

@@ -7,15 +7,15 @@ ghost use Prim.Native.Nat.{_+_, _*_, _≤_, min};
 ghost use lib.Dec.{leb};
 ghost use lib.ListN.{length, take, drop};
 ghost use Rattle.decimal.specs.Lines.{textOf};
-ghost use Rattle.listing.specs.Records.{restOf};
+ghost use Rattle.listing.specs.Records.{toRead};
 ghost use Rattle.events.specs.Feeds.{
   sizeOf,
   readyOf,
   fedOf,
   Lays,
-  Plays,
+  PlaysOne,
   Hands,
-  begunOf,
+  unopened,
   blank,
 };
 use decimal::Line;
@@ -39,7 +39,7 @@ pub struct Fed {
 // Before the header.
 pub fn begun(memory: &[u32]) -> State
     requires { ⌜ now memory ≡ blank ⌝ }
-    ensures { λ r. ⌜ r ≡ begunOf ⌝ }
+    ensures { λ r. ⌜ r ≡ unopened ⌝ }
 {
     let step = listing::open(b"", memory);
     let mut listing = step.listing;
@@ -52,7 +52,7 @@ pub fn begun(memory: &[u32]) -> State
 
 // How many bytes the record has that begins here.
 fn record_size(input: &[u8]) -> usize
-    ensures { λ r. ⌜ r ≡ 2 + restOf (take 2 (now (input .entry))) ⌝ }
+    ensures { λ r. ⌜ r ≡ 2 + toRead (take 2 (now (input .entry))) ⌝ }
 {
     if input.len() < 2 {
         return 2;
@@ -125,7 +125,7 @@ fn first(fed: Fed, input: &[u8], memory: &[u32], out: &mut [u8]) -> Fed
     requires { ⌜ fed .state .opened ≡ false ⌝ }
     requires { ⌜ fed .used ≤ length (now input) ⌝ }
     requires { ⌜ fed .size + 64 ≤ length (now out) ⌝ }
-    ensures { λ r. ⌜ Plays fed (now (input .entry)) (now (memory .entry)) (now (out .entry)) r (now (memory .entry))
+    ensures { λ r. ⌜ PlaysOne fed (now (input .entry)) (now (memory .entry)) (now (out .entry)) r (now (memory .entry))
         (now (out .exit)) ⌝ }
 {
     let used = fed.used;
@@ -139,7 +139,7 @@ fn next(fed: Fed, input: &[u8], memory: &mut [u32], out: &mut [u8]) -> Fed
     requires { ⌜ fed .state .opened ≡ true ⌝ }
     requires { ⌜ fed .used ≤ length (now input) ⌝ }
     requires { ⌜ fed .size + 64 ≤ length (now out) ⌝ }
-    ensures { λ r. ⌜ Plays fed (now (input .entry)) (now (memory .entry)) (now (out .entry)) r (now (memory .exit))
+    ensures { λ r. ⌜ PlaysOne fed (now (input .entry)) (now (memory .entry)) (now (out .entry)) r (now (memory .exit))
         (now (out .exit)) ⌝ }
 {
     let used = fed.used;
@@ -153,7 +153,7 @@ fn next(fed: Fed, input: &[u8], memory: &mut [u32], out: &mut [u8]) -> Fed
 fn one(fed: Fed, input: &[u8], memory: &mut [u32], out: &mut [u8]) -> Fed
     requires { ⌜ fed .used ≤ length (now input) ⌝ }
     requires { ⌜ fed .size + 64 ≤ length (now out) ⌝ }
-    ensures { λ r. ⌜ Plays fed (now (input .entry)) (now (memory .entry)) (now (out .entry)) r (now (memory .exit))
+    ensures { λ r. ⌜ PlaysOne fed (now (input .entry)) (now (memory .entry)) (now (out .entry)) r (now (memory .exit))
         (now (out .exit)) ⌝ }
 {
     if fed.state.opened {

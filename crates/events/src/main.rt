@@ -7,7 +7,7 @@ mod words;
 ghost use mathlib.Core.Path.{_≡_};
 ghost use Prim.Native.Nat.{_+_, _-_, _*_, _≤_};
 ghost use lib.ListN.{length, take, drop};
-ghost use Rattle.events.specs.Feeds.{Turns, blank};
+ghost use Rattle.events.specs.Feeds.{FeedsPiece, blank};
 use feeds::State;
 use feeds::begun;
 use feeds::feed;
@@ -56,7 +56,7 @@ fn play(memory: &mut [u32], input: &mut [u8], out: &mut [u8])
 fn turn(run: Run, memory: &mut [u32], input: &mut [u8], out: &mut [u8]) -> Run
     requires { ⌜ run .have ≤ length (now input) ⌝ }
     requires { ⌜ 64 * (length (now input) + 1) ≤ length (now out) ⌝ }
-    ensures { λ r. ⌜ Turns run (now (memory .entry)) (now (input .entry)) r (now (memory .exit)) (now (input .exit))
+    ensures { λ r. ⌜ FeedsPiece run (now (memory .entry)) (now (input .entry)) r (now (memory .exit)) (now (input .exit))
         (now (out .exit)) ⌝ }
 {
     let before = run.have;

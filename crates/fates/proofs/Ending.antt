@@ -21,7 +21,7 @@ use Rattle.voice.specs.declared.Voice.{Voice}
 use Rattle.voice.specs.declared.Tick.{Tick}
 use Rattle.voice.specs.Voices.{lateOf, soundedOf, playedOutOf, endedOf, finishOf, volumeStepped, atSpeedOf}
 use Rattle.channel.specs.Channels.{sameNote, spedOf}
-use Rattle.fates.specs.Engine.{passesOver, turnedOf, letsGo, leavesOf}
+use Rattle.fates.specs.Engine.{passesOver, voiceTurned, letsGo, leavesOf}
 use Rattle.walks.proofs.Tests.{joined}
 use Rattle.fates.proofs.Stays.{unfinished-sounds}
 
@@ -90,7 +90,7 @@ module _ (t : Tick) (r d : ℕ) (v : Voice) (h : Ending r d v) where
 -- ---- a turn of a voice that is finished, and the turn in which play-once finishes it
 pub record Turns (t : Tick) (m : List ℕ) (v : Voice) (r d : ℕ) : Type 0 where
   pub voice : Voice
-  pub turn : turnedOf t m v ≡ volumeStepped (t .now) voice
+  pub turn : voiceTurned t m v ≡ volumeStepped (t .now) voice
   pub ending : Ending r d voice
 
 pub finish-ending : (now decay : ℕ) (v : Voice) → Ending now decay (finishOf now decay v)
@@ -106,7 +106,7 @@ not-out t v h = go (t .once)
     go false = refl
 
 pub ending-turns : (t : Tick) (m : List ℕ) (v : Voice) (r d : ℕ) → Ending r d v → Turns t m v r d
-unfolding turnedOf endedOf soundedOf
+unfolding voiceTurned endedOf soundedOf
 ending-turns t m v r d h = go (passesOver t v) refl
   where
     go : (b : Bool) → passesOver t v ≡ b → Turns t m v r d
@@ -122,17 +122,17 @@ unfolding playedOutOf soundedOf
 out-unfinished t m v h = not-true (v .finished) (both (t .once) (not (v .finished)) (both (t .once && not (v .finished)) _ h .0) .1)
 
 pub out-turns : (t : Tick) (m : List ℕ) (v : Voice) → playedOutOf t (soundedOf t m v) ≡ true → Turns t m v (t .now) (t .«decay_samples»)
-unfolding turnedOf endedOf
+unfolding voiceTurned endedOf
 out-turns t m v h = record {
   voice = finishOf (t .now) (t .«decay_samples») (soundedOf t m v);
   turn = rw (unfinished-sounds t v (out-unfinished t m v h), h);
   ending = finish-ending (t .now) (t .«decay_samples») (soundedOf t m v);
 }
 
-pub turns-ending : (t : Tick) (m : List ℕ) (v : Voice) (r d : ℕ) → Turns t m v r d → Ending r d (turnedOf t m v)
+pub turns-ending : (t : Tick) (m : List ℕ) (v : Voice) (r d : ℕ) → Turns t m v r d → Ending r d (voiceTurned t m v)
 turns-ending t m v r d h = rw (h .turn) (ending-stepped t r d (h .voice) (h .ending))
 
-pub turns-over : (t : Tick) (m : List ℕ) (v : Voice) (r d : ℕ) → Turns t m v r d → r + max d (t .«decay_samples») ≤ t .now → leavesOf t (turnedOf t m v) ≡ true
+pub turns-over : (t : Tick) (m : List ℕ) (v : Voice) (r d : ℕ) → Turns t m v r d → r + max d (t .«decay_samples») ≤ t .now → leavesOf t (voiceTurned t m v) ≡ true
 turns-over t m v r d h l = rw (h .turn) (ending-over t r d (h .voice) (h .ending) l)
 
 -- ---- another speed

@@ -18,7 +18,7 @@ use Rattle.channel.specs.declared.Change.the-variants as change
 use Rattle.channel.specs.declared.Found.{Found}
 use Rattle.channel.specs.declared.Found.the-variants.{At, Nothing}
 use Rattle.channel.specs.Channels.{sameNote, unfinishedOf, wantedOf, findOf, takenOf}
-use Rattle.fates.specs.Engine.{turnedOf, leavesOf, momentAt, heldAt}
+use Rattle.fates.specs.Engine.{voiceTurned, leavesOf, momentAt, heldAt}
 use Rattle.fates.specs.Events.{Event, idle, changes, gathers, sounds, act, emptyAt, tickAt, SampledIn, decayOf, lastOf, beforeLast}
 use Rattle.fates.specs.Places.{Housed, voiceAt, Place, at, gone, fateOf, follow, findsAt, becomes, stops, outOf, playsOut, finishes, onward, followAll}
 use Rattle.fates.proofs.Own.{sampled-kept, own-turn, own-leaves, becomes-phrase}
@@ -62,7 +62,7 @@ ending-on (sounds p x m) c n v r d s h = subst (Ending r d) (sym (own-turn p x m
     mem : List ℕ
     mem = heldAt x m c v
 
-    go : (b : Bool) → Ending r d (cond b v (turnedOf t mem v))
+    go : (b : Bool) → Ending r d (cond b v (voiceTurned t mem v))
     go true = h
     go false = turns-ending t mem v r d (ending-turns t mem v r d h)
 
@@ -99,12 +99,12 @@ finished-ending (sounds p x m) c n v s f =
     let t : Tick = tickAt p m c v in
     let mem : List ℕ = heldAt x m c v in
     let q = out-true p x m c (voiceAt c n) v s f in
-    subst (Ending (c .head .now) (p .«decay_samples»)) (sym (own-turn p x m c v ∙ ap (λ (b : Bool). cond b v (turnedOf t mem v)) (q .0)))
+    subst (Ending (c .head .now) (p .«decay_samples»)) (sym (own-turn p x m c v ∙ ap (λ (b : Bool). cond b v (voiceTurned t mem v)) (q .0)))
     (turns-ending t mem v (c .head .now) (p .«decay_samples») (q .1))
 
 -- ---- a late sample
 late-leaves : (p : Params) (x : Float) (m : List ℕ) (c : Channel) (v : Voice) (r d : ℕ) → Turns (tickAt p m c v) (heldAt x m c v) v r d → r + max d (p .«decay_samples») ≤ c .head .now
-    → leavesOf (tickAt p m c v) (turnedOf (tickAt p m c v) (heldAt x m c v) v) ≡ true
+    → leavesOf (tickAt p m c v) (voiceTurned (tickAt p m c v) (heldAt x m c v) v) ≡ true
 unfolding tickOf momentAt takenOf
 late-leaves p x m c v r d h l = turns-over (tickAt p m c v) (heldAt x m c v) v r d h l
 

@@ -19,9 +19,9 @@ use Rattle.voice.specs.Voices.{soundedOf, endedOf, finishOf, atSpeedOf}
 use Rattle.voice.proofs.PhraseKept.{finish-phrase, at-speed-phrase, stepped-phrase, ended-phrase, sounded-phrase}
 use Rattle.channel.specs.declared.Channel.{Channel}
 use Rattle.channel.specs.declared.Change.the-variants as change
-use Rattle.channel.specs.Channels.{live, sameNote, findOf, spedOf, tidiedOf, heardOf, playedOf, addedOf, resting, turningAt, turningOf, phraseAt, momentFor, takenOf, memoryOf}
+use Rattle.channel.specs.Channels.{live, sameNote, findOf, spedOf, tidiedOf, heardSum, playedOf, addedOf, resting, turningAt, turningOf, phraseAt, momentFor, takenOf, memoryOf}
 use Rattle.channel.proofs.Samples.{memory-kept}
-use Rattle.fates.specs.Engine.{passesOver, turnedOf, leavesOf, turnsBy, momentAt, heldAt, turnsIn, stepOf}
+use Rattle.fates.specs.Engine.{passesOver, voiceTurned, leavesOf, turnsBy, momentAt, heldAt, turnsIn, stepOf}
 use Rattle.fates.specs.Events.{Event, idle, changes, gathers, sounds, lengthAt, emptyAt, tickAt, SampledIn}
 use Rattle.fates.specs.Places.{findsAt, becomes}
 use Rattle.fates.specs.Sounding.{termOf}
@@ -56,8 +56,8 @@ held-length x m c v ends =
     stored-length own (memoryOf x c m) (subst (λ (n : ℕ). endsBy n own ≡ true) (sym (memory-kept x c m)) ends)
 
 -- ---- its turn leaves a voice its phrase
-turned-phrase : (t : Tick) (m : List ℕ) (v : Voice) → turnedOf t m v .phrase ≡ v .phrase
-unfolding turnedOf
+turned-phrase : (t : Tick) (m : List ℕ) (v : Voice) → voiceTurned t m v .phrase ≡ v .phrase
+unfolding voiceTurned
 turned-phrase t m v =
     stepped-phrase (t .now) _
     ∙ either (λ (w : Voice). w .phrase) (passesOver t v) v (endedOf t (soundedOf t m v)) (v .phrase) refl (ended-phrase t (soundedOf t m v) ∙ sounded-phrase t m v)
@@ -70,11 +70,11 @@ module _ (p : Params) (x : Float) (m : List ℕ) (c : Channel) (v : Voice) where
   abbrev own : List ℕ
   own = heldAt x m c v
 
-  pub own-turn : turnsIn p x m c .turn v ≡ cond (emptyAt m c v) v (turnedOf t own v)
+  pub own-turn : turnsIn p x m c .turn v ≡ cond (emptyAt m c v) v (voiceTurned t own v)
   unfolding turningOf turningAt turnsBy resting
   own-turn = go (emptyAt m c v)
     where
-      go : (b : Bool) → cond b resting (turnsBy t own) .turn v ≡ cond b v (turnedOf t own v)
+      go : (b : Bool) → cond b resting (turnsBy t own) .turn v ≡ cond b v (voiceTurned t own v)
       go true = refl
       go false = refl
 
@@ -87,16 +87,16 @@ module _ (p : Params) (x : Float) (m : List ℕ) (c : Channel) (v : Voice) where
       go false = refl
 
   own-phrase : turnsIn p x m c .turn v .phrase ≡ v .phrase
-  own-phrase = ap (λ (w : Voice). w .phrase) own-turn ∙ either (λ (w : Voice). w .phrase) (emptyAt m c v) v (turnedOf t own v) (v .phrase) refl (turned-phrase t own v)
+  own-phrase = ap (λ (w : Voice). w .phrase) own-turn ∙ either (λ (w : Voice). w .phrase) (emptyAt m c v) v (voiceTurned t own v) (v .phrase) refl (turned-phrase t own v)
 
   -- once it has taken its turn
-  pub own-leaves : turnsIn p x m c .leaves (turnsIn p x m c .turn v) ≡ cond (emptyAt m c v) false (leavesOf t (turnedOf t own v))
+  pub own-leaves : turnsIn p x m c .leaves (turnsIn p x m c .turn v) ≡ cond (emptyAt m c v) false (leavesOf t (voiceTurned t own v))
   unfolding turningOf turningAt turnsBy resting
   own-leaves =
       let u = turnsIn p x m c .turn v in
       (λ i. turningAt turnsBy p (moment-kept m c v u own-phrase i) (held-kept x m c v u own-phrase i) .leaves u) ∙ go (emptyAt m c v)
     where
-      go : (b : Bool) → cond b resting (turnsBy t own) .leaves (cond b resting (turnsBy t own) .turn v) ≡ cond b false (leavesOf t (turnedOf t own v))
+      go : (b : Bool) → cond b resting (turnsBy t own) .leaves (cond b resting (turnsBy t own) .turn v) ≡ cond b false (leavesOf t (voiceTurned t own v))
       go true = refl
       go false = refl
 
@@ -124,6 +124,6 @@ module _ (p : Params) (x : Float) (m : List ℕ) (c : Channel) where
   step-moved = refl
 
   pub step-output : stepOf p x c m .output
-      ≡ add binary32 (add binary32 zero32 (heardOf (turnsIn p x m c) (live c))) (mul binary32 x (levelOf (c .head .«passthru_volume») (c .head .now)))
+      ≡ add binary32 (add binary32 zero32 (heardSum (turnsIn p x m c) (live c))) (mul binary32 x (levelOf (c .head .«passthru_volume») (c .head .now)))
   unfolding stepOf playedOf takenOf
   step-output = refl

@@ -15,7 +15,7 @@ use Rattle.voice.specs.Voices.{shouldRemoveOf, soundedOf, playedOutOf, endedOf,
 use Rattle.channel.specs.declared.Channel.{Channel}
 use Rattle.channel.specs.declared.Change.the-variants as change
 use Rattle.channel.specs.Channels.{live, findOf, sameNote, spedOf, keptOf}
-use Rattle.fates.specs.Engine.{passesOver, turnedOf, leavesOf, heldAt, turnsIn}
+use Rattle.fates.specs.Engine.{passesOver, voiceTurned, leavesOf, heldAt, turnsIn}
 use Rattle.fates.specs.Events.{Event, idle, changes, gathers, sounds, act, acts, isReset, emptyAt, tickAt}
 use Rattle.fates.specs.Places.{
   Housed,
@@ -52,8 +52,8 @@ unfinished-stays : (t : Tick) (u : Voice) → u .finished ≡ false → leavesOf
 unfolding leavesOf
 unfinished-stays t u h = rw h
 
-pub turn-unfinished : (t : Tick) (m : List ℕ) (v : Voice) → v .finished ≡ false → playedOutOf t (soundedOf t m v) ≡ false → turnedOf t m v .finished ≡ false
-unfolding turnedOf volumeStepped endedOf soundedOf
+pub turn-unfinished : (t : Tick) (m : List ℕ) (v : Voice) → v .finished ≡ false → playedOutOf t (soundedOf t m v) ≡ false → voiceTurned t m v .finished ≡ false
+unfolding voiceTurned volumeStepped endedOf soundedOf
 turn-unfinished t m v h k = rw (unfinished-sounds t v h, k) h
 
 sped-finished : (note : Note) (speed : Float) (v : Voice) → spedOf note speed v .finished ≡ v .finished
@@ -83,18 +83,18 @@ stays-one (sounds p x m) c r n v s u f = go (emptyAt m c v) refl (subst (λ (o :
     mem : List ℕ
     mem = heldAt x m c v
 
-    stay : (b : Bool) → emptyAt m c v ≡ b → cond b false (leavesOf t (turnedOf t mem v)) ≡ false → cond b v (turnedOf t mem v) .finished ≡ false → Stays (sounds p x m) c n v
+    stay : (b : Bool) → emptyAt m c v ≡ b → cond b false (leavesOf t (voiceTurned t mem v)) ≡ false → cond b v (voiceTurned t mem v) .finished ≡ false → Stays (sounds p x m) c n v
     stay b e leaves unfinished = record {
       place = length (keptOf (turnsIn p x m c) (take n (live c)));
       follows = rw (s, own-leaves p x m c v, e, leaves);
-      unfinished = ap (λ (w : Voice). w .finished) (own-turn p x m c v ∙ ap (λ (z : Bool). cond z v (turnedOf t mem v)) e) ∙ unfinished;
+      unfinished = ap (λ (w : Voice). w .finished) (own-turn p x m c v ∙ ap (λ (z : Bool). cond z v (voiceTurned t mem v)) e) ∙ unfinished;
     }
 
     go : (b : Bool) → emptyAt m c v ≡ b → (not b && playedOutOf t (soundedOf t mem v)) ≡ false → Stays (sounds p x m) c n v
     go true e f = stay true e refl u
     go false e f =
         let w = turn-unfinished t mem v u f in
-        stay false e (unfinished-stays t (turnedOf t mem v) w) w
+        stay false e (unfinished-stays t (voiceTurned t mem v) w) w
 
 -- ---- any events without a reset
 pub record StaysAll (es : List Event) (c : Channel) (n : ℕ) (v : Voice) : Type 0 where

@@ -18,7 +18,7 @@ use Rattle.voice.proofs.Unmoved.{unmoved}
 use Rattle.channel.specs.declared.Channel.{Channel}
 use Rattle.channel.specs.declared.Change.the-variants as change
 use Rattle.channel.specs.Channels.{findOf, sameNote, spedOf, takenOf}
-use Rattle.fates.specs.Engine.{passesOver, turnedOf, momentAt, heldAt}
+use Rattle.fates.specs.Engine.{passesOver, voiceTurned, momentAt, heldAt}
 use Rattle.fates.specs.Events.{Event, idle, changes, gathers, sounds, act, acts, isReset, emptyAt, tickAt}
 use Rattle.fates.specs.Places.{Housed, voiceAt, Place, at, gone, follow, findsAt, becomes, onward, followAll, somewhere, finishedIn}
 use Rattle.fates.specs.Sounding.{termOf, Sounds}
@@ -36,8 +36,8 @@ not-false false h = absurd (true≢false h)
 
 -- ---- one turn
 module _ (t : Tick) (m : List ℕ) (v : Voice) (a : agreesOf t v ≡ true) where
-  turned-clip : turnedOf t m v .clip2 ≡ v .clip2
-  unfolding turnedOf volumeStepped endedOf soundedOf finishOf
+  turned-clip : voiceTurned t m v .clip2 ≡ v .clip2
+  unfolding voiceTurned volumeStepped endedOf soundedOf finishOf
   turned-clip =
       let u = soundedOf t m v in
       either (λ (w : Voice). w .clip2) (passesOver t v) v (endedOf t u) (v .clip2) refl
@@ -49,8 +49,8 @@ module _ (t : Tick) (m : List ℕ) (v : Voice) (a : agreesOf t v ≡ true) where
   product-is = ap (λ (q : Clip). mul binary32 (valueOf t m q) (levelOf (v .volume) (t .now))) (unmoved t v a)
 
   -- the index that it keeps, where it sounds
-  turned-last : v .finished ≡ false → turnedOf t m v .«last_sample_index» ≡ indexAt (v .clip2) (t .now)
-  unfolding turnedOf volumeStepped endedOf soundedOf finishOf
+  turned-last : v .finished ≡ false → voiceTurned t m v .«last_sample_index» ≡ indexAt (v .clip2) (t .now)
+  unfolding voiceTurned volumeStepped endedOf soundedOf finishOf
   turned-last f =
       let u = soundedOf t m v in
       let i : indexAt (movedOf t v) (t .now) ≡ indexAt (v .clip2) (t .now) = ap (λ (q : Clip). indexAt q (t .now)) (unmoved t v a) in
@@ -78,7 +78,7 @@ becomes-clip (changes change.Reset) c n v s h = refl
 becomes-clip (gathers m) c n v s h = refl
 becomes-clip (sounds p x m) c n v s h = ap (λ (w : Voice). w .clip2) (own-turn p x m c v) ∙ go (emptyAt m c v) refl
   where
-    go : (b : Bool) → emptyAt m c v ≡ b → cond b v (turnedOf (tickAt p m c v) (heldAt x m c v) v) .clip2 ≡ v .clip2
+    go : (b : Bool) → emptyAt m c v ≡ b → cond b v (voiceTurned (tickAt p m c v) (heldAt x m c v) v) .clip2 ≡ v .clip2
     go true e = refl
     go false e = turned-clip (tickAt p m c v) (heldAt x m c v) v (agrees p x m c n v s e h)
 
@@ -145,7 +145,7 @@ pub record Beats (p : Params) (x : Float) (m : List ℕ) (c : Channel) (n : ℕ)
   pub sounds : Sounds p x m c n voice
   pub clip : voice .clip2 ≡ q
   pub term : termOf p x m c voice ≡ mul binary32 (valueOf (tickAt p m c voice) (heldAt x m c voice) q) (levelOf (voice .volume) (c .head .now))
-  pub last : turnedOf (tickAt p m c voice) (heldAt x m c voice) voice .«last_sample_index» ≡ indexAt q (c .head .now)
+  pub last : voiceTurned (tickAt p m c voice) (heldAt x m c voice) voice .«last_sample_index» ≡ indexAt q (c .head .now)
 
 module _ (p : Params) (x : Float) (m : List ℕ) where
   beat : (c : Channel) (n : ℕ) (v : Voice) → voiceAt c n ≡ some v → v .finished ≡ false → emptyAt m c v ≡ false → alters (sounds p x m) c n ≡ false → Beats p x m c n (v .clip2)
@@ -184,5 +184,5 @@ module _ (p : Params) (x : Float) (m : List ℕ) where
       let v = b .voice in (
         becomes (sounds p x m) c n v,
         tracks (sounds p x m) c h n i v (b .sounds .stands) f,
-        ap (λ (w : Voice). w .«last_sample_index») (own-turn p x m c v ∙ ap (λ (t : Bool). cond t v (turnedOf (tickAt p m c v) (heldAt x m c v) v)) (b .finds)) ∙ b .last,
+        ap (λ (w : Voice). w .«last_sample_index») (own-turn p x m c v ∙ ap (λ (t : Bool). cond t v (voiceTurned (tickAt p m c v) (heldAt x m c v) v)) (b .finds)) ∙ b .last,
       )

@@ -12,7 +12,7 @@ use Rattle.binary32.specs.Leaves.{zero32}
 use Rattle.volume.specs.Levels.{levelOf}
 use Rattle.voice.specs.declared.Voice.{Voice}
 use Rattle.channel.specs.declared.Channel.{Channel}
-use Rattle.channel.specs.Channels.{live, heardOf, addedOf}
+use Rattle.channel.specs.Channels.{live, heardSum, addedOf}
 use Rattle.fates.specs.Engine.{passesOver, turnsIn}
 use Rattle.fates.specs.Events.{Event, acts, isReset, emptyAt, tickAt}
 use Rattle.fates.specs.Places.{Housed, voiceAt, at, followAll, finishedIn}
@@ -41,8 +41,8 @@ module _ (p : Params) (x : Float) (m : List ℕ) (c : Channel) where
       go true silent sounding = silent
       go false silent sounding = sounding
 
-  heard-total : (vs : List Voice) → heardOf (turnsIn p x m c) vs ≡ totalOf (termsOf p x m c vs)
-  unfolding heardOf totalOf
+  heard-total : (vs : List Voice) → heardSum (turnsIn p x m c) vs ≡ totalOf (termsOf p x m c vs)
+  unfolding heardSum totalOf
   heard-total vs = heard-from zero32 vs
 
   terms-split : (vs : List Voice) (n : ℕ) (v : Voice) → getElem? vs n ≡ some v → skips v ≡ false

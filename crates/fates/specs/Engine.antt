@@ -54,8 +54,8 @@ unfoldable pub passesOver : Tick → Voice → Bool
 passesOver t v = shouldRemoveOf t v
 
 -- a voice after its turn
-unfoldable pub turnedOf : Tick → List ℕ → Voice → Voice
-turnedOf t m v = volumeStepped (t .now) (cond (passesOver t v) v (endedOf t (soundedOf t m v)))
+unfoldable pub voiceTurned : Tick → List ℕ → Voice → Voice
+voiceTurned t m v = volumeStepped (t .now) (cond (passesOver t v) v (endedOf t (soundedOf t m v)))
 
 -- the mode lets a finished voice go
 unfoldable pub letsGo : NoteOffBehaviour → Tick → Voice → Bool
@@ -70,7 +70,7 @@ leavesOf t u = u .finished && letsGo (t .«note_off_behavior») t u
 -- what a sample does with the voices of one recording, by these parts
 unfoldable pub turnsBy : Tick → List ℕ → Turning
 turnsBy t m = record {
-  turn = turnedOf t m;
+  turn = voiceTurned t m;
   leaves = leavesOf t;
   adds = λ (out : Float) (v : Voice). addedOf (passesOver t v) out (productOf t m v);
 }

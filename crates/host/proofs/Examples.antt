@@ -20,11 +20,11 @@ use Rattle.questions.specs.declared.OffsetAnswer.the-variants as offset
 use Rattle.recordings.proofs.Examples.{computing as calling}
 use Rattle.smf.proofs.Examples.{computing as reading}
 use Rattle.smf.specs.Cues.{countedOf}
-use Rattle.listing.specs.Records.{loopLengthOf, loopModeOf, noteOffOf}
+use Rattle.listing.specs.Records.{lengthByKind, loopModeOf, noteOffOf}
 use Rattle.host.specs.declared.settings.Settings.{Settings}
 use Rattle.host.specs.declared.answers.Count.{Count}
 use Rattle.host.specs.declared.answers.Offset.{Offset}
-use Rattle.host.specs.Crossing.{known, paramsBy, madeBy, setUpBy, phraseBy, toldBy, offsetBy, entriesBy}
+use Rattle.host.specs.Crossing.{known, paramsBy, madeBy, setUpBy, phraseByte, toldBy, offsetBy, entriesBy}
 
 -- ---- settings: their four bytes, and in each other field a number of its own
 abbrev bytes : ℕ → ℕ → ℕ → ℕ → Settings
@@ -47,7 +47,7 @@ bytes kind mode off through = record {
 
 -- whatever settings compute by
 making : Unit {0}
-unfolding known paramsBy madeBy loopLengthOf loopModeOf noteOffOf ofInt
+unfolding known paramsBy madeBy lengthByKind loopModeOf noteOffOf ofInt
 making = tt
 
 pub lengths-met : map (λ (kind : ℕ). madeBy (bytes kind 0 0 0) .params .«loop_length») (0 ∷ 1 ∷ 2 ∷ 3 ∷ 4 ∷ 5 ∷ [])
@@ -99,9 +99,9 @@ refused-met = refl
 abbrev new : Sampler
 new = setUpBy 1 false 8 .sampler
 
-pub phrases-met : (map phraseBy (0 ∷ 7 ∷ 8 ∷ 255 ∷ 256 ∷ 2 ^ 32 ∷ []) ≡ 0 ∷ 7 ∷ 8 ∷ 255 ∷ 255 ∷ 255 ∷ [])
-    × (map (λ (n : ℕ). choosePhraseOf new (phraseBy n) .number) (0 ∷ 7 ∷ 8 ∷ 255 ∷ 256 ∷ 2 ^ 32 ∷ []) ≡ 0 ∷ 0 ∷ 19 ∷ 19 ∷ 19 ∷ 19 ∷ [])
-    × (map (λ (n : ℕ). deletePhraseOf new (phraseBy n) .number) (0 ∷ 7 ∷ 8 ∷ 255 ∷ 256 ∷ 2 ^ 32 ∷ []) ≡ 0 ∷ 0 ∷ 19 ∷ 19 ∷ 19 ∷ 19 ∷ [])
+pub phrases-met : (map phraseByte (0 ∷ 7 ∷ 8 ∷ 255 ∷ 256 ∷ 2 ^ 32 ∷ []) ≡ 0 ∷ 7 ∷ 8 ∷ 255 ∷ 255 ∷ 255 ∷ [])
+    × (map (λ (n : ℕ). choosePhraseOf new (phraseByte n) .number) (0 ∷ 7 ∷ 8 ∷ 255 ∷ 256 ∷ 2 ^ 32 ∷ []) ≡ 0 ∷ 0 ∷ 19 ∷ 19 ∷ 19 ∷ 19 ∷ [])
+    × (map (λ (n : ℕ). deletePhraseOf new (phraseByte n) .number) (0 ∷ 7 ∷ 8 ∷ 255 ∷ 256 ∷ 2 ^ 32 ∷ []) ≡ 0 ∷ 0 ∷ 19 ∷ 19 ∷ 19 ∷ 19 ∷ [])
 unfolding calling headAsks asksOf
 phrases-met = (refl, refl, refl)
 

@@ -16,7 +16,7 @@ use Rattle.questions.specs.declared.OffsetAnswer.the-variants as offset
 use Rattle.smf.specs.declared.Counted.{Counted as SongCounted}
 use Rattle.smf.specs.declared.Counted.the-variants as song
 use Rattle.smf.specs.Cues.{cuesNumber}
-use Rattle.listing.specs.Records.{loopLengthOf, loopModeOf, noteOffOf}
+use Rattle.listing.specs.Records.{lengthByKind, loopModeOf, noteOffOf}
 use Rattle.host.specs.declared.settings.Settings.{Settings}
 use Rattle.host.specs.declared.settings.Made.{Made}
 use Rattle.host.specs.declared.answers.Count.{Count}
@@ -39,7 +39,7 @@ paramsBy s = record {
     «time_sig_numerator» = s .«time_sig_numerator»;
     «time_sig_denominator» = s .«time_sig_denominator»;
   };
-  «loop_length» = loopLengthOf (s .«length_kind») (s .length);
+  «loop_length» = lengthByKind (s .«length_kind») (s .length);
   speed = s .speed;
   «reverse_speed» = s .«reverse_speed»;
   volume = s .volume;
@@ -56,8 +56,8 @@ abbrev pub setUpBy : ℕ → Bool → ℕ → Answer
 setUpBy n passthru size = setUpOf n (record { «auto_passthru» = passthru }) size
 
 -- a phrase's number is a byte to the engine, and none past 7 is a phrase's
-abbrev pub phraseBy : ℕ → ℕ
-phraseBy n = min n 255
+abbrev pub phraseByte : ℕ → ℕ
+phraseByte n = min n 255
 
 -- ---- what it is answered
 

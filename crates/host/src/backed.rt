@@ -11,7 +11,7 @@ ghost use Rattle.sampler.specs.Samplers.{
   deletePhraseOf,
 };
 ghost use Rattle.plain_sampler.specs.Backings.{changeBacking};
-ghost use Rattle.host.specs.Crossing.{phraseBy};
+ghost use Rattle.host.specs.Crossing.{phraseByte};
 use channel::Change;
 use channel::HeadChange;
 use common_types::Params;
@@ -59,18 +59,18 @@ pub fn set_note_speed(s: &mut Sampler, k: &mut Backing, note: u8, channel: u8, s
 
 pub fn choose_phrase(s: &mut Sampler, k: &mut Backing, phrase: usize) -> u8
     ensures { λ r. ⌜ (record { sampler = now (s .exit); number = r }
-        ≡ choosePhraseOf (now (s .entry)) (phraseBy phrase))
+        ≡ choosePhraseOf (now (s .entry)) (phraseByte phrase))
         × (now (k .exit)
-        ≡ changeBacking (now (s .entry)) (Change.Head (HeadChange.Choose (phraseBy phrase))) (now (k .entry))) ⌝ }
+        ≡ changeBacking (now (s .entry)) (Change.Head (HeadChange.Choose (phraseByte phrase))) (now (k .entry))) ⌝ }
 {
     plain_sampler::change(s, k, crate::calls::choice_of(phrase))
 }
 
 pub fn delete_phrase(s: &mut Sampler, k: &mut Backing, phrase: usize) -> u8
     ensures { λ r. ⌜ (record { sampler = now (s .exit); number = r }
-        ≡ deletePhraseOf (now (s .entry)) (phraseBy phrase))
+        ≡ deletePhraseOf (now (s .entry)) (phraseByte phrase))
         × (now (k .exit)
-        ≡ changeBacking (now (s .entry)) (Change.Head (HeadChange.Delete (phraseBy phrase))) (now (k .entry))) ⌝ }
+        ≡ changeBacking (now (s .entry)) (Change.Head (HeadChange.Delete (phraseByte phrase))) (now (k .entry))) ⌝ }
 {
     plain_sampler::change(s, k, crate::calls::deletion_of(phrase))
 }

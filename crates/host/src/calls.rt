@@ -26,7 +26,7 @@ ghost use Rattle.sampler.specs.Samplers.{
 ghost use Rattle.sampler.specs.Refusals.{frameNumber};
 ghost use Rattle.recordings.specs.Waves.{readWaveOf, readMemory};
 ghost use Rattle.songs.specs.Plays.{playOf};
-ghost use Rattle.host.specs.Crossing.{phraseBy};
+ghost use Rattle.host.specs.Crossing.{phraseByte};
 use channel::Change;
 use channel::HeadChange;
 use common_types::Note;
@@ -70,19 +70,19 @@ pub fn speed_of(note: u8, channel: u8, speed: f32) -> Change
 
 // A number past a byte is as 255: no channel has that phrase.
 fn phrase_by(phrase: usize) -> u8
-    ensures { λ r. ⌜ r ≡ phraseBy phrase ⌝ }
+    ensures { λ r. ⌜ r ≡ phraseByte phrase ⌝ }
 {
     if phrase < 256 { phrase as u8 } else { 255 }
 }
 
 pub fn choice_of(phrase: usize) -> Change
-    ensures { λ r. ⌜ r ≡ Change.Head (HeadChange.Choose (phraseBy phrase)) ⌝ }
+    ensures { λ r. ⌜ r ≡ Change.Head (HeadChange.Choose (phraseByte phrase)) ⌝ }
 {
     Change::Head(HeadChange::Choose(phrase_by(phrase)))
 }
 
 pub fn deletion_of(phrase: usize) -> Change
-    ensures { λ r. ⌜ r ≡ Change.Head (HeadChange.Delete (phraseBy phrase)) ⌝ }
+    ensures { λ r. ⌜ r ≡ Change.Head (HeadChange.Delete (phraseByte phrase)) ⌝ }
 {
     Change::Head(HeadChange::Delete(phrase_by(phrase)))
 }
@@ -135,14 +135,14 @@ pub fn set_interpolation(s: &mut Sampler, on: bool) -> u8
 
 pub fn choose_phrase(s: &mut Sampler, phrase: usize) -> u8
     ensures { λ r. ⌜ record { sampler = now (s .exit); number = r }
-        ≡ choosePhraseOf (now (s .entry)) (phraseBy phrase) ⌝ }
+        ≡ choosePhraseOf (now (s .entry)) (phraseByte phrase) ⌝ }
 {
     lent_sampler::change(s, choice_of(phrase))
 }
 
 pub fn delete_phrase(s: &mut Sampler, phrase: usize) -> u8
     ensures { λ r. ⌜ record { sampler = now (s .exit); number = r }
-        ≡ deletePhraseOf (now (s .entry)) (phraseBy phrase) ⌝ }
+        ≡ deletePhraseOf (now (s .entry)) (phraseByte phrase) ⌝ }
 {
     lent_sampler::change(s, deletion_of(phrase))
 }

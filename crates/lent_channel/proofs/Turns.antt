@@ -26,7 +26,7 @@ use Rattle.channel.specs.declared.Head.{Head}
 use Rattle.channel.specs.declared.Channel.{Channel}
 use Rattle.channel.specs.declared.Played.{Played}
 use Rattle.channel.specs.Heads.{mixedOf, closedOf}
-use Rattle.channel.specs.Channels.{withHead, withVoices, anyUnfinishedOf, Turning, keptOf, tidiedOf, addedOf, heardOf as heard-of, playedOf, turningBy, phraseAt, momentFor, turningIn}
+use Rattle.channel.specs.Channels.{withHead, withVoices, anyUnfinishedOf, Turning, keptOf, tidiedOf, addedOf, heardSum, playedOf, turningBy, phraseAt, momentFor, turningIn}
 use Rattle.channel.proofs.Samples.{played-head}
 use Rattle.channel.proofs.Turns as T
 use Rattle.lent_channel.specs.declared.Going.{Going}
@@ -243,7 +243,7 @@ module _ (s : Turning) (c : Channel) (all : length (c .voices) ≡ 32) where
   begins = record { few = omega arith; inside = zero-le; up = zero-le; first = zero-le; all = λ e. refl }
 
   rest-start : restOf s (min (c .count) 32) c begun ≡ playedOf s c
-  unfolding begun restBy playedOf heard-of
+  unfolding begun restBy playedOf heardSum
   rest-start =
       ap (λ (vs : List Voice). counting (T.restOf s c 0 zero32 vs) (tidiedOf s vs)) (take-most (c .voices) (c .count) 32 all)
       ∙ with-count (T.rest-start s c) refl
@@ -282,7 +282,7 @@ module _ (s : Turning) (c : Channel) (none : c .count ≡ 0) where
   of-count n = withVoices (c .voices) n c
 
   played-none : playedOf s c ≡ with-none c
-  unfolding playedOf keptOf tidiedOf heard-of without behind fold
+  unfolding playedOf keptOf tidiedOf heardSum without behind fold
   played-none = subst (λ (n : ℕ). playedOf s (of-count n) ≡ with-none (of-count n)) (sym none) refl
 
   pub none-heard : silent ≡ heardOf (playedOf s c)

@@ -4,10 +4,11 @@
 ghost use mathlib.Core.Path.{_≡_};
 ghost use Prim.Native.Nat.{_≤_, _<_};
 ghost use mathlib.Core.Bool.{_&&_, cond};
+ghost use lib.ListN.{getD};
 ghost use lib.Ieee.{binary32, add};
 ghost use Rattle.common_types.specs.Settings.{measureOf};
 ghost use Rattle.voice.specs.Voices.{goodVoice};
-ghost use Rattle.phrases.specs.Phrases.{apartOf, goodAt};
+ghost use Rattle.phrases.specs.Phrases.{noPhrase, apartOf, goodAt, inOrder};
 ghost use Rattle.channel.specs.Heads.{closedOf};
 ghost use Rattle.channel.specs.Tables.{withRecording, goodTable, againstBy};
 ghost use Rattle.channel.specs.Channels.{
@@ -130,6 +131,14 @@ fn looked_at(p: Phrase, k: usize, head: Head) -> Phrase
     p
 }
 
+// The phrase of a number.
+fn numbered(c: &Channel, k: usize) -> Phrase
+    requires { ⌜ k < 8 ⌝ }
+    ensures { λ r. ⌜ r ≡ getD (withRecording (now (c .entry) .head) (now (c .entry) .table)) k noPhrase ⌝ }
+{
+    looked_at(c.table[k], k, c.head)
+}
+
 // Whether a phrase has no sample in common with those so far, and with one more.
 fn still_apart(ok: bool, p: Phrase, q: Phrase) -> bool
     ensures { λ r. ⌜ r ≡ (ok && apartOf p q) ⌝ }
@@ -152,12 +161,6 @@ fn phrase_good(c: &Channel, k: usize, capacity: usize) -> bool
     ok
 }
 
-fn both(a: bool, b: bool) -> bool
-    ensures { λ r. ⌜ r ≡ (a && b) ⌝ }
-{
-    a & b
-}
-
 // How many entries of the table are looked at.
 fn entries(several: bool) -> usize
     ensures { λ r. ⌜ r ≡ cond several 8 0 ⌝ }
@@ -165,19 +168,51 @@ fn entries(several: bool) -> usize
     if several { 8 } else { 0 }
 }
 
-// Whether the phrases lie within the capacity, and no two have a sample in common.
-fn good_phrases(c: &Channel, capacity: usize) -> bool
+// Whether the phrases lie within the capacity, each behind those before it: mostly they do.
+fn in_order(c: &Channel, capacity: usize) -> bool
+    ensures { λ r. ⌜ r
+        ≡ inOrder capacity (withRecording (now (c .entry) .head) (now (c .entry) .table))
+        (cond (now (c .entry) .several) 8 0) ⌝ }
+{
+    let n = entries(c.several);
+    let mut upto: usize = 0;
+    let mut k: usize = 0;
+    while k < n {
+        let p = numbered(c, k);
+        if !p.clear(upto, capacity) {
+            return false;
+        }
+        upto = p.reach_from(upto);
+        k = k + 1;
+    }
+    true
+}
+
+// Whether the phrases lie within the capacity, and no two have a sample in common: each is held against those before it.
+fn good_pairs(c: &Channel, capacity: usize) -> bool
     ensures { λ r. ⌜ r
         ≡ goodTable capacity (now (c .entry) .head) (now (c .entry) .several) (now (c .entry) .table) ⌝ }
 {
     let n = entries(c.several);
-    let mut ok = true;
     let mut k: usize = 0;
     while k < n {
-        ok = both(ok, phrase_good(c, k, capacity));
+        if !phrase_good(c, k, capacity) {
+            return false;
+        }
         k = k + 1;
     }
-    ok
+    true
+}
+
+// The same, told by their order where they stand in order.
+fn good_phrases(c: &Channel, capacity: usize) -> bool
+    ensures { λ r. ⌜ r
+        ≡ goodTable capacity (now (c .entry) .head) (now (c .entry) .several) (now (c .entry) .table) ⌝ }
+{
+    if in_order(c, capacity) {
+        return true;
+    }
+    good_pairs(c, capacity)
 }
 
 // Whether the channel may stand in a record of that capacity.
@@ -304,7 +339,7 @@ pub fn glided(upto: usize, output: f32) -> Going
 
 // Voices of the tick's phrase take their turns in place, from the next on and before the n-th, up to the first that does
 // not glide.
-pub fn glide(c: &mut Channel, t: Tick, g: Going, n: usize, data: &[u32]) -> Going
+fn glide(c: &mut Channel, t: Tick, g: Going, n: usize, data: &[u32]) -> Going
     requires { ⌜ Stands n g × (g .kept ≡ g .place) ⌝ }
     ensures { λ r. ⌜ Glides t (now («data» .entry)) n (now (c .entry)) g (now (c .exit)) r ⌝ }
 {

@@ -9,7 +9,7 @@ use Rattle.walks.proofs.Steps.Data.{word, truth}
 use Rattle.walks.proofs.Steps.Calls.{Callee}
 use Rattle.lent_channel.proofs.Holding.{voice}
 use Rattle.lent_channel.proofs.Views.{Viewer}
-use Rattle.lent_sampler.specs.Lists.{seated, voiceIn, unlisted, countIn, listingBy, answeredOf, lengthIn, infoIn}
+use Rattle.lent_sampler.specs.Lists.{seated, voiceIn, unlisted, countIn, listingBy, answeredOf, phraseLength, infoIn}
 use Rattle.lent_sampler.proofs.Lent.{sampler, params, info, counted, listing}
 use Rattle.lent_sampler.proofs.Sight.{sight}
 
@@ -27,7 +27,7 @@ voicing = record { takes = word w64 ∷ word w64 ∷ []; gives = voice; asks = �
 
 -- `length_at`
 abbrev pub measuring : Viewer sampler
-measuring = record { takes = word w64 ∷ word w8 ∷ []; gives = word w64; asks = λ κs a. none; says = λ κs a s. lengthIn (a .1 .0) (seated s (a .0)) }
+measuring = record { takes = word w64 ∷ word w8 ∷ []; gives = word w64; asks = λ κs a. none; says = λ κs a s. phraseLength (a .1 .0) (seated s (a .0)) }
 
 -- `info_at`
 abbrev pub informing : Viewer sampler

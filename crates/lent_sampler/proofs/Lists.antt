@@ -26,12 +26,12 @@ use Rattle.sampler.specs.Refusals.{channelAt, row, goodSampler}
 use Rattle.sampler.proofs.Rows.{good-sizes, sizes-count}
 use Rattle.sampler.proofs.Channels.{few-voices}
 use Rattle.questions.specs.Questions.{answered, inFront, notesOf, listNumberBy, listCountedBy, listAfterBy, listNumber, listCounted, listAfter, iterActiveNotesOf, activeNotesAfter, noInfos, infosWith, voiceInfoOf, figuresOf, voiceInfosOf, infoNumber, getVoiceInfoOf}
-use Rattle.questions.specs.Lists.{countedOf, listedOf, voiceInfoCounted, voiceInfoAfter}
+use Rattle.questions.specs.Lists.{infosCounted, listedOf, voiceInfoCounted, voiceInfoAfter}
 use Rattle.questions.specs.declared.VoiceInfo.{VoiceInfo}
 use Rattle.questions.specs.declared.VoiceInfos.{VoiceInfos}
 use Rattle.questions.specs.declared.Counted.{Counted}
 use Rattle.questions.specs.declared.Counted.the-variants as counted
-use Rattle.lent_sampler.specs.Lists.{seatOf, seated, spotOf, voiceIn, unlisted, countOf, countIn, listRows, lengthIn, infoIn}
+use Rattle.lent_sampler.specs.Lists.{seatOf, seated, voicePlace, voiceIn, unlisted, listedCount, countIn, listRows, phraseLength, infoIn}
 
 -- ---- which channel and voice is read
 pub seat-two : (j : ℕ) → seatOf j < 2
@@ -49,16 +49,16 @@ seat-is (suc zero) h = refl
 seat-is (suc (suc j)) h = absurd (omega arith)
 
 module _ (i : ℕ) where
-  pub spot-within : spotOf i < 32
-  unfolding spotOf
+  pub spot-within : voicePlace i < 32
+  unfolding voicePlace
   spot-within = go (ltb i 32) refl
     where
       go : (b : Bool) → ltb i 32 ≡ b → cond b i 0 < 32
       go true e = ltb-true i 32 e
       go false e = omega arith
 
-  pub spot-is : i < 32 → spotOf i ≡ i
-  unfolding spotOf
+  pub spot-is : i < 32 → voicePlace i ≡ i
+  unfolding voicePlace
   spot-is h = go (ltb i 32) refl
     where
       go : (b : Bool) → ltb i 32 ≡ b → cond b i 0 ≡ i
@@ -116,41 +116,41 @@ module _ (p : Voice → Bool) where
 
 -- ---- how many voices are listed
 module _ (all : Bool) where
-  pub count-none : (l : List Voice) → 0 ≡ countOf all (take 0 l)
-  unfolding countOf without
+  pub count-none : (l : List Voice) → 0 ≡ listedCount all (take 0 l)
+  unfolding listedCount without
   count-none l = refl
 
-  pub count-few : (i : ℕ) (l : List Voice) → countOf all (take i l) ≤ i
-  unfolding countOf
+  pub count-few : (i : ℕ) (l : List Voice) → listedCount all (take i l) ≤ i
+  unfolding listedCount
   count-few i l = let k : length (take i l) ≤ i = omega (arith, length-take i l) in omega (arith, fewer (unlisted all) (take i l), k)
 
-  pub count-rises : (i n : ℕ) (l : List Voice) → i ≤ n → countOf all (take i l) ≤ countOf all (take n l)
-  unfolding countOf
+  pub count-rises : (i n : ℕ) (l : List Voice) → i ≤ n → listedCount all (take i l) ≤ listedCount all (take n l)
+  unfolding listedCount
   count-rises i n l h = rises (unlisted all) i n l h
 
   module _ (d : Voice) (i : ℕ) (l : List Voice) (lt : i < length l) where
     abbrev v : Voice
     v = getD l i d
 
-    pub count-kept : unlisted all v ≡ true → countOf all (take i l) ≡ countOf all (take (i + 1) l)
-    unfolding countOf
+    pub count-kept : unlisted all v ≡ true → listedCount all (take i l) ≡ listedCount all (take (i + 1) l)
+    unfolding listedCount
     count-kept e = let k : length (without (unlisted all) (take (i + 1) l)) ≡ length (without (unlisted all) (take i l) ++ cond true [] (v ∷ [])) = ap length (without-next (unlisted all) d i l lt) ∙ ap (λ (b : Bool). length (without (unlisted all) (take i l) ++ cond b [] (v ∷ []))) e in
         omega (arith, k, length-append (without (unlisted all) (take i l)) [])
 
-    pub count-more : unlisted all v ≡ false → countOf all (take i l) + 1 ≡ countOf all (take (i + 1) l)
-    unfolding countOf
+    pub count-more : unlisted all v ≡ false → listedCount all (take i l) + 1 ≡ listedCount all (take (i + 1) l)
+    unfolding listedCount
     count-more e = let k : length (without (unlisted all) (take (i + 1) l)) ≡ length (without (unlisted all) (take i l) ++ cond false [] (v ∷ [])) = ap length (without-next (unlisted all) d i l lt) ∙ ap (λ (b : Bool). length (without (unlisted all) (take i l) ++ cond b [] (v ∷ []))) e in
         omega (arith, k, length-append (without (unlisted all) (take i l)) (v ∷ []))
 
-    pub count-next : i < 32 → cond (unlisted all v) (countOf all (take i l)) ((countOf all (take i l) + 1) % 2 ^ 64) ≡ countOf all (take (i + 1) l)
+    pub count-next : i < 32 → cond (unlisted all v) (listedCount all (take i l)) ((listedCount all (take i l) + 1) % 2 ^ 64) ≡ listedCount all (take (i + 1) l)
     count-next small = go (unlisted all v) refl
       where
-        go : (b : Bool) → unlisted all v ≡ b → cond b (countOf all (take i l)) ((countOf all (take i l) + 1) % 2 ^ 64) ≡ countOf all (take (i + 1) l)
+        go : (b : Bool) → unlisted all v ≡ b → cond b (listedCount all (take i l)) ((listedCount all (take i l) + 1) % 2 ^ 64) ≡ listedCount all (take (i + 1) l)
         go true e = count-kept e
         go false e = mod-eq-of-lt (omega (arith, count-few i l, small)) ∙ count-more e
 
-pub count-all : (l : List Voice) → countOf true l ≡ length l
-unfolding countOf without
+pub count-all : (l : List Voice) → listedCount true l ≡ length l
+unfolding listedCount without
 count-all [] = refl
 count-all (x ∷ l) = ap suc (count-all l)
 
@@ -170,8 +170,8 @@ module _ (d : Voice) (i : ℕ) (l : List Voice) (lt : i < length l) where
   unfolding notesOf
   next-notes b e = ap noted (without-next (λ (v : Voice). v .finished) d i l lt ∙ ap (λ (c : Bool). without (λ (v : Voice). v .finished) (take i l) ++ cond c [] (u ∷ [])) e) ∙ noted-on (without (λ (v : Voice). v .finished) (take i l)) (cond b [] (u ∷ []))
 
-pub notes-count : (vs : List Voice) → length (notesOf vs) ≡ countOf false vs
-unfolding notesOf countOf
+pub notes-count : (vs : List Voice) → length (notesOf vs) ≡ listedCount false vs
+unfolding notesOf listedCount
 notes-count vs = length-map (without (λ (v : Voice). v .finished) vs) _
 
 -- the list with those of the first i voices in its front
@@ -193,15 +193,15 @@ module _ (l : List Voice) (lent : List ℕ) where
   unfolding notesOf without
   noted-none = refl
 
-  pub noted-length : (i : ℕ) → countOf false (take i l) ≤ length lent → length (noted-upto l lent i) ≡ length lent
+  pub noted-length : (i : ℕ) → listedCount false (take i l) ≤ length lent → length (noted-upto l lent i) ≡ length lent
   noted-length i h = omega (arith, length-append (notesOf (take i l)) (drop (length (notesOf (take i l))) lent), length-drop (length (notesOf (take i l))) lent, notes-count (take i l), h)
 
   module _ (d : Voice) (i : ℕ) (lt : i < length l) where
     pub noted-kept : getD l i d .finished ≡ true → noted-upto l lent i ≡ noted-upto l lent (i + 1)
     noted-kept e = ap (λ (ns : List ℕ). inFront ns lent) (sym (append-nil (notesOf (take i l))) ∙ sym (next-notes d i l lt true e))
 
-    pub noted-more : getD l i d .finished ≡ false → countOf false (take i l) < length lent
-        → set (noted-upto l lent i) (countOf false (take i l)) (intoU64Of (getD l i d .note)) ≡ noted-upto l lent (i + 1)
+    pub noted-more : getD l i d .finished ≡ false → listedCount false (take i l) < length lent
+        → set (noted-upto l lent i) (listedCount false (take i l)) (intoU64Of (getD l i d .note)) ≡ noted-upto l lent (i + 1)
     noted-more e room =
         ap (λ (k : ℕ). set (noted-upto l lent i) k (intoU64Of (getD l i d .note))) (sym (notes-count (take i l)))
         ∙ stored-front (notesOf (take i l)) lent (intoU64Of (getD l i d .note)) (omega (arith, notes-count (take i l), room))
@@ -230,16 +230,16 @@ noteRows good there c room = listRows (not good) (not there) false (countIn fals
 
 -- while voices are looked at there is one more, and the notes up to it have room
 pub notes-fit : (good there : Bool) (c : Channel) (room i : ℕ) → i < cond (eqb (noteRows good there c room) 0) (countIn true c) 0
-    → (i < length (c .voices)) × (countOf false (take (i + 1) (c .voices)) ≤ room)
+    → (i < length (c .voices)) × (listedCount false (take (i + 1) (c .voices)) ≤ room)
 notes-fit false there c room i h = absurd (omega (arith, h))
 notes-fit true false c room i h = absurd (omega (arith, h))
 notes-fit true true c room i h = go (ltb room (countIn false c)) refl h
   where
-    go : (b : Bool) → ltb room (countIn false c) ≡ b → i < cond (eqb (row b 8 0) 0) (countIn true c) 0 → (i < length (c .voices)) × (countOf false (take (i + 1) (c .voices)) ≤ room)
+    go : (b : Bool) → ltb room (countIn false c) ≡ b → i < cond (eqb (row b 8 0) 0) (countIn true c) 0 → (i < length (c .voices)) × (listedCount false (take (i + 1) (c .voices)) ≤ room)
     go true e k = absurd (omega (arith, k))
     go false e k =
         let low : i < length (live c) = omega (arith, k, count-all (live c)) in
-        let rises : countOf false (take (i + 1) (c .voices)) ≤ countIn false c = count-rises false (i + 1) (c .count) (c .voices) (omega (arith, low, length-take (c .count) (c .voices))) in
+        let rises : listedCount false (take (i + 1) (c .voices)) ≤ countIn false c = count-rises false (i + 1) (c .count) (c .voices) (omega (arith, low, length-take (c .count) (c .voices))) in
         (omega (arith, low, length-take (c .count) (c .voices)), omega (arith, rises, ltb-false room (countIn false c) e))
 
 -- so the list stays as long as it is
@@ -247,7 +247,7 @@ pub notes-long : (good there : Bool) (c : Channel) (lent : List ℕ)
     → length (noted-upto (c .voices) lent (cond (eqb (noteRows good there c (length lent)) 0) (countIn true c) 0)) ≡ length lent
 notes-long good there c lent = go _ (notes-fit good there c (length lent))
   where
-    go : (n : ℕ) → ((i : ℕ) → i < n → (i < length (c .voices)) × (countOf false (take (i + 1) (c .voices)) ≤ length lent)) → length (noted-upto (c .voices) lent n) ≡ length lent
+    go : (n : ℕ) → ((i : ℕ) → i < n → (i < length (c .voices)) × (listedCount false (take (i + 1) (c .voices)) ≤ length lent)) → length (noted-upto (c .voices) lent n) ≡ length lent
     go zero fit = ap length (sym (noted-none (c .voices) lent))
     go (suc m) fit = ap (λ (k : ℕ). length (noted-upto (c .voices) lent k)) (sym (one-more m)) ∙ noted-length (c .voices) lent (m + 1) (fit m (omega arith) .1)
 
@@ -331,7 +331,7 @@ module _ (p : Params) (a : Channel) where
   written lent number c = (answered (counted.Done (countIn true c)) counted.Refused number, figured-upto c lent (cond (eqb number 0) (countIn true c) 0))
 
   abbrev to-be : List VoiceInfo → ℕ → Channel → Counted × List VoiceInfo
-  to-be lent number c = (countedOf (answer number c), listedOf (answer number c) lent)
+  to-be lent number c = (infosCounted (answer number c), listedOf (answer number c) lent)
 
   module _ (c : Channel) (lent : List VoiceInfo) (full : length (live c) ≡ c .count) where
     many : length (figures c) ≡ c .count
@@ -344,12 +344,12 @@ module _ (p : Params) (a : Channel) where
         ∙ sym (ap (λ (ys : List VoiceInfo). inFront ys lent) (ap (λ (k : ℕ). take k (inFront (figures c) noInfos)) (sym many) ∙ take-append-seam (figures c) (drop (length (figures c)) noInfos)))
 
     written-so : (m : ℕ) → written lent m c ≡ to-be lent m c
-    unfolding answered countedOf listedOf voiceInfosOf
+    unfolding answered infosCounted listedOf voiceInfosOf
     written-so m = go (eqb m 0) refl
       where
         go : (b : Bool) → eqb m 0 ≡ b
             → _≡_ {A = Counted × List VoiceInfo} (cond b (counted.Done (countIn true c)) (counted.Refused m), figured-upto c lent (cond b (countIn true c) 0))
-            (countedOf (cond b (voiceInfosOf p a c) (infosWith noInfos 0 m)), listedOf (cond b (voiceInfosOf p a c) (infosWith noInfos 0 m)) lent)
+            (infosCounted (cond b (voiceInfosOf p a c) (infosWith noInfos 0 m)), listedOf (cond b (voiceInfosOf p a c) (infosWith noInfos 0 m)) lent)
         go true e = ap₂ (λ (r : Counted) (ys : List VoiceInfo). (r, ys)) (ap counted.Done (count-all (live c) ∙ full)) front-so
         go false e = ap (λ (r : Counted). (r, lent)) (sym (ap (λ (b : Bool). cond b (counted.Done 0) (counted.Refused m)) e))
 
@@ -359,7 +359,7 @@ module _ (s : Sampler) (j : ℕ) (p : Params) (lent : List VoiceInfo) (all : len
 
   infos-so : written p first lent (infoRows p first (goodSampler s) (ltb j (s .count)) (seated s j) (length lent)) (seated s j)
       ≡ to-be p first lent (row (not (goodSampler s)) 9 (row (not (ltb j (s .count))) 1 (row (beyondLimits p) 4 (row (ltb (length lent) (channelAt s j .count)) 8 0)))) (channelAt s j)
-  unfolding answered countedOf listedOf
+  unfolding answered infosCounted listedOf
   infos-so = go (goodSampler s) (ltb j (s .count)) refl refl
     where
       go : (good there : Bool) → goodSampler s ≡ good → ltb j (s .count) ≡ there
@@ -388,8 +388,8 @@ module _ (s : Sampler) (j : ℕ) (p : Params) (lent : List VoiceInfo) (all : len
 
 -- the figures of a voice, from the lengths of its phrase
 pub info-so : (p : Params) (i : ℕ) (s : Sampler) (j : ℕ) (v : Voice) → v ≡ voiceIn i (seated s j)
-    → voiceInfoOf (loopLengthOf p (lengthIn (v .phrase) (seated s 0))) (asFloat (lengthIn (v .phrase) (seated s j))) v ≡ infoIn p i s j
+    → voiceInfoOf (loopLengthOf p (phraseLength (v .phrase) (seated s 0))) (asFloat (phraseLength (v .phrase) (seated s j))) v ≡ infoIn p i s j
 unfolding figuresOf
 info-so p i s j v e =
-    ap (λ (k : ℕ). voiceInfoOf (loopLengthOf p (lengthIn (v .phrase) (channelAt s k))) (asFloat (lengthIn (v .phrase) (seated s j))) v) (seat-is 0 (omega arith))
+    ap (λ (k : ℕ). voiceInfoOf (loopLengthOf p (phraseLength (v .phrase) (channelAt s k))) (asFloat (phraseLength (v .phrase) (seated s j))) v) (seat-is 0 (omega arith))
     ∙ ap (figuresOf p (channelAt s 0) (seated s j)) e

@@ -21,13 +21,13 @@ use Rattle.channel.specs.Heads.{headOf, lastTime}
 use Rattle.sampler.specs.declared.Sampler.{Sampler}
 use Rattle.sampler.specs.declared.RunAsked.{RunAsked}
 use Rattle.sampler.specs.declared.Ran.{Ran}
-use Rattle.sampler.specs.Refusals.{row, channelAt, goodSizes, goodSampler, goodWith, records, anyRecording, againstAny, atEnd, changeRows, changeNumber, gatherNumber, sampleNumber, frameRows, frameNumber, latestOf, roomOf, runRows, runDone}
+use Rattle.sampler.specs.Refusals.{row, channelAt, goodSizes, goodSampler, goodWith, records, anyRecording, againstAny, atEnd, changeRows, changeNumber, gatherNumber, sampleNumber, frameRows, frameNumber, latestOf, framesLeft, runRows, runDone}
 use Rattle.sampler.specs.Samplers.{runAnswer}
 use Rattle.sampler.proofs.Rows.{fitting}
 use Rattle.sampler.proofs.RunRows.{run-asked}
 use Rattle.questions.specs.Sights.{seenOf}
 use Rattle.lent_sampler.specs.declared.Readings.{Readings}
-use Rattle.lent_sampler.specs.Numbers.{allOf, anyOf, readingsIn, goodBy, goodWithBy, askedBy, gatherRows, timeIn, sampleRows, frameAskedBy, latestTime, roomLeft, runAskedBy}
+use Rattle.lent_sampler.specs.Numbers.{allOf, anyOf, readingsIn, goodBy, goodWithBy, askedBy, gatherRows, clockIn, sampleRows, frameAskedBy, latestTime, roomLeft, runAskedBy}
 
 -- ---- of two, the first n
 pub all-first : (a b : Bool) → a ≡ allOf 1 (a ∷ b ∷ [])
@@ -151,8 +151,8 @@ module _ (s : Sampler) (two : length (s .channels) ≡ 2) where
   unfolding anyOf
   any-is p n = any-first-of p (λ (b : Bool). b) n (channelAt s 0 ∷ channelAt s 1 ∷ []) ∙ ap (λ (l : List Channel). any p (take n l)) are-two
 
-  room-is : roomLeft t ≡ roomOf s
-  unfolding roomLeft latestTime roomOf latestOf
+  room-is : roomLeft t ≡ framesLeft s
+  unfolding roomLeft latestTime framesLeft latestOf
   room-is = ap (λ (latest : ℕ). lastTime - latest)
       (fold-first (λ (c : Channel). c .head .now) (s .count) 0 (channelAt s 0 ∷ channelAt s 1 ∷ []) ∙ ap (λ (l : List Channel). fold (λ (u : ℕ) (c : Channel). max u (c .head .now)) 0 (take (s .count) l)) are-two)
 
@@ -165,7 +165,7 @@ module _ (s : Sampler) (two : length (s .channels) ≡ 2) where
       let short = any-is (λ (c : Channel). againstOf (s .capacity) (asksOf x) c .short) (s .count) in
       λ i. changeRows (record { good = good-is i; against = record { blocked = blocked i; short = short i } }) x
 
-  time-is : (j : ℕ) → timeIn t j ≡ channelAt s j .head .now
+  time-is : (j : ℕ) → clockIn t j ≡ channelAt s j .head .now
   unfolding channelOf headOf
   time-is zero = refl
   time-is (suc zero) = refl

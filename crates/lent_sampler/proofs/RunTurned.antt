@@ -14,7 +14,7 @@ use Rattle.channel.specs.declared.Played.{Played}
 use Rattle.channel.specs.Channels.{memoryOf}
 use Rattle.channel.specs.Channels.{processSampleOf as channelSampleOf}
 use Rattle.sampler.specs.declared.Sampler.{Sampler}
-use Rattle.sampler.specs.Refusals.{channelAt, roomOf, runNumber, doneOf}
+use Rattle.sampler.specs.Refusals.{channelAt, framesLeft, runNumber, doneOf}
 use Rattle.sampler.specs.Samplers.{withChannels, channelSteppedOf, outputOf, memoryAt, Framed, framed, Frames, framesOf, ranOf, runAnswer}
 use Rattle.sampler.proofs.Rows.{Fitting, fitting}
 use Rattle.sampler.proofs.RunRows.{working, run-begins, done-turns}
@@ -60,7 +60,7 @@ module _ (s : Sampler) (l : List Float) (p : Params) (m : List ℕ) where
   unfolding runAnswer doneOf
   done-fitting h = go (working (runNumber s (length l) p (length m))) refl h
     where
-      go : (b : Bool) → working (runNumber s (length l) p (length m)) ≡ b → 0 < cond b (min (length l / s .count) (roomOf s)) 0 → Fitting s (length m)
+      go : (b : Bool) → working (runNumber s (length l) p (length m)) ≡ b → 0 < cond b (min (length l / s .count) (framesLeft s)) 0 → Fitting s (length m)
       go true e less = fitting s (length m) (run-begins s (length l) p (length m) e .good)
       go false e less = absurd (omega (arith, less))
 

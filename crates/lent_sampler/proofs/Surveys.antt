@@ -11,7 +11,7 @@ use denote.Laws.{Is}
 use denote.Struct.Laws as LL
 use Rattle.walks.proofs.Lists.Loops.{long}
 use Rattle.walks.proofs.Steps.Data.{Datum, struct}
-use Rattle.wave.specs.Reader.{judgedOf}
+use Rattle.wave.specs.Reader.{fileJudged}
 use Rattle.phrases.proofs.Beside as B
 use Rattle.phrases.proofs.Beside.Laws as B′
 use Rattle.channel.specs.declared.Change.the-variants.{Head}
@@ -54,10 +54,10 @@ eight-there h g =
 
 module _ (s : Sampler) (two : length (s .channels) ≡ 2) (f : List ℕ) (size : ℕ) where
   abbrev number : ℕ
-  number = readNumber s (judgedOf f) size
+  number = readNumber s (fileJudged f) size
 
   abbrev samples : ℕ
-  samples = heldIn (judgedOf f) .samples
+  samples = heldIn (fileJudged f) .samples
 
   -- a phrase that there isn't is chosen of no record
   refused : changeOf s (Head (Choose 8)) .sampler ≡ s
@@ -70,10 +70,10 @@ module _ (s : Sampler) (two : length (s .channels) ≡ 2) (f : List ℕ) (size :
 
   sampler-read : changeOf s (loadOf (loadingSeen (surveyOf s) f size)) .sampler ≡ readWaveOf s f size .sampler
   unfolding readWaveOf answerOf
-  sampler-read = ap (λ (n : ℕ). changeOf s (cond (eqb n 0) (Head (Load samples)) (Head (Choose 8))) .sampler) (read-number-seen s two (judgedOf f) size) ∙ go (eqb number 0) refl
+  sampler-read = ap (λ (n : ℕ). changeOf s (cond (eqb n 0) (Head (Load samples)) (Head (Choose 8))) .sampler) (read-number-seen s two (fileJudged f) size) ∙ go (eqb number 0) refl
     where
       go : (b : Bool) → eqb number 0 ≡ b → changeOf s (cond b (Head (Load samples)) (Head (Choose 8))) .sampler ≡ cond b (eachOf (Head (Load samples)) s) s
-      go true e = ap (λ (n : ℕ). cond (eqb n 0) (eachOf (Head (Load samples)) s) s) (loads-change s (judgedOf f) size (read-says s (judgedOf f) size (eqb-true number 0 e)))
+      go true e = ap (λ (n : ℕ). cond (eqb n 0) (eachOf (Head (Load samples)) s) s) (loads-change s (fileJudged f) size (read-says s (fileJudged f) size (eqb-true number 0 e)))
       go false e = refused
 
   pub read-so : (r : Loading) → r ≡ loadingSeen (surveyOf s) f size → (n : ℕ) (s′ : Sampler) → changes s (loadOf r) n s′ → record { sampler = s′; read = r .read } ≡ readWaveOf s f size

@@ -28,21 +28,21 @@ abbrev pub seated : Sampler → ℕ → Channel
 seated s j = channelAt s (seatOf j)
 
 -- the voice at a place; past the last it is the first
-unfoldable pub spotOf : ℕ → ℕ
-spotOf i = cond (ltb i 32) i 0
+unfoldable pub voicePlace : ℕ → ℕ
+voicePlace i = cond (ltb i 32) i 0
 
 abbrev pub voiceIn : ℕ → Channel → Voice
-voiceIn i c = getD (c .voices) (spotOf i) blankVoice
+voiceIn i c = getD (c .voices) (voicePlace i) blankVoice
 
 -- a voice is listed unless only unfinished ones are and it is finished
 abbrev pub unlisted : Bool → Voice → Bool
 unlisted all v = cond all false (v .finished)
 
-unfoldable pub countOf : Bool → List Voice → ℕ
-countOf all vs = length (without (unlisted all) vs)
+unfoldable pub listedCount : Bool → List Voice → ℕ
+listedCount all vs = length (without (unlisted all) vs)
 
 abbrev pub countIn : Bool → Channel → ℕ
-countIn all c = countOf all (live c)
+countIn all c = listedCount all (live c)
 
 -- the rows of a list of that many, for which there is so much room
 abbrev pub listRows : Bool → Bool → Bool → ℕ → ℕ → ℕ
@@ -60,8 +60,8 @@ abbrev pub answeredOf : Listing → Counted
 answeredOf a = answered (counted.Done (a .count)) counted.Refused (a .number)
 
 -- how long the phrase of that number is
-abbrev pub lengthIn : ℕ → Channel → ℕ
-lengthIn k c = phraseAt c k .length
+abbrev pub phraseLength : ℕ → Channel → ℕ
+phraseLength k c = phraseAt c k .length
 
 -- the figures of voice i of a channel
 abbrev pub infoIn : Params → ℕ → Sampler → ℕ → VoiceInfo

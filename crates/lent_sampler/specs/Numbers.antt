@@ -95,13 +95,13 @@ gatherRows t size = row (not (t .good && leb (t .count * t .capacity) size)) 9
 -- ---- a sample of one channel
 
 -- the clock of a channel, 0 of one that isn't there
-abbrev pub timeIn : Readings → ℕ → ℕ
-timeIn t j = getD (t .time ∷ t .other ∷ []) j 0
+abbrev pub clockIn : Readings → ℕ → ℕ
+clockIn t j = getD (t .time ∷ t .other ∷ []) j 0
 
 -- `sampleNumber`
 abbrev pub sampleRows : Readings → ℕ → Params → ℕ → ℕ
 sampleRows t j p size = row (not (goodWithBy t size)) 9
-    (row (not (ltb j (t .count))) 1 (row (beyondLimits p) 4 (row (leb lastTime (timeIn t j)) 6 0)))
+    (row (not (ltb j (t .count))) 1 (row (beyondLimits p) 4 (row (leb lastTime (clockIn t j)) 6 0)))
 
 -- ---- a frame
 
@@ -123,7 +123,7 @@ framing number entries = record { entries = cond (eqb number 0) entries 0; numbe
 unfoldable pub latestTime : ℕ → List ℕ → ℕ
 latestTime n times = fold max 0 (take n times)
 
--- `roomOf`
+-- `framesLeft`
 unfoldable pub roomLeft : Readings → ℕ
 roomLeft t = lastTime - latestTime (t .count) (t .time ∷ t .other ∷ [])
 

@@ -70,7 +70,7 @@ ghost use Rattle.lent_sampler.specs.Numbers.{
   askedBy,
   askingOf,
   gatherRows,
-  timeIn,
+  clockIn,
   sampleRows,
   frameAskedBy,
   framing,
@@ -84,13 +84,13 @@ ghost use Rattle.lent_sampler.specs.Hearing.{atVolume};
 ghost use Rattle.lent_sampler.specs.Lists.{
   seatOf,
   seated,
-  spotOf,
+  voicePlace,
   voiceIn,
   unlisted,
   countIn,
   listingBy,
   answeredOf,
-  lengthIn,
+  phraseLength,
   infoIn,
 };
 use channel::Against;
@@ -458,7 +458,7 @@ fn seat(channel: usize) -> usize
 }
 
 fn spot(i: usize) -> usize
-    ensures { λ r. ⌜ r ≡ spotOf i ⌝ }
+    ensures { λ r. ⌜ r ≡ voicePlace i ⌝ }
 {
     if i < 32 { i } else { 0 }
 }
@@ -588,7 +588,7 @@ pub fn iter_active_notes(s: &Sampler, channel: usize, notes: &mut [u64]) -> Coun
 
 // How long the phrase of that number is.
 fn length_of(c: &Channel, k: u8) -> usize
-    ensures { λ r. ⌜ r ≡ lengthIn k (now (c .entry)) ⌝ }
+    ensures { λ r. ⌜ r ≡ phraseLength k (now (c .entry)) ⌝ }
 {
     let phrase = c.head
         .phrase_by(k, c.several, c.table[channel::place_of(k)]);
@@ -596,7 +596,7 @@ fn length_of(c: &Channel, k: u8) -> usize
 }
 
 fn length_at(s: &Sampler, channel: usize, k: u8) -> usize
-    ensures { λ r. ⌜ r ≡ lengthIn k (seated (now (s .entry)) channel) ⌝ }
+    ensures { λ r. ⌜ r ≡ phraseLength k (seated (now (s .entry)) channel) ⌝ }
 {
     let j = seat(channel);
     length_of(&s.channels[j], k)
@@ -737,7 +737,7 @@ fn good_with(t: Readings, size: usize) -> bool
 }
 
 fn time_in(t: Readings, channel: usize) -> usize
-    ensures { λ r. ⌜ r ≡ timeIn t channel ⌝ }
+    ensures { λ r. ⌜ r ≡ clockIn t channel ⌝ }
 {
     if channel == 0 {
         return t.time;

@@ -24,14 +24,14 @@ use Rattle.phrases.specs.Phrases.{noSamples, endsBy, reachOf, storedIn, roomOf,
 use Rattle.voice.specs.Voices.{spanOf, tickOf, lateOf, overOf, shouldRemoveOf, movedOf, betweenOf, valueOf, productOf, soundedOf, finishOf, playedOutOf, endedOf, volumeStepped, turnOf, freshOf, blankVoice, atSpeedOf, goodVoice}
 use Rattle.channel.specs.Heads.{phraseBy, beginsAt, writtenIn, nextTime, headOf, phraseAfter, recorderAfter, interpolatesAfter, chosenAfter, headChangedOf, rampOf, passthruOf, closedOf, goodHead}
 use Rattle.channel.specs.Tables.{goodTable, tableAfter, severalAfter, headNames, foundBy, headAsks, asksOf, leavingOf, blockedBy, shortBy}
-use Rattle.channel.specs.Channels.{channelOf, resetOf, usesOf, headChangedIn, anyUnfinishedOf, handledOf, pushedOf, startPlayingOf, wantedOf, findOf, finishedAtOf, stopPlayingOf, spedOf, setNoteSpeedOf, keptOf, addedOf, heardOf, playedOf, turningBy, resting, turningAt, turningOf, turningIn, takenOf, memoryOf, processSampleOf, changedOf, goodVoicesOf, goodChannel}
+use Rattle.channel.specs.Channels.{channelOf, resetOf, usesOf, headChangedIn, anyUnfinishedOf, handledOf, pushedOf, startPlayingOf, wantedOf, findOf, finishedAtOf, stopPlayingOf, spedOf, setNoteSpeedOf, keptOf, addedOf, heardSum, playedOf, turningBy, resting, turningAt, turningOf, turningIn, takenOf, memoryOf, processSampleOf, changedOf, goodVoicesOf, goodChannel}
 use Rattle.sampler.specs.Refusals.{goodSizes, goodSampler, capacityOf, goodWith, againstAny, setUpNumber, startRows, stopRows, speedRows, frameNumber}
-use Rattle.sampler.specs.Samplers.{setUpOf, eachOf, answerOf, partOf, playedAt, channelSteppedOf as steppedAt, outputOf as outputAt, memoryAt, entryOf, entriesOf, framedOf}
+use Rattle.sampler.specs.Samplers.{setUpOf, eachOf, answerOf, partOf, playedAt, channelSteppedOf as steppedAt, outputOf, memoryAt, entryOf, entriesOf, framedOf}
 use Rattle.decimal.specs.Decimal.{digits, decimal}
 use Rattle.decimal.specs.Lines.{bytes, lineOf, textOf}
-use Rattle.listing.specs.Lines.{hexDigit, hexDigits, outputOf, outputsOf, answerLine, frameLine, badLine, newline}
-use Rattle.listing.specs.Records.{halfAt, wordAt, floatAt, goodHeader, headerOf, lengthOf as bytesOf, restOf, goodSettings, goodRecord, loopModeOf, noteOffOf, loopLengthOf as listedLengthOf, transportOf, paramsOf, frameCallOf, callOf, recordOf}
-use Rattle.listing.specs.Steps.{clockOf, voicesOf, answeredOf, settingsOf, frameOf, playedOf as playOf, memoryAfter, playerOf, laterBy, openedOf, stepOf, stepMemory}
+use Rattle.listing.specs.Lines.{hexDigit, hexDigits, outputText, outputsOf, answerLine, frameLine, badLine, newline}
+use Rattle.listing.specs.Records.{halfAt, wordAt, floatAt, goodHeader, headerOf, kindLength, toRead, goodSettings, goodRecord, loopModeOf, noteOffOf, lengthByKind, transportOf, paramsOf, frameCallOf, callOf, recordOf}
+use Rattle.listing.specs.Steps.{clockOf, voicesOf, answerPlayed, settingsOf, frameOf, callPlayed, memoryAfter, playerOf, laterBy, openedOf, recordStep, stepMemory}
 use Rattle.listing.specs.Whole.{printedFrom, printed}
 use Rattle.listing.specs.declared.records.Header.{Header}
 use Rattle.listing.specs.declared.records.Reading.the-variants.{Good}
@@ -59,7 +59,7 @@ text (line ∷ lines) = bytes line ++ newline ++ text lines
 
 -- whatever a listing computes by
 computing : Unit {0}
-unfolding text fromHex pairs bytes lineOf textOf digits decimal printedFrom printed hexDigit hexDigits outputOf outputsOf answerLine frameLine badLine halfAt wordAt floatAt goodHeader headerOf bytesOf restOf goodSettings goodRecord loopModeOf noteOffOf listedLengthOf transportOf paramsOf frameCallOf callOf recordOf clockOf voicesOf answeredOf settingsOf frameOf playOf memoryAfter playerOf laterBy openedOf stepOf stepMemory floorOf minOf maxOf crossingOf any every without fold seek speedOf quarterNotesPerBarOf samplesPerQuarterNoteOf samplesPerBarOf asSamplesOf timeLengthOf lengthOf loopLengthOf lengthBeyond beyondLimits progressOf levelOf towardOf steppedOf goodRamp goodVolume raised inState misusedOf skippedOf startOf stopOf isRecordingOf recordedOf dataAfter goodRecorder leadOf travelAt loopedOf roundTripOf mirroredOf bouncedOf wrappedOf placedOf clipOffsetAt clipToDataOf offsetAt indexAt madeOf backOf foundAt reversingAt shiftFor settledOf withSpeed withMode withLength withDataLength goodLength goodClip spanOf tickOf lateOf overOf shouldRemoveOf movedOf positionOf oneFurther nextAt betweenOf valueOf productOf soundedOf finishOf playedOutOf endedOf volumeStepped turnOf freshOf blankVoice atSpeedOf goodVoice nextTime headOf rampOf passthruOf closedOf goodHead channelOf resetOf anyUnfinishedOf handledOf pushedOf startPlayingOf wantedOf findOf finishedAtOf stopPlayingOf spedOf setNoteSpeedOf headChangedOf keptOf addedOf heardOf playedOf turningBy resting turningAt turningOf turningIn noSamples endsBy reachOf storedIn roomOf othersOf besideWith besideOf phraseBy beginsAt writtenIn phraseAfter recorderAfter interpolatesAfter chosenAfter goodTable tableAfter severalAfter headNames foundBy headAsks asksOf leavingOf blockedBy shortBy usesOf headChangedIn takenOf memoryOf processSampleOf changedOf goodVoicesOf goodChannel goodSizes goodSampler capacityOf goodWith againstAny setUpNumber startRows stopRows speedRows frameNumber setUpOf eachOf answerOf partOf playedAt steppedAt outputAt memoryAt entryOf entriesOf framedOf add sub mul div rem neg lt le eq ofInt toUnsigned isNan ofBits toBits nanBits ofFields
+unfolding text fromHex pairs bytes lineOf textOf digits decimal printedFrom printed hexDigit hexDigits outputText outputsOf answerLine frameLine badLine halfAt wordAt floatAt goodHeader headerOf kindLength toRead goodSettings goodRecord loopModeOf noteOffOf lengthByKind transportOf paramsOf frameCallOf callOf recordOf clockOf voicesOf answerPlayed settingsOf frameOf callPlayed memoryAfter playerOf laterBy openedOf recordStep stepMemory floorOf minOf maxOf crossingOf any every without fold seek speedOf quarterNotesPerBarOf samplesPerQuarterNoteOf samplesPerBarOf asSamplesOf timeLengthOf lengthOf loopLengthOf lengthBeyond beyondLimits progressOf levelOf towardOf steppedOf goodRamp goodVolume raised inState misusedOf skippedOf startOf stopOf isRecordingOf recordedOf dataAfter goodRecorder leadOf travelAt loopedOf roundTripOf mirroredOf bouncedOf wrappedOf placedOf clipOffsetAt clipToDataOf offsetAt indexAt madeOf backOf foundAt reversingAt shiftFor settledOf withSpeed withMode withLength withDataLength goodLength goodClip spanOf tickOf lateOf overOf shouldRemoveOf movedOf positionOf oneFurther nextAt betweenOf valueOf productOf soundedOf finishOf playedOutOf endedOf volumeStepped turnOf freshOf blankVoice atSpeedOf goodVoice nextTime headOf rampOf passthruOf closedOf goodHead channelOf resetOf anyUnfinishedOf handledOf pushedOf startPlayingOf wantedOf findOf finishedAtOf stopPlayingOf spedOf setNoteSpeedOf headChangedOf keptOf addedOf heardSum playedOf turningBy resting turningAt turningOf turningIn noSamples endsBy reachOf storedIn roomOf othersOf besideWith besideOf phraseBy beginsAt writtenIn phraseAfter recorderAfter interpolatesAfter chosenAfter goodTable tableAfter severalAfter headNames foundBy headAsks asksOf leavingOf blockedBy shortBy usesOf headChangedIn takenOf memoryOf processSampleOf changedOf goodVoicesOf goodChannel goodSizes goodSampler capacityOf goodWith againstAny setUpNumber startRows stopRows speedRows frameNumber setUpOf eachOf answerOf partOf playedAt steppedAt outputOf memoryAt entryOf entriesOf framedOf add sub mul div rem neg lt le eq ofInt toUnsigned isNan ofBits toBits nanBits ofFields
 computing = tt
 
 -- ---- document 01's example
@@ -221,7 +221,7 @@ each-setting :
 unfolding computing
 each-setting = refl
 
-length-kinds : map (λ (kind : ℕ). listedLengthOf kind half) (0 ∷ 1 ∷ 2 ∷ 3 ∷ 4 ∷ 5 ∷ []) ≡ Time (QuarterNotes half) ∷ Time (Samples half) ∷ Time (Seconds half) ∷ Time (Bars half) ∷ Ratio half ∷ WholeBars half ∷ []
+length-kinds : map (λ (kind : ℕ). lengthByKind kind half) (0 ∷ 1 ∷ 2 ∷ 3 ∷ 4 ∷ 5 ∷ []) ≡ Time (QuarterNotes half) ∷ Time (Samples half) ∷ Time (Seconds half) ∷ Time (Bars half) ∷ Ratio half ∷ WholeBars half ∷ []
 unfolding computing
 length-kinds = refl
 
@@ -277,7 +277,7 @@ old-ones-left = refl
 
 -- ---- reasons, at each edge: one channel, records that are bad for one thing
 reasons : Unit {0}
-unfolding text fromHex pairs bytes halfAt without goodHeader bytesOf headerFaultOf settingsFaultOf kindFaultOf recordFaultOf
+unfolding text fromHex pairs bytes halfAt without goodHeader kindLength headerFaultOf settingsFaultOf kindFaultOf recordFaultOf
 reasons = tt
 
 no-version : headerFaultOf (fromHex "0301 00") ≡ header.Version 3

@@ -8,7 +8,7 @@ use borrow.Author.Tests.{ltb-true, ltb-false, eqb-true, eqb-false, eq-eqb, ne-eq
 use lib.Dec.{eqb, leb, ltb, lit≤}
 use lib.ListN.{length, getD, List·getD-eq-default}
 use Rattle.octets.specs.Octets.{byteAt}
-use Rattle.listing.specs.Records.{halfAt, kindOf, lengths, lengthOf, lastLengthKind, channelCount, goodHeader, goodSettings, goodRecord}
+use Rattle.listing.specs.Records.{halfAt, kindOf, lengths, kindLength, lastLengthKind, channelCount, goodHeader, goodSettings, goodRecord}
 use Rattle.listing.specs.Faults.{headerFaultOf, headerFaultless, settingsFaultOf, kindFaultOf, recordFaultOf, recordFaultless}
 use Rattle.listing.specs.declared.records.Header.{Header}
 use Rattle.listing.specs.declared.faults.RecordFault.the-variants as fault
@@ -63,24 +63,24 @@ frame-low true = lit≤ tt
 frame-low false = lit≤ tt
 
 module _ (h : Header) (r : List ℕ) where
-  length-low : lengthOf h (kindOf r) ≤ 45
-  unfolding lengthOf
+  length-low : kindLength h (kindOf r) ≤ 45
+  unfolding kindLength
   length-low = low (1 + 4 * channelCount h) (kindOf r) (frame-low (h .stereo))
 
-  no-kind : 7 < kindOf r → lengthOf h (kindOf r) ≡ 0
-  unfolding lengthOf
+  no-kind : 7 < kindOf r → kindLength h (kindOf r) ≡ 0
+  unfolding kindLength
   no-kind k = List·getD-eq-default (lengths (1 + 4 * channelCount h)) 0 k
 
   other-size : (length r ≡ halfAt r 0 + 2 → ⊥) → goodRecord h r ≡ false
   unfolding goodRecord
   other-size k = simp (ne-eqb _ _ k)
 
-  other-length : (halfAt r 0 ≡ lengthOf h (kindOf r) → ⊥) → goodRecord h r ≡ false
+  other-length : (halfAt r 0 ≡ kindLength h (kindOf r) → ⊥) → goodRecord h r ≡ false
   unfolding goodRecord
   other-length k = simp (ne-eqb _ _ k, and-false)
 
-  of-45 : length r ≤ 2 → lengthOf h (kindOf r) ≡ 45
-  unfolding lengthOf
+  of-45 : length r ≤ 2 → kindLength h (kindOf r) ≡ 45
+  unfolding kindLength
   of-45 k = rw (List·getD-eq-default r 0 k)
 
   -- two bytes, and no kind among them: as for kind 0, there would have to be 45
@@ -103,17 +103,17 @@ module _ (h : Header) (r : List ℕ) where
       ∙ four a b c d
 
   -- all there, and of its kind's length: only settings are left
-  whole-faultless : length r ≡ halfAt r 0 + 2 → halfAt r 0 ≡ lengthOf h (kindOf r) → (t : Bool) → eqb (kindOf r) 0 ≡ t
+  whole-faultless : length r ≡ halfAt r 0 + 2 → halfAt r 0 ≡ kindLength h (kindOf r) → (t : Bool) → eqb (kindOf r) 0 ≡ t
       → recordFaultless (cond (eqb (kindOf r) 0) (settingsFaultOf h r) fault.None) ≡ goodRecord h r
   unfolding goodRecord
-  whole-faultless all own true k = simp (k, eq-eqb (length r) (halfAt r 0 + 2) all, eq-eqb (halfAt r 0) (lengthOf h (kindOf r)) own) settings-faultless
-  whole-faultless all own false k = simp (k, eq-eqb (length r) (halfAt r 0 + 2) all, eq-eqb (halfAt r 0) (lengthOf h (kindOf r)) own)
+  whole-faultless all own true k = simp (k, eq-eqb (length r) (halfAt r 0 + 2) all, eq-eqb (halfAt r 0) (kindLength h (kindOf r)) own) settings-faultless
+  whole-faultless all own false k = simp (k, eq-eqb (length r) (halfAt r 0 + 2) all, eq-eqb (halfAt r 0) (kindLength h (kindOf r)) own)
 
   kind-faultless : length r ≡ halfAt r 0 + 2 → (halfAt r 0 ≡ 0 → ⊥) → recordFaultless (kindFaultOf h r) ≡ goodRecord h r
   unfolding kindFaultOf
   kind-faultless all some =
       looks recordFaultless (ltb 7 (kindOf r)) refl (λ t. other-length (λ q. some (q ∙ no-kind (ltb-true _ _ t))))
-      (λ _. looks recordFaultless (not (eqb (halfAt r 0) (lengthOf h (kindOf r)))) refl (λ t. other-length (eqb-false _ _ (not-true _ t)))
+      (λ _. looks recordFaultless (not (eqb (halfAt r 0) (kindLength h (kindOf r)))) refl (λ t. other-length (eqb-false _ _ (not-true _ t)))
       (λ t. whole-faultless all (eqb-true _ _ (not-false _ t)) (eqb (kindOf r) 0) refl))
 
   pub record-faultless : recordFaultless (recordFaultOf h r) ≡ goodRecord h r

@@ -13,7 +13,7 @@ use Rattle.sampler.specs.Refusals.{frameNumber}
 use Rattle.sampler.specs.Samplers.{Frames}
 use Rattle.own_sampler.specs.declared.FramePlayed.{FramePlayed}
 use Rattle.listing.specs.Lines.{frameLine}
-use Rattle.listing.specs.Steps.{clockOf, voicesOf, answeredOf, framedBy, frameOf}
+use Rattle.listing.specs.Steps.{clockOf, voicesOf, answerPlayed, framedBy, frameOf}
 use Rattle.listing.specs.declared.player.Player.{Player}
 use Rattle.listing.specs.declared.player.Played.{Played}
 
@@ -45,6 +45,6 @@ module _ (y : Player) (inputs : List Float) (m : List ℕ) where
     unfolding frameOf
     shows-outputs line done is = (simp (← number, done, is, frames .sampler, frames .frame), frames .memory)
 
-    pub shows-number : (r : Played) → (a .number ≡ 0 → ⊥) → r ≡ answeredOf 6 (y .params) a → Shows r after
-    unfolding frameOf answeredOf
+    pub shows-number : (r : Played) → (a .number ≡ 0 → ⊥) → r ≡ answerPlayed 6 (y .params) a → Shows r after
+    unfolding frameOf answerPlayed
     shows-number r refused is = (is ∙ simp (← number, ne-eqb _ _ refused, frames .sampler), frames .memory)

@@ -10,17 +10,17 @@ use Rattle.decimal.specs.Lines.{bytes, lineOf, withOf}
 use Rattle.decimal.specs.declared.Line.{Line}
 use Rattle.decimal.proofs.Decimals.{decimal-short}
 use Rattle.decimal.proofs.Lines.{Built, built-none, built-on}
-use Rattle.listing.specs.Lines.{outputOf, space, newline}
+use Rattle.listing.specs.Lines.{outputText, space, newline}
 use Rattle.listing.proofs.Outputs.{output-size, oneOutput}
 
 -- an output after a space
-pub printed-output : {l m : Line} {xs : List ℕ} {n : ℕ} → Built l xs n → (x : Float) → m ≡ withOf (withOf l space) (outputOf x)
-    → n + 1 + 8 ≤ 64 → Built m (xs ++ space ++ outputOf x) (n + 1 + 8)
-printed-output b x e room = built-on (built-on b space 1 refl (lit≤ tt) (omega arith)) (outputOf x) 8 e (output-size x) room
+pub printed-output : {l m : Line} {xs : List ℕ} {n : ℕ} → Built l xs n → (x : Float) → m ≡ withOf (withOf l space) (outputText x)
+    → n + 1 + 8 ≤ 64 → Built m (xs ++ space ++ outputText x) (n + 1 + 8)
+printed-output b x e room = built-on (built-on b space 1 refl (lit≤ tt) (omega arith)) (outputText x) 8 e (output-size x) room
 
 -- up to the first output
 pub printed-one : {l : Line} (clock : ℕ) (x : Float)
-    → l ≡ withOf (withOf (withOf (withOf (lineOf []) (bytes "F ")) (decimal clock)) space) (outputOf x)
+    → l ≡ withOf (withOf (withOf (withOf (lineOf []) (bytes "F ")) (decimal clock)) space) (outputText x)
     → clock < 10 ^ 20 → Built l (oneOutput clock x) 31
 unfolding bytes
 printed-one clock x e h =

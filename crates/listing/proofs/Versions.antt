@@ -14,8 +14,8 @@ use Rattle.walks.specs.Walks.{any}
 use Rattle.walks.proofs.Tests.{neither}
 use Rattle.decimal.specs.Lines.{textOf}
 use Rattle.octets.specs.Octets.{byteAt}
-use Rattle.listing.specs.Records.{floatAt, kindOf, lengthOf, goodHeader, headerOf, goodSettings, goodRecord, loopLengthOf, paramsOf, frameCallOf, callOf, recordOf}
-use Rattle.listing.specs.Steps.{playerOf, openedOf, openOf, stepOf, stepMemory}
+use Rattle.listing.specs.Records.{floatAt, kindOf, kindLength, goodHeader, headerOf, goodSettings, goodRecord, lengthByKind, paramsOf, frameCallOf, callOf, recordOf}
+use Rattle.listing.specs.Steps.{playerOf, openedOf, openOf, recordStep, stepMemory}
 use Rattle.listing.specs.Whole.{nextOf, printedFrom, printed}
 use Rattle.listing.specs.Versions.{goodFirstHeader, firstHeaderOf, goodFirstSettings, goodFirstRecord, firstLengthOf, firstParamsOf, firstRecordOf, stepBy, memoryBy, printedFromBy, printedBy, recordsFrom, recordsOf, inWholeBars, Versions}
 use Rattle.listing.specs.declared.records.Header.{Header}
@@ -28,11 +28,11 @@ use Rattle.listing.specs.declared.Step.{Step}
 
 -- ---- `printed` by the meaning of its bytes
 from-now : (n : ℕ) (l : Listing) (m input : List ℕ) → printedFrom n l m input ≡ printedFromBy recordOf n l m input
-unfolding printedFrom printedFromBy stepOf stepMemory stepBy memoryBy
+unfolding printedFrom printedFromBy recordStep stepMemory stepBy memoryBy
 from-now zero l m input = refl
 from-now (suc n) l m input =
     let r = nextOf input in
-    ap (λ (later : List ℕ). cond (l .on) (textOf (stepOf l r m .line) ++ later) []) (from-now n (stepOf l r m .listing) (stepMemory l r m) (drop (length r) input))
+    ap (λ (later : List ℕ). cond (l .on) (textOf (recordStep l r m .line) ++ later) []) (from-now n (recordStep l r m .listing) (stepMemory l r m) (drop (length r) input))
 
 by-now : (input : List ℕ) → printed input ≡ printedBy headerOf recordOf input
 unfolding printed printedBy
@@ -102,8 +102,8 @@ first-good : (h : Header) (r : List ℕ) → goodRecord (headed false h) r ≡ g
 unfolding goodRecord goodFirstRecord
 first-good h r = simp (first-settings h r)
 
-first-length : (kind : ℕ) (x : Float) → kind ≤ 4 → loopLengthOf kind x ≡ firstLengthOf kind x
-unfolding loopLengthOf firstLengthOf
+first-length : (kind : ℕ) (x : Float) → kind ≤ 4 → lengthByKind kind x ≡ firstLengthOf kind x
+unfolding lengthByKind firstLengthOf
 first-length zero x h = refl
 first-length (suc zero) x h = refl
 first-length (suc (suc zero)) x h = refl
@@ -170,7 +170,7 @@ four-or-five n e = by (leb n 4) refl
     by false h = lt-leb n 5 (omega (arith, leb-false n 4 h, eqb-false n 5 e)) ∙ sym h
 
 same-good : (h : Header) (r : List ℕ) (k : Bool) → eqb (kindOf r) 0 ≡ k → inWholeBars r ≡ false → goodRecord (headed true h) r ≡ goodRecord (headed false h) r
-unfolding goodRecord goodSettings lengthOf
+unfolding goodRecord goodSettings kindLength
 same-good h r true q e = simp (four-or-five (byteAt r 13) (sym (ap (λ (t : Bool). t && eqb (byteAt r 13) 5) q) ∙ e))
 same-good h r false q e = simp (q)
 

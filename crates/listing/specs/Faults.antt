@@ -6,7 +6,7 @@ use mathlib.Core.List.{List}
 use lib.Dec.{eqb, leb, ltb}
 use lib.ListN.{length}
 use Rattle.octets.specs.Octets.{byteAt}
-use Rattle.listing.specs.Records.{halfAt, kindOf, lengthOf, lastLengthKind}
+use Rattle.listing.specs.Records.{halfAt, kindOf, kindLength, lastLengthKind}
 use Rattle.listing.specs.declared.records.Header.{Header}
 use Rattle.listing.specs.declared.faults.HeaderFault.{HeaderFault}
 use Rattle.listing.specs.declared.faults.HeaderFault.the-variants as header
@@ -46,8 +46,8 @@ settingsFaultOf h r =
 unfoldable pub kindFaultOf : Header → List ℕ → RecordFault
 kindFaultOf h r =
     cond (ltb 7 (kindOf r)) (fault.Kind (kindOf r))
-    (cond (not (eqb (halfAt r 0) (lengthOf h (kindOf r))))
-    (fault.Length (kindOf r) (halfAt r 0) (lengthOf h (kindOf r)))
+    (cond (not (eqb (halfAt r 0) (kindLength h (kindOf r))))
+    (fault.Length (kindOf r) (halfAt r 0) (kindLength h (kindOf r)))
     (cond (eqb (kindOf r) 0) (settingsFaultOf h r)
     fault.None))
 

@@ -18,8 +18,8 @@ hexDigits zero n = []
 hexDigits (suc k) n = hexDigit (n / 16 ^ k % 16) ∷ hexDigits k n
 
 -- an output: 8 digits, or `NAN`
-unfoldable pub outputOf : Float → List ℕ
-outputOf x = cond (isNan x) (bytes "NAN") (hexDigits 8 (bitsOf x))
+unfoldable pub outputText : Float → List ℕ
+outputText x = cond (isNan x) (bytes "NAN") (hexDigits 8 (bitsOf x))
 
 abbrev pub space : List ℕ
 space = 32 ∷ []
@@ -30,7 +30,7 @@ newline = 10 ∷ []
 -- each output with a space before it
 unfoldable pub outputsOf : List Float → List ℕ
 outputsOf [] = []
-outputsOf (x ∷ xs) = space ++ outputOf x ++ outputsOf xs
+outputsOf (x ∷ xs) = space ++ outputText x ++ outputsOf xs
 
 -- `E kind answer`
 unfoldable pub answerLine : ℕ → ℕ → List ℕ

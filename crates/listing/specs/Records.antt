@@ -74,12 +74,12 @@ abbrev pub lengths : ℕ → List ℕ
 lengths frame = 45 ∷ 11 ∷ 3 ∷ 7 ∷ 1 ∷ 1 ∷ frame ∷ 1 ∷ []
 
 -- a frame has a float a channel; a kind that isn't named has no byte
-unfoldable pub lengthOf : Header → ℕ → ℕ
-lengthOf h kind = getD (lengths (1 + 4 * channelCount h)) kind 0
+unfoldable pub kindLength : Header → ℕ → ℕ
+kindLength h kind = getD (lengths (1 + 4 * channelCount h)) kind 0
 
 -- how many bytes to read after the two of the length: no kind has more than 45
-unfoldable pub restOf : List ℕ → ℕ
-restOf b = cond (eqb (length b) 2 && leb (halfAt b 0) 45) (halfAt b 0) 0
+unfoldable pub toRead : List ℕ → ℕ
+toRead b = cond (eqb (length b) 2 && leb (halfAt b 0) 45) (halfAt b 0) 0
 
 -- length kind 5 is of version 2 alone
 abbrev pub lastLengthKind : Header → ℕ
@@ -93,7 +93,7 @@ goodSettings h r = leb (byteAt r 11) 1 && leb (byteAt r 12) 2 && leb (byteAt r 1
 -- all the bytes are there, they are as many as the kind has, and each mode is one that there is
 unfoldable pub goodRecord : Header → List ℕ → Bool
 goodRecord h r =
-    eqb (length r) (halfAt r 0 + 2) && eqb (halfAt r 0) (lengthOf h (kindOf r))
+    eqb (length r) (halfAt r 0 + 2) && eqb (halfAt r 0) (kindLength h (kindOf r))
     && (not (eqb (kindOf r) 0) || goodSettings h r)
 
 -- ---- the call of a good record
@@ -112,8 +112,8 @@ noteOffOf index = elim
 abbrev pub firstLengths : Float → List TimeOrRatio
 firstLengths x = Time (QuarterNotes x) ∷ Time (Samples x) ∷ Time (Seconds x) ∷ Time (Bars x) ∷ Ratio x ∷ []
 
-unfoldable pub loopLengthOf : ℕ → Float → TimeOrRatio
-loopLengthOf kind x = getD (firstLengths x) kind (WholeBars x)
+unfoldable pub lengthByKind : ℕ → Float → TimeOrRatio
+lengthByKind kind x = getD (firstLengths x) kind (WholeBars x)
 
 unfoldable pub transportOf : List ℕ → Transport
 transportOf r = record {
@@ -128,7 +128,7 @@ paramsOf r = record {
   «attack_samples» = wordAt r 3;
   «decay_samples» = wordAt r 7;
   transport = transportOf r;
-  «loop_length» = loopLengthOf (byteAt r 13) (floatAt r 14);
+  «loop_length» = lengthByKind (byteAt r 13) (floatAt r 14);
   speed = floatAt r 18;
   «reverse_speed» = floatAt r 22;
   volume = floatAt r 27;

@@ -57,14 +57,14 @@ voicesOf s = channelAt s 0 .count
 -- ---- one call
 
 -- a call of the engine that answers a number
-unfoldable pub answeredOf : ℕ → Params → Answer → Played
-answeredOf kind p
+unfoldable pub answerPlayed : ℕ → Params → Answer → Played
+answerPlayed kind p
     a = record { player = record { sampler = a .sampler; params = p }; line = lineOf (answerLine kind (a .number)) }
 
 -- parameters that row 4 refuses leave the old ones
 unfoldable pub settingsOf : Player → Params → Played
 settingsOf y p =
-    answeredOf 0 (cond (beyondLimits p) (y .params) p)
+    answerPlayed 0 (cond (beyondLimits p) (y .params) p)
     (record { sampler = y .sampler; number = row (beyondLimits p) 4 0 })
 
 abbrev pub framedBy : Player → List Float → List ℕ → Framed
@@ -82,17 +82,17 @@ frameOf y inputs m =
           (answerLine 6 number));
     }
 
-unfoldable pub playedOf : Player → Call → List ℕ → Played
-playedOf y (Parameters p) m = settingsOf y p
-playedOf y (Start note position velocity) m = answeredOf 1 (y .params)
+unfoldable pub callPlayed : Player → Call → List ℕ → Played
+callPlayed y (Parameters p) m = settingsOf y p
+callPlayed y (Start note position velocity) m = answerPlayed 1 (y .params)
     (startPlayingOf (y .sampler) position note velocity (y .params))
-playedOf y (Stop note) m = answeredOf 2 (y .params) (stopPlayingOf (y .sampler) note (y .params))
-playedOf y (Speed note speed) m = answeredOf 3 (y .params) (setNoteSpeedOf (y .sampler) note speed)
-playedOf y StartRecording m = answeredOf 4 (y .params) (startRecordingOf (y .sampler))
-playedOf y StopRecording m = answeredOf 5 (y .params) (stopRecordingOf (y .sampler))
-playedOf y (Mono input) m = frameOf y (input ∷ []) m
-playedOf y (Stereo first second) m = frameOf y (first ∷ second ∷ []) m
-playedOf y Reset m = answeredOf 7 (y .params) (resetOf (y .sampler))
+callPlayed y (Stop note) m = answerPlayed 2 (y .params) (stopPlayingOf (y .sampler) note (y .params))
+callPlayed y (Speed note speed) m = answerPlayed 3 (y .params) (setNoteSpeedOf (y .sampler) note speed)
+callPlayed y StartRecording m = answerPlayed 4 (y .params) (startRecordingOf (y .sampler))
+callPlayed y StopRecording m = answerPlayed 5 (y .params) (stopRecordingOf (y .sampler))
+callPlayed y (Mono input) m = frameOf y (input ∷ []) m
+callPlayed y (Stereo first second) m = frameOf y (first ∷ second ∷ []) m
+callPlayed y Reset m = answerPlayed 7 (y .params) (resetOf (y .sampler))
 
 -- the sample memory afterwards: only a frame changes it
 unfoldable pub memoryAfter : Player → Call → List ℕ → List ℕ
@@ -137,21 +137,21 @@ abbrev pub openOf : List ℕ → ℕ → Step
 openOf b size = openedOf (headerOf b) size
 
 -- over, with a last line
-abbrev pub endedOf : Listing → Line → Step
-endedOf l line =
+abbrev pub overWith : Listing → Line → Step
+overWith l line =
     record { listing = record { header = l .header; player = l .player; offset = l .offset; on = false }; line = line }
 
 -- the next record; where there is none, the end
-unfoldable pub stepOf : Listing → List ℕ → List ℕ → Step
-stepOf l r m = cond (eqb (length r) 0) (endedOf l (lineOf [])) (elim (recordOf (l .header) r) [
+unfoldable pub recordStep : Listing → List ℕ → List ℕ → Step
+recordStep l r m = cond (eqb (length r) 0) (overWith l (lineOf [])) (elim (recordOf (l .header) r) [
   | reading.Good call ↦
-      let played = playedOf (l .player) call m in
+      let played = callPlayed (l .player) call m in
       record {
         listing =
             record { header = l .header; player = played .player; offset = laterBy (length r) (l .offset); on = true };
         line = played .line;
       }
-  | reading.Bad ↦ endedOf l (lineOf (badLine (l .offset)))
+  | reading.Bad ↦ overWith l (lineOf (badLine (l .offset)))
 ])
 
 unfoldable pub stepMemory : Listing → List ℕ → List ℕ → List ℕ

@@ -22,7 +22,7 @@ use Rattle.listing.specs.Records.{
   wordAt,
   floatAt,
   kindOf,
-  lengthOf,
+  kindLength,
   headerOf,
   loopModeOf,
   noteOffOf,
@@ -30,7 +30,7 @@ use Rattle.listing.specs.Records.{
   callOf,
   recordOf,
 }
-use Rattle.listing.specs.Steps.{playedOf, memoryAfter, laterBy, openedOf, endedOf}
+use Rattle.listing.specs.Steps.{callPlayed, memoryAfter, laterBy, openedOf, overWith}
 use Rattle.listing.specs.Whole.{nextOf, printed}
 use Rattle.listing.specs.declared.records.Header.{Header}
 use Rattle.listing.specs.declared.records.Opening.{Opening}
@@ -58,7 +58,7 @@ goodFirstSettings r = leb (byteAt r 11) 1 && leb (byteAt r 12) 2 && leb (byteAt 
 
 unfoldable pub goodFirstRecord : Header → List ℕ → Bool
 goodFirstRecord h r =
-    eqb (length r) (halfAt r 0 + 2) && eqb (halfAt r 0) (lengthOf h (kindOf r))
+    eqb (length r) (halfAt r 0 + 2) && eqb (halfAt r 0) (kindLength h (kindOf r))
     && (not (eqb (kindOf r) 0) || goodFirstSettings r)
 
 unfoldable pub firstLengthOf : ℕ → Float → TimeOrRatio
@@ -86,19 +86,19 @@ firstRecordOf h r =
     (reading.Good (cond (eqb (kindOf r) 0) (Parameters (firstParamsOf r)) (callOf h r)))
     reading.Bad
 
--- ---- what is printed, for any meaning of the bytes: `stepOf`, `stepMemory`, `printedFrom` and `printed` with `opens`
+-- ---- what is printed, for any meaning of the bytes: `recordStep`, `stepMemory`, `printedFrom` and `printed` with `opens`
 -- for what a header means, and `reads` for a record
 
 unfoldable pub stepBy : Reading → Listing → List ℕ → List ℕ → Step
-stepBy x l r m = cond (eqb (length r) 0) (endedOf l (lineOf [])) (elim x [
+stepBy x l r m = cond (eqb (length r) 0) (overWith l (lineOf [])) (elim x [
   | reading.Good call ↦
-      let played = playedOf (l .player) call m in
+      let played = callPlayed (l .player) call m in
       record {
         listing =
             record { header = l .header; player = played .player; offset = laterBy (length r) (l .offset); on = true };
         line = played .line;
       }
-  | reading.Bad ↦ endedOf l (lineOf (badLine (l .offset)))
+  | reading.Bad ↦ overWith l (lineOf (badLine (l .offset)))
 ])
 
 unfoldable pub memoryBy : Reading → Listing → List ℕ → List ℕ → List ℕ

@@ -4,20 +4,20 @@ use mathlib.Core.Bool.{cond}
 use mathlib.Core.List.{List, [], _++_}
 use lib.ListN.{length, take, drop, replicate}
 use Rattle.decimal.specs.Lines.{textOf}
-use Rattle.listing.specs.Records.{restOf}
-use Rattle.listing.specs.Steps.{openOf, stepOf, stepMemory}
+use Rattle.listing.specs.Records.{toRead}
+use Rattle.listing.specs.Steps.{openOf, recordStep, stepMemory}
 use Rattle.listing.specs.declared.Listing.{Listing}
 
 -- the next record: two bytes of length, and what belongs to it, or as many bytes as there are
 abbrev pub nextOf : List ℕ → List ℕ
-nextOf input = take (2 + restOf (take 2 input)) input
+nextOf input = take (2 + toRead (take 2 input)) input
 
 -- what is printed from here on, in n steps at most
 unfoldable pub printedFrom : ℕ → Listing → List ℕ → List ℕ → List ℕ
 printedFrom zero l m input = []
 printedFrom (suc n) l m input =
     let r = nextOf input in
-    let s = stepOf l r m in
+    let s = recordStep l r m in
     cond (l .on) (textOf (s .line) ++ printedFrom n (s .listing) (stepMemory l r m) (drop (length r) input)) []
 
 -- with 8,192 samples of memory; each record has at least a byte, and the end is one step more

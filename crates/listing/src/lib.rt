@@ -10,7 +10,7 @@ ghost use mathlib.Core.Path.{_≡_};
 ghost use Prim.Native.Nat.{_*_, min};
 ghost use lib.ListN.{length};
 ghost use Rattle.listing.specs.Records.{channelCount};
-ghost use Rattle.listing.specs.Steps.{playerOf, laterBy, openOf, endedOf, stepOf, stepMemory};
+ghost use Rattle.listing.specs.Steps.{playerOf, laterBy, openOf, overWith, recordStep, stepMemory};
 use common_types::InitParams;
 use common_types::Params;
 use decimal::Line;
@@ -119,7 +119,7 @@ pub fn open(bytes: &[u8], memory: &[u32]) -> Step
 
 impl Listing {
     fn ended(self, line: Line) -> Step
-        ensures { λ r. ⌜ r ≡ endedOf self line ⌝ }
+        ensures { λ r. ⌜ r ≡ overWith self line ⌝ }
     {
         let mut listing = self;
         listing.on = false;
@@ -128,7 +128,7 @@ impl Listing {
 
     // Goes on with the bytes of a record. Where there are none the listing is over.
     pub fn step(self, bytes: &[u8], memory: &mut [u32]) -> Step
-        ensures { λ r. ⌜ r ≡ stepOf self (now (bytes .entry)) (now (memory .entry)) ⌝ }
+        ensures { λ r. ⌜ r ≡ recordStep self (now (bytes .entry)) (now (memory .entry)) ⌝ }
         ensures { λ r. ⌜ now (memory .exit) ≡ stepMemory self (now (bytes .entry)) (now (memory .entry)) ⌝ }
     {
         if bytes.len() == 0 {

@@ -4,11 +4,11 @@ ghost use mathlib.Core.List.{[], _∷_};
 ghost use Rattle.listing.specs.Steps.{
   clockOf,
   voicesOf,
-  answeredOf,
+  answerPlayed,
   settingsOf,
   framedBy,
   frameOf,
-  playedOf,
+  callPlayed,
   memoryAfter,
 };
 use crate::records::Call;
@@ -43,7 +43,7 @@ fn voices(s: Sampler) -> usize
 }
 
 fn answered(kind: u8, params: Params, a: Answer) -> Played
-    ensures { λ r. ⌜ r ≡ answeredOf kind params a ⌝ }
+    ensures { λ r. ⌜ r ≡ answerPlayed kind params a ⌝ }
 {
     let sampler = a.sampler;
     Played {
@@ -108,7 +108,7 @@ impl Player {
     }
 
     pub fn play(self, call: Call, memory: &mut [u32]) -> Played
-        ensures { λ r. ⌜ r ≡ playedOf self call (now (memory .entry)) ⌝ }
+        ensures { λ r. ⌜ r ≡ callPlayed self call (now (memory .entry)) ⌝ }
         ensures { λ r. ⌜ now (memory .exit) ≡ memoryAfter self call (now (memory .entry)) ⌝ }
     {
         let s = self.sampler;

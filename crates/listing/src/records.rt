@@ -5,15 +5,15 @@ ghost use Rattle.listing.specs.Records.{
   channelCount,
   goodHeader,
   headerOf,
-  lengthOf,
-  restOf,
+  kindLength,
+  toRead,
   lastLengthKind,
   goodSettings,
   goodRecord,
   noteAt,
   loopModeOf,
   noteOffOf,
-  loopLengthOf,
+  lengthByKind,
   transportOf,
   paramsOf,
   frameCallOf,
@@ -106,7 +106,7 @@ pub fn read_header(bytes: &[u8]) -> Opening
 // How many bytes to read after the two of a record's length. One above 45, which no kind has, is answered 0: such a
 // record is bad as it stands.
 pub fn rest(bytes: &[u8]) -> usize
-    ensures { λ r. ⌜ r ≡ restOf (now (bytes .entry)) ⌝ }
+    ensures { λ r. ⌜ r ≡ toRead (now (bytes .entry)) ⌝ }
     ensures { λ r. ⌜ r ≤ 45 ⌝ }
 {
     let size = half_at(bytes, 0) as usize;
@@ -123,7 +123,7 @@ fn frame_length(h: Header) -> usize
 }
 
 pub fn length_of(h: Header, kind: u8) -> usize
-    ensures { λ r. ⌜ r ≡ lengthOf h kind ⌝ }
+    ensures { λ r. ⌜ r ≡ kindLength h kind ⌝ }
 {
     let lengths = [45, 11, 3, 7, 1, 1, frame_length(h), 1];
     let at = kind as usize;
@@ -173,7 +173,7 @@ pub fn note_off(index: u8) -> NoteOffBehaviour
 }
 
 pub fn loop_length(kind: u8, value: f32) -> TimeOrRatio
-    ensures { λ r. ⌜ r ≡ loopLengthOf kind value ⌝ }
+    ensures { λ r. ⌜ r ≡ lengthByKind kind value ⌝ }
 {
     match kind {
         0 => TimeOrRatio::Time(TimeValue::QuarterNotes(value)),

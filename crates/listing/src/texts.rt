@@ -7,7 +7,7 @@ ghost use Rattle.decimal.specs.Lines.{bytes, lineOf, withOf};
 ghost use Rattle.listing.specs.Lines.{
   hexDigit,
   hexDigits,
-  outputOf,
+  outputText,
   space,
   newline,
   answerLine,
@@ -40,7 +40,7 @@ fn hex(n: u32) -> [u8; 8]
 
 // A space and an output.
 pub fn with_output(line: Line, x: f32) -> Line
-    ensures { λ r. ⌜ r ≡ withOf (withOf line space) (outputOf x) ⌝ }
+    ensures { λ r. ⌜ r ≡ withOf (withOf line space) (outputText x) ⌝ }
 {
     let spaced = line.with(b" ");
     if x != x {
@@ -65,7 +65,7 @@ pub fn bad_line(offset: u64) -> Line
 
 fn begun(clock: usize, first: f32) -> Line
     ensures { λ r. ⌜ r
-        ≡ withOf (withOf (withOf (withOf (lineOf []) (bytes "F ")) (decimal clock)) space) (outputOf first) ⌝ }
+        ≡ withOf (withOf (withOf (withOf (lineOf []) (bytes "F ")) (decimal clock)) space) (outputText first) ⌝ }
 {
     let clocked = Line::new().with(b"F ").with_decimal(clock as u64);
     with_output(clocked, first)

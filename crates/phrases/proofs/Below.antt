@@ -1,6 +1,6 @@
 -- What holds of every number below one; a number is another or not, and lies before another or not. Assumes nothing.
-use mathlib.Core.Path.{_≡_, refl, sym, subst}
-use mathlib.Core.Bool.{Bool, true, false, _&&_}
+use mathlib.Core.Path.{_≡_, refl, sym, _∙_, subst}
+use mathlib.Core.Bool.{Bool, true, false, _&&_, true≢false}
 use mathlib.Core.Logic.{_⊎_, inl, inr, _≢_, ⊎-elim}
 use Prim.Native.Nat.{ℕ, zero, suc, _+_, _≤_, _<_}
 use native.Mathlib.Nat.{eq-or-lt-of-le, le-of-suc-le-suc}
@@ -47,3 +47,11 @@ module _ (f : ℕ → Bool) where
   unfolding everyBelow
   below-all zero h = refl
   below-all (suc n) h = joined (everyBelow n f) (f n) (below-all n (λ k l. h k (omega arith))) (h n (omega arith))
+
+  -- one for which it doesn't hold
+  pub below-not : (n k : ℕ) → k < n → f k ≡ false → everyBelow n f ≡ false
+  below-not n k l h = go (everyBelow n f) refl
+    where
+      go : (b : Bool) → everyBelow n f ≡ b → b ≡ false
+      go true e = absurd (true≢false (sym (below-at n k e l) ∙ h))
+      go false e = refl

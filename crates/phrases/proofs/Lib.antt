@@ -3,6 +3,7 @@ pub mod Rooms
 pub mod Table
 pub mod Apart
 pub mod Reaches
+pub mod Order
 pub mod Fits
 pub mod Gathered
 pub mod Examples

@@ -66,6 +66,23 @@ goodAt capacity ps i =
 unfoldable pub goodPhrases : ℕ → List Phrase → Bool
 goodPhrases capacity ps = everyBelow 8 (goodAt capacity ps)
 
+-- ---- phrases in the order of their numbers, each behind those before it: then they are good
+-- it lies within the capacity and, if it has samples, not before a place
+unfoldable pub clearOf : ℕ → ℕ → Phrase → Bool
+clearOf upto capacity p = cond (noSamples p) (leb (p .start) capacity) (leb upto (p .start) && endsBy capacity p)
+
+-- how far phrases reach with one more behind them
+unfoldable pub reachFrom : ℕ → Phrase → ℕ
+reachFrom upto p = cond (noSamples p) upto (reachOf p)
+
+unfoldable pub reachBelow : List Phrase → ℕ → ℕ
+reachBelow ps zero = 0
+reachBelow ps (suc n) = reachFrom (reachBelow ps n) (getD ps n noPhrase)
+
+-- the first n stand in order, within the capacity
+unfoldable pub inOrder : ℕ → List Phrase → ℕ → Bool
+inOrder capacity ps n = everyBelow n (λ (k : ℕ). clearOf (reachBelow ps k) capacity (getD ps k noPhrase))
+
 -- ---- what others say to a phrase that begins at a place: how far they reach, and where the first of them begins that
 -- begins there or behind it; the capacity, where none does
 abbrev pub besideNone : ℕ → Beside

@@ -9,6 +9,8 @@ ghost use Rattle.phrases.specs.Phrases.{
   noSamples,
   endsBy,
   reachOf,
+  clearOf,
+  reachFrom,
   apartOf,
   roomOf,
   noPhrases,
@@ -71,14 +73,38 @@ impl Phrase {
         std::num::wrapping_add_usize(self.start, self.length)
     }
 
-    // Whether it has no sample in common with another.
+    // Whether it lies within the capacity and, if it has samples, not before a place.
+    pub fn clear(self, upto: usize, capacity: usize) -> bool
+        ensures { λ r. ⌜ r ≡ clearOf upto capacity self ⌝ }
+    {
+        if self.is_empty() {
+            return self.start <= capacity;
+        }
+        (upto <= self.start) & self.ends_by(capacity)
+    }
+
+    // How far phrases reach, the last of which it is; they reached up to a place before it.
+    pub fn reach_from(self, upto: usize) -> usize
+        ensures { λ r. ⌜ r ≡ reachFrom upto self ⌝ }
+    {
+        if self.is_empty() {
+            return upto;
+        }
+        self.reach()
+    }
+
+    // Whether it has no sample in common with another: of two with samples the one that begins first ends by the other.
     pub fn apart(self, other: Phrase) -> bool
         ensures { λ r. ⌜ r ≡ apartOf self other ⌝ }
     {
         if self.is_empty() | other.is_empty() {
             return true;
         }
-        self.ends_by(other.start) | other.ends_by(self.start)
+        if self.start <= other.start {
+            self.ends_by(other.start)
+        } else {
+            other.ends_by(self.start)
+        }
     }
 
     // Whether it ends at that place or before it.

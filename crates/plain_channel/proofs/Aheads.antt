@@ -17,7 +17,7 @@ use Rattle.pours.specs.Pours.{turnsOf, judgedOn}
 use Rattle.channel.specs.declared.Channel.{Channel}
 use Rattle.channel.specs.declared.Played.{Played}
 use Rattle.channel.specs.Heads.{mixedOf, closedOf}
-use Rattle.channel.specs.Channels.{withHead, withVoices, anyUnfinishedOf, Turning, keptOf, tidiedOf, heardOf as heard-of, playedOf, turningIn, takenOf, memoryOf, processSampleOf}
+use Rattle.channel.specs.Channels.{withHead, withVoices, anyUnfinishedOf, Turning, keptOf, tidiedOf, heardSum, playedOf, turningIn, takenOf, memoryOf, processSampleOf}
 use Rattle.lent_channel.specs.Turns.{begun, glidedTo, restBy, restOf}
 use Rattle.plain_channel.specs.declared.Side.{Side}
 use Rattle.plain_channel.specs.Sides.{sideAfter}
@@ -99,7 +99,7 @@ module _ (p : Params) (m : List ℕ) where
 
 -- ---- a sample behind none is the sample
 rest-first : (s : Turning) (c : Channel) → length (c .voices) ≡ 32 → restOf s (min (c .count) 32) c (glidedTo 0 zero32) ≡ playedOf s c
-unfolding glidedTo restBy playedOf heard-of
+unfolding glidedTo restBy playedOf heardSum
 rest-first s c all =
     ap (λ (k : ℕ). given (slice 0 (min (c .count) 32) (c .voices)) k) (zero-add _)
     ∙ ap (λ (vs : List Voice). given vs (length (keptOf s vs))) (take-most (c .voices) (c .count) 32 all)

@@ -21,7 +21,7 @@ use Rattle.plain_voice.specs.Hots.{judgedOf}
 use Rattle.pours.specs.Pours.{turnsOf, judgedOn}
 use Rattle.channel.specs.declared.Channel.{Channel}
 use Rattle.channel.specs.declared.Played.{Played}
-use Rattle.channel.specs.Channels.{withVoices, live, Turning, keptOf, tidiedOf, heardOf, playedOf}
+use Rattle.channel.specs.Channels.{withVoices, live, Turning, keptOf, tidiedOf, heardSum, playedOf}
 use Rattle.lent_channel.specs.Turns.{glidedTo, restBy, restOf}
 use Rattle.plain_channel.specs.declared.Side.{Side}
 use Rattle.plain_channel.specs.Sides.{hotsKept, sidePlayed, restHots}
@@ -136,7 +136,7 @@ module _ (p : Params) (m : List ℕ) (d : Channel) (voices : length (d .voices) 
   split-live = sym (take-most (d .voices) (d .count) 32 voices) ∙ sym (take-append-drop e (take (most d) (d .voices))) ∙ ap (λ (l : List Voice). l ++ others) (take-take e (most d) (d .voices) inside)
 
   pub played-behind : AllStay s (onBy p m d 1) first → playedOf s d ≡ givenBehind d e s (onBy p m d 1) (sumAt p m e d 0)
-  unfolding playedOf heardOf sumAt
+  unfolding playedOf heardSum sumAt
   played-behind each =
       let f : Voice → Voice = onBy p m d 1 in
       let long : length (map f first) ≡ e = firsts-front f (d .voices) e within in

@@ -1,15 +1,14 @@
--- A voice that may be poured: in the next sample it stays and is heard, and it is unfinished after it and after all; so what a sample behind such voices asks holds. Assumes nothing.
+-- A voice that may be poured: in the next sample it stays and is heard, and neither that nor all finish it; and what a sample behind such voices asks holds. Assumes nothing.
 use mathlib.Core.Path.{_≡_, refl, sym, ap, _∙_, subst}
-use Prim.Native.Nat.{ℕ, suc, _≤_, _<_, min}
-use native.Mathlib.Omega.{arith}
-use mathlib.Core.Bool.{Bool, false}
+use Prim.Native.Nat.{ℕ, suc, _≤_, min}
+use mathlib.Core.Bool.{Bool}
 use mathlib.Core.List.{List}
-use lib.ListN.{length, drop, getD}
+use lib.ListN.{length}
 use lib.Ieee.{Float, binary32, add}
 use Rattle.common_types.specs.declared.Params.{Params}
 use Rattle.voice.specs.declared.Voice.{Voice}
 use Rattle.voice.specs.declared.Tick.{Tick}
-use Rattle.voice.specs.Voices.{turnOf, blankVoice}
+use Rattle.voice.specs.Voices.{turnOf}
 use Rattle.voice.proofs.Gliding.{glides}
 use Rattle.voice.proofs.PhraseKept.{turn-phrase, tick-phrase}
 use Rattle.plain_voice.specs.declared.Hot.{Hot}
@@ -19,8 +18,7 @@ use Rattle.channel.specs.Channels.{addedOf, turningBy, momentFor, turningIn}
 use Rattle.channel.proofs.Turns.{sounds-by}
 use Rattle.lent_channel.specs.Turns.{Follows}
 use Rattle.lent_channel.proofs.Turns.{follows-own}
-use Rattle.plain_channel.specs.Ahead.{tickIn, recordingHeld, onBy, aheadOf, Easy, Ahead}
-use Rattle.plain_channel.proofs.Firsts.{firsts-at}
+use Rattle.plain_channel.specs.Ahead.{tickIn, recordingHeld, onBy, Easy, Ahead}
 use Rattle.plain_channel.proofs.Aheads.{ahead-count}
 use Rattle.plain_channel.proofs.Laters.{turns-finished}
 use Rattle.plain_channel.proofs.Behinds.{Stays}
@@ -48,23 +46,15 @@ module _ (p : Params) (m : List ℕ) (d : Channel) (v : Voice) (n : ℕ) where
             ∙ sym (sounds-by t held out (add binary32 out (w .«last_sample_value»)) v w refl (ap (λ (b : Bool). addedOf b out (w .«last_sample_value»)) (sym (stays .stays))));
       }
 
-  -- and is unfinished after it, and after all
-  pub easy-soon : Easy p m (suc n) d v → onBy p m d 1 v .finished ≡ false
+  -- and is finished after it, and after all, if it was
+  pub easy-soon : Easy p m (suc n) d v → onBy p m d 1 v .finished ≡ v .finished
   unfolding GlidesOn
-  easy-soon easy = turns-finished t held 1 v (easy .glides .0, tt) ∙ easy .unfinished
+  easy-soon easy = turns-finished t held 1 v (easy .glides .0, tt)
 
-pub easy-late : (p : Params) (m : List ℕ) (d : Channel) (v : Voice) (n : ℕ) → Easy p m n d v → onBy p m d n v .finished ≡ false
-easy-late p m d v n easy = turns-finished (tickIn p d v) (recordingHeld m d v) n v (easy .glides) ∙ easy .unfinished
+pub easy-late : (p : Params) (m : List ℕ) (d : Channel) (v : Voice) (n : ℕ) → Easy p m n d v → onBy p m d n v .finished ≡ v .finished
+easy-late p m d v n easy = turns-finished (tickIn p d v) (recordingHeld m d v) n v (easy .glides)
 
 -- ---- what a sample behind them asks
 module _ (p : Params) (m : List ℕ) {e n : ℕ} {sums : List Float} {d c : Channel} {hs ks : List Hot} (voices : length (d .voices) ≡ 32) (ahead : Ahead p m e n sums d hs c ks) where
   pub asks-inside : e ≤ min (c .count) 32
   asks-inside = subst (λ (k : ℕ). e ≤ min k 32) (sym (ap (λ (x : Channel). x .count) (ahead .channel) ∙ ahead-count p m e n d)) (ahead .eased .inside)
-
-  pub asks-unfinished : 0 < e → getD (c .voices) 0 blankVoice .finished ≡ false
-  unfolding aheadOf
-  asks-unfinished some =
-      let within : e ≤ length (d .voices) = let i = ahead .eased .inside in omega (arith, i, voices) in
-      ap (λ (x : Channel). getD (x .voices) 0 blankVoice .finished) (ahead .channel)
-      ∙ ap (λ (v : Voice). v .finished) (firsts-at (onBy p m d n) (d .voices) e within (drop e (d .voices)) blankVoice 0 some)
-      ∙ easy-late p m d (getD (d .voices) 0 blankVoice) n (ahead .eased .each 0 some)

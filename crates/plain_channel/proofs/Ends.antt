@@ -1,28 +1,24 @@
 -- Turns behind some voices: where they begin, what they have come to where none is left, and a channel whose voices are all ahead, which stays as it is. Assumes nothing.
 use mathlib.Core.Path.{_≡_, refl, sym, _∙_, ap}
-use Prim.Native.Nat.{ℕ, zero, suc, _+_, _-_, _≤_, _<_, min, zero-le}
-use native.Mathlib.Nat.{le-refl, lt-irrefl, add-zero}
+use Prim.Native.Nat.{ℕ, _+_, _-_, _≤_, min, zero-le}
+use native.Mathlib.Nat.{le-refl, add-zero}
 use native.Mathlib.Omega.{arith}
-use mathlib.Core.Bool.{Bool, false, not, _||_, cond}
-use mathlib.Core.List.{List, [], _∷_}
+use mathlib.Core.Bool.{cond}
+use mathlib.Core.List.{List, []}
 use lib.Dec.{ltb}
-use lib.ListN.{length, take, getD}
 use lib.Seq.{slice, slice-empty}
 use lib.Ieee.{Float}
-use borrow.Author.Tests.{lt-ltb, le-ltb}
-use Rattle.walks.specs.Walks.{any, without, behind}
-use Rattle.voice.specs.declared.Voice.{Voice}
-use Rattle.voice.specs.Voices.{blankVoice}
+use borrow.Author.Tests.{le-ltb}
+use Rattle.walks.specs.Walks.{without, behind}
 use Rattle.plain_voice.specs.declared.Hot.{Hot}
 use Rattle.channel.specs.declared.Channel.{Channel}
 use Rattle.channel.specs.declared.Played.{Played}
-use Rattle.channel.specs.Channels.{withVoices, unfinishedOf, anyUnfinishedOf, Turning, keptOf, tidiedOf, takenOf}
+use Rattle.channel.specs.Channels.{withVoices, Turning, keptOf, tidiedOf, takenOf}
 use Rattle.channel.proofs.Turns as T
 use Rattle.lent_channel.specs.declared.Going.{Going}
 use Rattle.lent_channel.specs.Turns.{glidedTo, movedBy, Stands, restBy, restOf, heardOf}
 use Rattle.plain_channel.specs.declared.Side.{Side}
 use Rattle.plain_channel.specs.Sides.{withHots, restHots}
-use Rattle.plain_channel.specs.Ahead.{BehindSome}
 use Rattle.plain_channel.proofs.Sides.{hots-end}
 
 -- turns may begin behind any of the voices
@@ -42,13 +38,6 @@ rest-end s n c g end =
 
     moved : cond (ltb (g .kept) (g .place)) (g .kept + 0 - g .first) 0 ≡ cond (ltb (g .kept) (g .place)) (g .kept - g .first) 0
     moved = ap (λ (k : ℕ). cond (ltb (g .kept) (g .place)) (k - g .first) 0) (add-zero (g .kept))
-
--- if there is a voice, and the first is unfinished, one is
-of-first : (vs : List Voice) (n : ℕ) → 0 < length vs → (0 < n → getD vs 0 blankVoice .finished ≡ false) → ltb 0 n ≡ any unfinishedOf (take n vs)
-unfolding any
-of-first vs zero some so = refl
-of-first [] (suc n) some so = absurd (lt-irrefl 0 some)
-of-first (v ∷ vs) (suc n) some so = let there : 0 < suc n = omega arith in lt-ltb 0 (suc n) there ∙ ap (λ (b : Bool). not b || any unfinishedOf (take n vs)) (sym (so there))
 
 -- ---- a sample's voices are all ahead: nothing is heard of others, and the channel and the positions beside it stay as they are
 module _ (s : Turning) (c : Channel) (e : ℕ) (first : Float) (inside : e ≤ min (c .count) 32) (level : c .count ≡ e) where
@@ -74,11 +63,7 @@ module _ (s : Turning) (c : Channel) (e : ℕ) (first : Float) (inside : e ≤ m
   pub ahead-beside : (k : Side) → k ≡ withHots (restHots s (min (c .count) 32) c k (glidedTo e first)) k
   ahead-beside k = sym (ap (λ (hs : List Hot). withHots hs k) (hots-end s (min (c .count) 32) c k (glidedTo e first) no-other))
 
-  pub ahead-unfinished : length (c .voices) ≡ 32 → (0 < e → getD (c .voices) 0 blankVoice .finished ≡ false) → ltb 0 e ≡ anyUnfinishedOf (others .channel)
-  unfolding anyUnfinishedOf
-  ahead-unfinished all unfinished = of-first (c .voices) e (omega (arith, all)) unfinished ∙ ap (λ (n : ℕ). any unfinishedOf (take n (c .voices))) (sym level) ∙ ap anyUnfinishedOf ahead-gone
-
 -- once the sample is recorded
-pub taken-some : (m : List ℕ) (e : ℕ) (c : Channel) → BehindSome e c → BehindSome e (takenOf m c)
+pub taken-some : (m : List ℕ) (e : ℕ) (c : Channel) → e ≤ min (c .count) 32 → e ≤ min (takenOf m c .count) 32
 unfolding takenOf
-taken-some m e c some = record { inside = some .inside; unfinished = some .unfinished }
+taken-some m e c some = some

@@ -3,13 +3,14 @@ use mathlib.Core.Path.{_≡_, refl, sym, ap, ap₂, _∙_, subst, transport⁻¹
 use Prim.Native.Nat.{ℕ, zero, suc, _+_, _≤_, _<_, min}
 use native.Mathlib.Nat.{suc-add}
 use native.Mathlib.Omega.{arith}
-use mathlib.Core.Bool.{Bool, true, false, not, _||_, true≢false}
+use mathlib.Core.Bool.{Bool, false, not, _||_}
 use mathlib.Core.List.{List, [], _∷_, _++_, map}
 use lib.ListN.{length, take, drop, getD}
 use lib.Seq.{sets, length-take-le, take-at, drop-at, getD-drop}
 use lib.Ieee.{Float, binary32, add}
 use Rattle.binary32.specs.Leaves.{zero32}
 use Rattle.walks.specs.Walks.{any, fold}
+use Rattle.walks.specs.Each.{Each}
 use Rattle.common_types.specs.declared.Params.{Params}
 use Rattle.recorder.specs.Recording.{isRecordingOf}
 use Rattle.voice.specs.declared.Voice.{Voice}
@@ -28,14 +29,14 @@ use Rattle.plain_channel.proofs.Firsts.{firsts-front, firsts-at, each-f
 use Rattle.plain_channel.proofs.Aheads.{ahead-nobody, hots-nobody, sum-nobody, ahead-nothing, behind-none, hots-none}
 use Rattle.plain_channel.proofs.Laters.{closed-recorder, next-now, next-on, next-easy, next-hots}
 use Rattle.plain_channel.proofs.Eases.{easy-stays, easy-soon, easy-late}
-use Rattle.plain_channel.proofs.Behinds.{Stays, AllStay, firstOf, othersOf, voicesBehind, countBehind, givenBehind, rest-behind, played-behind, positionsBehind, hots-behind, side-behind}
+use Rattle.plain_channel.proofs.Behinds.{Stays, AllStay, firstOf, othersOf, countBehind, givenBehind, rest-behind, played-behind, positionsBehind, hots-behind, side-behind}
 
--- ---- the first of a channel's voices is unfinished, so one is
-first-unfinished : (l : List Voice) (n : ℕ) → 0 < n → getD l 0 blankVoice .finished ≡ false → any unfinishedOf (take n l) ≡ true
-unfolding any blankVoice
-first-unfinished l zero some is = absurd (omega (arith, some))
-first-unfinished [] (suc n) some is = absurd (true≢false is)
-first-unfinished (v ∷ l) (suc n) some is = ap (λ (b : Bool). not b || any unfinishedOf (take n l)) is
+-- ---- whether one is unfinished stays so where the first are made something else that is finished if they are
+same-unfinished : (f : Voice → Voice) (rest : List Voice) (k : ℕ) (vs : List Voice) → Each (λ (v : Voice). f v .finished ≡ v .finished) vs → any unfinishedOf (take k (map f vs ++ rest)) ≡ any unfinishedOf (take k (vs ++ rest))
+unfolding any Each
+same-unfinished f rest k [] each = refl
+same-unfinished f rest zero (v ∷ vs) each = refl
+same-unfinished f rest (suc k) (v ∷ vs) each = ap₂ (λ (a b : Bool). not a || b) (each .0) (same-unfinished f rest k vs (each .1))
 
 -- ---- where some are ahead
 module _ (p : Params) (m : List ℕ) (d : Channel) (e : ℕ) where
@@ -46,12 +47,16 @@ module _ (p : Params) (m : List ℕ) (d : Channel) (e : ℕ) where
   abbrev closing : Float → Bool → Played → Played
   closing x b r = record { channel = withHead (closedOf p b (d .head)) (r .channel); output = mixedOf x (r .output) (d .head); moved = r .moved }
 
+  -- whether a voice is unfinished then
+  abbrev sounding : Bool
+  sounding = any unfinishedOf (take (countBehind d e (turningIn p d m)) (firstOf d e ++ sets (drop e (d .voices)) 0 (keptOf (turningIn p d m) (othersOf d e))))
+
   abbrev closed : Float → (Voice → Voice) → Played
-  closed x f = closing x true (given f)
+  closed x f = closing x sounding (given f)
 
   -- the channel after it, and what stands beside it where they are n samples ahead
   abbrev after : (Voice → Voice) → Channel
-  after f = withHead (closedOf p true (d .head)) (given f .channel)
+  after f = withHead (closedOf p sounding (d .head)) (given f .channel)
 
   abbrev positions : List Hot → ℕ → List Hot
   positions hs n = positionsBehind d e (turningIn p d m) hs (hotsOn p m d n (firstOf d e) (take e hs))
@@ -76,28 +81,25 @@ module _ (p : Params) (m : List ℕ) (e n : ℕ) (d : Channel) (voices : length 
   all-stay : AllStay turning (onBy p m d 1) (firstOf d e)
   all-stay = each-first (λ (v : Voice). Stays turning v (onBy p m d 1 v)) blankVoice (d .voices) e within (λ i low. easy-stays p m d (getD (d .voices) i blankVoice) n (eased .each i low))
 
-  unfinished : (f : Voice → Voice) → f (getD (d .voices) 0 blankVoice) .finished ≡ false → anyUnfinishedOf (given p m d e f .channel) ≡ true
+  unfinished : (f : Voice → Voice) → ((i : ℕ) → i < e → f (getD (d .voices) i blankVoice) .finished ≡ getD (d .voices) i blankVoice .finished) → anyUnfinishedOf (given p m d e f .channel) ≡ sounding p m d e
   unfolding anyUnfinishedOf
-  unfinished f is =
-      first-unfinished (voicesBehind d e turning f) (countBehind d e turning) (omega (arith, some)) (ap (λ (v : Voice). v .finished) (firsts-at f (d .voices) e within _ blankVoice 0 some) ∙ is)
+  unfinished f is = same-unfinished f _ (countBehind d e turning) (firstOf d e) (each-first (λ (v : Voice). f v .finished ≡ v .finished) blankVoice (d .voices) e within is)
 
   -- ---- the sample
   module _ (x : Float) where
     sample-given : processSampleOf p x d m ≡ closed p m d e x (onBy p m d 1)
     unfolding processSampleOf
     sample-given =
-        let soon : onBy p m d 1 (getD (d .voices) 0 blankVoice) .finished ≡ false = easy-soon p m d (getD (d .voices) 0 blankVoice) n (eased .each 0 some) in
         ap₂ (λ (c : Channel) (l : List ℕ). let r = playedOf (turningIn p c l) c in record { channel = withHead (closedOf p (anyUnfinishedOf (r .channel)) (c .head)) (r .channel); output = mixedOf x (r .output) (c .head); moved = r .moved }) (untaken m d still) (unwritten m d still x)
         ∙ ap (λ (r : Played). closing p m d e x (anyUnfinishedOf (r .channel)) r) (played-behind p m d voices e (eased .inside) turning all-stay)
-        ∙ ap (λ (b : Bool). closing p m d e x b (given p m d e (onBy p m d 1))) (unfinished (onBy p m d 1) soon)
+        ∙ ap (λ (b : Bool). closing p m d e x b (given p m d e (onBy p m d 1))) (unfinished (onBy p m d 1) (λ i low. easy-soon p m d (getD (d .voices) i blankVoice) n (eased .each i low)))
 
     behind-given : behindOf p x e (sumAt p m e d 0) ahead-by m ≡ closed p m d e x (onBy p m d (suc n))
     unfolding behindOf aheadOf turningIn
     behind-given =
-        let late : onBy p m d (suc n) (getD (d .voices) 0 blankVoice) .finished ≡ false = easy-late p m d (getD (d .voices) 0 blankVoice) (suc n) (eased .each 0 some) in
         ap₂ (λ (c : Channel) (l : List ℕ). let r = restOf (turningIn p c l) (min (c .count) 32) c (glidedTo e (sumAt p m e d 0)) in record { channel = withHead (closedOf p (anyUnfinishedOf (r .channel)) (c .head)) (r .channel); output = mixedOf x (r .output) (c .head); moved = r .moved }) (untaken m ahead-by still-ahead) (unwritten m ahead-by still-ahead x)
         ∙ ap (λ (r : Played). closing p m d e x (anyUnfinishedOf (r .channel)) r) (rest-behind p m d voices e (eased .inside) turning (suc n) (sumAt p m e d 0))
-        ∙ ap (λ (b : Bool). closing p m d e x b (given p m d e (onBy p m d (suc n)))) (unfinished (onBy p m d (suc n)) late)
+        ∙ ap (λ (b : Bool). closing p m d e x b (given p m d e (onBy p m d (suc n)))) (unfinished (onBy p m d (suc n)) (λ i low. easy-late p m d (getD (d .voices) i blankVoice) (suc n) (eased .each i low)))
 
     -- and beside it
     module _ (a b : Side) (hots : length (a .hots) ≡ 32) (is : b .hots ≡ hotsAhead p m e (suc n) d (a .hots)) where
@@ -128,12 +130,12 @@ module _ (p : Params) (m : List ℕ) (e n : ℕ) (d : Channel) (voices : length 
   stand-first = take-at (map (onBy p m d 1) (firstOf d e)) _ e (firsts-front (onBy p m d 1) (d .voices) e within)
 
   soon-easy : (i : ℕ) → i < e → Easy p m n soon (getD (soon .voices) i blankVoice)
-  soon-easy i low = subst (Easy p m n soon) (sym (stands-at i low)) (next-easy p m d early (soon .voices) (soon .count) true (getD (d .voices) i blankVoice) n (eased .each i low))
+  soon-easy i low = subst (Easy p m n soon) (sym (stands-at i low)) (next-easy p m d early (soon .voices) (soon .count) (sounding p m d e) (getD (d .voices) i blankVoice) n (eased .each i low))
 
   soon-eased : Eased p m e n soon
   soon-eased = record {
-    still = λ z. ap isRecordingOf (closed-recorder p true (d .head)) ∙ still;
-    clock = λ z. let c = eased .clock some in let t = next-now p m d early (soon .voices) (soon .count) true in omega (arith, c, t);
+    still = λ z. ap isRecordingOf (closed-recorder p (sounding p m d e) (d .head)) ∙ still;
+    clock = λ z. let c = eased .clock some in let t = next-now p m d early (soon .voices) (soon .count) (sounding p m d e) in omega (arith, c, t);
     inside = let i = eased .inside in omega (arith, i);
     each = soon-easy;
   }
@@ -143,14 +145,14 @@ module _ (p : Params) (m : List ℕ) (e n : ℕ) (d : Channel) (voices : length 
   soon-channel =
       let f : Voice → Voice = onBy p m d 1 in
       let g : Voice → Voice = onBy p m soon n in
-      ap (λ (vs : List Voice). withHead (closedOf p true (d .head)) (withVoices vs (countBehind d e turning) d))
+      ap (λ (vs : List Voice). withHead (closedOf p (sounding p m d e) (d .head)) (withVoices vs (countBehind d e turning) d))
       (sym (ap₂ (λ (l r : List Voice). map g l ++ r) stand-first (drop-at (map f (firstOf d e)) _ e (firsts-front f (d .voices) e within))
-      ∙ ap (λ (l : List Voice). l ++ sets (drop e (d .voices)) 0 (keptOf turning (othersOf d e))) (map-twice f g (onBy p m d (suc n)) (λ v. next-on p m d early (soon .voices) (soon .count) true v n) (firstOf d e))))
+      ∙ ap (λ (l : List Voice). l ++ sets (drop e (d .voices)) 0 (keptOf turning (othersOf d e))) (map-twice f g (onBy p m d (suc n)) (λ v. next-on p m d early (soon .voices) (soon .count) (sounding p m d e) v n) (firstOf d e))))
 
   soon-hots : (hs : List Hot) → length hs ≡ 32 → positions p m d e hs (suc n) ≡ hotsAhead p m e n soon (positions p m d e hs 1)
   soon-hots hs hots =
       let room : length (firstOf d e) ≤ length (take e hs) = let i = eased .inside in let l = length-take-le e (d .voices) within in let r = length-take-le e hs (omega (arith, i, hots)) in omega (arith, l, r) in
-      sym (ap (λ (vs : List Voice). hotsOn p m soon n vs (positions p m d e hs 1)) stand-first ∙ next-hots p m d early (soon .voices) (soon .count) true n (firstOf d e) (take e hs) _ room)
+      sym (ap (λ (vs : List Voice). hotsOn p m soon n vs (positions p m d e hs 1)) stand-first ∙ next-hots p m d early (soon .voices) (soon .count) (sounding p m d e) n (firstOf d e) (take e hs) _ room)
 
   soon-sum : (k : ℕ) → sumAt p m e d (suc k) ≡ sumAt p m e soon k
   unfolding sumAt
@@ -159,7 +161,7 @@ module _ (p : Params) (m : List ℕ) (e n : ℕ) (d : Channel) (voices : length 
       let adding : ℕ → Float → Voice → Float = λ j out v. add binary32 out (onBy p m d j v .«last_sample_value») in
       let adding′ : Float → Voice → Float = λ out v. add binary32 out (onBy p m soon (k + 1) v .«last_sample_value») in
       ap (λ (j : ℕ). fold (adding j) zero32 (firstOf d e)) (suc-add k 1)
-      ∙ sym (ap (fold adding′ zero32) stand-first ∙ fold-map adding′ f (adding (suc (k + 1))) (λ out v. ap (λ (w : Voice). add binary32 out (w .«last_sample_value»)) (next-on p m d early (soon .voices) (soon .count) true v (k + 1))) zero32 (firstOf d e))
+      ∙ sym (ap (fold adding′ zero32) stand-first ∙ fold-map adding′ f (adding (suc (k + 1))) (λ out v. ap (λ (w : Voice). add binary32 out (w .«last_sample_value»)) (next-on p m d early (soon .voices) (soon .count) (sounding p m d e) v (k + 1))) zero32 (firstOf d e))
 
 -- ---- whether some are ahead or none
 module _ (p : Params) (m : List ℕ) (n : ℕ) (sums : List Float) (d c : Channel) (x : Float) (voices : length (d .voices) ≡ 32) where

@@ -13,6 +13,14 @@ use Rattle.plain_channel.specs.Sides.{Together, GoTogether, GlideTogethe
 use Rattle.plain_channel.proofs.Hotting.{side, beat}
 use Rattle.plain_channel.proofs.Pairing.{Pairer}
 
+abbrev pub cool-gliding : Pairer channel side
+cool-gliding = record {
+  takes = tick ∷ going ∷ word w64 ∷ [];
+  gives = going;
+  asks = λ κs a c k. Stands (a .1 .1 .0) (a .1 .0) × (a .1 .0 .kept ≡ a .1 .0 .place);
+  says = λ κs a c k r d l. GlideTogether (a .0) (a .1 .1 .1 .0 .now) (a .1 .1 .0) c k (a .1 .0) d l r;
+}
+
 abbrev pub hot-gliding : Pairer channel side
 hot-gliding = record {
   takes = tick ∷ beat ∷ going ∷ word w64 ∷ [];

@@ -1,11 +1,8 @@
 -- Turns have gone on together with the positions.
 --     turn-follows, rest-follows     a voice has taken its turn, or rested, and `followed` has judged its position if it stayed
---     cools            voices have glided up to the next plain one;  `then-hot`, plain ones from there
---     still-stands, paced-on     there they stand, and the tick is still the channel's
 -- Assumes nothing.
 use mathlib.Core.Path.{_≡_, refl, sym, _∙_, ap, ap₂}
-use Prim.Native.Nat.{ℕ, _+_, _≤_, _<_}
-use native.Mathlib.Nat.{le-trans}
+use Prim.Native.Nat.{ℕ, _+_, _<_}
 use native.Mathlib.Omega.{arith}
 use mathlib.Core.Bool.{Bool, true, false, not, cond}
 use mathlib.Core.List.{List}
@@ -18,18 +15,16 @@ use Rattle.voice.specs.declared.Tick.{Tick}
 use Rattle.voice.specs.Voices.{turnOf, shouldRemoveOf, blankVoice}
 use Rattle.voice.proofs.PhraseKept.{turn-phrase}
 use Rattle.plain_voice.specs.declared.Hot.{Hot}
-use Rattle.plain_voice.specs.Hots.{cold, judgedOf, beatOf}
-use Rattle.channel.specs.declared.Head.{Head}
+use Rattle.plain_voice.specs.Hots.{cold, judgedOf}
 use Rattle.channel.specs.declared.Channel.{Channel}
 use Rattle.channel.specs.Channels.{withVoices, Turning, turningBy}
 use Rattle.channel.proofs.Turns.{Rests}
 use Rattle.lent_channel.specs.declared.Going.{Going}
-use Rattle.lent_channel.specs.Turns.{nextVoice, nextTurn, turnedIn, restedOf, restedIn, Stands, Onward, Follows, Glides}
-use Rattle.lent_channel.proofs.Turns.{turn-goes, rest-goes, onward-else}
+use Rattle.lent_channel.specs.Turns.{nextVoice, nextTurn, turnedIn, restedOf, restedIn, Stands, Follows}
+use Rattle.lent_channel.proofs.Turns.{turn-goes, rest-goes}
 use Rattle.plain_channel.specs.declared.Side.{Side}
-use Rattle.plain_channel.specs.Sides.{withHots, restHots, followedBy, Together, GoTogether, GlideTogether, Paced, FirstPlain}
-use Rattle.plain_channel.proofs.Sides.{hots-stay, hots-leave, cool-on}
-use Rattle.plain_channel.proofs.Togethers.{together-on}
+use Rattle.plain_channel.specs.Sides.{withHots, restHots, followedBy, Together, GoTogether}
+use Rattle.plain_channel.proofs.Sides.{hots-stay, hots-leave}
 
 -- ---- what `followed` leaves gives the same
 -- with where the turns stand and the channel as equations say them
@@ -132,30 +127,3 @@ module _ (s : Turning) (n : ℕ) (c : Channel) (k : Side) (g : Going) (stands : 
           pour = as-poured d k g r l judged;
         },
       )
-
--- ---- voices glide up to the next plain one
-module _ (t : Tick) (m : List ℕ) (n j : ℕ) (c d : Channel) (k : Side) (g h : Going) (glided : Glides t m j c g d h) (first : FirstPlain k (g .place) n j) (few : n ≤ 32) (level : g .kept ≡ g .place) (voices : length (c .voices) ≡ 32) (after : length (d .voices) ≡ 32) (hots : length (k .hots) ≡ 32) where
-  pub cools : GlideTogether t m n c k g d k h
-  cools = record { further = glided .further; goes = cool-on t m n j c d k g h glided first few level voices after hots; none = λ e. (glided .none e, refl) }
-
-  own-way : Onward (turningBy t m) n c g d h
-  own-way = glided .goes n (first .high) few (turningBy t m) (record { turns = λ v e. refl; leaves = λ v e. refl; adds = λ out v e. refl })
-
-  pub still-stands : Stands n h
-  still-stands = own-way .stands
-
-  pub paced-on : t .now ≡ c .head .now → t .interpolates ≡ c .head .interpolates → Paced d t (beatOf t)
-  paced-on now setting =
-      let same : c .head ≡ d .head = sym (ap (λ (x : Channel). x .head) (onward-else own-way)) in
-      record { beat = refl; now = now ∙ ap (λ (x : Head). x .now) same; setting = setting ∙ ap (λ (x : Head). x .interpolates) same }
-
-  -- and plain ones from there
-  pub then-hot : (e : Channel) (l : Side) (i : Going) → GlideTogether t m n d k h e l i → GlideTogether t m n c k g e l i
-  then-hot e l i hot = record {
-    further = le-trans (glided .further) (hot .further);
-    goes = λ s follows. together-on (cools .goes s follows) (hot .goes s follows);
-    none = λ still.
-        let back : i .place ≡ h .place = omega (arith, still, glided .further, hot .further) in
-        let here : h .place ≡ g .place = omega (arith, still, glided .further, hot .further) in
-        (hot .none back .0 ∙ glided .none here, hot .none back .1);
-  }

@@ -27,7 +27,7 @@ use Rattle.channel.specs.Channels.{withHead, withVoices, phraseAt, momentFor}
 use Rattle.channel.proofs.Heads.{passthru-holds, next-one, closed-now, closed-setting}
 use Rattle.plain_channel.specs.Ahead.{tickIn, recordingHeld, onBy, hotOnBy, hotsOn, Easy}
 
--- gliding turns leave a voice unfinished
+-- gliding turns neither finish a voice nor make it unfinished
 pub turns-finished : (t : Tick) (m : List ℕ) (n : ℕ) (v : Voice) → GlidesOn t m n v → turnsOf t m n v .finished ≡ v .finished
 unfolding turnsOf GlidesOn
 turns-finished t m zero v g = refl
@@ -91,7 +91,6 @@ module _ (p : Params) (m : List ℕ) (d : Channel) (early : d .head .now < lastT
     unfolding turnsOf GlidesOn
     next-easy n easy = record {
       full = ap (λ (k : ℕ). eqb (phraseAt next k .length) 0) stays-of ∙ ap (λ (q : Phrase). eqb (q .length) 0) (next-phrase (v .phrase)) ∙ easy .full;
-      unfinished = holds t held v (easy .glides .0) .finished ∙ easy .unfinished;
       glides = subst (λ (s : Tick). GlidesOn s (recordingHeld m next w) n w) (sym (next-tick v w stays-of)) (subst (λ (l : List ℕ). GlidesOn (later 1 t) l n w) (sym (next-held v w stays-of)) (easy .glides .1));
     }
 

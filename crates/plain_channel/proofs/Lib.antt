@@ -4,7 +4,6 @@ pub mod Easings
 pub mod Sides
 pub mod Hotting
 pub mod Following
-pub mod Seeking
 pub mod Togethers
 pub mod Judging
 pub mod Resting

@@ -85,7 +85,7 @@ module _ (p : Params) (m : List ℕ) (i n : ℕ) (c : Channel) (k : Side) where
       one-more : Ahead p m (i + 1) n zs d hs (withVoices (set (c .voices) i (r .voice)) (c .count) c) (set (k .hots) i (r .hot))
       one-more =
           let apart = may-apart (d .head) n may-too in
-          let easy : Easy p m n d w = record { full = full-too; unfinished = pours-too .unfinished eases; glides = pours-too .glides eases } in
+          let easy : Easy p m n d w = record { full = full-too; glides = pours-too .glides eases } in
           subst (λ (u : Voice). Ahead p m (i + 1) n zs d hs (withVoices (set (c .voices) i u) (c .count) c) (set (k .hots) i (r .hot))) (sym (pours-too .voice eases))
           (subst (λ (u : Hot). Ahead p m (i + 1) n zs d hs (withVoices (set (c .voices) i (turnsOf (tickIn p d w) (recordingHeld m d w) n w)) (c .count) c) (set (k .hots) i u)) (sym (pours-too .hot eases))
           (pour-next p m n d voices-too i below-too ahead (apart .0) (apart .1) easy room (pours-too .sums eases)))

@@ -1,6 +1,6 @@
 -- The steps of a run: before voices are poured none are ahead, what is poured over a stretch is what they are then ahead by, and a sample of the run takes the first of it. Assumes nothing.
 use mathlib.Core.Path.{_≡_, refl, sym, _∙_, ap, subst}
-use Prim.Native.Nat.{ℕ, suc, _+_, _-_, _%_, _≤_, _<_}
+use Prim.Native.Nat.{ℕ, suc, _+_, _-_, _%_, _≤_, _<_, min}
 use native.Mathlib.Omega.{arith}
 use mathlib.Core.Bool.{Bool, true, false, cond}
 use mathlib.Core.List.{List, [], _∷_, map}
@@ -20,9 +20,9 @@ use Rattle.channel.specs.Channels.{memoryOf, processSampleOf}
 use Rattle.lent_channel.specs.Turns.{heardOf}
 use Rattle.plain_channel.specs.declared.Side.{Side}
 use Rattle.plain_channel.specs.Sides.{noPour, withHots, sideAfter}
-use Rattle.plain_channel.specs.Ahead.{onBy, aheadOf, hotsOn, behindOf, hotsBehind, sideBehind, BehindSome, mayEase, stretchOf, leftOf, Ahead, AheadBy, Easing, EasedBy, Refilled, Underway, Along}
+use Rattle.plain_channel.specs.Ahead.{onBy, aheadOf, hotsOn, behindOf, hotsBehind, sideBehind, mayEase, stretchOf, leftOf, Ahead, AheadBy, Easing, EasedBy, Refilled, Underway, Along}
 use Rattle.plain_channel.proofs.Aheads.{ahead-memory, ahead-now, hots-now, ahead-nothing, ahead-fewer}
-use Rattle.plain_channel.proofs.Eases.{asks-inside, asks-unfinished}
+use Rattle.plain_channel.proofs.Eases.{asks-inside}
 use Rattle.plain_channel.proofs.Frames.{ahead-heard, ahead-on}
 use Rattle.plain_channel.proofs.Filling.{with-pour, with-eased, with-next, with-left}
 
@@ -171,11 +171,8 @@ module _ (p : Params) (x : Float) (m : List ℕ) (togo : ℕ) (e : Channel) (l :
     ahead : Ahead p m eased (suc (l .pour .left - 1)) (drop next sums) d hs e (l .hots)
     ahead = subst (λ (n : ℕ). Ahead p m eased n (drop next sums) d hs e (l .hots)) (omega (arith, some)) (under .ahead)
 
-    pub asks-so : BehindSome eased e
-    asks-so = record {
-      inside = asks-inside p m (as-many-voices p m ahead voices) ahead;
-      unfinished = asks-unfinished p m (as-many-voices p m ahead voices) ahead;
-    }
+    pub asks-so : eased ≤ min (e .count) 32
+    asks-so = asks-inside p m (as-many-voices p m ahead voices) ahead
 
     heard-so : heardOf (played p x m e l) ≡ heardOf (processSampleOf p x d m)
     heard-so = subst (λ (ys : List Float). heardOf (behindOf p x eased (getD ys 0 zero32) e m) ≡ heardOf (processSampleOf p x d m)) the-next

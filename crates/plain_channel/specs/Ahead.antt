@@ -65,7 +65,6 @@ sumAt p m e c k =
 -- a voice of c may be poured over n samples
 pub record Easy (p : Params) (m : List ℕ) (n : ℕ) (c : Channel) (v : Voice) : Type 0 where
   pub full : eqb (phraseAt c (v .phrase) .length) 0 ≡ false
-  pub unfinished : v .finished ≡ false
   pub glides : GlidesOn (tickIn p c v) (recordingHeld m c v) n v
 
 -- the first e voices of c may be
@@ -93,11 +92,6 @@ hotsBehind p x e c m k =
 
 abbrev pub sideBehind : Params → Float → ℕ → Channel → List ℕ → Side → Side
 sideBehind p x e c m k = withHots (hotsBehind p x e c m k) k
-
--- what it asks: there are so many voices, and if some are ahead the first isn't finished
-pub record BehindSome (e : ℕ) (c : Channel) : Type 0 where
-  pub inside : e ≤ min (c .count) 32
-  pub unfinished : 0 < e → getD (c .voices) 0 blankVoice .finished ≡ false
 
 -- the turns of the voices behind them, once the sample is recorded
 pub record PlaysFrom (p : Params) (m : List ℕ) (e : ℕ) (first : Float) (c : Channel) (k : Side) (r : Heard) (d : Channel) (l : Side) : Type 0 where

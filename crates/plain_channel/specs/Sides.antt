@@ -2,7 +2,7 @@
 -- nothing.
 use mathlib.Core.Path.{_≡_}
 use Prim.Native.Nat.{ℕ, _≤_, _<_, min}
-use mathlib.Core.Bool.{false, cond}
+use mathlib.Core.Bool.{cond}
 use mathlib.Core.List.{List, [], _∷_}
 use lib.Dec.{ltb}
 use lib.ListN.{take, getD, set, replicate}
@@ -97,9 +97,3 @@ pub record Paced (c : Channel) (t : Tick) (b : Beat) : Type 0 where
   pub beat : b ≡ beatOf t
   pub now : t .now ≡ c .head .now
   pub setting : t .interpolates ≡ c .head .interpolates
-
--- r is the place of the first plain voice from that one on and before the n-th, or n
-pub record FirstPlain (k : Side) (from n r : ℕ) : Type 0 where
-  pub low : from ≤ r
-  pub high : r ≤ n
-  pub before : (i : ℕ) → from ≤ i → i < r → getD (k .hots) i cold .plain ≡ false

@@ -15,12 +15,10 @@ ghost use Rattle.plain_channel.specs.Sides.{
   GoTogether,
   GlideTogether,
   Paced,
-  FirstPlain,
 };
 ghost use Rattle.plain_channel.specs.Ahead.{
   behindOf,
   sideBehind,
-  BehindSome,
   PlaysFrom,
   restedSide,
   mayEase,
@@ -88,19 +86,30 @@ impl Side {
     }
 }
 
-// The place of the first plain voice from that one on and before the n-th; else n.
-fn next_plain(side: &Side, from: usize, n: usize) -> usize
-    requires { ⌜ (from ≤ n) × (n ≤ 32) ⌝ }
-    ensures { λ r. ⌜ FirstPlain (now (side .entry)) from n r ⌝ }
+// Voices of the tick's phrase take their turns in place, from the next on and before the n-th, up to the first that is plain
+// or doesn't glide.
+fn cool_glide(c: &mut Channel, side: &mut Side, t: Tick, g: Going, n: usize, data: &[u32]) -> Going
+    requires { ⌜ Stands n g × (g .kept ≡ g .place) ⌝ }
+    ensures { λ r. ⌜ GlideTogether t (now («data» .entry)) n (now (c .entry)) (now (side .entry)) g (now (c .exit))
+        (now (side .exit)) r ⌝ }
 {
-    let mut i: usize = from;
+    let mut output = g.output;
+    let mut i = g.place;
     while i < n {
         if side.hots[i].plain {
-            return i;
+            return lent_channel::glided(i, output);
         }
+        let v = c.voices[i];
+        let q = v.quick(t, data);
+        if !q.glides {
+            return lent_channel::glided(i, output);
+        }
+        let w = q.voice;
+        c.voices[i] = w;
+        output = lent_channel::added(output, w);
         i = i + 1;
     }
-    n
+    lent_channel::glided(i, output)
 }
 
 // Plain voices take their turns in place, from the next on and before the n-th, up to the first that isn't plain or
@@ -146,8 +155,12 @@ fn followed(c: &Channel, side: &mut Side, g: Going, r: Going) -> Going
     ensures { λ q. ⌜ (q ≡ r) × (now (side .exit) ≡ followedBy (now (c .entry)) g r (now (side .entry))) ⌝ }
 {
     if g.kept < r.kept {
-        let h = side.hots[g.place];
-        side.hots[g.kept] = h.judged(c.voices[g.kept].clip2, c.head.now, c.head.interpolates);
+        if side.hots[g.place].plain {
+            let h = side.hots[g.place];
+            side.hots[g.kept] = h.judged(c.voices[g.kept].clip2, c.head.now, c.head.interpolates);
+        } else {
+            side.hots[g.kept] = side.hots[g.place];
+        }
     }
     r
 }
@@ -160,13 +173,17 @@ fn stretch(c: &mut Channel, side: &mut Side, t: Tick, g: Going, n: usize, data: 
         × GoTogether t (now («data» .entry)) n (now (c .entry)) (now (side .entry)) g (now (c .exit)) (now (side .exit)) r ⌝ }
 {
     if g.glides {
-        let upto = next_plain(side, g.place, n);
-        let mut h = lent_channel::glide(c, t, g, upto, data);
-        if (upto <= h.place) & (upto < n) {
-            h = hot_glide(c, side, t, Beat::of(t), h, n, data);
-        }
-        if g.place < h.place {
-            return h;
+        let p = side.hots[g.place];
+        if p.plain {
+            let h = hot_glide(c, side, t, Beat::of(t), g, n, data);
+            if g.place < h.place {
+                return h;
+            }
+        } else {
+            let h = cool_glide(c, side, t, g, n, data);
+            if g.place < h.place {
+                return h;
+            }
         }
     }
     let r = lent_channel::turn_next(c, t, g, data);
@@ -248,7 +265,7 @@ pub fn behind(
     from: usize,
     first: f32,
 ) -> Heard
-    requires { ⌜ BehindSome from (now c) ⌝ }
+    requires { ⌜ from ≤ min (now c .count) 32 ⌝ }
     ensures { λ r. ⌜ (r ≡ heardOf (behindOf params input from first (now (c .entry)) (now («data» .entry))))
         × (now (c .exit) ≡ behindOf params input from first (now (c .entry)) (now («data» .entry)) .channel)
         × (now («data» .exit) ≡ memoryOf input (now (c .entry)) (now («data» .entry)))
@@ -256,11 +273,10 @@ pub fn behind(
 {
     lent_channel::record(c, input, data);
     let mut played = heard_ahead(first);
-    let mut unfinished = 0 < from;
     if c.count != from {
         played = play(c, side, params, from, first, data);
-        unfinished = lent_channel::any_unfinished(c);
     }
+    let unfinished = lent_channel::any_unfinished(c);
     lent_channel::close(c, params, unfinished, input, played)
 }
 

@@ -26,7 +26,7 @@ use Rattle.channel.specs.declared.Channel.{Channel}
 use Rattle.channel.specs.Channels.{live, Turning, keptOf, addedOf, turningBy, turningOf, phraseAt, momentFor, turningIn, takenOf, memoryOf}
 use Rattle.plain_channel.specs.declared.Side.{Side}
 use Rattle.plain_channel.specs.Sides.{hotsKept, sidePlayed, sideAfter}
-use Rattle.fates.specs.Engine.{passesOver, turnedOf, letsGo, leavesOf, turnsBy, momentAt, heldAt, turnsIn}
+use Rattle.fates.specs.Engine.{passesOver, voiceTurned, letsGo, leavesOf, turnsBy, momentAt, heldAt, turnsIn}
 use Rattle.fates.specs.Events.{sounds}
 use Rattle.fates.specs.Places.{Housed, voiceAt, at, gone, fateOf, follow}
 use Rattle.fates.proofs.Lives.{live-length}
@@ -43,7 +43,7 @@ leaves-same t u = rw (lets (t .«note_off_behavior»)) refl
     lets off.DecayAndZeroCrossing = refl
 
 turns-same : (t : Tick) (m : List ℕ) → turnsBy t m ≡ turningBy t m
-unfolding turnsBy turningBy turnedOf turnOf passesOver
+unfolding turnsBy turningBy voiceTurned turnOf passesOver
 turns-same t m = λ i. record { turn = turnOf t m; leaves = λ (u : Voice). leaves-same t u i; adds = λ (out : Float) (v : Voice). addedOf (shouldRemoveOf t v) out (productOf t m v) }
 
 turning-same : (p : Params) (x : Float) (m : List ℕ) (c : Channel) → turningIn p (takenOf m c) (memoryOf x c m) ≡ turnsIn p x m c

@@ -11,7 +11,7 @@ use Rattle.clip.specs.declared.Clip.{Clip}
 use Rattle.clip.specs.Positions.{elapsedAt}
 use Rattle.clip.specs.Plain.{isPlain, plainAt}
 use Rattle.plain_voice.specs.declared.Hot.{Hot}
-use Rattle.plain_voice.specs.Hots.{cold, playsPlain, hotAfter, hotAt, judgedOf, steppedOf}
+use Rattle.plain_voice.specs.Hots.{cold, playsPlain, hotAfter, hotAt, judgedOf, steppedHot}
 use Rattle.plain_voice.specs.Exactly.{Exactly}
 use Rattle.plain_voice.proofs.Hots.{plays-so, sized, stepped-to}
 
@@ -50,7 +50,7 @@ module _ (c : Clip) (smooth : Bool) (now : ℕ) where
       go true is false = refl
       go false is b = is
 
-  by-one : (h : Hot) → judgedOf h smooth c now .plain ≡ true → h ≡ hotAfter c e → judgedOf h smooth c now ≡ steppedOf h (asWhole 64 (c .length))
+  by-one : (h : Hot) → judgedOf h smooth c now .plain ≡ true → h ≡ hotAfter c e → judgedOf h smooth c now ≡ steppedHot h (asWhole 64 (c .length))
   unfolding judgedOf hotAfter
   by-one h plain is =
       let n : ℕ = asWhole 64 (c .length) in

@@ -29,7 +29,7 @@ use Rattle.clip.proofs.Plain.{tested, index-is, passes}
 use Rattle.voice.specs.declared.Tick.{Tick}
 use Rattle.plain_voice.specs.declared.Hot.{Hot}
 use Rattle.plain_voice.specs.declared.Beat.{Beat}
-use Rattle.plain_voice.specs.Hots.{cold, playsPlain, hotAfter, judgedOf, steppedOf, canPlain, beatOf, Agrees}
+use Rattle.plain_voice.specs.Hots.{cold, playsPlain, hotAfter, judgedOf, steppedHot, canPlain, beatOf, Agrees}
 
 -- ---- which voices are plain
 pub record Plays (smooth : Bool) (c : Clip) (now : ℕ) : Type 0 where
@@ -203,8 +203,8 @@ module _ (c : Clip) (h : Hot) (e length : ℕ) (length-is : asWhole 64 (c .lengt
   lap-few : h .lap ≤ e
   lap-few = omega (arith, stands, mul-le-mul-left (h .lap) low)
 
-  pub stepped-to : length ≤ 2 ^ 22 → e < 2 ^ 24 → steppedOf h length ≡ hotAfter c (e + 1)
-  unfolding steppedOf
+  pub stepped-to : length ≤ 2 ^ 22 → e < 2 ^ 24 → steppedHot h length ≡ hotAfter c (e + 1)
+  unfolding steppedHot
   stepped-to short few =
       ap₂ (λ (p l : ℕ). cond (ltb p length) (record { place = p; lap = h .lap; start = h .start; plain = true }) (record { place = 0; lap = l; start = h .start; plain = true }))
       (mod-eq-of-lt (omega (arith, inside, short))) (mod-eq-of-lt (omega (arith, lap-few, few)))
@@ -236,7 +236,7 @@ module _ {h : Hot} {c : Clip} {t : Tick} {b : Beat} {speed : Float} {last : ℕ}
   pub plays-on : playsPlain (t .interpolates) c (t .now) ≡ true
   plays-on = so-plays (t .interpolates) c (t .now) (record { sharp = agrees .sharp; profile = passes c (h .start) length (b .total) (agrees .profile) (agrees .inside); early = early })
 
-  pub stepped-on : h .plain ≡ true → steppedOf h length ≡ judgedOf h (t .interpolates) c (t .now)
+  pub stepped-on : h .plain ≡ true → steppedHot h length ≡ judgedOf h (t .interpolates) c (t .now)
   unfolding judgedOf
   stepped-on plain =
       stepped-to c h e length (cast-is length (le-trans (agrees .profile .length-top) (lit≤ tt)) (agrees .profile .length-is)) (cast-is (h .start) (le-trans (agrees .profile .start-top) (lit≤ tt)) (agrees .profile .start-is))

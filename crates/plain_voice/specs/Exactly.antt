@@ -7,7 +7,7 @@ use Rattle.clip.specs.declared.Clip.{Clip}
 use Rattle.clip.specs.Positions.{elapsedAt}
 use Rattle.clip.specs.Plain.{plainAt}
 use Rattle.plain_voice.specs.declared.Hot.{Hot}
-use Rattle.plain_voice.specs.Hots.{hotAfter, hotAt, judgedOf, steppedOf}
+use Rattle.plain_voice.specs.Hots.{hotAfter, hotAt, judgedOf, steppedHot}
 
 -- of every clip, of 7/12's setting on or off, at every time
 pub record Exactly (c : Clip) (smooth : Bool) (now : ℕ) : Type 0 where
@@ -19,4 +19,4 @@ pub record Exactly (c : Clip) (smooth : Bool) (now : ℕ) : Type 0 where
   pub handed-back : (h : Hot) → 2 ^ 24 ≤ elapsedAt c now → judgedOf h smooth c now .plain ≡ false
   -- "keeps the position as a whole number and moves it by one"
   pub by-one : (h : Hot) → judgedOf h smooth c now .plain ≡ true → h ≡ hotAfter c (elapsedAt c now)
-      → judgedOf h smooth c now ≡ steppedOf h (asWhole 64 (c .length))
+      → judgedOf h smooth c now ≡ steppedHot h (asWhole 64 (c .length))

@@ -47,8 +47,8 @@ unfoldable pub judgedOf : Hot → Bool → Clip → ℕ → Hot
 judgedOf h smooth c now = cond (h .plain) (cond (playsPlain smooth c now) (hotAfter c (elapsedAt c now + 1)) cold) h
 
 -- the position moved by one
-unfoldable pub steppedOf : Hot → ℕ → Hot
-steppedOf h length =
+unfoldable pub steppedHot : Hot → ℕ → Hot
+steppedHot h length =
     let next = (h .place + 1) % 2 ^ 32 in
     cond (ltb next length) (record { place = next; lap = h .lap; start = h .start; plain = true })
     (record { place = 0; lap = (h .lap + 1) % 2 ^ 32; start = h .start; plain = true })
@@ -95,4 +95,4 @@ abbrev pub PlainQuickly : Hot → Voice → Tick → Beat → List ℕ → Quick
 PlainQuickly h v t b m r =
     b ≡ beatOf t → Quickly t m v r
     × (r .glides ≡ true → h .plain ≡ true
-    → steppedOf h (b .length) ≡ judgedOf h (t .interpolates) (r .voice .clip2) (t .now))
+    → steppedHot h (b .length) ≡ judgedOf h (t .interpolates) (r .voice .clip2) (t .now))

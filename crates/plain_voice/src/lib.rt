@@ -10,7 +10,7 @@ ghost use Rattle.plain_voice.specs.Hots.{
   hotAfter,
   hotAt,
   judgedOf,
-  steppedOf,
+  steppedHot,
   canPlain,
   beatOf,
   Agreeing,
@@ -123,7 +123,7 @@ impl Beat {
 impl Hot {
     // One sample on.
     pub fn stepped(self, length: u32) -> Self
-        ensures { λ r. ⌜ r ≡ steppedOf self length ⌝ }
+        ensures { λ r. ⌜ r ≡ steppedHot self length ⌝ }
     {
         let next = std::num::wrapping_add_u32(self.place, 1);
         if next < length {

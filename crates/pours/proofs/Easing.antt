@@ -8,7 +8,7 @@ use mathlib.Core.Path.{_≡_, refl, sym, ap, ap₂, _∙_}
 use Prim.Native.Nat.{ℕ, zero, suc, _+_, _*_, _/_, _%_, _^_, _≤_, _<_}
 use native.Mathlib.Nat.{le-trans, mul-pos, mul-add-mod-self-right, mul-add-div-right}
 use native.Mathlib.Omega.{arith}
-use mathlib.Core.Bool.{Bool, true, false, _&&_, cond, true≢false}
+use mathlib.Core.Bool.{Bool, true, false, not, _&&_, cond, true≢false}
 use mathlib.Core.List.{List}
 use lib.Dec.{T, lit≤}
 use lib.IntN.{pos}
@@ -23,7 +23,7 @@ use Rattle.binary32.proofs.Units.{units-unique-above}
 use Rattle.binary32.proofs.Wholes.{is-units, float-is-units, float-is, float-sign, add-is, le-is, equal-is}
 use Rattle.volume.specs.declared.Volume.{Volume}
 use Rattle.volume.specs.declared.Volume.the-variants.{Static, Linear}
-use Rattle.volume.specs.Levels.{isStaticOf, levelOf, keepsOf}
+use Rattle.volume.specs.Levels.{isStaticOf, isStaticAndMuteOf, levelOf, keepsOf}
 use Rattle.clip.specs.declared.Clip.{Clip}
 use Rattle.clip.specs.Positions.{elapsedAt, indexAt}
 use Rattle.clip.specs.Updates.{sameMode, sameAll}
@@ -31,7 +31,7 @@ use Rattle.clip.specs.Plain.{PlainClip, plainIndex}
 use Rattle.clip.proofs.Plain.{index-is, passes}
 use Rattle.voice.specs.declared.Voice.{Voice}
 use Rattle.voice.specs.declared.Tick.{Tick}
-use Rattle.voice.specs.Voices.{turnOf}
+use Rattle.voice.specs.Voices.{overOf, turnOf}
 use Rattle.plain_voice.specs.declared.Hot.{Hot}
 use Rattle.plain_voice.specs.Hots.{cold, playsPlain, hotAfter, judgedOf}
 use Rattle.plain_voice.proofs.Hots.{so-plays}
@@ -77,7 +77,7 @@ steady-level (Linear c d x y) a b h = absurd (true≢false (sym h))
 -- ---- as any steady voice
 module _ {t : Tick} {start length total p n : ℕ} {v : Voice} (E : EasesVoice t start length total p n v) where
   pub eases-steady : Steady t n v
-  eases-steady = record { own = E .own; unfinished = E .unfinished; sharp = E .sharp; same = E .same; keeps = λ k h. steady-keeps (v .volume) (t .now + k) (E .steady) }
+  eases-steady = record { own = E .own; stays = ap (λ (f : Bool). f && overOf (t .«note_off_behavior») (isStaticAndMuteOf (v .volume)) true) (E .unfinished); sharp = E .sharp; same = E .same; keeps = λ k h. steady-keeps (v .volume) (t .now + k) (E .steady) }
 
   speed-is : Is (paceOf t v) 1
   unfolding sameAll
@@ -99,9 +99,9 @@ module _ {t : Tick} {start length total p n : ℕ} {v : Voice} (E : EasesVoice t
   pub eases-lasts : Lasts t n v
   eases-lasts k h = go (t .once) refl
     where
-      go : (once : Bool) → t .once ≡ once → (once && le (t .span .«whole_length») (absOf (playedOn (paceOf t v) (v .played) (suc k)))) ≡ false
+      go : (once : Bool) → t .once ≡ once → (once && not (v .finished) && le (t .span .«whole_length») (absOf (playedOn (paceOf t v) (v .played) (suc k)))) ≡ false
       go false is = refl
-      go true is = rw (played-on k h) (still-above (t .span .«whole_length») (p + suc k) (p + n) (omega (arith, h)) (E .few) (E .lasts is))
+      go true is = rw (E .unfinished, played-on k h) (still-above (t .span .«whole_length») (p + suc k) (p + n) (omega (arith, h)) (E .few) (E .lasts is))
 
   -- its index by a whole number
   pub index-on : (k : ℕ) → k < n → indexAt (v .clip2) (t .now + k) ≡ plainIndex start length total (elapsedAt (v .clip2) (t .now) + k)

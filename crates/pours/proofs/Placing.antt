@@ -2,7 +2,7 @@
 --     looped-either    the place in a loop, by what remains of the travel's size
 --     lower-is         the smaller of a place and the last
 --     spot-is          the sample of a place that is told
---     counted-next     one more that is told
+--     told-next        one more that is told
 --     within           a place by what is left of a lap
 --     travel-by        the travel at a time
 --     offset-by        and the offset
@@ -16,7 +16,7 @@ use mathlib.Core.List.{List}
 use lib.Dec.{T, ltb→lt}
 use lib.ListN.{length, set}
 use lib.IntN.{pos}
-use lib.Ieee.{Float, nan, inf, fin, Format, binary32, up, down, add, sub, mul, rem, neg, lt, le, isNan}
+use lib.Ieee.{Float, nan, inf, fin, Format, binary32, up, down, ofInt, add, sub, mul, rem, neg, lt, le, isNan}
 use lib.Ieee.Bits.{is-true}
 use borrow.Author.Tests.{not-true, lt-ltb}
 use Rattle.binary32.specs.Leaves.{zero32, one32, asFloat, asWhole, minOf, maxOf, absOf}
@@ -28,11 +28,11 @@ use Rattle.volume.specs.declared.Volume.the-variants.{Static, Linear}
 use Rattle.volume.specs.Levels.{progressOf, levelOf}
 use Rattle.clip.specs.declared.Clip.{Clip}
 use Rattle.clip.specs.declared.Mode.{Mode}
-use Rattle.clip.specs.Positions.{two32, elapsedAt, leadOf, travelAt, raisedOf, loopedOf, mirroredOf, roundTripOf, foldedOf, bouncedOf, wrappedOf, placedOf, clipOffsetAt, clipToDataOf, offsetAt}
+use Rattle.clip.specs.Positions.{two32, elapsedAt, leadOf, travelAt, raisedOf, loopedOf, mirroredOf, roundTripOf, foldedOf, bouncedOf, wrappedOf, placedOf, clipToDataOf}
 use Rattle.clip.proofs.Quick.{looped-ahead, lead-added}
 use Rattle.pours.specs.declared.Way.{Way}
 use Rattle.pours.specs.declared.Way.the-variants.{Up, Down, Fold}
-use Rattle.pours.specs.Steady.{travelBy, spotOf, CountedPlaces, modeBy, sizeBy, periodBy, placeBy, LeftBy, rampBy}
+use Rattle.pours.specs.Steady.{travelBy, spotOf, TravelledPlaces, modeBy, sizeBy, periodBy, placeBy, LeftBy, rampBy}
 use Rattle.pours.proofs.Filling.{filled}
 
 pub looped-either : (x length y : Float) → T (le zero32 y) → y ≡ rem binary32 (cond (le zero32 x) x (neg x)) length → cond (le zero32 x) y (raisedOf (neg y) length) ≡ loopedOf x length
@@ -85,12 +85,12 @@ spot-is y start length total low t low-is t-is once least most =
     (number, ap (asWhole 64) (once least most ∙ ap (λ (z : Float). rem binary32 (add binary32 start z) total) (low-is ∙ lower-is y (sub binary32 length one32) number)))
 
 -- one more that is told
-pub counted-next : (c : Clip) (from k : ℕ) (values : List ℕ) (x y : Float) (r : ℕ) → k < length values → x ≡ travelBy (c .shift) (c .speed) (from + k) → y ≡ wrappedOf (c .mode) x (c .length)
-    → r ≡ spotOf y (c .start) (c .length) (c .«data_length») → CountedPlaces c from k values → CountedPlaces c from (k + 1) (set values k r)
+pub told-next : (c : Clip) (travel : ℕ → Float) (k : ℕ) (values : List ℕ) (x y : Float) (r : ℕ) → k < length values → x ≡ travel k → y ≡ wrappedOf (c .mode) x (c .length)
+    → r ≡ spotOf y (c .start) (c .length) (c .«data_length») → TravelledPlaces c travel k values → TravelledPlaces c travel (k + 1) (set values k r)
 unfolding clipToDataOf placedOf
-counted-next c from k values x y r room at wrapped spot =
+told-next c travel k values x y r room at wrapped spot =
     let here = spot ∙ ap (λ (z : Float). spotOf z (c .start) (c .length) (c .«data_length»)) (wrapped ∙ ap (λ (z : Float). wrappedOf (c .mode) z (c .length)) at) in
-    filled (λ (j : ℕ) (z : ℕ). z ≡ asWhole 64 (clipToDataOf c (placedOf (c .mode) (travelBy (c .shift) (c .speed) (from + j)) (c .length)))) k values r room here
+    filled (λ (j : ℕ) (z : ℕ). z ≡ asWhole 64 (clipToDataOf c (placedOf (c .mode) (travel j) (c .length)))) k values r room here
 
 -- ---- within one lap
 pub positive : (x : Float) → T (lt zero32 x) → absOf x ≡ x
@@ -144,6 +144,15 @@ lead-few speed {lead} = go (lt speed zero32)
     go true e = omega (arith, e)
     go false e = omega (arith, e)
 
+-- the lead as a float
+pub lead-float : (speed : Float) {lead : ℕ} → lead ≡ cond (lt speed zero32) 1 0 → asFloat lead ≡ leadOf speed
+unfolding leadOf ofInt
+lead-float speed {lead} = go (lt speed zero32)
+  where
+    go : (b : Bool) → lead ≡ cond b 1 0 → asFloat lead ≡ cond b one32 zero32
+    go true e = ap asFloat e
+    go false e = ap asFloat e
+
 pub travel-by : (c : Clip) (now lead k : ℕ) → lead ≡ cond (lt (c .speed) zero32) 1 0 → c .since ≤ now → elapsedAt c now + k < 2 ^ 24 → travelBy (c .shift) (c .speed) (elapsedAt c now + lead + k) ≡ travelAt c (now + k)
 unfolding travelAt
 travel-by c now lead k lead-is begun early = ap (λ (x : Float). add binary32 (c .shift) (mul binary32 x (c .speed))) (way (lt (c .speed) zero32) refl)
@@ -162,8 +171,7 @@ travel-by c now lead k lead-is begun early = ap (λ (x : Float). add binary32 (c
 
 -- the offset at a time
 pub offset-by : (c : Clip) (now lead k : ℕ) → lead ≡ cond (lt (c .speed) zero32) 1 0 → c .since ≤ now → elapsedAt c now + k < 2 ^ 24
-    → clipToDataOf c (placedOf (c .mode) (travelBy (c .shift) (c .speed) (elapsedAt c now + lead + k)) (c .length)) ≡ offsetAt c (now + k)
-unfolding offsetAt clipOffsetAt
+    → clipToDataOf c (placedOf (c .mode) (travelBy (c .shift) (c .speed) (elapsedAt c now + lead + k)) (c .length)) ≡ clipToDataOf c (placedOf (c .mode) (travelAt c (now + k)) (c .length))
 offset-by c now lead k lead-is begun early = ap (λ (x : Float). clipToDataOf c (placedOf (c .mode) x (c .length))) (travel-by c now lead k lead-is begun early)
 
 -- ---- levels

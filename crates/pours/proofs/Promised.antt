@@ -21,7 +21,7 @@ use Rattle.volume.specs.declared.Volume.{Volume}
 use Rattle.volume.specs.declared.Volume.the-variants.{Static, Linear}
 use Rattle.volume.specs.Levels.{isStaticOf, levelOf, keepsOf}
 use Rattle.clip.specs.declared.Clip.{Clip}
-use Rattle.clip.specs.Positions.{elapsedAt, indexAt, offsetAt}
+use Rattle.clip.specs.Positions.{elapsedAt, clipOffsetAt, indexAt, offsetAt}
 use Rattle.clip.specs.Updates.{sameAll}
 use Rattle.clip.specs.Plain.{plainIndex}
 use Rattle.clip.proofs.Offsets.{offset-fits}
@@ -34,7 +34,7 @@ use Rattle.pours.specs.declared.Pouring.{Pouring}
 use Rattle.pours.specs.declared.Fetched.{Fetched}
 use Rattle.pours.specs.Eases.{EasesVoice, EasesAt, termAt, LastButOne, lastHeard, movedOn, Added}
 use Rattle.pours.specs.Pours.{Pours, judgedOn}
-use Rattle.pours.specs.Steady.{paceOf, Steady, SteadyAt, playedOn, Lasts, soundAt, leveled, Places, Fetches, Gathers}
+use Rattle.pours.specs.Steady.{paceOf, mayGo, Steady, SteadyAt, playedOn, Lasts, soundAt, leveled, Places, Fetches, Gathers}
 use Rattle.pours.proofs.Turns.{lastOn, onOf, glides-on, turns, poured}
 use Rattle.pours.proofs.Easing.{sum-is, eases-steady, eases-lasts, played-on, index-on, sounds-on, judged, place-on, moved-to}
 
@@ -97,10 +97,10 @@ unfolding keepsOf
 keeps-before (Static x) a b h k = refl
 keeps-before (Linear c d x y) a b h k = lt-ltb a d (omega (arith, h, ltb-true b d k))
 
-pub steady-told : (v : Voice) (t : Tick) (n : ℕ) → 1 ≤ n → n ≤ 2 ^ 24 → t .now ≤ 2 ^ 62 → (keeps same : Bool) → keeps ≡ keepsOf (v .volume) (t .now + (n - 1)) → same ≡ sameAll (v .clip2) (t .span .length) (paceOf t v) (t .span .«data_length») (t .mode)
-    → (not (v .finished) && (eqb (v .phrase) (t .phrase) && (not (t .interpolates) && (keeps && same)))) ≡ true → SteadyAt t n v
-steady-told v t n some few early keeps same keeps-is same-is told =
-    let u : Bool = not (v .finished) in
+pub steady-told : (v : Voice) (t : Tick) (n : ℕ) → 1 ≤ n → n ≤ 2 ^ 24 → t .now ≤ 2 ^ 62 → (goes keeps same : Bool) → goes ≡ mayGo (t .«note_off_behavior») v → keeps ≡ keepsOf (v .volume) (t .now + (n - 1)) → same ≡ sameAll (v .clip2) (t .span .length) (paceOf t v) (t .span .«data_length») (t .mode)
+    → (not goes && (eqb (v .phrase) (t .phrase) && (not (t .interpolates) && (keeps && same)))) ≡ true → SteadyAt t n v
+steady-told v t n some few early goes keeps same goes-is keeps-is same-is told =
+    let u : Bool = not goes in
     let o : Bool = eqb (v .phrase) (t .phrase) in
     let s : Bool = not (t .interpolates) in
     let h₁ = and-r u _ (yes told) in
@@ -109,7 +109,7 @@ steady-told v t n some few early keeps same keeps-is same-is told =
     record {
       steady = record {
         own = eqb→eq (v .phrase) (t .phrase) (and-l o _ h₁);
-        unfinished = not-true (v .finished) (is-true u (and-l u _ (yes told)));
+        stays = sym goes-is ∙ not-true goes (is-true u (and-l u _ (yes told)));
         sharp = not-true (t .interpolates) (is-true s (and-l s _ h₂));
         same = sym same-is ∙ is-true same (and-r keeps same h₃);
         keeps = λ k below. keeps-before (v .volume) (t .now + k) (t .now + (n - 1)) (omega (arith, below)) (sym keeps-is ∙ is-true keeps (and-l keeps same h₃));
@@ -139,7 +139,6 @@ module _ (h : Hot) (v : Voice) (t : Tick) (b : Beat) (m : List ℕ) (before afte
   steadily (suc n) some s l room term is index value last played r index-is value-is last-is played-is voice-is hot-is eased added =
       record {
         own = λ g. s .own;
-        unfinished = λ g. s .unfinished;
         glides = λ g. glides-on m (suc n) s l;
         voice = λ g. voice-is ∙ heard ∙ sym (turns m n s l);
         hot = λ g. hot-is;
@@ -176,7 +175,6 @@ moves m h v t b (suc n) plain some few begun a s l =
 pub left : (h : Hot) (v : Voice) (t : Tick) (b : Beat) (m : List ℕ) (n : ℕ) (sums : List Float) → Pours h v t b m n sums sums (record { voice = v; hot = h; eases = false })
 left h v t b m n sums = record {
   own = λ g. absurd (true≢false (sym g));
-  unfinished = λ g. absurd (true≢false (sym g));
   glides = λ g. absurd (true≢false (sym g));
   voice = λ g. absurd (true≢false (sym g));
   hot = λ g. absurd (true≢false (sym g));
@@ -191,6 +189,7 @@ whole-index c now = sym (floor-cast 64 (offsetAt c now) (offset-fits c now))
 
 module _ (m : List ℕ) (t : Tick) (n : ℕ) (v : Voice) where
   pub gathered : (before after : List ℕ) (f : Fetched) → 1 ≤ n → Lasts t n v → Places (v .clip2) (t .now) n before → Fetches m (v .played) (paceOf t v) n before after f → Gathers m t n v after f
+  unfolding offsetAt clipOffsetAt
   gathered before after f some lasts o F = record {
     recorded = λ k h. F .values k h ∙ ap (λ (i : ℕ). getD m i 0) (at k h);
     index = F .index (n - 1) (omega (arith, some)) ∙ at (n - 1) (omega (arith, some));

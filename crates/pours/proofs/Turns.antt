@@ -7,17 +7,19 @@ use mathlib.Core.Path.{_≡_, refl, sym, ap, ap₂, _∙_, subst}
 use Prim.Native.Nat.{ℕ, zero, suc, _+_, _≤_, _<_, zero-le}
 use native.Mathlib.Nat.{add-zero}
 use native.Mathlib.Omega.{arith}
-use mathlib.Core.Bool.{Bool, true, false, _&&_, cond}
+use mathlib.Core.Bool.{Bool, true, false, _&&_, not, cond, true≢false}
 use mathlib.Core.List.{List, [], _∷_}
 use lib.Ieee.{Float, nan, binary32, add, le}
 use lib.ListN as ListN
 use lib.Seq.{ext-getD}
 use Rattle.binary32.specs.Leaves.{absOf}
-use Rattle.volume.specs.Levels.{levelOf, keepsOf}
+use Rattle.common_types.specs.declared.NoteOffBehaviour.{NoteOffBehaviour}
+use Rattle.common_types.specs.declared.NoteOffBehaviour.the-variants.{Decay, ZeroCrossing, DecayAndZeroCrossing}
+use Rattle.volume.specs.Levels.{isStaticAndMuteOf, levelOf, keepsOf}
 use Rattle.clip.specs.Positions.{elapsedAt, indexAt}
 use Rattle.voice.specs.declared.Voice.{Voice}
 use Rattle.voice.specs.declared.Tick.{Tick}
-use Rattle.voice.specs.Voices.{recordedValueOf, soundedAt, playedOutOf, shouldRemoveOf, turnOf}
+use Rattle.voice.specs.Voices.{recordedValueOf, soundedAt, playedOutOf, lateOf, overOf, shouldRemoveOf, turnOf}
 use Rattle.voice.specs.Gliding.{glidesOf, goesOnOf, quickAt}
 use Rattle.voice.proofs.Values.{value-off}
 use Rattle.voice.proofs.Gliding.{quickly-at}
@@ -25,13 +27,22 @@ use Rattle.plain_voice.specs.declared.Hot.{Hot}
 use Rattle.plain_voice.specs.Hots.{cold, playsPlain, hotAfter, judgedOf}
 use Rattle.pours.specs.Eases.{termAt, lastHeard, Added}
 use Rattle.pours.specs.Pours.{later, turnsOf, GlidesOn, pouredOn, judgedOn}
-use Rattle.pours.specs.Steady.{paceOf, Steady, playedOn, Lasts, soundAt}
+use Rattle.pours.specs.Steady.{paceOf, mayGo, Steady, playedOn, Lasts, soundAt}
 
 -- ---- what is played
 pub played-first : (by played : Float) (k : ℕ) → playedOn by (add binary32 played by) k ≡ playedOn by played (suc k)
 unfolding playedOn
 played-first by played zero = refl
 played-first by played (suc k) = ap (λ (x : Float). add binary32 x by) (played-first by played k)
+
+-- a voice that wouldn't go if it were late doesn't go
+not-late : (b : NoteOffBehaviour) (finished mute late : Bool) → (finished && overOf b mute true) ≡ false → (finished && overOf b mute late) ≡ false
+unfolding overOf
+not-late b false mute late h = refl
+not-late Decay true mute late h = h
+not-late ZeroCrossing true mute late h = absurd (true≢false h)
+not-late DecayAndZeroCrossing true true late h = absurd (true≢false h)
+not-late DecayAndZeroCrossing true false late h = absurd (true≢false h)
 
 -- ---- one turn
 module _ (m : List ℕ) where
@@ -47,19 +58,15 @@ module _ (m : List ℕ) where
 
     not-out : playedOutOf t w ≡ false
     unfolding playedOutOf w playedOn
-    not-out = rw (s .unfinished) (go (t .once) _ (l 0 (omega arith)))
-      where
-        go : (once r : Bool) → (once && r) ≡ false → (once && true && r) ≡ false
-        go false r h = refl
-        go true r h = h
+    not-out = l 0 (omega arith)
 
-    stays : (x : Voice) → x .finished ≡ false → shouldRemoveOf t x ≡ false
+    stays : (x : Voice) → mayGo (t .«note_off_behavior») x ≡ false → shouldRemoveOf t x ≡ false
     unfolding shouldRemoveOf
-    stays x h = rw h
+    stays x = not-late (t .«note_off_behavior») (x .finished) (isStaticAndMuteOf (x .volume)) (lateOf t x)
 
     goes-on : quickAt t v index (termAt m (levelOf (v .volume) (t .now)) index) .glides ≡ true
     unfolding quickAt goesOnOf w
-    goes-on = rw (not-out, stays v (s .unfinished), stays w (s .unfinished))
+    goes-on = rw (not-out, stays v (s .stays), stays w (s .stays))
 
     turned : (v .phrase ≡ t .phrase) × (glidesOf t m v ≡ true) × (quickAt t v index (termAt m (levelOf (v .volume) (t .now)) index) .voice ≡ turnOf t m v)
     unfolding index
@@ -86,7 +93,7 @@ module _ (m : List ℕ) where
     unfolding after lastHeard
     after-steady = record {
       own = s .own;
-      unfinished = s .unfinished;
+      stays = s .stays;
       sharp = s .sharp;
       same = s .same;
       keeps = λ k h. subst (λ (x : ℕ). keepsOf (v .volume) x ≡ true) (omega arith) (s .keeps (suc k) (omega (arith, h)));
@@ -94,7 +101,7 @@ module _ (m : List ℕ) where
 
     after-lasts : Lasts (later 1 t) n after
     unfolding after lastHeard playedOn
-    after-lasts k h = ap (λ (x : Float). t .once && le (t .span .«whole_length») (absOf x)) (played-first (paceOf t v) (v .played) (suc k)) ∙ l (suc k) (omega (arith, h))
+    after-lasts k h = ap (λ (x : Float). t .once && not (v .finished) && le (t .span .«whole_length») (absOf x)) (played-first (paceOf t v) (v .played) (suc k)) ∙ l (suc k) (omega (arith, h))
 
     pub next-steady : Steady (later 1 t) n (turnOf t m v)
     next-steady = subst (Steady (later 1 t) n) (sym turn) after-steady

@@ -53,12 +53,11 @@ judgedOn t m (suc n) v h =
     let w = turnOf t m v in
     judgedOn (later 1 t) m n w (judgedOf h (t .interpolates) (w .clip2) (t .now))
 
--- What pouring a voice promises, if b is the tick's: where it says that the voice eases, it is one of the tick's phrase
--- and unfinished, each of its turns glides, it and its position are what they are after them, and the sums have what they
--- add. Elsewhere the sums are what they were.
+-- What pouring a voice promises, if b is the tick's: where it says that the voice eases, it is one of the tick's phrase,
+-- each of its turns glides, it and its position are what they are after them, and the sums have what they add. Elsewhere
+-- the sums are what they were.
 pub record Pours (h : Hot) (v : Voice) (t : Tick) (b : Beat) (m : List ℕ) (n : ℕ) (before after : List Float) (r : Pouring) : Type 0 where
   pub own : r .eases ≡ true → v .phrase ≡ t .phrase
-  pub unfinished : r .eases ≡ true → v .finished ≡ false
   pub glides : r .eases ≡ true → GlidesOn t m n v
   pub voice : r .eases ≡ true → r .voice ≡ turnsOf t m n v
   pub hot : r .eases ≡ true → r .hot ≡ judgedOn t m n v h

@@ -2,21 +2,23 @@
 -- only. Assumes nothing.
 use mathlib.Core.Path.{_≡_}
 use Prim.Native.Nat.{ℕ, zero, suc, _+_, _-_, _^_, _≤_, _<_}
-use mathlib.Core.Bool.{true, false, not, _&&_, cond}
+use mathlib.Core.Bool.{Bool, true, false, not, _&&_, cond}
 use mathlib.Core.List.{List}
 use lib.Dec.{T}
 use lib.Ieee.{Float, binary32, add, mul, div, rem, neg, lt, le, isNan, ofBits}
 use lib.ListN.{length, getD}
 use Rattle.binary32.specs.Leaves.{zero32, one32, asFloat, asWhole, minOf, maxOf, absOf}
+use Rattle.common_types.specs.declared.NoteOffBehaviour.{NoteOffBehaviour}
 use Rattle.volume.specs.declared.Volume.{Volume}
-use Rattle.volume.specs.Levels.{levelOf, keepsOf}
+use Rattle.volume.specs.Levels.{isStaticAndMuteOf, levelOf, keepsOf}
 use Rattle.clip.specs.declared.Clip.{Clip}
 use Rattle.clip.specs.declared.Mode.{Mode}
 use Rattle.clip.specs.declared.Mode.the-variants.{Loop, PingPong}
-use Rattle.clip.specs.Positions.{two32, mirroredOf, clampedOf, placedOf, clipToDataOf, indexAt, offsetAt}
+use Rattle.clip.specs.Positions.{two32, mirroredOf, clampedOf, placedOf, clipToDataOf, travelAt, indexAt}
 use Rattle.clip.specs.Updates.{sameAll}
 use Rattle.voice.specs.declared.Voice.{Voice}
 use Rattle.voice.specs.declared.Tick.{Tick}
+use Rattle.voice.specs.Voices.{overOf}
 use Rattle.plain_voice.specs.declared.Hot.{Hot}
 use Rattle.pours.specs.declared.Fetched.{Fetched}
 use Rattle.pours.specs.declared.Stood.{Stood}
@@ -32,10 +34,14 @@ use Rattle.pours.specs.Pours.{judgedOn}
 abbrev pub paceOf : Tick → Voice → Float
 paceOf t v = mul binary32 (v .speed) (t .speed)
 
--- one of the tick's phrase and unfinished, whose clip stays as it is, and whose level is steady or still on its way
+-- a finished voice may go at a sample, by what its note-off behaviour waits for, be it late then or not
+abbrev pub mayGo : NoteOffBehaviour → Voice → Bool
+mayGo behavior v = v .finished && overOf behavior (isStaticAndMuteOf (v .volume)) true
+
+-- one of the tick's phrase that stays, whose clip stays as it is, and whose level is steady or still on its way
 pub record Steady (t : Tick) (n : ℕ) (v : Voice) : Type 0 where
   pub own : v .phrase ≡ t .phrase
-  pub unfinished : v .finished ≡ false
+  pub stays : mayGo (t .«note_off_behavior») v ≡ false
   pub sharp : t .interpolates ≡ false
   pub same : sameAll (v .clip2) (t .span .length) (paceOf t v) (t .span .«data_length») (t .mode) ≡ true
   pub keeps : (k : ℕ) → k < n → keepsOf (v .volume) (t .now + k) ≡ true
@@ -49,11 +55,12 @@ playedOn by played (suc k) = add binary32 (playedOn by played k) by
 abbrev pub PlaysBelow : Float → Float → Float → ℕ → Type 0
 PlaysBelow played by whole n = (k : ℕ) → k < n → le whole (absOf (playedOn by played (suc k))) ≡ false
 
--- play-once, if it is so, doesn't end it
+-- play-once, if it is so and hasn't ended it before, doesn't end it
 abbrev pub Lasts : Tick → ℕ → Voice → Type 0
 Lasts t n v =
     (k : ℕ) → k < n
-    → (t .once && le (t .span .«whole_length») (absOf (playedOn (paceOf t v) (v .played) (suc k)))) ≡ false
+    → (t .once && not (v .finished) && le (t .span .«whole_length») (absOf (playedOn (paceOf t v) (v .played) (suc k))))
+    ≡ false
 
 -- What the test says: it is steady, over some samples whose times are counted.
 pub record SteadyAt (t : Tick) (n : ℕ) (v : Voice) : Type 0 where
@@ -95,16 +102,20 @@ spotOf y start length total = asWhole 64 (rem binary32 (add binary32 start (clam
 abbrev pub Spots : Float → Float → Float → Float → Spot → Type 0
 Spots y start length total r = r .told ≡ true → T (not (isNan y)) × (r .index ≡ spotOf y start length total)
 
--- the samples of n places stand in the list, by how many there were since the clip's last change
+-- the samples of the places that n travels come to stand in the list
+abbrev pub TravelledPlaces : Clip → (ℕ → Float) → ℕ → List ℕ → Type 0
+TravelledPlaces c travel n values =
+    (k : ℕ) → k < n
+    → getD values k 0 ≡ asWhole 64 (clipToDataOf c (placedOf (c .mode) (travel k) (c .length)))
+
+-- by how many samples there were since the clip's last change
 abbrev pub CountedPlaces : Clip → ℕ → ℕ → List ℕ → Type 0
 CountedPlaces c from n values =
-    (k : ℕ) → k < n
-    → getD values k 0
-    ≡ asWhole 64 (clipToDataOf c (placedOf (c .mode) (travelBy (c .shift) (c .speed) (from + k)) (c .length)))
+    TravelledPlaces c (λ (k : ℕ). travelBy (c .shift) (c .speed) (from + k)) n values
 
 -- by the time
 abbrev pub Places : Clip → ℕ → ℕ → List ℕ → Type 0
-Places c now n values = (k : ℕ) → k < n → getD values k 0 ≡ asWhole 64 (offsetAt c (now + k))
+Places c now n values = TravelledPlaces c (λ (k : ℕ). travelAt c (now + k)) n values
 
 -- ---- within one lap
 

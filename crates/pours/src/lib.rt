@@ -8,12 +8,13 @@ ghost use lib.Dec.{T};
 ghost use lib.ListN.{length, getD};
 ghost use lib.Ieee.{binary32, sub, mul, rem, neg, lt, le};
 ghost use Rattle.binary32.specs.Leaves.{zero32, asFloat, asWhole, floatOf, OrLess};
-ghost use Rattle.clip.specs.Positions.{raisedOf, loopedOf, foldedOf, bouncedOf, wrappedOf};
+ghost use Rattle.clip.specs.Positions.{travelAt, raisedOf, loopedOf, foldedOf, bouncedOf, wrappedOf};
 ghost use Rattle.clip.specs.Plain.{plainIndex};
 ghost use Rattle.plain_voice.specs.Hots.{beatOf};
 ghost use Rattle.pours.specs.Eases.{EasesAt, termAt, LastButOne, lastHeard, movedOn, Added};
 ghost use Rattle.pours.specs.Pours.{Pours};
 ghost use Rattle.pours.specs.Steady.{
+  mayGo,
   SteadyAt,
   PlaysBelow,
   Lasts,
@@ -37,6 +38,7 @@ ghost use Rattle.pours.specs.Steady.{
 };
 use clip::Clip;
 use clip::Mode;
+use common_types::NoteOffBehaviour;
 use plain_voice::Beat;
 use plain_voice::Hot;
 use plain_voice::LAST_WHOLE;
@@ -276,6 +278,22 @@ fn plainly(h: Hot, v: Voice, t: Tick, b: Beat, data: &[u32], sums: &mut [f32], n
 
 // ---- any steady voice
 
+// Whether a voice may go within some samples: a finished one does once it is mute, where its note-off waits for that
+// alone, and else it may at any of them.
+fn may_go(v: Voice, behavior: NoteOffBehaviour) -> bool
+    ensures { λ r. ⌜ r ≡ mayGo behavior v ⌝ }
+{
+    if !v.finished {
+        return false;
+    }
+    let volume = v.volume;
+    match behavior {
+        NoteOffBehaviour::Decay => volume.is_static_and_mute(),
+        NoteOffBehaviour::ZeroCrossing => true,
+        NoteOffBehaviour::DecayAndZeroCrossing => true,
+    }
+}
+
 // Whether n turns change nothing but what it has sounded and how far it has played, but for play-once.
 fn steady(v: Voice, t: Tick, n: usize) -> bool
     ensures { λ r. ⌜ (r ≡ true → SteadyAt t n v) ⌝ }
@@ -293,7 +311,8 @@ fn steady(v: Voice, t: Tick, n: usize) -> bool
     let clip2 = v.clip2;
     let span = t.span;
     let mode = t.mode;
-    !v.finished
+    let behavior = t.note_off_behavior;
+    !may_go(v, behavior)
         & ((v.phrase == t.phrase)
             & (!t.interpolates
                 & (volume.keeps(t.now + (n - 1))
@@ -610,19 +629,46 @@ fn lead(speed: f32) -> u32
     if speed < 0.0 { 1 } else { 0 }
 }
 
-// The samples of n places from that time on, by counts, which are exact up to 2^24. Past that none is told: the clip's
-// own quick way, called from here too, would stand apart from the turns that have it compiled in.
+// The travel of a clip at any time from its last change on.
+fn travel_at(c: Clip, time: usize) -> f32
+    requires { ⌜ c .since ≤ time ⌝ }
+    ensures { λ r. ⌜ r ≡ travelAt c time ⌝ }
+{
+    c.shift + (binary32::usize_to_f32(time - c.since) + float_of(lead(c.speed))) * c.speed
+}
+
+// The samples of n places from any such time on. A loop that ends where one isn't told takes less stack.
+fn places_far(c: Clip, time: usize, values: &mut [u32], n: usize) -> bool
+    requires { ⌜ (c .since ≤ time) × (time ≤ 2 ^ 62) × (n ≤ 2 ^ 24) × (n ≤ length (now «values»)) ⌝ }
+    ensures { λ r. ⌜ (length (now («values» .exit)) ≡ length (now («values» .entry))) × (r ≡ true → Places c time n (now («values» .exit))) ⌝ }
+{
+    let mode = c.mode;
+    let mut k: usize = 0;
+    while k < n {
+        let y = wrapped(mode, travel_at(c, time + k), c.length);
+        let p = spot_at(y, c.start, c.length, c.data_length);
+        if !((y >= 0.0) & p.told) {
+            return false;
+        }
+        values[k] = p.index;
+        k += 1;
+    }
+    true
+}
+
+// The samples of n places from that time on, by counts where they are exact, up to 2^24.
 fn places(c: Clip, time: usize, values: &mut [u32], n: usize) -> bool
     requires { ⌜ (time ≤ 2 ^ 62) × (1 ≤ n) × (n ≤ 2 ^ 24) × (n ≤ length (now «values»)) ⌝ }
     ensures { λ r. ⌜ (length (now («values» .exit)) ≡ length (now («values» .entry))) × (r ≡ true → Places c time n (now («values» .exit))) ⌝ }
 {
-    if c.since <= time {
-        let elapsed = time - c.since;
-        if elapsed <= LAST_WHOLE - n {
-            return places_by(c, (elapsed as u32) + lead(c.speed), values, n);
-        }
+    if time < c.since {
+        return false;
     }
-    false
+    let elapsed = time - c.since;
+    if elapsed <= LAST_WHOLE - n {
+        return places_by(c, (elapsed as u32) + lead(c.speed), values, n);
+    }
+    places_far(c, time, values, n)
 }
 
 // ---- what it sounds
@@ -648,7 +694,7 @@ fn lasts(v: Voice, t: Tick, far: f32, n: usize) -> bool
     requires { ⌜ (1 ≤ n) × (far ≡ playedOn (paceOf t v) (v .played) n) ⌝ }
     ensures { λ r. ⌜ (r ≡ true → Lasts t n v) ⌝ }
 {
-    if t.once {
+    if t.once & !v.finished {
         let span = t.span;
         let speed = v.speed * t.speed;
         if (v.played > 0.0) & (speed > 0.0) {

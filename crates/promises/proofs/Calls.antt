@@ -26,7 +26,7 @@ use Rattle.sampler.proofs.Entries.{Kept, kept-refl, kept-trans, kept-step, kept
 use Rattle.sampler.proofs.Gathered.{gather-same, gather-refused, gather-channel}
 use Rattle.fates.specs.Events.{idle, changes, gathers, sounds, act, acts}
 use Rattle.fates.specs.Places.{Housed}
-use Rattle.wave.specs.Reader.{judgedOf}
+use Rattle.wave.specs.Reader.{fileJudged}
 use Rattle.recordings.specs.Waves.{readNumber, readWaveOf}
 use Rattle.promises.specs.Runs.{World, setUp, Call, change, sample, frame, readWave, gather, asks, questionNumber, code, after, run, chan, doneTo, event, events}
 use Rattle.promises.proofs.Engine.{changes-same, sounds-same}
@@ -130,7 +130,7 @@ module _ (w : World) (two : length (w .sampler .channels) ≡ 2) (few : w .sampl
   chan-after (change d) = answer-channel _ _ (w .sampler) two few j h
   chan-after (sample i x p) = sample-channel i x p
   chan-after (frame xs p) = frame-channels xs p
-  chan-after (readWave f) = answer-channel (readNumber (w .sampler) (judgedOf f) (length (w .memory))) _ (w .sampler) two few j h
+  chan-after (readWave f) = answer-channel (readNumber (w .sampler) (fileJudged f) (length (w .memory))) _ (w .sampler) two few j h
   chan-after gather = gather-done
   chan-after (asks q) = nothing (eqb (questionNumber w q) 0)
 

@@ -46,7 +46,7 @@ use Rattle.questions.proofs.Summaries.{columns-count, smallest-zero, waveform-d
 use Rattle.questions.specs.Lists.{listedOf}
 use Rattle.channel.specs.declared.Change.the-variants.{Start, Stop, Speed, Head, Reset}
 use Rattle.channel.specs.declared.HeadChange.the-variants.{Load}
-use Rattle.wave.specs.Reader.{judgedOf}
+use Rattle.wave.specs.Reader.{fileJudged}
 use Rattle.wave.specs.Memory.{loadedOf}
 use Rattle.recordings.specs.Waves.{beginningsIn, writeNumber, waveAfter, heldIn, readNumber, readWaveOf, readMemory}
 use Rattle.promises.specs.Runs.{
@@ -134,8 +134,8 @@ after-held w (frame xs p) h =
     let e = other (frameNumber (w .sampler) (length xs) p (length (w .memory))) (entriesOf p (length xs) 0 f) f h in
     λ t. record { sampler = e t .sampler; memory = e t .memory }
 after-held w (readWave f) h =
-    let n = readNumber (w .sampler) (judgedOf f) (length (w .memory)) in
-    λ t. record { sampler = other n (eachOf (Head (Load (heldIn (judgedOf f) .samples))) (w .sampler)) (w .sampler) h t; memory = other n (loadedOf f (beginningsIn (w .sampler)) (w .memory)) (w .memory) h t }
+    let n = readNumber (w .sampler) (fileJudged f) (length (w .memory)) in
+    λ t. record { sampler = other n (eachOf (Head (Load (heldIn (fileJudged f) .samples))) (w .sampler)) (w .sampler) h t; memory = other n (loadedOf f (beginningsIn (w .sampler)) (w .memory)) (w .memory) h t }
 after-held w gather h = λ t. record { sampler = gather-refused (w .sampler) (w .memory) h t; memory = gather-leaves (w .sampler) (w .memory) h t }
 after-held w (asks q) h = refl
 

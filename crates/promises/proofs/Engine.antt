@@ -17,7 +17,7 @@ use Rattle.channel.specs.declared.Change.{Change}
 use Rattle.channel.specs.declared.Change.the-variants as change
 use Rattle.channel.specs.Heads.{closedOf, mixedOf}
 use Rattle.channel.specs.Channels.{withHead, anyUnfinishedOf, startPlayingOf, Turning, playedOf, addedOf, turningBy, turningOf, phraseAt, momentFor, turningIn, takenOf, memoryOf, processSampleOf, changedOf}
-use Rattle.fates.specs.Engine.{begunOf, passesOver, turnedOf, letsGo, leavesOf, turnsBy, momentAt, heldAt, stepOf}
+use Rattle.fates.specs.Engine.{begunOf, passesOver, voiceTurned, letsGo, leavesOf, turnsBy, momentAt, heldAt, stepOf}
 use Rattle.fates.specs.Events.{changes, sounds, act}
 
 pub changes-same : (d : Change) (c : Channel) → act (changes d) c ≡ changedOf d c
@@ -39,7 +39,7 @@ unfolding leavesOf shouldRemoveOf
 leaves-same t u = rw (lets-same (t .«note_off_behavior») t u)
 
 turns-same : (t : Tick) (m : List ℕ) → turnsBy t m ≡ turningBy t m
-unfolding turnsBy turningBy turnedOf turnOf passesOver
+unfolding turnsBy turningBy voiceTurned turnOf passesOver
 turns-same t m = λ i. record { turn = turnOf t m; leaves = λ (u : Voice). leaves-same t u i; adds = λ (out : Float) (v : Voice). addedOf (shouldRemoveOf t v) out (productOf t m v) }
 
 pub step-same : (p : Params) (x : Float) (c : Channel) (m : List ℕ) → stepOf p x c m ≡ processSampleOf p x c m

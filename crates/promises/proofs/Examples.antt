@@ -30,7 +30,7 @@ use Rattle.clip.specs.Refusals.{goodLength, goodClip}
 use Rattle.clip.specs.Plain.{PlainClip, isPlain}
 use Rattle.clip.proofs.Plain.{tested}
 use Rattle.walks.specs.Each.{Each}
-use Rattle.phrases.specs.Phrases.{noSamples, endsBy, reachOf, apartOf, storedIn, roomOf as spanIn, othersOf, everyBelow, goodAt, goodPhrases, besideWith, besideOf}
+use Rattle.phrases.specs.Phrases.{noSamples, endsBy, reachOf, apartOf, storedIn, roomOf, othersOf, everyBelow, goodAt, goodPhrases, besideWith, besideOf}
 use Rattle.phrases.specs.Gathering.{firstBelow, movedDown, gatherPhrase, gatherNext, gatherTurns, gatheringOf}
 use Rattle.voice.specs.declared.Voice.{Voice}
 use Rattle.voice.specs.declared.Moment.{Moment}
@@ -40,8 +40,8 @@ use Rattle.channel.specs.declared.Head.{Head}
 use Rattle.channel.specs.Soundness.{FittingChange}
 use Rattle.channel.specs.Heads.{phraseBy, beginsAt, writtenIn, holdsOf, phraseAfter, recorderAfter, interpolatesAfter, chosenAfter, headChangedOf, nextTime, headOf, rampOf, passthruOf, closedOf, goodHead}
 use Rattle.channel.specs.Tables.{goodTable, tableAfter, severalAfter, headNames, foundBy, headAsks, asksOf, leavingOf, blockedBy, shortBy}
-use Rattle.channel.specs.Channels.{live, withHead, withVoices, channelOf, resetOf, usesOf, headChangedIn, gatheredIn, gatheredMemory, anyUnfinishedOf, handledOf, pushedOf, startPlayingOf, wantedOf, findOf, finishedAtOf, stopPlayingOf, spedOf, setNoteSpeedOf, keptOf, tidiedOf, addedOf, heardOf, playedOf, turningBy, resting, turningAt, turningOf, turningIn, takenOf, memoryOf, processSampleOf, changedOf, fullOf, goodVoicesOf, goodChannel, recordingOf}
-use Rattle.sampler.specs.Refusals.{goodSizes, goodSampler, againstAny, capacityOf, goodWith, setUpNumber, gatherNumber, startRows, stopRows, speedRows, sampleNumber, frameNumber, latestOf, roomOf, runNumber, doneOf, channelNumber}
+use Rattle.channel.specs.Channels.{live, withHead, withVoices, channelOf, resetOf, usesOf, headChangedIn, gatheredIn, gatheredMemory, anyUnfinishedOf, handledOf, pushedOf, startPlayingOf, wantedOf, findOf, finishedAtOf, stopPlayingOf, spedOf, setNoteSpeedOf, keptOf, tidiedOf, addedOf, heardSum, playedOf, turningBy, resting, turningAt, turningOf, turningIn, takenOf, memoryOf, processSampleOf, changedOf, fullOf, goodVoicesOf, goodChannel, recordingOf}
+use Rattle.sampler.specs.Refusals.{goodSizes, goodSampler, againstAny, capacityOf, goodWith, setUpNumber, gatherNumber, startRows, stopRows, speedRows, sampleNumber, frameNumber, latestOf, framesLeft, runNumber, doneOf, channelNumber}
 use Rattle.sampler.specs.declared.Sampler.{Sampler}
 use Rattle.sampler.specs.declared.Ran.{Ran}
 use Rattle.questions.specs.declared.VoiceInfo.{VoiceInfo}
@@ -49,7 +49,7 @@ use Rattle.questions.specs.declared.Counted.the-variants as counted
 use Rattle.questions.specs.Questions.{notesOf, listNumber, voiceInfoOf, infoNumber}
 use Rattle.questions.specs.Waveforms.{cutOf, columnOf, columnAt, columnsFrom, waveformNumber}
 use Rattle.sampler.specs.Samplers.{withChannels, setUpOf, eachOf, answerOf, partOf, playedAt, channelSteppedOf as sampledOf, outputOf, movedAt, memoryAt, processSampleOf as sampleOf, sampleMemory, gatherChannel, gatherChannels, gatherOf, gatherMemory, entryOf, entriesOf, entriesMoved, framedOf, frameMoved, framesOf, ranOf, runAnswer}
-use Rattle.fates.specs.Engine.{begunOf, passesOver, turnedOf, letsGo, leavesOf, turnsBy, momentAt, heldAt, stepOf}
+use Rattle.fates.specs.Engine.{begunOf, passesOver, voiceTurned, letsGo, leavesOf, turnsBy, momentAt, heldAt, stepOf}
 use Rattle.fates.specs.Events.{tickAt, act, isReset, isSample, decayOf}
 use Rattle.fates.specs.Sounding.{termOf, termsOf}
 use Rattle.fates.specs.Steady.{disagrees, alters, alteredIn}
@@ -66,7 +66,7 @@ use Rattle.promises.proofs.TruePositions.{true-positions}
 
 -- whatever a run computes by
 unfoldable pub computing : Unit {0}
-unfolding floorOf minOf maxOf crossingOf any every without behind fold seek speedOf timeLengthOf lengthOf loopLengthOf lengthBeyond beyondLimits progressOf levelOf towardOf steppedOf goodRamp goodVolume raised inState misusedOf skippedOf startOf stopOf recordedOf dataAfter isRecordingOf goodRecorder leadOf travelAt loopedOf roundTripOf mirroredOf bouncedOf wrappedOf placedOf clipOffsetAt clipToDataOf offsetAt indexAt madeOf backOf foundAt reversingAt shiftFor settledOf withSpeed withMode withLength withDataLength goodLength goodClip spanOf tickOf lateOf overOf shouldRemoveOf movedOf positionOf oneFurther nextAt betweenOf valueOf productOf soundedOf finishOf playedOutOf endedOf volumeStepped turnOf freshOf blankVoice atSpeedOf goodVoice noSamples endsBy reachOf apartOf storedIn spanIn othersOf everyBelow goodAt goodPhrases besideWith besideOf firstBelow movedDown gatherPhrase gatherNext gatherTurns gatheringOf phraseBy beginsAt writtenIn holdsOf phraseAfter recorderAfter interpolatesAfter chosenAfter nextTime headOf rampOf passthruOf closedOf goodHead goodTable tableAfter severalAfter headNames foundBy headAsks asksOf leavingOf blockedBy shortBy channelOf resetOf usesOf headChangedIn gatheredIn gatheredMemory anyUnfinishedOf handledOf pushedOf startPlayingOf wantedOf findOf finishedAtOf stopPlayingOf spedOf setNoteSpeedOf headChangedOf keptOf tidiedOf addedOf heardOf playedOf turningBy resting turningAt turningOf turningIn takenOf begunOf passesOver turnedOf letsGo leavesOf turnsBy momentAt heldAt stepOf memoryOf processSampleOf changedOf fullOf goodVoicesOf goodChannel goodSizes goodSampler againstAny capacityOf goodWith setUpNumber gatherNumber startRows stopRows speedRows sampleNumber frameNumber channelNumber notesOf listNumber setUpOf eachOf answerOf partOf playedAt sampledOf outputOf movedAt memoryAt sampleOf sampleMemory gatherChannel gatherChannels gatherOf gatherMemory entryOf entriesOf entriesMoved framedOf frameMoved act isReset isSample decayOf fateOf follow stops becomes addedBy outOf playsOut followAll stoppedIn finishedIn agreesOf disagrees alters alteredIn setUp questionNumber code after run doneTo event events isResetCall rewrites output before add sub mul div rem neg lt le eq ofInt toUnsigned isNan ofBits toBits nanBits ofFields latestOf roomOf runNumber doneOf framesOf ranOf runAnswer
+unfolding floorOf minOf maxOf crossingOf any every without behind fold seek speedOf timeLengthOf lengthOf loopLengthOf lengthBeyond beyondLimits progressOf levelOf towardOf steppedOf goodRamp goodVolume raised inState misusedOf skippedOf startOf stopOf recordedOf dataAfter isRecordingOf goodRecorder leadOf travelAt loopedOf roundTripOf mirroredOf bouncedOf wrappedOf placedOf clipOffsetAt clipToDataOf offsetAt indexAt madeOf backOf foundAt reversingAt shiftFor settledOf withSpeed withMode withLength withDataLength goodLength goodClip spanOf tickOf lateOf overOf shouldRemoveOf movedOf positionOf oneFurther nextAt betweenOf valueOf productOf soundedOf finishOf playedOutOf endedOf volumeStepped turnOf freshOf blankVoice atSpeedOf goodVoice noSamples endsBy reachOf apartOf storedIn roomOf othersOf everyBelow goodAt goodPhrases besideWith besideOf firstBelow movedDown gatherPhrase gatherNext gatherTurns gatheringOf phraseBy beginsAt writtenIn holdsOf phraseAfter recorderAfter interpolatesAfter chosenAfter nextTime headOf rampOf passthruOf closedOf goodHead goodTable tableAfter severalAfter headNames foundBy headAsks asksOf leavingOf blockedBy shortBy channelOf resetOf usesOf headChangedIn gatheredIn gatheredMemory anyUnfinishedOf handledOf pushedOf startPlayingOf wantedOf findOf finishedAtOf stopPlayingOf spedOf setNoteSpeedOf headChangedOf keptOf tidiedOf addedOf heardSum playedOf turningBy resting turningAt turningOf turningIn takenOf begunOf passesOver voiceTurned letsGo leavesOf turnsBy momentAt heldAt stepOf memoryOf processSampleOf changedOf fullOf goodVoicesOf goodChannel goodSizes goodSampler againstAny capacityOf goodWith setUpNumber gatherNumber startRows stopRows speedRows sampleNumber frameNumber channelNumber notesOf listNumber setUpOf eachOf answerOf partOf playedAt sampledOf outputOf movedAt memoryAt sampleOf sampleMemory gatherChannel gatherChannels gatherOf gatherMemory entryOf entriesOf entriesMoved framedOf frameMoved act isReset isSample decayOf fateOf follow stops becomes addedBy outOf playsOut followAll stoppedIn finishedIn agreesOf disagrees alters alteredIn setUp questionNumber code after run doneTo event events isResetCall rewrites output before add sub mul div rem neg lt le eq ofInt toUnsigned isNan ofBits toBits nanBits ofFields latestOf framesLeft runNumber doneOf framesOf ranOf runAnswer
 computing = tt
 
 -- ---- parameters, keys, calls

@@ -13,7 +13,7 @@ use Rattle.questions.specs.declared.VoiceInfos.{VoiceInfos}
 use Rattle.questions.specs.declared.Counted.the-variants as counted
 use Rattle.questions.specs.Questions.{noInfos, inFront, answered, figuresOf, voiceInfosOf, infoNumber, getVoiceInfoOf}
 use Rattle.questions.proofs.Room.{infos-fit}
-use Rattle.questions.specs.Lists.{countedOf, listedOf}
+use Rattle.questions.specs.Lists.{infosCounted, listedOf}
 use Rattle.promises.specs.Runs.{World, chan}
 use Rattle.promises.specs.Demands.{figures}
 
@@ -42,9 +42,9 @@ module _ (w : World) (j : ℕ) (p : Params) (room : ℕ) (ok : infoNumber (w .sa
       let e : r ≡ infos = h ∙ given in
       (ap (λ (v : VoiceInfos). v .count) e, ap (λ (v : VoiceInfos). take (v .count) (v .infos)) e ∙ in-front)
 
-  pub infos-counted : countedOf (getVoiceInfoOf (w .sampler) j p room) ≡ counted.Done (chan w j .count)
-  unfolding countedOf answered infos voiceInfosOf
-  infos-counted = ap countedOf given
+  pub infos-counted : infosCounted (getVoiceInfoOf (w .sampler) j p room) ≡ counted.Done (chan w j .count)
+  unfolding infosCounted answered infos voiceInfosOf
+  infos-counted = ap infosCounted given
 
   pub infos-listed : (list : List VoiceInfo) → listedOf (getVoiceInfoOf (w .sampler) j p room) list ≡ figures w j p ++ drop (chan w j .count) list
   unfolding listedOf infos voiceInfosOf

@@ -15,7 +15,7 @@ use Rattle.sampler.proofs.Kept.{set-up-sound, change-kept, gather-kept, sample-
 use Rattle.channel.specs.declared.Change.the-variants.{Head}
 use Rattle.channel.specs.declared.HeadChange.the-variants.{Load}
 use Rattle.channel.specs.Soundness.{FittingChange}
-use Rattle.wave.specs.Reader.{judgedOf}
+use Rattle.wave.specs.Reader.{fileJudged}
 use Rattle.recordings.specs.Waves.{heldIn}
 use Rattle.recordings.proofs.Numbers.{read-sampler}
 use Rattle.promises.specs.Runs.{World, setUp, Call, change, sample, frame, readWave, gather, asks, after, run, FittingCall, Made, one, frames, framesDone, frameCalls, spread, made, makes, spreadAll, FittingMade}
@@ -38,7 +38,7 @@ unfolding after FittingCall FittingChange
 sound-after w (change d) f h = change-kept (w .sampler) h d f
 sound-after w (sample j x p) f h = sample-kept (w .sampler) h j x p (w .memory) f
 sound-after w (frame xs p) f h = frame-kept (w .sampler) h xs p (w .memory) f
-sound-after w (readWave g) f h = read-sampler (w .sampler) g (w .memory) SoundSampler h (λ z. change-kept (w .sampler) h (Head (Load (heldIn (judgedOf g) .samples))) tt)
+sound-after w (readWave g) f h = read-sampler (w .sampler) g (w .memory) SoundSampler h (λ z. change-kept (w .sampler) h (Head (Load (heldIn (fileJudged g) .samples))) tt)
 sound-after w gather f h = gather-kept (w .sampler) h (w .memory)
 sound-after w (asks q) f h = h
 

@@ -16,7 +16,7 @@ use Rattle.common_types.specs.declared.Params.{Params}
 use Rattle.sampler.specs.Samplers.{answerOf, processSampleOf, gatherOf, gatherMemory, framedOf, frameMoved, ranOf, runAnswer}
 use Rattle.questions.specs.declared.VoiceInfos.{VoiceInfos}
 use Rattle.questions.specs.declared.Counted.the-variants as counted
-use Rattle.questions.specs.Lists.{countedOf, voiceInfoCounted, voiceInfoAfter}
+use Rattle.questions.specs.Lists.{infosCounted, voiceInfoCounted, voiceInfoAfter}
 use Rattle.questions.specs.Questions.{countedNumber, toldNumber, offsetNumber, recorderAt, notesOf, answered, printErrorInfoOf, errorTextAfter, iterActiveNotesOf, activeNotesAfter, getVoiceInfoOf}
 use Rattle.questions.specs.declared.WaveformSummary.{WaveformSummary}
 use Rattle.questions.specs.Waveforms.{getWaveformSummaryOf, waveformAfter}
@@ -138,8 +138,8 @@ pub one-outcome : (g : Given) (r s : Outcome g) → Allows g r → Allows g s �
 one-outcome g r s h k = settled g .only r h ∙ sym (settled g .only s k)
 
 -- ---- the number
-counted-number : (v : VoiceInfos) → countedNumber (countedOf v) ≡ v .number
-unfolding countedOf answered
+counted-number : (v : VoiceInfos) → countedNumber (infosCounted v) ≡ v .number
+unfolding infosCounted answered
 counted-number v = go (eqb (v .number) 0) refl
   where
     go : (b : Bool) → eqb (v .number) 0 ≡ b → countedNumber (cond b (counted.Done (v .count)) (counted.Refused (v .number))) ≡ v .number

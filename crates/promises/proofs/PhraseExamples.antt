@@ -23,7 +23,7 @@ use Rattle.recordings.proofs.Examples.{computing as filing, mono}
 use Rattle.promises.specs.Runs.{World, Call, stop, startRecording, stopRecording, choosePhrase, deletePhrase, reset, sample, readWave, gather, setUp, run, after, code, chan, ownPart, output, FittingCall}
 use Rattle.promises.specs.Outcomes.{on, leftBy}
 use Rattle.promises.specs.Recordings.{writePlaceOf}
-use Rattle.promises.specs.Phrases.{phrase, samplesIn, allPhrases, Chosen, Deleted, Gathered, OthersKept, Behind}
+use Rattle.promises.specs.Phrases.{phrase, samplesIn, allPhrases, Chosen, Deleted, MovedDown, OthersKept, Behind}
 use Rattle.promises.proofs.Outcomes.{settled}
 use Rattle.promises.proofs.Whole.{whole}
 use Rattle.promises.proofs.Demands.{demands}
@@ -271,7 +271,7 @@ pub delete-met : Deleted (laid []) (leaves (laid []) (deletePhrase 5)) 0 5
 unfolding computing Each FittingCall FittingChange fits
 delete-met = let r = settled (on (laid []) (deletePhrase 5)) in demands .phrases (laid []) .delete 5 (r .outcome) (r .allowed) refl (laid-fits [] tt) 0 (lit< tt)
 
-pub gathering-met : Gathered (laid (deletePhrase 0 ∷ [])) (leaves (laid (deletePhrase 0 ∷ [])) gather) 0
+pub gathering-met : MovedDown (laid (deletePhrase 0 ∷ [])) (leaves (laid (deletePhrase 0 ∷ [])) gather) 0
 unfolding computing Each FittingCall FittingChange fits
 gathering-met = let r = settled (on (laid (deletePhrase 0 ∷ [])) gather) in demands .phrases (laid (deletePhrase 0 ∷ [])) .gathering (r .outcome) (r .allowed) refl (laid-fits (deletePhrase 0 ∷ []) (tt, tt)) 0 (lit< tt)
 

@@ -27,7 +27,7 @@ use Rattle.recorder.proofs.Cases.{by-room, not-recording, sample-idle, sample-n
 use Rattle.wave.specs.declared.Wave.{Wave}
 use Rattle.wave.specs.declared.Judged.{Judged}
 use Rattle.wave.specs.declared.Judged.the-variants.{Is, Refused}
-use Rattle.wave.specs.Reader.{wordsIn, judgedOf}
+use Rattle.wave.specs.Reader.{wordsIn, fileJudged}
 use Rattle.channel.specs.declared.Head.{Head}
 use Rattle.channel.specs.declared.Channel.{Channel}
 use Rattle.channel.specs.declared.Change.the-variants as change
@@ -58,7 +58,7 @@ use Rattle.fates.specs.Events.{Event, idle, sounds, act, isSample}
 use Rattle.promises.specs.Runs.{World, Call, change, sample, frame, readWave, gather, asks, choosePhrase, deletePhrase, startRecording, code, after, chan, ownPart, doneTo, event}
 use Rattle.promises.specs.Outcomes.{on, Outcome, ReadOutcome, GatherOutcome, Allows, leftBy}
 use Rattle.promises.specs.Recordings.{writePlaceOf, beginning}
-use Rattle.promises.specs.Phrases.{phrase, chosen, endOf, recordsOther, inUse, OnlyPhrases, Chosen, Deleted, allPhrases, Gathered, OthersKept, Behind, Phrases}
+use Rattle.promises.specs.Phrases.{phrase, chosen, endOf, recordsOther, inUse, OnlyPhrases, Chosen, Deleted, allPhrases, MovedDown, OthersKept, Behind, Phrases}
 use Rattle.promises.proofs.Calls.{Standing, chan-after, kept}
 use Rattle.promises.proofs.Memory.{part-written}
 use Rattle.promises.proofs.Accepted.{Heard, heard}
@@ -358,11 +358,11 @@ module _ (w : World) (fit : FittingSampler (w .sampler)) where
 
   -- ---- reads
   module _ (f : List ℕ) (r : ReadOutcome) (a : Allows (on w (readWave f)) r) (z : code w (readWave f) ≡ 0) where
-    loads : Loads s (judgedOf f) (length (w .memory))
+    loads : Loads s (fileJudged f) (length (w .memory))
     unfolding code
-    loads = read-says s (judgedOf f) (length (w .memory)) z
+    loads = read-says s (fileJudged f) (length (w .memory)) z
 
-    of-wave : (v : Wave) → judgedOf f ≡ Is v → (j : ℕ) → j < s .count → OthersKept w (leftBy w (readWave f) r) j
+    of-wave : (v : Wave) → fileJudged f ≡ Is v → (j : ℕ) → j < s .count → OthersKept w (leftBy w (readWave f) r) j
     of-wave v e j l k b d = (same, (λ i. storedIn (same i) (stands i)) ∙ read-leaves (s .capacity) now known few n quiet fits m words size many k b d)
       where
         n : ℕ
@@ -417,9 +417,9 @@ module _ (w : World) (fit : FittingSampler (w .sampler)) where
             ∙ phrase-other (now .head) (beginning (beginsIn now) n (now .head)) refl k d (now .several) (getD (now .table) (placeOf k) noPhrase)
 
     read-apart : (j : ℕ) → j < s .count → OthersKept w (leftBy w (readWave f) r) j
-    read-apart = go (judgedOf f) refl
+    read-apart = go (fileJudged f) refl
       where
-        go : (i : Judged) → judgedOf f ≡ i → (j : ℕ) → j < s .count → OthersKept w (leftBy w (readWave f) r) j
+        go : (i : Judged) → fileJudged f ≡ i → (j : ℕ) → j < s .count → OthersKept w (leftBy w (readWave f) r) j
         go (Is v) e = of-wave v e
         go Refused e = absurd (true≢false (ap badFile (sym e) ∙ loads .whole))
 
@@ -466,7 +466,7 @@ module _ (w : World) (fit : FittingSampler (w .sampler)) where
     fine : goodPhrases (length m) (phrasesOf here) ≡ true
     fine = phrases-good (length m) here judged
 
-    gathering : Gathered w (leftBy w gather r) j
+    gathering : MovedDown w (leftBy w gather r) j
     unfolding gatheredMemory gatheredIn
     gathering = record {
       keeps = λ k b. (λ i. storedIn (phraseAt (moved i) k) (moved-part i)) ∙ gathered-stored here m judged k b;

@@ -17,9 +17,9 @@ use Rattle.wave.specs.declared.Judged.{Judged}
 use Rattle.wave.specs.declared.Judged.the-variants.{Is, Refused}
 use Rattle.wave.specs.Fields.{listed}
 use Rattle.wave.specs.Files.{fileOf}
-use Rattle.wave.specs.Reader.{wordsIn, judgedOf}
+use Rattle.wave.specs.Reader.{wordsIn, fileJudged}
 use Rattle.wave.specs.Grammar.{IsWave}
-use Rattle.wave.specs.Memory.{startAt, fitsMemory, framesOf, channelWords, bytesOf, layoutOf, loadedOf}
+use Rattle.wave.specs.Memory.{startAt, fitsMemory, frameWords, channelWords, bytesOf, layoutOf, loadedOf}
 use Rattle.wave.specs.Promised.{Sized, recordingAt}
 use Rattle.wave.proofs.Answers.{Known, good-known, answer-good}
 use Rattle.wave.proofs.Layouts.{fits-true}
@@ -64,7 +64,7 @@ module _ (w : World) where
   abbrev rowsOf : Judged → ℕ
   rowsOf j = row (not (goodWith s size)) 9 (row (anyRecording s) 15 (row (badFile j) 17 (row (not (eqb (heldIn j .channels) (s .count))) 16 (row (noRoom s (heldIn j .samples)) 18 0))))
 
-  read-code : (f : List ℕ) (j : Judged) → judgedOf f ≡ j → code w (readWave f) ≡ rowsOf j
+  read-code : (f : List ℕ) (j : Judged) → fileJudged f ≡ j → code w (readWave f) ≡ rowsOf j
   unfolding code readNumber againstAny blockedBy shortBy
   read-code f j e = rw e refl
 
@@ -77,9 +77,9 @@ module _ (w : World) where
 
   bad-rows : (f : List ℕ) → Bytes f → ((rate channels : ℕ) (words : List ℕ) → IsWave f rate channels words → ⊥)
       → code w (readWave f) ≡ row (not (goodWith s size)) 9 (row (anyRecording s) 15 17)
-  bad-rows f bytes bad = go (judgedOf f) refl
+  bad-rows f bytes bad = go (fileJudged f) refl
     where
-      go : (j : Judged) → judgedOf f ≡ j → code w (readWave f) ≡ row (not (goodWith s size)) 9 (row (anyRecording s) 15 17)
+      go : (j : Judged) → fileJudged f ≡ j → code w (readWave f) ≡ row (not (goodWith s size)) 9 (row (anyRecording s) 15 17)
       go (Is v) e = absurd (bad _ _ _ (answer-good f bytes v e))
       go Refused e = read-code f Refused e
 
@@ -90,7 +90,7 @@ module _ (w : World) where
     n = samplesOf s
 
     abbrev frames : List ℕ
-    frames = framesOf (layoutIn s) (w .memory)
+    frames = frameWords (layoutIn s) (w .memory)
 
     abbrev file : List ℕ
     file = fileOf rate (s .count) n frames
@@ -167,19 +167,19 @@ pub record Loaded (w u : World) (n : ℕ) (words : List ℕ) : Type 0 where
   pub behind : drop (w .sampler .count * w .sampler .capacity) (u .memory) ≡ drop (w .sampler .count * w .sampler .capacity) (w .memory)
 
 module _ (w : World) (f : List ℕ) (r : ReadOutcome) (a : Allows (on w (readWave f)) r) (z : code w (readWave f) ≡ 0) (two : length (w .sampler .channels) ≡ 2)
-    (v : Wave) (judged : judgedOf f ≡ Is v) (n : ℕ) (samples-are : v .samples ≡ n) where
+    (v : Wave) (judged : fileJudged f ≡ Is v) (n : ℕ) (samples-are : v .samples ≡ n) where
   abbrev rec : Sampler
   rec = w .sampler
 
   abbrev u : World
   u = leftBy w (readWave f) r
 
-  held : heldIn (judgedOf f) ≡ v
+  held : heldIn (fileJudged f) ≡ v
   held = ap heldIn judged
 
-  loads : Loads rec (judgedOf f) (length (w .memory))
+  loads : Loads rec (fileJudged f) (length (w .memory))
   unfolding code
-  loads = read-says rec (judgedOf f) (length (w .memory)) z
+  loads = read-says rec (fileJudged f) (length (w .memory)) z
 
   fit : Fitting rec (length (w .memory))
   fit = fitting rec (length (w .memory)) (loads .good)
@@ -199,7 +199,7 @@ module _ (w : World) (f : List ℕ) (r : ReadOutcome) (a : Allows (on w (readWav
   room : (j : ℕ) → j < rec .count → n ≤ holdsOf (besideIn (rec .capacity) (chan w j)) (rec .capacity) (chan w j .head)
   room j h =
       subst (λ (k : ℕ). k ≤ holdsOf (besideIn (rec .capacity) (chan w j)) (rec .capacity) (chan w j .head)) (ap (λ (x : Wave). x .samples) held ∙ samples-are)
-      (loads-few rec (judgedOf f) (length (w .memory)) loads j h (seated j h))
+      (loads-few rec (fileJudged f) (length (w .memory)) loads j h (seated j h))
 
   -- the record
   head-is : (j : ℕ) → j < rec .count → chan u j ≡ withHead (beginning (beginsIn (chan w j)) n (chan w j .head)) (chan w j)

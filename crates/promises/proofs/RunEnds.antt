@@ -15,7 +15,7 @@ use Rattle.common_types.specs.declared.Params.{Params}
 use Rattle.common_types.specs.Settings.{beyondLimits}
 use Rattle.sampler.specs.declared.Sampler.{Sampler}
 use Rattle.sampler.specs.declared.Ran.{Ran}
-use Rattle.sampler.specs.Refusals.{goodWith, roomOf, runNumber, doneOf}
+use Rattle.sampler.specs.Refusals.{goodWith, framesLeft, runNumber, doneOf}
 use Rattle.sampler.specs.Samplers.{Framed, framed, entriesOf, framesOf, ranOf, runAnswer}
 use Rattle.sampler.proofs.Rows.{passed, fitting}
 use Rattle.sampler.proofs.RunRows.{Begins, working, run-begins, done-turns}
@@ -117,17 +117,17 @@ module _ (w : World) (xs : List Float) (p : Params) (r : RunOutcome) (allowed : 
       begins : Begins (w .sampler) (length xs) p (length (w .memory))
       begins = run-begins (w .sampler) (length xs) p (length (w .memory)) (ap working zero-is)
 
-      room : length xs / w .sampler .count ≤ roomOf (w .sampler)
+      room : length xs / w .sampler .count ≤ framesLeft (w .sampler)
       room =
-          ltb-false (roomOf (w .sampler)) (length xs / w .sampler .count)
-          (passed (ltb (roomOf (w .sampler)) (length xs / w .sampler .count)) 5 0
+          ltb-false (framesLeft (w .sampler)) (length xs / w .sampler .count)
+          (passed (ltb (framesLeft (w .sampler)) (length xs / w .sampler .count)) 5 0
           (passed (beyondLimits p) 3 _ (passed (not (eqb (length xs % w .sampler .count) 0)) 9 _ (passed (not (goodWith (w .sampler) (length (w .memory)))) 8 _ zero-is .1) .1) .1) .0)
 
       short : (a b : ℕ) → a ≤ b → min a b ≡ a
       short a b h = omega arith
 
       all : framesDone w xs p ≡ length xs / w .sampler .count
-      all = rw zero-is (short (length xs / w .sampler .count) (roomOf (w .sampler)) room)
+      all = rw zero-is (short (length xs / w .sampler .count) (framesLeft (w .sampler)) room)
 
       div-exact : length xs / w .sampler .count * w .sampler .count ≡ length xs
       div-exact = omega (arith, div-add-mod' (length xs) (w .sampler .count), begins .whole)
@@ -158,12 +158,12 @@ module _ (w : World) (xs : List Float) (p : Params) (r : RunOutcome) (allowed : 
     unfolding runNumber
     number-zero =
         let whole : eqb (length fewer % w .sampler .count) 0 ≡ true = eq-eqb (length fewer % w .sampler .count) 0 (ap (λ (a : ℕ). a % w .sampler .count) fewer-long ∙ mul-mod-left (framesDone w xs p) (w .sampler .count)) in
-        let room : ltb (roomOf (w .sampler)) (length fewer / w .sampler .count) ≡ false = le-ltb (roomOf (w .sampler)) (length fewer / w .sampler .count) (le-of-eq (asked ∙ all-room w xs p six-is)) in
+        let room : ltb (framesLeft (w .sampler)) (length fewer / w .sampler .count) ≡ false = le-ltb (framesLeft (w .sampler)) (length fewer / w .sampler .count) (le-of-eq (asked ∙ all-room w xs p six-is)) in
         rw (begins .good, whole, begins .within, room)
 
     as-many : doneOf (w .sampler) (length fewer) p (length (w .memory)) ≡ framesDone w xs p
     unfolding doneOf
-    as-many = rw number-zero (short (length fewer / w .sampler .count) (roomOf (w .sampler)) (le-of-eq (asked ∙ all-room w xs p six-is)) ∙ asked)
+    as-many = rw number-zero (short (length fewer / w .sampler .count) (framesLeft (w .sampler)) (le-of-eq (asked ∙ all-room w xs p six-is)) ∙ asked)
       where
         short : (a b : ℕ) → a ≤ b → min a b ≡ a
         short a b h = omega arith

@@ -19,7 +19,7 @@ use Rattle.volume.specs.declared.Volume.{Volume}
 use Rattle.volume.specs.declared.Volume.the-variants.{Static, Linear}
 use Rattle.volume.specs.declared.LevelAnswer.the-variants as level
 use Rattle.volume.specs.declared.VolumeAnswer.the-variants as volume
-use Rattle.volume.specs.Levels.{levelNumber, volumeNumber, goodRamp, goodVolume, levelRefusedAt as unreadAt, valueOf, toOf, stepOf}
+use Rattle.volume.specs.Levels.{levelNumber, volumeNumber, goodRamp, goodVolume, levelRefusedAt as unreadAt, valueAnswer, toOf, stepAnswer}
 use Rattle.clip.specs.declared.Clip.{Clip}
 use Rattle.clip.specs.declared.Mode.{Mode}
 use Rattle.clip.specs.declared.ClipAnswer.the-variants as clip
@@ -151,7 +151,7 @@ from-three : (i : ℕ) → cond (ltb i 3) 0 7 ≡ row (leb 3 i) 7 0
 from-three i = swapped (ltb i 3) 0 7 ∙ ap (λ (t : Bool). row t 7 0) (not-lt i 3)
 
 pub row-seven : RowSeven
-unfolding valueOf toOf stepOf newClipOf dataToClipOf isPingpongReversingOf elapsedOf clipOffsetOf offsetOf updateSpeedOf updateModeOf updateLengthOf updateDataLengthOf updateAllOf
+unfolding valueAnswer toOf stepAnswer newClipOf dataToClipOf isPingpongReversingOf elapsedOf clipOffsetOf offsetOf updateSpeedOf updateModeOf updateLengthOf updateDataLengthOf updateAllOf
 row-seven = record {
   value = λ v now. refusal levelNumber level.Refused _ refl refl (unreadAt v now) (badTime v now) (volume-bad v now);
   to = λ v now duration target. refusal volumeNumber volume.Refused _ refl refl (unreadAt v now || ltb (2 ^ 24) duration) (badTime v now || ltb (2 ^ 24) duration) (ap (λ (t : Bool). t || ltb (2 ^ 24) duration) (volume-bad v now));

@@ -39,7 +39,7 @@ use Rattle.fates.proofs.Lives.{live-sounded}
 use Rattle.fates.proofs.Tracks.{at-same, gone-never}
 use Rattle.promises.specs.Runs.{World, Call, sample, frame, code, chan, ownPart, doneTo, event}
 use Rattle.promises.specs.Tidies.{movesUp, upOf, upIn, sumFrom, removeAt, placesOf, takenAway}
-use Rattle.promises.specs.Demands.{Tidying, turnedIn, OldRemoval}
+use Rattle.promises.specs.Demands.{Tidying, allTurned, OldRemoval}
 use Rattle.promises.proofs.Calls.{Standing}
 use Rattle.promises.proofs.Demand3.{next, standing-demand3}
 use Rattle.promises.proofs.Engine.{step-same}
@@ -444,6 +444,6 @@ unfolding act keptOf
 standing-old w st j k = record {
   lists = λ s p x m e.
       ap live (next w st j k s ∙ ap (λ (d : Event). act d (chan w j)) e) ∙ live-sounded p x m (chan w j) (st .housing j k)
-      ∙ sym (old-removal (turnsIn p x m (chan w j) .leaves) (turnedIn p x m (chan w j)));
+      ∙ sym (old-removal (turnsIn p x m (chan w j) .leaves) (allTurned p x m (chan w j)));
   outputs = λ s p x m e. standing-demand3 w st j k .hears s p x m e ∙ ap (mul binary32 (p .volume)) (step-output p x m (chan w j));
 }

@@ -24,7 +24,7 @@ use Rattle.channel.specs.Channels.{channelOf}
 use Rattle.channel.specs.Channels.{processSampleOf as channelSampleOf}
 use Rattle.channel.proofs.Parts.{parts}
 use Rattle.sampler.specs.declared.Sampler.{Sampler}
-use Rattle.sampler.specs.Refusals.{present, channelAt, goodSampler, goodWith, atEnd, laterOf, latestOf, roomOf, frameNumber, runNumber, doneOf}
+use Rattle.sampler.specs.Refusals.{present, channelAt, goodSampler, goodWith, atEnd, laterOf, latestOf, framesLeft, frameNumber, runNumber, doneOf}
 use Rattle.sampler.specs.Samplers.{Steps, Turns, partOf, Framed, framed, entryOf, entriesOf, framedOf, framesOf, ranOf}
 use Rattle.sampler.specs.Soundness.{FittingSampler, SoundSampler}
 use Rattle.sampler.proofs.Rows.{fitting}
@@ -84,18 +84,18 @@ module _ (w : World) (st : Standing w) where
       (latest-at 0 (present (w .sampler)) j (omega (arith, in-use)))
 
   -- some room: no clock stands at its end
-  early : 0 < roomOf (w .sampler) → (j : ℕ) → j < w .sampler .count → chan w j .head .now < lastTime
-  unfolding roomOf latest
+  early : 0 < framesLeft (w .sampler) → (j : ℕ) → j < w .sampler .count → chan w j .head .now < lastTime
+  unfolding framesLeft latest
   early h j k = omega (arith, at-least j k)
 
-  none-at-end : 0 < roomOf (w .sampler) → any atEnd (present (w .sampler)) ≡ false
+  none-at-end : 0 < framesLeft (w .sampler) → any atEnd (present (w .sampler)) ≡ false
   none-at-end h =
       any-none atEnd (present (w .sampler)) none
       (λ j k. ap atEnd (getD-take (w .sampler .count) (w .sampler .channels) j none (omega (arith, in-use))) ∙ lt-leb lastTime (chan w j .head .now) (early h j (omega (arith, in-use))))
 
   -- no room: some clock does
-  some-at-end : roomOf (w .sampler) ≡ 0 → any atEnd (present (w .sampler)) ≡ true
-  unfolding roomOf latest
+  some-at-end : framesLeft (w .sampler) ≡ 0 → any atEnd (present (w .sampler)) ≡ true
+  unfolding framesLeft latest
   some-at-end h = go (any atEnd (present (w .sampler))) refl
     where
       below : any atEnd (present (w .sampler)) ≡ false → (j : ℕ) → j < w .sampler .count → chan w j .head .now ≤ lastTime - 1
@@ -124,10 +124,10 @@ module _ (w : World) (p : Params) (o : Open w p) (xs : List Float) (n : length x
       let ends : any atEnd (take (length xs) (w .sampler .channels)) ≡ b = ap (λ (k : ℕ). any atEnd (take k (w .sampler .channels))) n ∙ e in
       rw (o .good, few, o .within, ends)
 
-  refused : roomOf (w .sampler) ≡ 0 → code w (frame xs p) ≡ 6
+  refused : framesLeft (w .sampler) ≡ 0 → code w (frame xs p) ≡ 6
   refused z = rows true (some-at-end w (o .standing) z)
 
-  module _ (room : 0 < roomOf (w .sampler)) where
+  module _ (room : 0 < framesLeft (w .sampler)) where
     accepted : code w (frame xs p) ≡ 0
     accepted = rows false (none-at-end w (o .standing) room)
 
@@ -165,8 +165,8 @@ module _ (w : World) (p : Params) (o : Open w p) (xs : List Float) (n : length x
         = at-most w (o .standing) (latest on standing-on - 1) (λ j k. omega (arith, clock-on j k, at-least on standing-on j (omega (arith, same-count)))) in
         omega arith
 
-    room-on : suc (roomOf (on .sampler)) ≡ roomOf (w .sampler)
-    unfolding roomOf latest
+    room-on : suc (framesLeft (on .sampler)) ≡ framesLeft (w .sampler)
+    unfolding framesLeft latest
     room-on = omega (arith, latest-on)
 
     open-on : Open on p
@@ -191,7 +191,7 @@ record Done (w : World) (p : Params) (n k : ℕ) (xs : List Float) : Type 0 wher
   leaves : worldOf (framesOf p k (framed (w .sampler) xs (w .memory))) ≡ run w (frameCalls p n k xs)
   entries : framesOf p k (framed (w .sampler) xs (w .memory)) .frame ≡ playedBy w (frameCalls p n k xs) ++ drop (k * n) xs
   accepted : Accepted w (frameCalls p n k xs)
-  room : k + roomOf (run w (frameCalls p n k xs) .sampler) ≡ roomOf (w .sampler)
+  room : k + framesLeft (run w (frameCalls p n k xs) .sampler) ≡ framesLeft (w .sampler)
   still : Open w p → Open (run w (frameCalls p n k xs)) p
 
 done-none : (w : World) (p : Params) (n : ℕ) (xs : List Float) → Done w p n 0 xs
@@ -200,12 +200,12 @@ done-none w p n xs = record {
   leaves = refl;
   entries = ap (λ (a : ℕ). drop a xs) (sym (zero-mul n));
   accepted = tt;
-  room = zero-add (roomOf (w .sampler));
+  room = zero-add (framesLeft (w .sampler));
   still = λ o. o;
 }
 
 -- one frame more, in front
-module _ (p : Params) (n k : ℕ) (w : World) (xs : List Float) (e : w .sampler .count ≡ n) (o : Open w p) (h : suc k ≤ roomOf (w .sampler)) (l : suc k * n ≤ length xs) where
+module _ (p : Params) (n k : ℕ) (w : World) (xs : List Float) (e : w .sampler .count ≡ n) (o : Open w p) (h : suc k ≤ framesLeft (w .sampler)) (l : suc k * n ≤ length xs) where
   abbrev ys : List Float
   ys = take n xs
 
@@ -218,7 +218,7 @@ module _ (p : Params) (n k : ℕ) (w : World) (xs : List Float) (e : w .sampler 
   ys-count : length ys ≡ w .sampler .count
   ys-count = ys-long ∙ sym e
 
-  some-room : 0 < roomOf (w .sampler)
+  some-room : 0 < framesLeft (w .sampler)
   some-room = omega (arith, h)
 
   abbrev next : World
@@ -233,7 +233,7 @@ module _ (p : Params) (n k : ℕ) (w : World) (xs : List Float) (e : w .sampler 
   next-open : Open next p
   next-open = open-on w p o ys ys-count some-room
 
-  next-room : k ≤ roomOf (next .sampler)
+  next-room : k ≤ framesLeft (next .sampler)
   next-room = omega (arith, h, room-on w p o ys ys-count some-room)
 
   next-entries : k * n ≤ length (drop n xs)
@@ -268,7 +268,7 @@ module _ (p : Params) (n k : ℕ) (w : World) (xs : List Float) (e : w .sampler 
     still = λ q. ih .still (open-on w p q ys ys-count some-room);
   }
 
-frames-done : (p : Params) (n k : ℕ) (w : World) (xs : List Float) → w .sampler .count ≡ n → Open w p → k ≤ roomOf (w .sampler) → k * n ≤ length xs → Done w p n k xs
+frames-done : (p : Params) (n k : ℕ) (w : World) (xs : List Float) → w .sampler .count ≡ n → Open w p → k ≤ framesLeft (w .sampler) → k * n ≤ length xs → Done w p n k xs
 frames-done p n zero w xs e o h l = done-none w p n xs
 frames-done p n (suc k) w xs e o h l =
     one-more p n k w xs e o h l
@@ -291,7 +291,7 @@ unfolding code frameNumber runNumber
 alike w xs p n h k ys l =
     let few : ltb (w .sampler .count) (length ys) ≡ false = le-ltb (w .sampler .count) (length ys) (le-of-eq l) in
     rw few
-    (alike-rows (not (goodWith (w .sampler) (length (w .memory)))) (not (eqb (length xs % w .sampler .count) 0)) (beyondLimits p) (ltb (roomOf (w .sampler)) (length xs / w .sampler .count)) (any atEnd (take (length ys) (w .sampler .channels))) n h k)
+    (alike-rows (not (goodWith (w .sampler) (length (w .memory)))) (not (eqb (length xs % w .sampler .count) 0)) (beyondLimits p) (ltb (framesLeft (w .sampler)) (length xs / w .sampler .count)) (any atEnd (take (length ys) (w .sampler .channels))) n h k)
 
 -- ---- with 6 the frames that are done use up the room
 module _ (w : World) (xs : List Float) (p : Params) (six : runNumber (w .sampler) (length xs) p (length (w .memory)) ≡ 6) where
@@ -305,13 +305,13 @@ module _ (w : World) (xs : List Float) (p : Params) (six : runNumber (w .sampler
   tests false false false true h = refl
   tests false false false false h = absurd (omega arith)
 
-  more : roomOf (w .sampler) < length xs / w .sampler .count
+  more : framesLeft (w .sampler) < length xs / w .sampler .count
   unfolding runNumber
-  more = ltb-true (roomOf (w .sampler)) (length xs / w .sampler .count) (tests (not (goodWith (w .sampler) (length (w .memory)))) (not (eqb (length xs % w .sampler .count) 0)) (beyondLimits p) (ltb (roomOf (w .sampler)) (length xs / w .sampler .count)) six)
+  more = ltb-true (framesLeft (w .sampler)) (length xs / w .sampler .count) (tests (not (goodWith (w .sampler) (length (w .memory)))) (not (eqb (length xs % w .sampler .count) 0)) (beyondLimits p) (ltb (framesLeft (w .sampler)) (length xs / w .sampler .count)) six)
 
-  pub all-room : framesDone w xs p ≡ roomOf (w .sampler)
+  pub all-room : framesDone w xs p ≡ framesLeft (w .sampler)
   unfolding doneOf
-  all-room = rw six-works (short (length xs / w .sampler .count) (roomOf (w .sampler)) more)
+  all-room = rw six-works (short (length xs / w .sampler .count) (framesLeft (w .sampler)) more)
     where
       short : (a b : ℕ) → b < a → min a b ≡ b
       short a b h = omega arith
@@ -336,12 +336,12 @@ module _ (w : World) (fits : FittingSampler (w .sampler)) (xs : List Float) (p :
       let s : SoundSampler (w .sampler) = record { good = g; fitting = fits } in
       record { standing = sound-stands w s (fitting (w .sampler) (length (w .memory)) (b .good) .few); sound = s; good = b .good; within = b .within; floats = floats }
 
-  done-least : framesDone w xs p ≤ roomOf (w .sampler)
+  done-least : framesDone w xs p ≤ framesLeft (w .sampler)
   unfolding doneOf
   done-least = go (working (runNumber (w .sampler) (length xs) p (length (w .memory))))
     where
-      go : (b : Bool) → cond b (min (length xs / w .sampler .count) (roomOf (w .sampler))) 0 ≤ roomOf (w .sampler)
-      go true = min-le-right (length xs / w .sampler .count) (roomOf (w .sampler))
+      go : (b : Bool) → cond b (min (length xs / w .sampler .count) (framesLeft (w .sampler))) 0 ≤ framesLeft (w .sampler)
+      go true = min-le-right (length xs / w .sampler .count) (framesLeft (w .sampler))
       go false = zero-le
 
   done : Done w p (w .sampler .count) (framesDone w xs p) xs
@@ -441,12 +441,12 @@ run-stands w xs p st = go (working (runNumber (w .sampler) (length xs) p (length
     f = framed (w .sampler) xs (w .memory)
 
     turns : (b : Bool) → working (runNumber (w .sampler) (length xs) p (length (w .memory))) ≡ b
-        → Turns (w .sampler) (cond b (min (length xs / w .sampler .count) (roomOf (w .sampler))) 0) (length xs) (length (w .memory))
-    turns b e = subst (λ (z : Bool). Turns (w .sampler) (cond z (min (length xs / w .sampler .count) (roomOf (w .sampler))) 0) (length xs) (length (w .memory))) e (done-turns (w .sampler) (length xs) p (length (w .memory)))
+        → Turns (w .sampler) (cond b (min (length xs / w .sampler .count) (framesLeft (w .sampler))) 0) (length xs) (length (w .memory))
+    turns b e = subst (λ (z : Bool). Turns (w .sampler) (cond z (min (length xs / w .sampler .count) (framesLeft (w .sampler))) 0) (length xs) (length (w .memory))) e (done-turns (w .sampler) (length xs) p (length (w .memory)))
 
     go : (b : Bool) → working (runNumber (w .sampler) (length xs) p (length (w .memory))) ≡ b
-        → Stands f (framesOf p (cond b (min (length xs / w .sampler .count) (roomOf (w .sampler))) 0) f)
-    go true e = frames-stand p (run-begins (w .sampler) (length xs) p (length (w .memory)) e .within) (min (length xs / w .sampler .count) (roomOf (w .sampler))) f st (turns true e)
+        → Stands f (framesOf p (cond b (min (length xs / w .sampler .count) (framesLeft (w .sampler))) 0) f)
+    go true e = frames-stand p (run-begins (w .sampler) (length xs) p (length (w .memory)) e .within) (min (length xs / w .sampler .count) (framesLeft (w .sampler))) f st (turns true e)
     go false e = record { standing = st; whole = refl }
 
 pub standing-made : (w : World) (h : Made) → Standing w → Standing (made w h)

@@ -37,7 +37,7 @@ use Rattle.channel.specs.Soundness.{FittingChange, SoundChannel}
 use Rattle.channel.proofs.Parts.{phrase-inside, phrase-within, voice-at}
 use Rattle.channel.proofs.Samples.{taken-sound}
 use Rattle.sampler.specs.declared.Sampler.{Sampler}
-use Rattle.sampler.specs.Refusals.{channelAt, goodSampler, goodWith, anyRecording, againstAny, noChannel, setUpNumber, frameNumber, gatherNumber, channelNumber, row, roomOf, runNumber}
+use Rattle.sampler.specs.Refusals.{channelAt, goodSampler, goodWith, anyRecording, againstAny, noChannel, setUpNumber, frameNumber, gatherNumber, channelNumber, row, framesLeft, runNumber}
 use Rattle.sampler.specs.Soundness.{SoundSampler, Reached, Unbroken}
 use Rattle.sampler.proofs.Entries.{part-length, sample-memory-length, frame-memory-length}
 use Rattle.sampler.proofs.Gathered.{gather-memory-length}
@@ -47,7 +47,7 @@ use Rattle.fates.specs.Engine.{momentAt, heldAt}
 use Rattle.fates.specs.Events.{lengthAt, tickAt}
 use Rattle.questions.specs.Questions.{recorderAt, notesOf, listNumber, infoNumber}
 use Rattle.questions.specs.Waveforms.{waveformNumber}
-use Rattle.wave.specs.Reader.{judgedOf}
+use Rattle.wave.specs.Reader.{fileJudged}
 use Rattle.wave.specs.Memory.{bytesOf}
 use Rattle.recordings.specs.Waves.{lengthsDiffer, layoutIn, writeNumber, badFile, heldIn, readNumber}
 use Rattle.recordings.proofs.Numbers.{read-sampler, read-memory-length}
@@ -68,7 +68,7 @@ unfolding after FittingCall FittingChange
 reached-after size w (change d) f r = Reached.changed (w .sampler) d r f
 reached-after size w (sample j x p) f r = Reached.sampled (w .sampler) j x p (w .memory) r f
 reached-after size w (frame xs p) f r = Reached.framed (w .sampler) xs p (w .memory) r f
-reached-after size w (readWave g) f r = read-sampler (w .sampler) g (w .memory) (Reached size) r (λ z. Reached.changed (w .sampler) (Head (Load (heldIn (judgedOf g) .samples))) r tt)
+reached-after size w (readWave g) f r = read-sampler (w .sampler) g (w .memory) (Reached size) r (λ z. Reached.changed (w .sampler) (Head (Load (heldIn (fileJudged g) .samples))) r tt)
 reached-after size w gather f r = Reached.gathered (w .sampler) (w .memory) r
 reached-after size w (asks q) f r = r
 
@@ -125,9 +125,9 @@ no-nine w h u (sample j x p) = u .sample j p
 no-nine w h u (frame xs p) = u .frame (length xs) p
 no-nine w h u (readWave f) =
     let s = w .sampler in
-    let held = heldIn (judgedOf f) in
+    let held = heldIn (fileJudged f) in
     passes (goodWith s (length (w .memory))) _ (good-with s (length (w .memory)) u)
-    (another (againstAny (Samples (held .samples)) s .blocked) 15 _ tt (another (badFile (judgedOf f)) 17 _ tt (another (not (eqb (held .channels) (s .count))) 16 _ tt (another (againstAny (Samples (held .samples)) s .short) 18 0 tt none))))
+    (another (againstAny (Samples (held .samples)) s .blocked) 15 _ tt (another (badFile (fileJudged f)) 17 _ tt (another (not (eqb (held .channels) (s .count))) 16 _ tt (another (againstAny (Samples (held .samples)) s .short) 18 0 tt none))))
 no-nine w h u gather = passes (goodWith (w .sampler) (length (w .memory))) _ (good-with (w .sampler) (length (w .memory)) u) (another (anyRecording (w .sampler)) 21 0 tt none)
 no-nine w h u (asks q) = asked-nine w (h .good) (good-with (w .sampler) (length (w .memory)) u) q
 
@@ -136,7 +136,7 @@ run-nine : (w : World) → Unbroken (w .sampler) (length (w .memory)) → (xs : 
 unfolding frameNumber runNumber
 run-nine w u xs p =
     passes (goodWith (w .sampler) (length (w .memory))) _ (not-nine (goodWith (w .sampler) (length (w .memory))) _ (u .frame 0 p))
-    (another (not (eqb (length xs % w .sampler .count) 0)) 10 _ tt (another (beyondLimits p) 4 _ tt (another (ltb (roomOf (w .sampler)) (length xs / w .sampler .count)) 6 0 tt none)))
+    (another (not (eqb (length xs % w .sampler .count) 0)) 10 _ tt (another (beyondLimits p) 4 _ tt (another (ltb (framesLeft (w .sampler)) (length xs / w .sampler .count)) 6 0 tt none)))
 
 -- ---- what a voice sounds by
 module _ (w : World) (st : Standing w) (h : SoundSampler (w .sampler)) (j n : ℕ) (v : Voice) (c : Call) (p : Params) (x : Float) (m : List ℕ) (y : Plays w j n v c p x m) where

@@ -89,12 +89,12 @@ pub record Demand1 : Type 0 where
       (row (ltb (w .sampler .count) (length xs)) 1
       (row (beyondLimits p) 4 (row (any atEnd (take (length xs) (w .sampler .channels))) 6 0)))
   -- A run of frames (request 3/12): "9, then 10 for a length that isn't a whole number of frames, then 4, then 6 with
-  -- the count done." `roomOf` is what the largest clock of the channels in use has left.
+  -- the count done." `framesLeft` is what the largest clock of the channels in use has left.
   pub run-rows : (w : World) (xs : List Float) (p : Params) (r : RunOutcome) → Allows (along w xs p) r
       → r .answer .ran .number
       ≡ row (not (goodWith (w .sampler) (length (w .memory)))) 9
       (row (not (eqb (length xs % w .sampler .count) 0)) 10
-      (row (beyondLimits p) 4 (row (ltb (roomOf (w .sampler)) (length xs / w .sampler .count)) 6 0)))
+      (row (beyondLimits p) 4 (row (ltb (framesLeft (w .sampler)) (length xs / w .sampler .count)) 6 0)))
   -- Voice info: 1, 4, 8.
   pub info-rows : (w : World) (j : ℕ) (p : Params) (room : ℕ) → code w (asks (getVoiceInfo j p room))
       ≡ row (not (goodSampler (w .sampler))) 9
@@ -567,8 +567,8 @@ pub record Tidying (w : World) : Type 0 where
       → upIn w (sample j x p) j ≡ 0
 
 -- the voices once all have taken their turns in the sample, in their order
-abbrev pub turnedIn : Params → Float → List ℕ → Channel → List Voice
-turnedIn p x m c = map (turnsIn p x m c .turn) (live c)
+abbrev pub allTurned : Params → Float → List ℕ → Channel → List Voice
+allTurned p x m c = map (turnsIn p x m c .turn) (live c)
 
 -- "Outputs and lists are those of the old removal", of every accepted sample of channel j
 pub record OldRemoval (w : World) (j : ℕ) : Type 0 where
@@ -576,12 +576,12 @@ pub record OldRemoval (w : World) (j : ℕ) : Type 0 where
   -- the last first
   pub lists : (s : Call) (p : Params) (x : Float) (m : List ℕ) → event w s j ≡ sounds p x m
       → live (chan (after w s) j)
-      ≡ takenAway (placesOf (turnsIn p x m (chan w j) .leaves) 0 (turnedIn p x m (chan w j))) (turnedIn p x m (chan w j))
+      ≡ takenAway (placesOf (turnsIn p x m (chan w j) .leaves) 0 (allTurned p x m (chan w j))) (allTurned p x m (chan w j))
   -- an output is the sum over all voices, before any of them leaves
   pub outputs : (s : Call) (p : Params) (x : Float) (m : List ℕ) → event w s j ≡ sounds p x m
       → output w s j
       ≡ mul binary32 (p .volume)
-      (add binary32 (add binary32 zero32 (heardOf (turnsIn p x m (chan w j)) (live (chan w j))))
+      (add binary32 (add binary32 zero32 (heardSum (turnsIn p x m (chan w j)) (live (chan w j))))
       (mul binary32 x (levelOf (chan w j .head .«passthru_volume») (chan w j .head .now))))
 
 -- What holds beside it

@@ -90,7 +90,7 @@ allPhrases w j = phrase w j 0 ∷ phrase w j 1 ∷ phrase w j 2 ∷ phrase w j 3
 -- "A gather call moves phrases down, in order, each sample keeping its bits, so that all free room is one stretch behind
 -- them": each begins where those end that began before it, so they stand without gaps from the part's beginning on; what
 -- stands behind them is as it was
-pub record Gathered (w u : World) (j : ℕ) : Type 0 where
+pub record MovedDown (w u : World) (j : ℕ) : Type 0 where
   pub keeps : (k : ℕ) → k < 8 → samplesIn u j k ≡ samplesIn w j k
   pub lengths : (k : ℕ) → k < 8 → phrase u j k .length ≡ phrase w j k .length
   pub down : (k : ℕ) → k < 8 → phrase w j k .length ≢ 0
@@ -139,7 +139,7 @@ pub record Phrases (w : World) : Type 0 where
   pub delete : (k : ℕ) (r : Answer) → Allows (on w (deletePhrase k)) r → code w (deletePhrase k) ≡ 0
       → FittingSampler (w .sampler) → (j : ℕ) → j < w .sampler .count → Deleted w (leftBy w (deletePhrase k) r) j k
   pub gathering : (r : GatherOutcome) → Allows (on w gather) r → code w gather ≡ 0
-      → FittingSampler (w .sampler) → (j : ℕ) → j < w .sampler .count → Gathered w (leftBy w gather r) j
+      → FittingSampler (w .sampler) → (j : ℕ) → j < w .sampler .count → MovedDown w (leftBy w gather r) j
   -- No sample and no read of one phrase changes another's recording.
   pub sample-apart : (c : Call) (r : Outcome (on w c)) → Allows (on w c) r → FittingSampler (w .sampler)
       → (j : ℕ) → j < w .sampler .count → (p : Params) (x : Float) (m : List ℕ) → event w c j ≡ sounds p x m

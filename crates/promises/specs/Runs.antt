@@ -37,7 +37,7 @@ use Rattle.sampler.specs.Samplers.{
 use Rattle.questions.specs.declared.VoiceInfo.{VoiceInfo}
 use Rattle.questions.specs.Questions.{recorderAt, notesOf, listNumber, infoNumber}
 use Rattle.questions.specs.Waveforms.{waveformNumber}
-use Rattle.wave.specs.Reader.{judgedOf}
+use Rattle.wave.specs.Reader.{fileJudged}
 use Rattle.recordings.specs.Waves.{writeNumber, heldIn, readNumber, readWaveOf, readMemory}
 use Rattle.fates.specs.Events.{Event, idle, changes, gathers, sounds, isReset}
 
@@ -124,7 +124,7 @@ unfoldable pub code : World → Call → ℕ
 code w (change d) = changeNumber (w .sampler) d
 code w (sample j x p) = sampleNumber (w .sampler) j p (length (w .memory))
 code w (frame xs p) = frameNumber (w .sampler) (length xs) p (length (w .memory))
-code w (readWave f) = readNumber (w .sampler) (judgedOf f) (length (w .memory))
+code w (readWave f) = readNumber (w .sampler) (fileJudged f) (length (w .memory))
 code w gather = gatherNumber (w .sampler) (length (w .memory))
 code w (asks q) = questionNumber w q
 
@@ -172,7 +172,7 @@ unfoldable pub doneTo : World → Call → ℕ → Event
 doneTo w (change d) j = changes d
 doneTo w (sample i x p) j = cond (eqb i j) (sounds p x (ownPart w j)) idle
 doneTo w (frame xs p) j = cond (ltb j (length xs)) (sounds p (getD xs j zero32) (ownPart w j)) idle
-doneTo w (readWave f) j = changes (Head (Load (heldIn (judgedOf f) .samples)))
+doneTo w (readWave f) j = changes (Head (Load (heldIn (fileJudged f) .samples)))
 doneTo w gather j = gathers (ownPart w j)
 doneTo w (asks q) j = idle
 

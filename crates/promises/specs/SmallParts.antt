@@ -16,7 +16,7 @@ use Rattle.common_types.specs.Modes.{
 }
 use Rattle.volume.specs.declared.Volume.{Volume}
 use Rattle.volume.specs.declared.Volume.the-variants.{Static, Linear}
-use Rattle.volume.specs.Levels.{levelNumber, volumeNumber, valueOf, toOf, stepOf}
+use Rattle.volume.specs.Levels.{levelNumber, volumeNumber, valueAnswer, toOf, stepAnswer}
 use Rattle.clip.specs.declared.Clip.{Clip}
 use Rattle.clip.specs.declared.Mode.{Mode}
 use Rattle.clip.specs.Refusals.{
@@ -62,10 +62,10 @@ badTime (Static x) now = ltb (2 ^ 48) now
 badTime (Linear a b x y) now = ltb now a || ltb (2 ^ 48) now || leb b a || ltb (a + 2 ^ 24) b
 
 pub record RowSeven : Type 0 where
-  pub value : (v : Volume) (now : ℕ) → levelNumber (valueOf v now) ≡ row (badTime v now) 7 0
+  pub value : (v : Volume) (now : ℕ) → levelNumber (valueAnswer v now) ≡ row (badTime v now) 7 0
   pub to : (v : Volume) (now duration : ℕ) (target : Float)
       → volumeNumber (toOf v now duration target) ≡ row (badTime v now || ltb (2 ^ 24) duration) 7 0
-  pub step : (v : Volume) (now : ℕ) → volumeNumber (stepOf v now) ≡ row (badTime v now) 7 0
+  pub step : (v : Volume) (now : ℕ) → volumeNumber (stepAnswer v now) ≡ row (badTime v now) 7 0
   -- "an index of 3 or more for the two modes, or `from_f32` reaching 3", which "takes floor(3x)"
   pub loop-mode-index : (i : ℕ) → loopModeNumber (loopModeFromIndexOf i) ≡ row (leb 3 i) 7 0
   pub note-off-index : (i : ℕ) → noteOffNumber (noteOffFromIndexOf i) ≡ row (leb 3 i) 7 0

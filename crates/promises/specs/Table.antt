@@ -21,7 +21,7 @@ use Rattle.volume.specs.declared.Volume.{Volume}
 use Rattle.volume.specs.declared.Volume.the-variants.{Static}
 use Rattle.volume.specs.declared.LevelAnswer.{LevelAnswer}
 use Rattle.volume.specs.declared.LevelAnswer.the-variants as level
-use Rattle.volume.specs.Levels.{towardOf, valueOf}
+use Rattle.volume.specs.Levels.{towardOf, valueAnswer}
 use Rattle.clip.specs.declared.Clip.{Clip}
 use Rattle.clip.specs.declared.Mode.{Mode}
 use Rattle.clip.specs.declared.Mode.the-variants.{Loop, PingPong}
@@ -54,7 +54,7 @@ given (offset c now) = ofPosition (offsetOf c now)
 given (loopLength p n) = some (loopLengthOf p n)
 given (asSamples v t) = some (asSamplesOf v t)
 given (toFloat n) = some (asFloat n)
-given (value v now) = ofLevel (valueOf v now)
+given (value v now) = ofLevel (valueAnswer v now)
 
 pub record Row : Type 0 where
   pub case : Case

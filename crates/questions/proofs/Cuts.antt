@@ -22,10 +22,10 @@ use Rattle.binary32.proofs.Between.{Whole, whole}
 use Rattle.binary32.proofs.Rounding.{rd, rd-exact, rd-near, rd-mono, rd-le, round-units, round-value, round-sign, round-zero}
 use Rattle.binary32.proofs.Halves.{ofInt-whole}
 use Rattle.binary32.proofs.Floors.{floor-cast}
-use Rattle.questions.specs.Waveforms.{stepOf, cutOf}
+use Rattle.questions.specs.Waveforms.{columnWidth, cutOf}
 
 -- the quotient of two whole numbers that the format holds is rounded once
-step-round : (n k : ℕ) → n ≤ 2 ^ 24 → 0 < k → k ≤ 2 ^ 24 → stepOf n k ≡ round binary32 false n k
+step-round : (n k : ℕ) → n ≤ 2 ^ 24 → 0 < k → k ≤ 2 ^ 24 → columnWidth n k ≡ round binary32 false n k
 step-round n k N K M =
     div-value binary32 (asFloat n) (asFloat k) false n 1 false k 1 (zero-lt-suc 0) (zero-lt-suc 0) K (ofInt-whole binary32 n N) (ofInt-whole binary32 k M)
     ∙ ap₂ (round binary32 false) (mul-one n) (mul-one k)
@@ -100,7 +100,7 @@ module _ (n k : ℕ) (N : n ≤ 2 ^ 22) (K : 0 < k) (M : k ≤ 4096) where
       once : (k r : ℕ) → 0 < k → r ≤ k * r
       once k r h = le-trans (le-of-eq (sym (one-mul r))) (mul-le-mul-right r h)
 
-  step-is : stepOf n k ≡ round binary32 false n k
+  step-is : columnWidth n k ≡ round binary32 false n k
   step-is = step-round n k (le-trans N (lit≤ tt)) K (le-trans M (lit≤ tt))
 
   step-over : T (le (round binary32 false n k) over)
@@ -118,7 +118,7 @@ module _ (n k : ℕ) (N : n ≤ 2 ^ 22) (K : 0 < k) (M : k ≤ 4096) where
   abbrev u : ℕ
   u = step-within .count
 
-  step-value : HasValue (stepOf n k) false u (2 ^ 149)
+  step-value : HasValue (columnWidth n k) false u (2 ^ 149)
   step-value =
       subst (λ (x : Float). HasValue x false u (2 ^ 149)) (sym step-is)
       (subst (λ (s : Bool). HasValue (round binary32 false n k) s u (2 ^ 149)) (sym (units-sign (step-within .is)) ∙ round-sign binary32 false n k) (step-within .is .is))
@@ -134,15 +134,15 @@ module _ (n k : ℕ) (N : n ≤ 2 ^ 22) (K : 0 < k) (M : k ≤ 4096) where
     steps-small : rd binary32 (i * u) < overflow binary32
     steps-small = lt-of-le-of-lt (le-trans steps-most (add-le-add (mul-le-mul-right (2 ^ 149) N) (le-of-eq refl))) (lit< tt)
 
-    steps-value : HasValue (mul binary32 (asFloat i) (stepOf n k)) false (rd binary32 (i * u)) (2 ^ 149)
+    steps-value : HasValue (mul binary32 (asFloat i) (columnWidth n k)) false (rd binary32 (i * u)) (2 ^ 149)
     steps-value =
         subst (λ (x : Float). HasValue x false (rd binary32 (i * u)) (2 ^ 149))
-        (sym (mul-value binary32 (asFloat i) (stepOf n k) false i 1 false u (2 ^ 149) (zero-lt-suc 0) (pow-pos 149) (ofInt-whole binary32 i (le-trans I (le-trans M (lit≤ tt)))) step-value))
+        (sym (mul-value binary32 (asFloat i) (columnWidth n k) false i 1 false u (2 ^ 149) (zero-lt-suc 0) (pow-pos 149) (ofInt-whole binary32 i (le-trans I (le-trans M (lit≤ tt)))) step-value))
         (round-value binary32 false (i * u) steps-small)
 
     cut-is : cutOf n k i ≡ min (rd binary32 (i * u) / 2 ^ 149) (2 ^ 64 - 1)
     unfolding cutOf
-    cut-is = floor-cast 64 (mul binary32 (asFloat i) (stepOf n k)) (mul-fits binary32 (asFloat i) (stepOf n k)) ∙ value-toUnsigned 64 (mul binary32 (asFloat i) (stepOf n k)) (rd binary32 (i * u)) (2 ^ 149) (pow-pos 149) steps-value
+    cut-is = floor-cast 64 (mul binary32 (asFloat i) (columnWidth n k)) (mul-fits binary32 (asFloat i) (columnWidth n k)) ∙ value-toUnsigned 64 (mul binary32 (asFloat i) (columnWidth n k)) (rd binary32 (i * u)) (2 ^ 149) (pow-pos 149) steps-value
 
     -- no cut passes the end of the recording
     pub cut-inside : cutOf n k i ≤ n

@@ -10,7 +10,7 @@ use lib.Seq.{sets, take-length}
 use lib.Ieee.{Float, binary32, mul}
 use Rattle.binary32.specs.Leaves.{asFloat, asWhole, floorOf, floatOf}
 use Rattle.walks.proofs.Lists.Loops.{Walk}
-use Rattle.questions.specs.Waveforms.{stepOf, cutOf, columnOf, columnAt, columnsFrom, columnsOf}
+use Rattle.questions.specs.Waveforms.{columnWidth, cutOf, columnOf, columnAt, columnsFrom, columnsOf}
 use Rattle.questions.proofs.Cuts.{cut-first, cut-inside, cuts-rise}
 
 -- a walk over a whole list
@@ -22,12 +22,12 @@ pub record Filling (goal : List Float) (columns : ℕ) (recording : List ℕ) (s
   pub most : columns ≤ 4096
   pub few : length recording ≤ 2 ^ 22
   pub room : columns ≤ length list
-  pub step-is : step ≡ stepOf (length recording) columns
+  pub step-is : step ≡ columnWidth (length recording) columns
   pub start-is : i < columns → start ≡ cutOf (length recording) columns i
   pub same : sets list i (columnsFrom columns recording (columns - i) i) ≡ goal
 
 pub filling-starts : (columns : ℕ) (recording : List ℕ) (step : Float) (list : List Float) → columns ≤ 4096 → length recording ≤ 2 ^ 22 → columns ≤ length list
-    → step ≡ stepOf (length recording) columns → Filling (sets list 0 (columnsOf columns recording)) columns recording step list 0 0
+    → step ≡ columnWidth (length recording) columns → Filling (sets list 0 (columnsOf columns recording)) columns recording step list 0 0
 filling-starts columns recording step list m f r s = record {
   upto = zero-le;
   most = m;

@@ -15,7 +15,7 @@ use Rattle.sampler.specs.declared.Sampler.{Sampler}
 use Rattle.sampler.specs.Refusals.{channelAt, row, goodSampler, channelNumber}
 use Rattle.sampler.proofs.Rows.{good-sizes, sizes-count}
 use Rattle.questions.specs.Questions.{answered, getFramesProcessedOf, getDataLenOf, isRecordingOf, getLastRecordedOffsetOf, listNumberBy, listCountedBy, listAfterBy, listNumber, listCounted, listAfter, printErrorInfoOf, errorTextAfter}
-use Rattle.questions.specs.Sights.{seenOf, headIn, framesIn, lengthIn, recordingIn, offsetIn, errorIn, errorAfter}
+use Rattle.questions.specs.Sights.{seenOf, headIn, framesIn, lengthIn, recordsIn, offsetIn, errorIn, errorAfter}
 use Rattle.questions.specs.declared.Counted.the-variants as counted
 use Rattle.questions.specs.declared.Told.the-variants as told
 use Rattle.questions.specs.declared.OffsetAnswer.the-variants as offset
@@ -46,7 +46,7 @@ module _ (s : Sampler) where
     unfolding answered channelNumber
     length-seen = shown (λ good there h. answered (counted.Done (h .«data_len»)) counted.Refused (row (not good) 9 (row (not there) 1 0))) (λ b h k. refl) (λ h k. refl)
 
-    pub recording-seen : recordingIn (seenOf s) j ≡ isRecordingOf s j
+    pub recording-seen : recordsIn (seenOf s) j ≡ isRecordingOf s j
     unfolding answered channelNumber
     recording-seen = shown (λ good there h. answered (told.Done (recordsOf (h .recorder))) told.Refused (row (not good) 9 (row (not there) 1 0))) (λ b h k. refl) (λ h k. refl)
 

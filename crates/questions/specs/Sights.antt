@@ -11,7 +11,7 @@ use Rattle.recorder.specs.Recording.{isRecordingOf as recordsOf}
 use Rattle.recorder.specs.ErrorText.{errorText}
 use Rattle.phrases.specs.Phrases.{endsBy, storedIn}
 use Rattle.channel.specs.declared.Head.{Head}
-use Rattle.channel.specs.Heads.{recordingIn as ownOf}
+use Rattle.channel.specs.Heads.{recordingIn}
 use Rattle.sampler.specs.declared.Sampler.{Sampler}
 use Rattle.sampler.specs.Refusals.{channelAt, row, goodSizes, goodSampler}
 use Rattle.questions.specs.Questions.{answered, listNumberBy, listCountedBy, listAfterBy}
@@ -39,20 +39,20 @@ unfoldable pub headIn : Seen → ℕ → Head
 headIn t j = cond (eqb j 0) (t .first) (t .second)
 
 -- `channelNumber`
-abbrev pub numberIn : Seen → ℕ → ℕ
-numberIn t j = row (not (t .good)) 9 (row (not (ltb j (t .count))) 1 0)
+abbrev pub channelRows : Seen → ℕ → ℕ
+channelRows t j = row (not (t .good)) 9 (row (not (ltb j (t .count))) 1 0)
 
 abbrev pub framesIn : Seen → ℕ → Counted
-framesIn t j = answered (counted.Done (headIn t j .now)) counted.Refused (numberIn t j)
+framesIn t j = answered (counted.Done (headIn t j .now)) counted.Refused (channelRows t j)
 
 abbrev pub lengthIn : Seen → ℕ → Counted
-lengthIn t j = answered (counted.Done (headIn t j .«data_len»)) counted.Refused (numberIn t j)
+lengthIn t j = answered (counted.Done (headIn t j .«data_len»)) counted.Refused (channelRows t j)
 
-abbrev pub recordingIn : Seen → ℕ → Told
-recordingIn t j = answered (told.Done (recordsOf (headIn t j .recorder))) told.Refused (numberIn t j)
+abbrev pub recordsIn : Seen → ℕ → Told
+recordsIn t j = answered (told.Done (recordsOf (headIn t j .recorder))) told.Refused (channelRows t j)
 
 abbrev pub offsetIn : Seen → ℕ → OffsetAnswer
-offsetIn t j = answered (offset.Done (lastRecordedOffsetOf (headIn t j .recorder))) offset.Refused (numberIn t j)
+offsetIn t j = answered (offset.Done (lastRecordedOffsetOf (headIn t j .recorder))) offset.Refused (channelRows t j)
 
 abbrev pub errorNumber : Seen → ℕ → ℕ → ℕ
 errorNumber t j = listNumberBy (not (t .good)) (not (ltb j (t .count))) (errorText (headIn t j .recorder))
@@ -67,7 +67,7 @@ errorAfter t j text = listAfterBy (errorText (headIn t j .recorder)) text (error
 
 -- a recording stands in its channel's part
 abbrev pub inPart : ℕ → Head → Bool
-inPart capacity h = endsBy capacity (ownOf h)
+inPart capacity h = endsBy capacity (recordingIn h)
 
 -- what is seen may be of a good record: no recording in use leaves its part. Of a record it is `goodSampler`
 unfoldable pub soundIn : Seen → Bool
@@ -84,7 +84,7 @@ waveformNumberIn t columns room size = waveformRows (goodIn t size) columns room
 
 -- channel 0's part is the front of the memory
 abbrev pub valuesIn : Seen → ℕ → List ℕ → List Float
-valuesIn t columns m = columnsOf columns (storedIn (ownOf (t .first)) m)
+valuesIn t columns m = columnsOf columns (storedIn (recordingIn (t .first)) m)
 
 abbrev pub waveformIn : Seen → ℕ → ℕ → List ℕ → WaveformSummary
 waveformIn t columns room m = summaryBy (valuesIn t columns m) (waveformNumberIn t columns room (length m))

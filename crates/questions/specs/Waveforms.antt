@@ -19,12 +19,12 @@ use Rattle.questions.specs.declared.WaveformSummary.{WaveformSummary}
 -- ---- the cuts
 
 -- how many samples a column has, as a float: n samples in so many columns
-abbrev pub stepOf : ℕ → ℕ → Float
-stepOf n columns = div binary32 (asFloat n) (asFloat columns)
+abbrev pub columnWidth : ℕ → ℕ → Float
+columnWidth n columns = div binary32 (asFloat n) (asFloat columns)
 
 -- the sample that column i begins with
 unfoldable pub cutOf : ℕ → ℕ → ℕ → ℕ
-cutOf n columns i = asWhole 64 (floorOf (mul binary32 (asFloat i) (stepOf n columns)))
+cutOf n columns i = asWhole 64 (floorOf (mul binary32 (asFloat i) (columnWidth n columns)))
 
 -- ---- the columns
 

@@ -14,10 +14,10 @@ ghost use Rattle.sampler.specs.Refusals.{channelAt, row, goodSampler, noChannel
 ghost use Rattle.questions.specs.Sights.{
   seenOf,
   headIn,
-  numberIn,
+  channelRows,
   framesIn,
   lengthIn,
-  recordingIn,
+  recordsIn,
   offsetIn,
   errorIn,
   errorAfter,
@@ -173,7 +173,7 @@ fn recorder_in(t: Seen, channel: usize) -> Recorder
 }
 
 fn number_in(t: Seen, channel: usize) -> u8
-    ensures { λ r. ⌜ r ≡ numberIn t channel ⌝ }
+    ensures { λ r. ⌜ r ≡ channelRows t channel ⌝ }
 {
     rows(t.good, t.count, channel, 0)
 }
@@ -213,7 +213,7 @@ pub fn get_data_len(s: Sampler, channel: usize) -> Counted
 }
 
 pub fn recording_in(t: Seen, channel: usize) -> Told
-    ensures { λ r. ⌜ r ≡ recordingIn t channel ⌝ }
+    ensures { λ r. ⌜ r ≡ recordsIn t channel ⌝ }
 {
     let number = number_in(t, channel);
     if number != 0 {

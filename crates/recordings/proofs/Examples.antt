@@ -8,8 +8,8 @@ use Rattle.octets.specs.Octets.{bytesAt, littleOf, littleBytes}
 use Rattle.octets.proofs.Hex.{digitsOf, pairs, fromHex}
 use Rattle.wave.specs.Fields.{twoAt, fourAt, wordBytes, listed}
 use Rattle.wave.specs.Files.{formatOf, riffRow, formatRow, factRow, dataRow, headerOf, fileOf}
-use Rattle.wave.specs.Reader.{paddedAt, metOf, chunkAt, walkFrom, walkOf, goodRiff, goodFormat, goodFact, countedOf, judgedAt, judgedOf}
-use Rattle.wave.specs.Memory.{fitsMemory, framesOf, storedOf, loadedOf}
+use Rattle.wave.specs.Reader.{paddedAt, metOf, chunkAt, walkFrom, walkOf, goodRiff, goodFormat, goodFact, countedOf, judgedAt, fileJudged}
+use Rattle.wave.specs.Memory.{fitsMemory, frameWords, storedOf, loadedOf}
 use Rattle.common_types.specs.declared.InitParams.{InitParams}
 use Rattle.walks.specs.Walks.{any, every, fold}
 use Rattle.volume.specs.Levels.{goodVolume}
@@ -30,7 +30,7 @@ use Rattle.recordings.specs.declared.ReadAnswer.{ReadAnswer}
 
 -- whatever an answer computes by
 unfoldable pub computing : Unit {0}
-unfolding fromHex pairs digitsOf bytesAt littleOf littleBytes twoAt fourAt wordBytes listed formatOf riffRow formatRow factRow dataRow headerOf paddedAt metOf chunkAt walkFrom walkOf goodRiff goodFormat goodFact countedOf judgedAt judgedOf fitsMemory framesOf storedOf loadedOf any every fold goodVolume inState startOf isRecordingOf goodRecorder noSamples endsBy reachOf apartOf othersOf everyBelow goodAt goodPhrases besideWith besideOf beginsAt holdsOf headOf phraseAfter recorderAfter interpolatesAfter chosenAfter headChangedOf goodHead goodTable tableAfter severalAfter headNames foundBy leavingOf blockedBy shortBy channelOf usesOf headChangedIn changedOf goodVoicesOf goodChannel goodSizes goodSampler capacityOf goodWith againstAny setUpNumber setUpOf eachOf answerOf answered writeNumber writeWaveOf waveAfter readNumber readWaveOf readMemory
+unfolding fromHex pairs digitsOf bytesAt littleOf littleBytes twoAt fourAt wordBytes listed formatOf riffRow formatRow factRow dataRow headerOf paddedAt metOf chunkAt walkFrom walkOf goodRiff goodFormat goodFact countedOf judgedAt fileJudged fitsMemory frameWords storedOf loadedOf any every fold goodVolume inState startOf isRecordingOf goodRecorder noSamples endsBy reachOf apartOf othersOf everyBelow goodAt goodPhrases besideWith besideOf beginsAt holdsOf headOf phraseAfter recorderAfter interpolatesAfter chosenAfter headChangedOf goodHead goodTable tableAfter severalAfter headNames foundBy leavingOf blockedBy shortBy channelOf usesOf headChangedIn changedOf goodVoicesOf goodChannel goodSizes goodSampler capacityOf goodWith againstAny setUpNumber setUpOf eachOf answerOf answered writeNumber writeWaveOf waveAfter readNumber readWaveOf readMemory
 computing = tt
 
 -- ---- records: two channels with parts of three words, in a memory of seven
@@ -149,10 +149,10 @@ unused-start = refl
 
 -- ---- reading: as many samples as the capacity, and one more; then 9, 15, 17, 16, 18, each where those behind it hold too
 abbrev number : Sampler → List ℕ → ℕ
-number s f = readNumber s (judgedOf f) 7
+number s f = readNumber s (fileJudged f) 7
 
 read-rows : number new (stereo 3) ∷ number new (stereo 4) ∷ number new (mono 3) ∷ number new (mono 4) ∷ number new (cut (mono 4)) ∷ number new (cut (stereo 3))
-    ∷ number first-records (cut (mono 4)) ∷ number second-records (cut (mono 4)) ∷ readNumber second-records (judgedOf (cut (mono 4))) 5
+    ∷ number first-records (cut (mono 4)) ∷ number second-records (cut (mono 4)) ∷ readNumber second-records (fileJudged (cut (mono 4))) 5
     ∷ number (alone second-records) (mono 3) ∷ number (alone second-records) (stereo 3) ∷ []
     ≡ 0 ∷ 18 ∷ 16 ∷ 16 ∷ 17 ∷ 17 ∷ 15 ∷ 15 ∷ 9 ∷ 0 ∷ 16 ∷ []
 unfolding computing

@@ -13,7 +13,7 @@ use Rattle.wave.specs.declared.Starts.{Starts}
 use Rattle.wave.specs.declared.Layout.{Layout}
 use Rattle.wave.specs.declared.Judged.{Judged}
 use Rattle.wave.specs.declared.Wave.{Wave}
-use Rattle.wave.specs.Reader.{judgedOf}
+use Rattle.wave.specs.Reader.{fileJudged}
 use Rattle.wave.specs.Memory.{fitsMemory, fitsFile, bytesOf, loadedOf}
 use Rattle.wave.proofs.Calls.{length-loaded}
 use Rattle.channel.specs.declared.Change.the-variants.{Head}
@@ -93,7 +93,7 @@ module _ (s : Sampler) (f m : List ℕ) where
   abbrev pub Reads : ReadAnswer → List ℕ → Type 0
   Reads r after = (r ≡ readWaveOf s f (length m)) × (after ≡ readMemory s f m)
 
-  module _ (j : Judged) (is : j ≡ judgedOf f) (number : ℕ) (e : number ≡ readNumber s j (length m)) where
+  module _ (j : Judged) (is : j ≡ fileJudged f) (number : ℕ) (e : number ≡ readNumber s j (length m)) where
     pub read-refused : (number ≡ 0 → ⊥) → Reads (record { sampler = s; read = record { rate = 0; number = number } }) m
     unfolding readWaveOf readMemory answerOf
     read-refused h = (simp (← is, ← e, ne-eqb number 0 h), simp (← is, ← e, ne-eqb number 0 h))
@@ -153,18 +153,18 @@ module _ (s : Sampler) (j : Judged) (size : ℕ) (l : Loads s j size) where
 module _ (s : Sampler) (f m : List ℕ) where
   pub read-memory-length : length (readMemory s f m) ≡ length m
   unfolding readMemory
-  read-memory-length = cond-split (λ (x : List ℕ). length x ≡ length m) (eqb (readNumber s (judgedOf f) (length m)) 0) _ _ (λ _. length-loaded f (beginningsIn s) m) (λ _. refl)
+  read-memory-length = cond-split (λ (x : List ℕ). length x ≡ length m) (eqb (readNumber s (fileJudged f) (length m)) 0) _ _ (λ _. length-loaded f (beginningsIn s) m) (λ _. refl)
 
   -- a read leaves the record as a change does, or as it was
-  pub read-sampler : (P : Sampler → Type 0) → P s → (changeNumber s (Head (Load (heldIn (judgedOf f) .samples))) ≡ 0 → P (changeOf s (Head (Load (heldIn (judgedOf f) .samples))) .sampler)) → P (readWaveOf s f (length m) .sampler)
+  pub read-sampler : (P : Sampler → Type 0) → P s → (changeNumber s (Head (Load (heldIn (fileJudged f) .samples))) ≡ 0 → P (changeOf s (Head (Load (heldIn (fileJudged f) .samples))) .sampler)) → P (readWaveOf s f (length m) .sampler)
   unfolding readWaveOf answerOf
   read-sampler P held changed = go (eqb number 0) refl
     where
       number : ℕ
-      number = readNumber s (judgedOf f) (length m)
+      number = readNumber s (fileJudged f) (length m)
 
-      go : (b : Bool) → eqb number 0 ≡ b → P (cond b (eachOf (Head (Load (heldIn (judgedOf f) .samples))) s) s)
+      go : (b : Bool) → eqb number 0 ≡ b → P (cond b (eachOf (Head (Load (heldIn (fileJudged f) .samples))) s) s)
       go true e =
-          let z = loads-change s (judgedOf f) (length m) (read-says s (judgedOf f) (length m) (eqb-true number 0 e)) in
-          subst (λ (k : ℕ). P (cond (eqb k 0) (eachOf (Head (Load (heldIn (judgedOf f) .samples))) s) s)) z (changed z)
+          let z = loads-change s (fileJudged f) (length m) (read-says s (fileJudged f) (length m) (eqb-true number 0 e)) in
+          subst (λ (k : ℕ). P (cond (eqb k 0) (eachOf (Head (Load (heldIn (fileJudged f) .samples))) s) s)) z (changed z)
       go false e = held

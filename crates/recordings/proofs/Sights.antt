@@ -14,8 +14,8 @@ use Rattle.wave.specs.declared.Starts.{Starts}
 use Rattle.wave.specs.declared.Layout.{Layout}
 use Rattle.wave.specs.declared.Wave.{Wave}
 use Rattle.wave.specs.declared.Judged.{Judged}
-use Rattle.wave.specs.Reader.{judgedOf}
-use Rattle.wave.specs.Memory.{fitsMemory, fitsFile, writes, bytesOf, writtenOf, outputOf, loadedOf}
+use Rattle.wave.specs.Reader.{fileJudged}
+use Rattle.wave.specs.Memory.{fitsMemory, fitsFile, writes, bytesOf, writtenOf, outputAfter, loadedOf}
 use Rattle.phrases.proofs.Reaches.{behind-same}
 use Rattle.recorder.specs.Recording.{isRecordingOf}
 use Rattle.channel.specs.declared.Channel.{Channel}
@@ -112,8 +112,8 @@ module _ (t : Seen) (rate : ℕ) (m out : List ℕ) where
       rest : (differSeen t ≡ false) × (row (ltb (length out) (bytesOf (layoutSeen t))) 8 0 ≡ 0)
       rest = passed (differSeen t) 15 _ (passed (recordsSeen t) 14 _ (passed (not (goodIn t (length m))) 8 _ (sym e ∙ z) .1) .1)
 
-      pub write-done : (l : Layout) → l ≡ layoutSeen t → (bytes : ℕ) → bytes ≡ writtenOf l (length m) (length out) → (after : List ℕ) → after ≡ outputOf rate l m out → Answers (counted.Done bytes) after
-      unfolding answered writtenOf outputOf writes
+      pub write-done : (l : Layout) → l ≡ layoutSeen t → (bytes : ℕ) → bytes ≡ writtenOf l (length m) (length out) → (after : List ℕ) → after ≡ outputAfter rate l m out → Answers (counted.Done bytes) after
+      unfolding answered writtenOf outputAfter writes
       write-done l k bytes b after o =
           let fits = ltb-false (length out) (bytesOf (layoutSeen t)) (passed (ltb (length out) (bytesOf (layoutSeen t))) 7 0 (rest .1) .0) in
           let x = seen-fits t (length m) write-good (rest .0) in
@@ -125,7 +125,7 @@ module _ (t : Surveyed) (f m : List ℕ) where
   abbrev pub LoadingIs : Loading → List ℕ → Type 0
   LoadingIs r after = (r ≡ loadingSeen t f (length m)) × (after ≡ memoryLeft t f m)
 
-  module _ (j : Judged) (is : j ≡ judgedOf f) (w : Wave) (h : w ≡ heldIn j) (number : ℕ) (e : number ≡ readNumberSeen t j (length m)) where
+  module _ (j : Judged) (is : j ≡ fileJudged f) (w : Wave) (h : w ≡ heldIn j) (number : ℕ) (e : number ≡ readNumberSeen t j (length m)) where
     pub loading-refused : (number ≡ 0 → ⊥) → LoadingIs (record { read = record { rate = 0; number = number }; samples = w .samples }) m
     loading-refused n = (simp (h, ← is, ← e, ne-eqb number 0 n), simp (← is, ← e, ne-eqb number 0 n))
 
@@ -167,16 +167,16 @@ module _ (s : Sampler) (two : length (s .channels) ≡ 2) where
 
     pub memory-seen : (f m : List ℕ) → memoryLeft (surveyOf s) f m ≡ readMemory s f m
     unfolding readMemory
-    memory-seen f m = ap (λ (n : ℕ). cond (eqb n 0) (loadedOf f (beginningsSeen (surveyOf s)) m) m) (read-number-seen (judgedOf f) (length m)) ∙ go (eqb number 0) refl
+    memory-seen f m = ap (λ (n : ℕ). cond (eqb n 0) (loadedOf f (beginningsSeen (surveyOf s)) m) m) (read-number-seen (fileJudged f) (length m)) ∙ go (eqb number 0) refl
       where
         number : ℕ
-        number = readNumber s (judgedOf f) (length m)
+        number = readNumber s (fileJudged f) (length m)
 
         go : (b : Bool) → eqb number 0 ≡ b → cond b (loadedOf f (beginningsSeen (surveyOf s)) m) m ≡ cond b (loadedOf f (beginningsIn s) m) m
         go false e = refl
-        go true e = ap (λ (x : Starts). loadedOf f x m) (beginnings-are (fitting s (length m) (read-says s (judgedOf f) (length m) (eqb-true number 0 e) .good) .good))
+        go true e = ap (λ (x : Starts). loadedOf f x m) (beginnings-are (fitting s (length m) (read-says s (fileJudged f) (length m) (eqb-true number 0 e) .good) .good))
 
   -- what is answered, and what the record then is
   pub read-seen : (f : List ℕ) (size : ℕ) → loadingSeen (surveyOf s) f size .read ≡ readWaveOf s f size .read
   unfolding readWaveOf
-  read-seen f size = ap (λ (n : ℕ). record { rate = cond (eqb n 0) (heldIn (judgedOf f) .rate) 0; number = n }) (read-number-seen (judgedOf f) size)
+  read-seen f size = ap (λ (n : ℕ). record { rate = cond (eqb n 0) (heldIn (fileJudged f) .rate) 0; number = n }) (read-number-seen (fileJudged f) size)

@@ -8,7 +8,7 @@ use lib.ListN.{length}
 use Rattle.wave.specs.declared.Starts.{Starts}
 use Rattle.wave.specs.declared.Layout.{Layout}
 use Rattle.wave.specs.declared.Judged.{Judged}
-use Rattle.wave.specs.Reader.{judgedOf}
+use Rattle.wave.specs.Reader.{fileJudged}
 use Rattle.wave.specs.Memory.{loadedOf}
 use Rattle.recorder.specs.Recording.{isRecordingOf}
 use Rattle.channel.specs.Heads.{beginsAt, holdsOf}
@@ -79,7 +79,7 @@ beginningsSeen t = record {
 -- what `readWaveOf` answers, and how many samples the record then has
 abbrev pub loadingSeen : Surveyed → List ℕ → ℕ → Loading
 loadingSeen t f size =
-    let j = judgedOf f in
+    let j = fileJudged f in
     let number = readNumberSeen t j size in
     record {
       read = record { rate = cond (eqb number 0) (heldIn j .rate) 0; number = number };
@@ -88,4 +88,4 @@ loadingSeen t f size =
 
 -- `readMemory`
 abbrev pub memoryLeft : Surveyed → List ℕ → List ℕ → List ℕ
-memoryLeft t f m = cond (eqb (readNumberSeen t (judgedOf f) (length m)) 0) (loadedOf f (beginningsSeen t) m) m
+memoryLeft t f m = cond (eqb (readNumberSeen t (fileJudged f) (length m)) 0) (loadedOf f (beginningsSeen t) m) m

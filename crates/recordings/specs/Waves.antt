@@ -12,8 +12,8 @@ use Rattle.wave.specs.declared.Wave.{Wave}
 use Rattle.wave.specs.declared.Judged.{Judged}
 use Rattle.wave.specs.declared.Judged.the-variants.{Is, Refused}
 use Rattle.wave.specs.Files.{fileOf}
-use Rattle.wave.specs.Reader.{judgedOf}
-use Rattle.wave.specs.Memory.{framesOf, bytesOf, loadedOf}
+use Rattle.wave.specs.Reader.{fileJudged}
+use Rattle.wave.specs.Memory.{frameWords, bytesOf, loadedOf}
 use Rattle.channel.specs.declared.Channel.{Channel}
 use Rattle.channel.specs.declared.Change.the-variants.{Head}
 use Rattle.channel.specs.declared.HeadChange.the-variants.{Load}
@@ -67,7 +67,7 @@ writeWaveOf s room size = writtenBy (layoutIn s) (writeNumber s room size)
 -- the file in the front of the list, whose rest is kept
 abbrev pub waveAfterBy : ℕ → Layout → List ℕ → List ℕ → ℕ → List ℕ
 waveAfterBy rate l m out number =
-    cond (eqb number 0) (fileOf rate (l .channels) (l .samples) (framesOf l m) ++ drop (bytesOf l) out) out
+    cond (eqb number 0) (fileOf rate (l .channels) (l .samples) (frameWords l m) ++ drop (bytesOf l) out) out
 
 unfoldable pub waveAfter : Sampler → ℕ → List ℕ → List ℕ → List ℕ
 waveAfter s rate m out = waveAfterBy rate (layoutIn s) m out (writeNumber s (length out) (length m))
@@ -100,7 +100,7 @@ readNumber s j size =
 -- the record: each channel's recording is as long as the file's. The answer has the rate, 0 where it is refused
 unfoldable pub readWaveOf : Sampler → List ℕ → ℕ → ReadAnswer
 readWaveOf s f size =
-    let j = judgedOf f in
+    let j = fileJudged f in
     let number = readNumber s j size in
     record {
       sampler = answerOf number (Head (Load (heldIn j .samples))) s .sampler;
@@ -116,4 +116,4 @@ beginningsIn s = record {
 
 -- the memory: from there on it is the file's channel
 unfoldable pub readMemory : Sampler → List ℕ → List ℕ → List ℕ
-readMemory s f m = cond (eqb (readNumber s (judgedOf f) (length m)) 0) (loadedOf f (beginningsIn s) m) m
+readMemory s f m = cond (eqb (readNumber s (fileJudged f) (length m)) 0) (loadedOf f (beginningsIn s) m) m

@@ -8,7 +8,7 @@ use borrow.Author.Tests.{eqb-true}
 use lib.Dec.{eqb, ltb}
 use Rattle.common_types.specs.declared.Params.{Params}
 use Rattle.common_types.specs.Settings.{beyondLimits}
-use Rattle.sampler.specs.Refusals.{row, goodWith, roomOf, runAskedOf, runNumber, doneOf, runDone}
+use Rattle.sampler.specs.Refusals.{row, goodWith, framesLeft, runAskedOf, runNumber, doneOf, runDone}
 use Rattle.sampler.specs.Samplers.{Turns, runAnswer}
 use Rattle.sampler.specs.declared.Sampler.{Sampler}
 use Rattle.sampler.specs.declared.RunAsked.{RunAsked}
@@ -35,7 +35,7 @@ module _ (s : Sampler) (n : ℕ) (p : Params) (size : ℕ) where
   pub run-begins : working (runNumber s n p size) ≡ true → Begins s n p size
   unfolding runNumber
   run-begins h =
-      let r = rows (not (goodWith s size)) (not (eqb (n % s .count) 0)) (beyondLimits p) (ltb (roomOf s) (n / s .count)) h in
+      let r = rows (not (goodWith s size)) (not (eqb (n % s .count) 0)) (beyondLimits p) (ltb (framesLeft s) (n / s .count)) h in
       record { good = is-true (goodWith s size) (r .0); whole = eqb-true (n % s .count) 0 (is-true (eqb (n % s .count) 0) (r .1)); within = r .2 }
 
   -- what is asked of the record gives its answer
@@ -47,11 +47,11 @@ module _ (s : Sampler) (n : ℕ) (p : Params) (size : ℕ) where
   unfolding doneOf
   done-turns = go (working (runNumber s n p size)) refl
     where
-      go : (b : Bool) → working (runNumber s n p size) ≡ b → Turns s (cond b (min (n / s .count) (roomOf s)) 0) n size
+      go : (b : Bool) → working (runNumber s n p size) ≡ b → Turns s (cond b (min (n / s .count) (framesLeft s)) 0) n size
       go true e =
           let f = fitting s size (run-begins e .good) in
           record {
             steps = λ z. record { below = f .few; parts = f .fits };
-            entries = le-trans (mul-le-mul-right (s .count) (min-le-left (n / s .count) (roomOf s))) (div-mul-le-self n (s .count));
+            entries = le-trans (mul-le-mul-right (s .count) (min-le-left (n / s .count) (framesLeft s))) (div-mul-le-self n (s .count));
           }
       go false e = record { steps = λ z. absurd (omega arith); entries = le-trans (le-of-eq (zero-mul (s .count))) zero-le }

@@ -160,12 +160,12 @@ unfoldable pub latestOf : List Channel → ℕ
 latestOf cs = fold laterOf 0 cs
 
 -- the frames that are left until the clock of a channel in use stands at its end
-unfoldable pub roomOf : Sampler → ℕ
-roomOf s = lastTime - latestOf (present s)
+unfoldable pub framesLeft : Sampler → ℕ
+framesLeft s = lastTime - latestOf (present s)
 
 -- what its rows ask
 abbrev pub runAskedOf : Sampler → ℕ → RunAsked
-runAskedOf s size = record { good = goodWith s size; count = s .count; room = roomOf s }
+runAskedOf s size = record { good = goodWith s size; count = s .count; room = framesLeft s }
 
 -- a run of n entries: "9, then 10 for a length that isn't a whole number of frames, then 4, then 6"
 abbrev pub runRows : RunAsked → ℕ → Params → ℕ

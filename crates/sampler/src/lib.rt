@@ -35,7 +35,7 @@ ghost use Rattle.sampler.specs.Refusals.{
   frameRows,
   frameNumber,
   latestOf,
-  roomOf,
+  framesLeft,
   runAskedOf,
   runRows,
   runDone,
@@ -324,7 +324,7 @@ impl Sampler {
 
     // The frames that are left until a clock stands at its end.
     fn room(self) -> usize
-        ensures { λ r. ⌜ r ≡ roomOf self ⌝ }
+        ensures { λ r. ⌜ r ≡ framesLeft self ⌝ }
     {
         let latest = self.latest();
         if latest < channel::LAST_TIME {

@@ -12,7 +12,7 @@ use Rattle.smf.specs.Cues.{Entry, songOf, countedOf, listOf, cueOf}
 use Rattle.smf.specs.declared.Counted.the-variants.{Done}
 use Rattle.smf.specs.declared.Cue.{Cue}
 use Rattle.smf.proofs.Examples.{computing as reading}
-use Rattle.songs.specs.Plays.{callOf, oneMore, cuesOf, playedOf, playOf, dueOf}
+use Rattle.songs.specs.Plays.{cueCall, oneMore, cuesOf, cuesPlayed, playOf, dueOf}
 use Rattle.voice.specs.Voices.{freshOf}
 use Rattle.channel.specs.Heads.{momentOf}
 use Rattle.channel.specs.Channels.{live}
@@ -67,7 +67,7 @@ abbrev host : Host
 host = turnedAll list plain (hostBegins ready) (quiet ∷ [])
 
 in-step : InStep 1 list plain (hostBegins ready) (quiet ∷ [])
-unfolding computing reading InStep Rising callOf oneMore cuesOf playedOf playOf dueOf makes made
+unfolding computing reading InStep Rising cueCall oneMore cuesOf cuesPlayed playOf dueOf makes made
 in-step = (record { clock = refl; some = omega arith; cut = λ _. (omega arith, (omega arith, tt)) }, tt)
 
 there : host .at ≡ 2
@@ -88,7 +88,7 @@ found = run (host .world) (hands plain (cueOf 2 0x3C00 ∷ []))
 
 in-the-second-frame : FirstIn (called list plain host) (frame (zero32 ∷ zero32 ∷ []) plain) 1 plain zero32 part (length (live (chan found 1)))
     (freshOf plain (asFloat 0) (fromU64Of (second .note)) (second .velocity) (momentOf (chan found 1 .head)))
-unfolding computing reading turnedAll callOf oneMore cuesOf playedOf playOf dueOf handOf makes made
+unfolding computing reading turnedAll cueCall oneMore cuesOf cuesPlayed playOf dueOf handOf makes made
 in-the-second-frame = met .sounds (cueOf 2 0x3C00 ∷ []) [] refl found refl refl refl refl (frame (zero32 ∷ zero32 ∷ []) plain) plain zero32 part refl refl
 
 -- its count: that of the song's beginning and 2

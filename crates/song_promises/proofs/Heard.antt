@@ -22,7 +22,7 @@ use Rattle.sampler.specs.Soundness.{FittingSampler}
 use Rattle.common_types.specs.declared.InitParams.{InitParams}
 use Rattle.common_types.specs.declared.Params.{Params}
 use Rattle.common_types.specs.Settings.{beyondLimits}
-use Rattle.sampler.specs.Refusals.{row, goodWith, roomOf, setUpNumber, runNumber, doneOf}
+use Rattle.sampler.specs.Refusals.{row, goodWith, framesLeft, setUpNumber, runNumber, doneOf}
 use lib.Seq.{take-at, length-take-le}
 use Rattle.smf.specs.Cues.{Entry, songOf, numbersOf, countedOf, listOf, cuesNumber, cueOf}
 use Rattle.smf.specs.declared.Counted.the-variants.{Done}
@@ -191,17 +191,17 @@ module _ (count : ℕ) (q : InitParams) (m : List ℕ) (good : setUpNumber count
   last-row false false false true e = absurd (omega arith)
   last-row false false false false e = refl
 
-  room-enough : (w : World) (xs : List Float) (p : Params) → runNumber (w .sampler) (length xs) p (length (w .memory)) ≡ 0 → length xs / w .sampler .count ≤ roomOf (w .sampler)
+  room-enough : (w : World) (xs : List Float) (p : Params) → runNumber (w .sampler) (length xs) p (length (w .memory)) ≡ 0 → length xs / w .sampler .count ≤ framesLeft (w .sampler)
   unfolding runNumber
-  room-enough w xs p e = ltb-false (roomOf (w .sampler)) (length xs / w .sampler .count)
-      (last-row (not (goodWith (w .sampler) (length (w .memory)))) (not (eqb (length xs % w .sampler .count) 0)) (beyondLimits p) (ltb (roomOf (w .sampler)) (length xs / w .sampler .count)) e)
+  room-enough w xs p e = ltb-false (framesLeft (w .sampler)) (length xs / w .sampler .count)
+      (last-row (not (goodWith (w .sampler) (length (w .memory)))) (not (eqb (length xs % w .sampler .count) 0)) (beyondLimits p) (ltb (framesLeft (w .sampler)) (length xs / w .sampler .count)) e)
 
   all-done : (w : World) (xs : List Float) (p : Params) → runNumber (w .sampler) (length xs) p (length (w .memory)) ≡ 0
       → (framesDone w xs p ≡ length xs / w .sampler .count) × (framesDone w xs p * w .sampler .count ≤ length xs)
   unfolding doneOf
   all-done w xs p e =
       let room = room-enough w xs p e in
-      let least : min (length xs / w .sampler .count) (roomOf (w .sampler)) ≡ length xs / w .sampler .count = omega arith in
+      let least : min (length xs / w .sampler .count) (framesLeft (w .sampler)) ≡ length xs / w .sampler .count = omega arith in
       rw e (least, rw least (div-mul-le-self (length xs) (w .sampler .count)))
 
   run-turn : (hs : List Made) (w : World) → w ≡ makes (setUp count q m) hs → FittingSampler (w .sampler) → (xs : List Float) (p : Params) → FittingParams p

@@ -27,7 +27,7 @@ use Rattle.smf.specs.Cues.{Entry, songOf, numbersOf, cueOf}
 use Rattle.smf.specs.Promised.{NeverFall}
 use Rattle.smf.specs.declared.Cue.{Cue}
 use Rattle.smf.proofs.Promised.{promised}
-use Rattle.songs.specs.Plays.{callOf, cuesOf, dueOf, playOf}
+use Rattle.songs.specs.Plays.{cueCall, cuesOf, dueOf, playOf}
 use Rattle.songs.proofs.Hands.{by-hand}
 use Rattle.fates.specs.Engine.{bornOf}
 use Rattle.fates.specs.Events.{idle, changes, sounds, isReset, isSample, emptyAt}
@@ -45,8 +45,8 @@ run-more w [] cs = refl
 run-more w (b ∷ bs) cs = run-more (after w b) bs cs
 
 -- a call of the list is the call of its world
-made : (p : Params) (w : World) (c : Cue) → withSampler (callOf (w .sampler) c p .sampler) w ≡ after w (handOf p c)
-unfolding callOf handOf after
+made : (p : Params) (w : World) (c : Cue) → withSampler (cueCall (w .sampler) c p .sampler) w ≡ after w (handOf p c)
+unfolding cueCall handOf after
 made p w c = go (c .starts)
   where
     note : Note
@@ -59,11 +59,11 @@ made p w c = go (c .starts)
     go false = refl
 
 each-made : (p : Params) (w : World) (cs : List Cue)
-    → withSampler (fold (λ (e : Sampler) (c : Cue). callOf e c p .sampler) (w .sampler) cs) w ≡ run w (hands p cs)
+    → withSampler (fold (λ (e : Sampler) (c : Cue). cueCall e c p .sampler) (w .sampler) cs) w ≡ run w (hands p cs)
 unfolding fold run
 each-made p w [] = refl
 each-made p w (c ∷ cs) =
-    each-made p (withSampler (callOf (w .sampler) c p .sampler) w) cs ∙ ap (λ (v : World). run v (hands p cs)) (made p w c)
+    each-made p (withSampler (cueCall (w .sampler) c p .sampler) w) cs ∙ ap (λ (v : World). run v (hands p cs)) (made p w c)
 
 plays : (w : World) (list : List ℕ) (next at : ℕ) (p : Params) → played w list next at p ≡ run w (hands p (dueIn list next at))
 plays w list next at p =

@@ -18,7 +18,7 @@ use Rattle.sampler.specs.declared.Answer.{Answer}
 use Rattle.sampler.specs.declared.Sampler.{Sampler}
 use Rattle.smf.specs.Cues.{cueOf}
 use Rattle.smf.specs.declared.Cue.{Cue}
-use Rattle.songs.specs.Plays.{callOf, changeBy, oneMore, cuesOf, playedOf, playOf, dueOf}
+use Rattle.songs.specs.Plays.{cueCall, changeBy, oneMore, cuesOf, cuesPlayed, playOf, dueOf}
 use Rattle.songs.specs.declared.Playing.{Playing}
 
 module _ (list : List ℕ) (place : ℕ) where
@@ -45,9 +45,9 @@ cues-over list place h = few (drop (2 * place) list) (omega (arith, length-drop 
 
 module _ (s : Sampler) (frame key : ℕ) (cs : List Cue) (next at : ℕ) (p : Params) (refused : ℕ) where
   pub due : frame ≤ at
-      → playedOf s (cueOf frame key ∷ cs) next at p refused
-      ≡ playedOf (callOf s (cueOf frame key) p .sampler) cs (next + 1) at p (oneMore refused (callOf s (cueOf frame key) p .number))
-  unfolding playedOf cueOf
+      → cuesPlayed s (cueOf frame key ∷ cs) next at p refused
+      ≡ cuesPlayed (cueCall s (cueOf frame key) p .sampler) cs (next + 1) at p (oneMore refused (cueCall s (cueOf frame key) p .number))
+  unfolding cuesPlayed cueOf
   due h = simp (le-leb _ _ h)
 
 -- how many are due from a place on
@@ -78,13 +78,13 @@ module _ (list : List ℕ) (at place : ℕ) where
       go false true o e = (let inside = leb-false (length list / 2) place o in omega arith, leb-true _ _ e)
       go false false o e = absurd (let inside = leb-false (length list / 2) place o in let none = dues-none (omega arith) (leb-false (getD list (2 * place) 0) at e) in omega arith)
 
-none-due : (s : Sampler) (cs : List Cue) (next at : ℕ) (p : Params) (refused : ℕ) → length (dueOf at cs) ≡ 0 → playedOf s cs next at p refused ≡ record { sampler = s; next = next; refused = refused }
-unfolding playedOf dueOf
+none-due : (s : Sampler) (cs : List Cue) (next at : ℕ) (p : Params) (refused : ℕ) → length (dueOf at cs) ≡ 0 → cuesPlayed s cs next at p refused ≡ record { sampler = s; next = next; refused = refused }
+unfolding cuesPlayed dueOf
 none-due s [] next at p refused none = refl
 none-due s (c ∷ cs) next at p refused none = go (leb (c .frame) at) none
   where
     on : Playing
-    on = playedOf (callOf s c p .sampler) cs (next + 1) at p (oneMore refused (callOf s c p .number))
+    on = cuesPlayed (cueCall s c p .sampler) cs (next + 1) at p (oneMore refused (cueCall s c p .number))
 
     stays : Playing
     stays = record { sampler = s; next = next; refused = refused }
@@ -95,7 +95,7 @@ none-due s (c ∷ cs) next at p refused none = go (leb (c .frame) at) none
 
 -- ---- what stands before the entry `place` of a list that is played from `next` on, up to `end`
 pub record Going (s₀ : Sampler) (list : List ℕ) (next at : ℕ) (p : Params) (end : ℕ) (s : Sampler) (place refused : ℕ) : Type 0 where
-  pub same : playedOf s (cuesOf (drop (2 * place) list)) place at p refused ≡ playOf s₀ list next at p
+  pub same : cuesPlayed s (cuesOf (drop (2 * place) list)) place at p refused ≡ playOf s₀ list next at p
   pub ends : place + duesFrom list at place ≡ end
   pub few : refused ≤ place
 
@@ -111,8 +111,8 @@ one-more-most refused number place h = go (eqb number 0)
     go false = omega arith
 
 -- the call of a start or a stop is its change
-pub call-is : (s : Sampler) (c : Cue) (p : Params) → changeOf s (changeBy c p) ≡ callOf s c p
-unfolding callOf changeBy
+pub call-is : (s : Sampler) (c : Cue) (p : Params) → changeOf s (changeBy c p) ≡ cueCall s c p
+unfolding cueCall changeBy
 call-is s c p = go (c .starts)
   where
     go : (b : Bool) → changeOf s (cond b (change.Start p (asFloat 0) (fromU64Of (c .note)) (c .velocity)) (change.Stop p (fromU64Of (c .note))))
@@ -144,10 +144,10 @@ module _ {s₀ : Sampler} {list : List ℕ} {next at : ℕ} {p : Params} {end : 
     goes-on a e =
         let cue = cueAt list place in
         let rest = cuesOf (drop (2 * (place + 1)) list) in
-        let step = ap (λ (cs : List Cue). playedOf s cs place at p refused) (cues-next list place (here .0)) ∙ due s _ _ _ place at p refused (here .1) in
+        let step = ap (λ (cs : List Cue). cuesPlayed s cs place at p refused) (cues-next list place (here .0)) ∙ due s _ _ _ place at p refused (here .1) in
         let less = dues-next list at place (here .0) (here .1) in
         record {
-          same = ap (λ (b : Answer). playedOf (b .sampler) rest (place + 1) at p (oneMore refused (b .number))) (e ∙ call-is s cue p) ∙ sym step ∙ g .same;
+          same = ap (λ (b : Answer). cuesPlayed (b .sampler) rest (place + 1) at p (oneMore refused (b .number))) (e ∙ call-is s cue p) ∙ sym step ∙ g .same;
           ends = omega (arith, g .ends, less);
           few = one-more-most refused (a .number) place (g .few);
         }

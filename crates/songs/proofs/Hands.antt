@@ -10,12 +10,12 @@ use Rattle.walks.specs.Walks.{fold}
 use Rattle.common_types.specs.declared.Params.{Params}
 use Rattle.sampler.specs.declared.Sampler.{Sampler}
 use Rattle.smf.specs.declared.Cue.{Cue}
-use Rattle.songs.specs.Plays.{callOf, oneMore, cuesOf, playedOf, playOf, dueOf, refusedOf, ByHand}
+use Rattle.songs.specs.Plays.{cueCall, oneMore, cuesOf, cuesPlayed, playOf, dueOf, refusedOf, ByHand}
 use Rattle.songs.specs.declared.Playing.{Playing}
 
 module _ (at : ℕ) (p : Params) where
   abbrev made : Sampler → Cue → Sampler
-  made s c = callOf s c p .sampler
+  made s c = cueCall s c p .sampler
 
   -- a list whose first is due, or isn't
   pick : (P : Playing → List Cue → Type 0) (b : Bool) (x y : Playing) (c : Cue) (cs : List Cue) → P x (c ∷ cs) → P y [] → P (cond b x y) (cond b (c ∷ cs) [])
@@ -34,11 +34,11 @@ module _ (at : ℕ) (p : Params) where
   abbrev Made : Sampler → ℕ → ℕ → Playing → List Cue → Type 0
   Made s next refused r due = (r .sampler ≡ fold made s due) × (r .next ≡ next + length due) × (r .refused ≡ refused + length (refusedOf s due p))
 
-  hands : (s : Sampler) (cs : List Cue) (next refused : ℕ) → Made s next refused (playedOf s cs next at p refused) (dueOf at cs)
-  unfolding playedOf dueOf fold refusedOf
+  hands : (s : Sampler) (cs : List Cue) (next refused : ℕ) → Made s next refused (cuesPlayed s cs next at p refused) (dueOf at cs)
+  unfolding cuesPlayed dueOf fold refusedOf
   hands s [] next refused = (refl, omega arith, omega arith)
   hands s (c ∷ cs) next refused =
-      let a = callOf s c p in
+      let a = cueCall s c p in
       let rest = hands (a .sampler) cs (next + 1) (oneMore refused (a .number)) in
       pick (Made s next refused) (leb (c .frame) at) _ _ c (dueOf at cs)
       (rest .0, (let k = rest .1 in omega arith), one-more refused (a .number) _ c (refusedOf (a .sampler) (dueOf at cs) p) (rest .2))

@@ -20,8 +20,8 @@ use Rattle.smf.specs.declared.Cue.{Cue}
 use Rattle.songs.specs.declared.Playing.{Playing}
 
 -- the call that a host would make by hand: every start is at position 0
-unfoldable pub callOf : Sampler → Cue → Params → Answer
-callOf s c p =
+unfoldable pub cueCall : Sampler → Cue → Params → Answer
+cueCall s c p =
     cond (c .starts) (startPlayingOf s (asFloat 0) (fromU64Of (c .note)) (c .velocity) p)
     (stopPlayingOf s (fromU64Of (c .note)) p)
 
@@ -42,16 +42,16 @@ cuesOf (x ∷ []) = []
 cuesOf (frame ∷ key ∷ rest) = cueOf frame key ∷ cuesOf rest
 
 -- those that are due at the count `at`, up to the first that isn't; a refused one changes nothing, and the song goes on
-unfoldable pub playedOf : Sampler → List Cue → ℕ → ℕ → Params → ℕ → Playing
-playedOf s [] next at p refused = record { sampler = s; next = next; refused = refused }
-playedOf s (c ∷ cs) next at p refused =
-    let a = callOf s c p in
-    cond (leb (c .frame) at) (playedOf (a .sampler) cs (next + 1) at p (oneMore refused (a .number)))
+unfoldable pub cuesPlayed : Sampler → List Cue → ℕ → ℕ → Params → ℕ → Playing
+cuesPlayed s [] next at p refused = record { sampler = s; next = next; refused = refused }
+cuesPlayed s (c ∷ cs) next at p refused =
+    let a = cueCall s c p in
+    cond (leb (c .frame) at) (cuesPlayed (a .sampler) cs (next + 1) at p (oneMore refused (a .number)))
     (record { sampler = s; next = next; refused = refused })
 
 -- from the entry `next` on
 unfoldable pub playOf : Sampler → List ℕ → ℕ → ℕ → Params → Playing
-playOf s list next at p = playedOf s (cuesOf (drop (2 * next) list)) next at p 0
+playOf s list next at p = cuesPlayed s (cuesOf (drop (2 * next) list)) next at p 0
 
 -- ---- "Playing the list equals making the calls by hand"
 
@@ -64,13 +64,13 @@ dueOf at (c ∷ cs) = cond (leb (c .frame) at) (c ∷ dueOf at cs) []
 unfoldable pub refusedOf : Sampler → List Cue → Params → List Cue
 refusedOf s [] p = []
 refusedOf s (c ∷ cs) p =
-    let a = callOf s c p in
+    let a = cueCall s c p in
     cond (eqb (a .number) 0) [] (c ∷ []) ++ refusedOf (a .sampler) cs p
 
 pub record ByHand (s : Sampler) (list : List ℕ) (next at : ℕ) (p : Params) : Type 0 where
   -- the engine is as after each call in turn
   pub calls : playOf s list next at p .sampler
-      ≡ fold (λ (e : Sampler) (c : Cue). callOf e c p .sampler) s (dueOf at (cuesOf (drop (2 * next) list)))
+      ≡ fold (λ (e : Sampler) (c : Cue). cueCall e c p .sampler) s (dueOf at (cuesOf (drop (2 * next) list)))
   -- and the next entry is the one behind them
   pub places : playOf s list next at p .next ≡ next + length (dueOf at (cuesOf (drop (2 * next) list)))
   -- and as many are told as refused as answer so

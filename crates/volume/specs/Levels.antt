@@ -74,16 +74,16 @@ goodVolume now (Linear a b x y) = goodRamp a b now
 unfoldable pub levelRefusedAt : Volume → ℕ → Bool
 levelRefusedAt v now = ltb (2 ^ 48) now || not (goodVolume now v)
 
-unfoldable pub valueOf : Volume → ℕ → LevelAnswer
-valueOf v now = cond (levelRefusedAt v now) level.Refused (level.Done (levelOf v now))
+unfoldable pub valueAnswer : Volume → ℕ → LevelAnswer
+valueAnswer v now = cond (levelRefusedAt v now) level.Refused (level.Done (levelOf v now))
 
 -- and a duration above 2 ^ 24
 unfoldable pub toOf : Volume → ℕ → ℕ → Float → VolumeAnswer
 toOf v now duration target =
     cond (levelRefusedAt v now || ltb (2 ^ 24) duration) volume.Refused (volume.Done (towardOf v now duration target))
 
-unfoldable pub stepOf : Volume → ℕ → VolumeAnswer
-stepOf v now = cond (levelRefusedAt v now) volume.Refused (volume.Done (steppedOf v now))
+unfoldable pub stepAnswer : Volume → ℕ → VolumeAnswer
+stepAnswer v now = cond (levelRefusedAt v now) volume.Refused (volume.Done (steppedOf v now))
 
 -- document 01's number for each case
 abbrev pub levelNumber : LevelAnswer → ℕ

@@ -16,9 +16,9 @@ ghost use Rattle.volume.specs.Levels.{
   goodRamp,
   goodVolume,
   levelRefusedAt,
-  valueOf,
+  valueAnswer,
   toOf,
-  stepOf,
+  stepAnswer,
 };
 
 pub enum Volume {
@@ -84,7 +84,7 @@ impl Volume {
     }
 
     pub fn value(self, now: usize) -> LevelAnswer
-        ensures { λ r. ⌜ r ≡ valueOf self now ⌝ }
+        ensures { λ r. ⌜ r ≡ valueAnswer self now ⌝ }
     {
         if self.refused_at(now) {
             return LevelAnswer::Refused;
@@ -105,7 +105,7 @@ impl Volume {
     }
 
     pub fn step(self, now: usize) -> VolumeAnswer
-        ensures { λ r. ⌜ r ≡ stepOf self now ⌝ }
+        ensures { λ r. ⌜ r ≡ stepAnswer self now ⌝ }
     {
         if self.refused_at(now) {
             return VolumeAnswer::Refused;

@@ -16,7 +16,7 @@ use Rattle.octets.specs.Octets.{Bytes, littleBytes}
 use Rattle.octets.proofs.Orders.{length-little}
 use Rattle.wave.specs.Fields.{twoAt, fourAt, riffId, waveId, factId, wordBytes, listed}
 use Rattle.wave.specs.Files.{formatOf}
-use Rattle.wave.specs.Reader.{missing, nowhere, walkOf, goodRiff, channelsAt, goodFormat, goodFact, countedOf, judgedAt, judgedIn, judgedOf, wordsIn, readIn, readOf}
+use Rattle.wave.specs.Reader.{missing, nowhere, walkOf, goodRiff, channelsAt, goodFormat, goodFact, countedOf, judgedAt, judgedIn, fileJudged, wordsIn, readIn, readOf}
 use Rattle.wave.specs.Reader.Reading.{is}
 use Rattle.wave.specs.Grammar.{Chunk, InChunks, IsWave}
 use Rattle.wave.specs.declared.chunks.Places.{Places}
@@ -76,15 +76,15 @@ rests-in : (f : List ℕ) (w : Wave) (m : Met) → goodRiff f ≡ true → walkO
 rests-in f w (met.Is p) r e = rests-at f w p r e
 rests-in f w met.Refused r e = λ g. absurd (never g)
 
-pub judged-rests : (f : List ℕ) (w : Wave) → judgedOf f ≡ Is w → Rests f w
-unfolding judgedOf
+pub judged-rests : (f : List ℕ) (w : Wave) → fileJudged f ≡ Is w → Rests f w
+unfolding fileJudged
 judged-rests f w = both (Answers f w) (goodRiff f) _ _ (λ r. rests-in f w (walkOf f) r refl) (λ _ e. absurd (never e))
 
 four-times : (c n : ℕ) → n * (4 * c) ≡ 4 * (c * n)
 four-times c n = mul-comm n (4 * c) ∙ mul-assoc 4 c n
 
 -- the words of an answer stand in the file
-pub judged-inside : (f : List ℕ) (w : Wave) → judgedOf f ≡ Is w → w .first + 4 * (w .channels * w .samples) ≤ length f
+pub judged-inside : (f : List ℕ) (w : Wave) → fileJudged f ≡ Is w → w .first + 4 * (w .channels * w .samples) ≤ length f
 judged-inside f w e =
     let r = judged-rests f w e in
     let p = r .places in
@@ -190,7 +190,7 @@ module _ (f : List ℕ) (bytes : Bytes f) where
           fact-body = facts-bodies (r .places .fact) samples (c .facts) (c .facts-at) (r .fact);
         }
 
-  pub answer-good : (w : Wave) → judgedOf f ≡ Is w → IsWave f (w .rate) (w .channels) (wordsIn f w)
+  pub answer-good : (w : Wave) → fileJudged f ≡ Is w → IsWave f (w .rate) (w .channels) (wordsIn f w)
   answer-good w e =
       let r = judged-rests f w e in
       subst (λ (v : Wave). IsWave f (v .rate) (v .channels) (wordsIn f v)) (sym (r .answer)) (good w r (found f bytes (r .places) (r .riff) (r .some) (r .met)))
@@ -272,7 +272,7 @@ module _ (f : List ℕ) (rate channels : ℕ) (words : List ℕ) (g : IsWave f r
   }
 
   good-judged : (p : Places) → goodRiff f ≡ true → walkOf f ≡ met.Is p → Held f p (g .format ∷ g .sound ∷ []) (g .facts)
-      → judgedOf f ≡ Is (record { rate = rate; channels = channels; samples = g .samples; first = p .words + 8 })
+      → fileJudged f ≡ Is (record { rate = rate; channels = channels; samples = g .samples; first = p .words + 8 })
       × (listed (λ (k : ℕ). fourAt f (p .words + 8 + 4 * k)) 0 (channels * g .samples) ≡ words)
   good-judged p riff e held =
       let F = held .mains-held .0 .stands in
@@ -292,7 +292,7 @@ module _ (f : List ℕ) (rate channels : ℕ) (words : List ℕ) (g : IsWave f r
 
   pub record Known : Type 0 where
     pub wave : Wave
-    pub judged : judgedOf f ≡ Is wave
+    pub judged : fileJudged f ≡ Is wave
     pub same-rate : wave .rate ≡ rate
     pub same-channels : wave .channels ≡ channels
     pub same-samples : wave .samples ≡ g .samples
@@ -314,9 +314,9 @@ module _ (f : List ℕ) (rate channels : ℕ) (words : List ℕ) (g : IsWave f r
 -- ---- both directions
 pub answered : (f : List ℕ) (rate channels : ℕ) (words : List ℕ) → Bytes f → readOf f ≡ is rate channels words → IsWave f rate channels words
 unfolding readOf
-answered f rate channels words bytes = go (judgedOf f) refl
+answered f rate channels words bytes = go (fileJudged f) refl
   where
-    go : (j : Judged) → judgedOf f ≡ j → readIn f j ≡ is rate channels words → IsWave f rate channels words
+    go : (j : Judged) → fileJudged f ≡ j → readIn f j ≡ is rate channels words → IsWave f rate channels words
     go (Is w) e h =
         let l : wordsIn f w ≡ words = cc in
         let c : w .channels ≡ channels = cc in

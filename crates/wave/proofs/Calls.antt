@@ -14,8 +14,8 @@ use Rattle.walks.proofs.Lists.Runs.{run-front}
 use Rattle.octets.specs.Octets.{littleBytes}
 use Rattle.wave.specs.Fields.{wordBytes}
 use Rattle.wave.specs.Files.{headerOf, fileOf, headFits, headPut, wordPut}
-use Rattle.wave.specs.Reader.{wordsIn, judgedOf}
-use Rattle.wave.specs.Memory.{fitsMemory, framesOf, storedOf, bytesOf, fitsFile, writes, writtenOf, outputOf, layoutOf, loads, loadedIn, loadedOf}
+use Rattle.wave.specs.Reader.{wordsIn, fileJudged}
+use Rattle.wave.specs.Memory.{fitsMemory, frameWords, storedOf, bytesOf, fitsFile, writes, writtenOf, outputAfter, layoutOf, loads, loadedIn, loadedOf}
 use Rattle.wave.specs.declared.Starts.{Starts}
 use Rattle.wave.specs.declared.Layout.{Layout}
 use Rattle.wave.specs.declared.Wave.{Wave}
@@ -28,8 +28,8 @@ use Rattle.wave.proofs.Copies.{length-stored}
 use Rattle.wave.proofs.Rows.{after, length-header}
 
 -- ---- writing
-pub length-frames : (l : Layout) (m : List ℕ) → length (framesOf l m) ≡ l .channels * l .samples
-unfolding framesOf
+pub length-frames : (l : Layout) (m : List ℕ) → length (frameWords l m) ≡ l .channels * l .samples
+unfolding frameWords
 length-frames l m = length-listed _ 0 (l .channels * l .samples)
 
 pub length-file : (rate channels samples : ℕ) (words : List ℕ) → length (fileOf rate channels samples words) ≡ 58 + 4 * length words
@@ -44,21 +44,21 @@ file-put rate channels samples words out room h k =
     rw (← long) (stored ∙ run-front out (fileOf rate channels samples words) (omega arith))
 
 module _ (rate : ℕ) (l : Layout) (m out : List ℕ) where
-  pub write-unfit : fitsMemory l (length m) ≡ false → (0 ≡ writtenOf l (length m) (length out)) × (out ≡ outputOf rate l m out)
-  unfolding writtenOf outputOf writes
+  pub write-unfit : fitsMemory l (length m) ≡ false → (0 ≡ writtenOf l (length m) (length out)) × (out ≡ outputAfter rate l m out)
+  unfolding writtenOf outputAfter writes
   write-unfit e = (rw e, rw e)
 
-  pub write-short : fitsMemory l (length m) ≡ true → fitsFile l (length out) ≡ false → (0 ≡ writtenOf l (length m) (length out)) × (out ≡ outputOf rate l m out)
-  unfolding writtenOf outputOf writes
+  pub write-short : fitsMemory l (length m) ≡ true → fitsFile l (length out) ≡ false → (0 ≡ writtenOf l (length m) (length out)) × (out ≡ outputAfter rate l m out)
+  unfolding writtenOf outputAfter writes
   write-short e g = (rw (e, g), rw (e, g))
 
   pub write-done : fitsMemory l (length m) ≡ true → fitsFile l (length out) ≡ true → {x y : List ℕ} → x ≡ sets out 0 (headerOf rate (l .channels) (l .samples))
-      → y ≡ sets x 58 (wordBytes (framesOf l m)) → (bytesOf l ≡ writtenOf l (length m) (length out)) × (y ≡ outputOf rate l m out)
-  unfolding writtenOf outputOf writes
+      → y ≡ sets x 58 (wordBytes (frameWords l m)) → (bytesOf l ≡ writtenOf l (length m) (length out)) × (y ≡ outputAfter rate l m out)
+  unfolding writtenOf outputAfter writes
   write-done e g h k =
       let long = length-frames l m in
       let room = file-true l (length out) g .room-fits in
-      (rw (e, g), rw (e, g, ← long) (file-put rate (l .channels) (l .samples) (framesOf l m) out (omega arith) h k))
+      (rw (e, g), rw (e, g, ← long) (file-put rate (l .channels) (l .samples) (frameWords l m) out (omega arith) h k))
 
 -- ---- a file's parts, stored where they have room
 module _ (out : List ℕ) (rate channels samples : ℕ) where
@@ -109,15 +109,15 @@ module _ (out : List ℕ) (at word : ℕ) where
 
 -- ---- reading
 module _ (f : List ℕ) (starts : Starts) (m : List ℕ) where
-  pub load-refused : judgedOf f ≡ Refused → (false ≡ loads f starts (length m)) × (m ≡ loadedOf f starts m)
+  pub load-refused : fileJudged f ≡ Refused → (false ≡ loads f starts (length m)) × (m ≡ loadedOf f starts m)
   unfolding loads loadedOf
   load-refused e = (rw e, rw e)
 
-  pub load-short : (w : Wave) → judgedOf f ≡ Is w → fitsMemory (layoutOf w starts) (length m) ≡ false → (false ≡ loads f starts (length m)) × (m ≡ loadedOf f starts m)
+  pub load-short : (w : Wave) → fileJudged f ≡ Is w → fitsMemory (layoutOf w starts) (length m) ≡ false → (false ≡ loads f starts (length m)) × (m ≡ loadedOf f starts m)
   unfolding loads loadedOf
   load-short w e g = (rw (e, g), rw (e, g))
 
-  pub load-done : (w : Wave) → judgedOf f ≡ Is w → fitsMemory (layoutOf w starts) (length m) ≡ true
+  pub load-done : (w : Wave) → fileJudged f ≡ Is w → fitsMemory (layoutOf w starts) (length m) ≡ true
       → (true ≡ loads f starts (length m)) × (storedOf (layoutOf w starts) (wordsIn f w) m ≡ loadedOf f starts m)
   unfolding loads loadedOf
   load-done w e g = (rw (e, g), rw (e, g))
@@ -125,7 +125,7 @@ module _ (f : List ℕ) (starts : Starts) (m : List ℕ) where
   -- the memory keeps its length
   pub length-loaded : length (loadedOf f starts m) ≡ length m
   unfolding loadedOf
-  length-loaded = go (judgedOf f)
+  length-loaded = go (fileJudged f)
     where
       go : (j : Judged) → length (loadedIn f starts m j) ≡ length m
       go (Is w) = both (λ (x : List ℕ). length x ≡ length m) (fitsMemory (layoutOf w starts) (length m)) _ _ (λ _. length-stored (layoutOf w starts) (wordsIn f w) m) (λ _. refl)

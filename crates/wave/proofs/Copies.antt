@@ -15,7 +15,7 @@ use Rattle.octets.specs.Octets.{littleBytes}
 use Rattle.octets.proofs.Orders.{length-little}
 use Rattle.wave.specs.Fields.{fourAt, wordBytes, listed}
 use Rattle.wave.specs.Reader.{wordsIn}
-use Rattle.wave.specs.Memory.{startAt, wordOf, framesOf, channelWords, channelStored, storedOf}
+use Rattle.wave.specs.Memory.{startAt, wordOf, frameWords, channelWords, channelStored, storedOf}
 use Rattle.wave.specs.declared.Layout.{Layout}
 use Rattle.wave.specs.declared.Wave.{Wave}
 use Rattle.wave.proofs.Standing.{length-words, length-listed}
@@ -101,8 +101,8 @@ module _ (l : Layout) (m : List ℕ) where
         let more : (i + 1) * l .channels ≡ i * l .channels + l .channels = omega (arith, add-mul i 1 (l .channels)) in
         words-next out now (wordOf l m) (i * l .channels) (l .channels) e ∙ ap (λ (n : ℕ). sets out 58 (wordBytes (listed (wordOf l m) 0 n))) (sym more)
 
-    pub written-all : (i : ℕ) → i ≡ l .samples → writtenTo i ≡ sets out 58 (wordBytes (framesOf l m))
-    unfolding writtenTo framesOf
+    pub written-all : (i : ℕ) → i ≡ l .samples → writtenTo i ≡ sets out 58 (wordBytes (frameWords l m))
+    unfolding writtenTo frameWords
     written-all i e = rw (e, mul-comm (l .samples) (l .channels))
 
 -- ---- to a memory, sample by sample

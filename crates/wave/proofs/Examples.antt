@@ -9,15 +9,15 @@ use Rattle.octets.specs.Octets.{bytesAt, littleOf, littleBytes}
 use Rattle.octets.proofs.Hex.{digitsOf, pairs, fromHex}
 use Rattle.wave.specs.Fields.{twoAt, fourAt, riffId, waveId, formatId, factId, dataId, wordBytes, listed}
 use Rattle.wave.specs.Files.{formatOf, riffRow, formatRow, factRow, dataRow, headerOf, fileOf}
-use Rattle.wave.specs.Reader.{paddedAt, metOf, chunkAt, walkFrom, walkOf, goodRiff, goodFormat, goodFact, countedOf, judgedAt, judgedOf, judgedNumber, Reading, readOf}
+use Rattle.wave.specs.Reader.{paddedAt, metOf, chunkAt, walkFrom, walkOf, goodRiff, goodFormat, goodFact, countedOf, judgedAt, fileJudged, judgedNumber, Reading, readOf}
 use Rattle.wave.specs.Reader.Reading.{is, refused}
-use Rattle.wave.specs.Memory.{fitsMemory, framesOf, storedOf, fitsFile, writes, writtenOf, outputOf, loads, loadedOf}
+use Rattle.wave.specs.Memory.{fitsMemory, frameWords, storedOf, fitsFile, writes, writtenOf, outputAfter, loads, loadedOf}
 use Rattle.wave.specs.declared.Starts.{Starts}
 use Rattle.wave.specs.declared.Layout.{Layout}
 
 -- whatever an answer computes by
 computing : Unit {0}
-unfolding fromHex pairs digitsOf bytesAt littleOf littleBytes twoAt fourAt wordBytes listed formatOf riffRow formatRow factRow dataRow headerOf paddedAt metOf chunkAt walkFrom walkOf goodRiff goodFormat goodFact countedOf judgedAt judgedOf judgedNumber readOf fitsMemory framesOf storedOf fitsFile writes writtenOf outputOf loads loadedOf
+unfolding fromHex pairs digitsOf bytesAt littleOf littleBytes twoAt fourAt wordBytes listed formatOf riffRow formatRow factRow dataRow headerOf paddedAt metOf chunkAt walkFrom walkOf goodRiff goodFormat goodFact countedOf judgedAt fileJudged judgedNumber readOf fitsMemory frameWords storedOf fitsFile writes writtenOf outputAfter loads loadedOf
 computing = tt
 
 -- the ids are their letters
@@ -126,7 +126,7 @@ formats-hold : holds formats
 unfolding computing formats row
 formats-hold = refl
 
-numbers : map (λ (f : List ℕ). judgedNumber (judgedOf f)) (wave good ∷ wave "" ∷ []) ≡ 0 ∷ 17 ∷ []
+numbers : map (λ (f : List ℕ). judgedNumber (fileJudged f)) (wave good ∷ wave "" ∷ []) ≡ 0 ∷ 17 ∷ []
 unfolding computing
 numbers = refl
 
@@ -140,11 +140,11 @@ layout samples = record { channels = 2; samples = samples; starts = starting 0 3
 abbrev memory : List ℕ
 memory = 0x3F800000 ∷ 11 ∷ 12 ∷ 0x7FC00001 ∷ 21 ∷ 22 ∷ 99 ∷ []
 
-written : fileOf 44100 2 1 (framesOf (layout 1) memory) ≡ wave good
+written : fileOf 44100 2 1 (frameWords (layout 1) memory) ≡ wave good
 unfolding computing
 written = refl
 
-frames : framesOf (layout 3) memory ≡ 0x3F800000 ∷ 0x7FC00001 ∷ 11 ∷ 21 ∷ 12 ∷ 22 ∷ []
+frames : frameWords (layout 3) memory ≡ 0x3F800000 ∷ 0x7FC00001 ∷ 11 ∷ 21 ∷ 12 ∷ 22 ∷ []
 unfolding computing
 frames = refl
 
@@ -152,11 +152,11 @@ frames = refl
 abbrev placed : ℕ → ℕ → ℕ → ℕ → Layout
 placed channels samples first second = record { channels = channels; samples = samples; starts = starting first second }
 
-elsewhere : map (λ (l : Layout). framesOf l memory) (placed 1 2 4 0 ∷ placed 2 2 1 5 ∷ []) ≡ (21 ∷ 22 ∷ []) ∷ (11 ∷ 22 ∷ 12 ∷ 99 ∷ []) ∷ []
+elsewhere : map (λ (l : Layout). frameWords l memory) (placed 1 2 4 0 ∷ placed 2 2 1 5 ∷ []) ≡ (21 ∷ 22 ∷ []) ∷ (11 ∷ 22 ∷ 12 ∷ 99 ∷ []) ∷ []
 unfolding computing
 elsewhere = refl
 
-empty : fileOf 0 2 0 (framesOf (layout 0) memory) ≡ wave "666D7420 12000000 0300 0200 00000000 00000000 0800 2000 0000 66616374 04000000 00000000 64617461 00000000"
+empty : fileOf 0 2 0 (frameWords (layout 0) memory) ≡ wave "666D7420 12000000 0300 0200 00000000 00000000 0800 2000 0000 66616374 04000000 00000000 64617461 00000000"
 unfolding computing
 empty = refl
 
@@ -170,7 +170,7 @@ rooms : map (λ (room : ℕ). writtenOf (layout 1) 7 room) (65 ∷ 66 ∷ 67 ∷
 unfolding computing
 rooms = refl
 
-kept : outputOf 44100 (layout 1) memory (littleBytes 68 0xFFFF) ≡ wave good ++ fromHex "0000"
+kept : outputAfter 44100 (layout 1) memory (littleBytes 68 0xFFFF) ≡ wave good ++ fromHex "0000"
 unfolding computing
 kept = refl
 

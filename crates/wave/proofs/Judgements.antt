@@ -10,7 +10,7 @@ use lib.ListN.{length}
 use borrow.Author.Tests.{eqb-true, leb-true, ltb-false, eq-eqb, ne-eqb}
 use Rattle.walks.proofs.Lists.Every.{both as and-both}
 use Rattle.wave.specs.Fields.{twoAt, fourAt, riffId, waveId, formatId, factId, dataId}
-use Rattle.wave.specs.Reader.{paddedAt, nowhere, missing, metOf, andThen, chunkAt, walkFrom, walkOf, goodRiff, channelsAt, goodFormat, goodFact, countedOf, judgedAt, judgedIn, judgedOf}
+use Rattle.wave.specs.Reader.{paddedAt, nowhere, missing, metOf, andThen, chunkAt, walkFrom, walkOf, goodRiff, channelsAt, goodFormat, goodFact, countedOf, judgedAt, judgedIn, fileJudged}
 use Rattle.wave.specs.declared.chunks.Places.{Places}
 use Rattle.wave.specs.declared.chunks.Met.{Met}
 use Rattle.wave.specs.declared.chunks.Met.the-variants as met
@@ -134,10 +134,10 @@ places-below f p n e h =
     (omega arith, ⊎-elim (λ z. omega arith) (λ ends. omega arith) (w .1), omega arith)
 
 -- ---- the file
-pub judged-riff : (f : List ℕ) (m : Met) → goodRiff f ≡ true → walkOf f ≡ m → judgedOf f ≡ judgedIn f m
-unfolding judgedOf
+pub judged-riff : (f : List ℕ) (m : Met) → goodRiff f ≡ true → walkOf f ≡ m → fileJudged f ≡ judgedIn f m
+unfolding fileJudged
 judged-riff f m h e = rw (h, e)
 
-pub judged-no-riff : (f : List ℕ) → goodRiff f ≡ false → judgedOf f ≡ Refused
-unfolding judgedOf
+pub judged-no-riff : (f : List ℕ) → goodRiff f ≡ false → fileJudged f ≡ Refused
+unfolding fileJudged
 judged-no-riff f h = rw h

@@ -15,10 +15,10 @@ use Rattle.octets.specs.Octets.{littleBytes}
 use Rattle.octets.proofs.Orders.{length-little}
 use Rattle.wave.specs.Fields.{fourAt, riffId, waveId, formatId, factId, dataId, wordBytes, listed}
 use Rattle.wave.specs.Files.{formatOf, riffRow, formatRow, factRow, dataRow, headerOf, fileOf}
-use Rattle.wave.specs.Reader.{judgedOf, judgedNumber, wordsIn}
+use Rattle.wave.specs.Reader.{fileJudged, judgedNumber, wordsIn}
 use Rattle.wave.specs.Grammar.{Chunk, WholeChunk, chunkBytes, IsWave}
 use Rattle.wave.specs.Grammar.Chunks.{none, main, fact}
-use Rattle.wave.specs.Memory.{startAt, fitsMemory, wordOf, framesOf, channelWords, channelStored, storedOf, bytesOf, fitsFile, writes, writtenOf, outputOf, layoutOf, loadsIn, loads, loadedIn, loadedOf}
+use Rattle.wave.specs.Memory.{startAt, fitsMemory, wordOf, frameWords, channelWords, channelStored, storedOf, bytesOf, fitsFile, writes, writtenOf, outputAfter, layoutOf, loadsIn, loads, loadedIn, loadedOf}
 use Rattle.wave.specs.Promised.{Sized, recordingAt, Rows, Promised}
 use Rattle.wave.specs.declared.Starts.{Starts}
 use Rattle.wave.specs.declared.Layout.{Layout}
@@ -107,8 +107,8 @@ module _ (rate channels samples : ℕ) (words : List ℕ) (s : Sized rate channe
       let at = getD-listed (λ (i : ℕ). fourAt (fileOf rate channels samples words) (58 + 4 * i)) 0 (length words) k h in
       ap (λ (i : ℕ). fourAt (fileOf rate channels samples words) (58 + 4 * i)) (sym (zero-add k)) ∙ sym at ∙ ap (λ (l : List ℕ). getD l k 0) read
 
-frame-at : (l : Layout) (m : List ℕ) (i j : ℕ) → i < l .samples → j < l .channels → getD (framesOf l m) (i * l .channels + j) 0 ≡ getD m (startAt (l .starts) j + i) 0
-unfolding framesOf
+frame-at : (l : Layout) (m : List ℕ) (i j : ℕ) → i < l .samples → j < l .channels → getD (frameWords l m) (i * l .channels + j) 0 ≡ getD m (startAt (l .starts) j + i) 0
+unfolding frameWords
 frame-at l m i j h k =
     getD-listed (wordOf l m) 0 (l .channels * l .samples) (i * l .channels + j) (frame-below (l .channels) (l .samples) i j h k)
     ∙ ap (wordOf l m) (zero-add (i * l .channels + j)) ∙ word-is l m i j k
@@ -171,7 +171,7 @@ module _ (l : Layout) (words m : List ℕ) (fits : Fits l (length m)) where
       cases (λ (y : List ℕ). getD y x 0 ≡ getD m x 0) (λ _. first) (λ two. beside 1 x (channelStored l words 0 m) (h 1 (omega arith)) ∙ first)
 
 -- ---- reading
-module _ (f : List ℕ) (w : Wave) (starts : Starts) (m : List ℕ) (e : judgedOf f ≡ Is w) where
+module _ (f : List ℕ) (w : Wave) (starts : Starts) (m : List ℕ) (e : fileJudged f ≡ Is w) where
   loaded-recording : fitsMemory (layoutOf w starts) (length m) ≡ true → (j : ℕ) → j < w .channels
       → recordingAt starts (w .samples) j (loadedOf f starts m) ≡ channelWords (w .channels) (w .samples) j (wordsIn f w)
   loaded-recording h j k =
@@ -186,17 +186,17 @@ module _ (f : List ℕ) (w : Wave) (starts : Starts) (m : List ℕ) (e : judgedO
 
 load-held : (f : List ℕ) (starts : Starts) (m : List ℕ) → loads f starts (length m) ≡ false → loadedOf f starts m ≡ m
 unfolding loads loadedOf
-load-held f starts m = go (judgedOf f)
+load-held f starts m = go (fileJudged f)
   where
     go : (j : Judged) → loadsIn starts (length m) j ≡ false → loadedIn f starts m j ≡ m
     go (Is w) h = rw h
     go Refused h = refl
 
-write-held : (rate : ℕ) (l : Layout) (m out : List ℕ) → writtenOf l (length m) (length out) ≡ 0 → outputOf rate l m out ≡ out
-unfolding writtenOf outputOf
+write-held : (rate : ℕ) (l : Layout) (m out : List ℕ) → writtenOf l (length m) (length out) ≡ 0 → outputAfter rate l m out ≡ out
+unfolding writtenOf outputAfter
 write-held rate l m out = go (writes l (length m) (length out))
   where
-    go : (t : Bool) → cond t (bytesOf l) 0 ≡ 0 → cond t (fileOf rate (l .channels) (l .samples) (framesOf l m) ++ drop (bytesOf l) out) out ≡ out
+    go : (t : Bool) → cond t (bytesOf l) 0 ≡ 0 → cond t (fileOf rate (l .channels) (l .samples) (frameWords l m) ++ drop (bytesOf l) out) out ≡ out
     go true h = absurd (omega arith)
     go false h = refl
 
@@ -207,9 +207,9 @@ write-rows l size room = record {
   done-row = λ h s k. rw (h, file-fits l room s, le-leb _ _ k);
 }
 
-numbers : (f : List ℕ) → (judgedNumber (judgedOf f) ≡ 0) ⊎ (judgedNumber (judgedOf f) ≡ 17)
+numbers : (f : List ℕ) → (judgedNumber (fileJudged f) ≡ 0) ⊎ (judgedNumber (fileJudged f) ≡ 17)
 unfolding judgedNumber
-numbers f = go (judgedOf f)
+numbers f = go (fileJudged f)
   where
     go : (j : Judged) → (judgedNumber j ≡ 0) ⊎ (judgedNumber j ≡ 17)
     go (Is w) = inl refl
@@ -224,12 +224,12 @@ one-reading f rate channels rate₁ channels₁ words words₁ g h =
 
 -- ---- a channel's words, frame by frame and in the memory
 pub frames-recording : (l : Layout) (m : List ℕ) → Fits l (length m) → (j : ℕ) → j < l .channels
-    → channelWords (l .channels) (l .samples) j (framesOf l m) ≡ recordingAt (l .starts) (l .samples) j m
+    → channelWords (l .channels) (l .samples) j (frameWords l m) ≡ recordingAt (l .starts) (l .samples) j m
 frames-recording l m fits j h =
-    let n = length-listed (λ (i : ℕ). getD (framesOf l m) (i * l .channels + j) 0) 0 (l .samples) in
+    let n = length-listed (λ (i : ℕ). getD (frameWords l m) (i * l .channels + j) 0) 0 (l .samples) in
     ext-getD 0 _ _ (n ∙ sym (recording-length (l .starts) (l .samples) j m (start-fits l (length m) fits j h)))
     (λ i less. let few : i < l .samples = omega (arith, n) in
-    getD-listed _ 0 (l .samples) i few ∙ ap (λ (k : ℕ). getD (framesOf l m) (k * l .channels + j) 0) (zero-add i) ∙ frame-at l m i j few h
+    getD-listed _ 0 (l .samples) i few ∙ ap (λ (k : ℕ). getD (frameWords l m) (k * l .channels + j) 0) (zero-add i) ∙ frame-at l m i j few h
     ∙ sym (recording-at (l .starts) (l .samples) j m i few))
 
 -- ---- written and loaded
@@ -246,8 +246,8 @@ listed-each P g k (suc n) h = (h k, listed-each P g (k + 1) n h)
 
 module _ (rate : ℕ) (l : Layout) (m : List ℕ) (small : rate < 2 ^ 32) (words : Each Word m) (fits : fitsMemory l (length m) ≡ true)
     (file : fitsFile l (bytesOf l) ≡ true) where
-  pub sized : Sized rate (l .channels) (l .samples) (framesOf l m)
-  unfolding framesOf
+  pub sized : Sized rate (l .channels) (l .samples) (frameWords l m)
+  unfolding frameWords
   sized =
       let sizes = file-true l (bytesOf l) file in
       record {
@@ -261,13 +261,13 @@ module _ (rate : ℕ) (l : Layout) (m : List ℕ) (small : rate < 2 ^ 32) (words
 
   there-and-back : (starts : Starts) (m₁ : List ℕ) → fitsMemory (record { channels = l .channels; samples = l .samples; starts = starts }) (length m₁) ≡ true
       → (j : ℕ) → j < l .channels
-      → recordingAt starts (l .samples) j (loadedOf (fileOf rate (l .channels) (l .samples) (framesOf l m)) starts m₁) ≡ recordingAt (l .starts) (l .samples) j m
+      → recordingAt starts (l .samples) j (loadedOf (fileOf rate (l .channels) (l .samples) (frameWords l m)) starts m₁) ≡ recordingAt (l .starts) (l .samples) j m
   there-and-back starts m₁ fits₁ j h =
-      let whole = fileOf rate (l .channels) (l .samples) (framesOf l m) in
-      let known = good-known whole rate (l .channels) (framesOf l m) (file-good rate (l .channels) (l .samples) (framesOf l m) sized) in
+      let whole = fileOf rate (l .channels) (l .samples) (frameWords l m) in
+      let known = good-known whole rate (l .channels) (frameWords l m) (file-good rate (l .channels) (l .samples) (frameWords l m) sized) in
       let w = known .wave in
       let c : w .channels ≡ l .channels = known .same-channels in
-      let n : w .samples ≡ l .samples = known .same-samples ∙ file-samples rate (l .channels) (l .samples) (framesOf l m) sized in
+      let n : w .samples ≡ l .samples = known .same-samples ∙ file-samples rate (l .channels) (l .samples) (frameWords l m) sized in
       let there : fitsMemory (layoutOf w starts) (length m₁) ≡ true = rw (c, n) fits₁ in
       let words : channelWords (w .channels) (w .samples) j (wordsIn whole w) ≡ recordingAt (l .starts) (l .samples) j m =
       rw (known .same-words, c, n) (frames-recording l m (fits-true l (length m) fits) j h) in

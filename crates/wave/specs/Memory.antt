@@ -8,7 +8,7 @@ use lib.ListN.{length, drop, getD}
 use lib.Seq.{sets}
 use Rattle.wave.specs.Fields.{listed}
 use Rattle.wave.specs.Files.{fileOf}
-use Rattle.wave.specs.Reader.{wordsIn, judgedOf}
+use Rattle.wave.specs.Reader.{wordsIn, fileJudged}
 use Rattle.wave.specs.declared.Starts.{Starts}
 use Rattle.wave.specs.declared.Layout.{Layout}
 use Rattle.wave.specs.declared.Wave.{Wave}
@@ -33,8 +33,8 @@ abbrev pub wordOf : Layout → List ℕ → ℕ → ℕ
 wordOf l m k = getD m (startAt (l .starts) (k % l .channels) + k / l .channels) 0
 
 -- the words of a memory, frame by frame
-unfoldable pub framesOf : Layout → List ℕ → List ℕ
-framesOf l m = listed (wordOf l m) 0 (l .channels * l .samples)
+unfoldable pub frameWords : Layout → List ℕ → List ℕ
+frameWords l m = listed (wordOf l m) 0 (l .channels * l .samples)
 
 -- ---- and back
 
@@ -66,10 +66,10 @@ unfoldable pub writtenOf : Layout → ℕ → ℕ → ℕ
 writtenOf l size room = cond (writes l size room) (bytesOf l) 0
 
 -- a longer output keeps its rest
-unfoldable pub outputOf : ℕ → Layout → List ℕ → List ℕ → List ℕ
-outputOf rate l m out =
+unfoldable pub outputAfter : ℕ → Layout → List ℕ → List ℕ → List ℕ
+outputAfter rate l m out =
     cond (writes l (length m) (length out))
-    (fileOf rate (l .channels) (l .samples) (framesOf l m) ++ drop (bytesOf l) out) out
+    (fileOf rate (l .channels) (l .samples) (frameWords l m) ++ drop (bytesOf l) out) out
 
 -- ---- reading: a good file whose recordings have room from their starts on
 
@@ -81,7 +81,7 @@ loadsIn starts size (Is w) = fitsMemory (layoutOf w starts) size
 loadsIn starts size Refused = false
 
 unfoldable pub loads : List ℕ → Starts → ℕ → Bool
-loads f starts size = loadsIn starts size (judgedOf f)
+loads f starts size = loadsIn starts size (fileJudged f)
 
 abbrev pub loadedIn : List ℕ → Starts → List ℕ → Judged → List ℕ
 loadedIn f starts m (Is w) =
@@ -89,4 +89,4 @@ loadedIn f starts m (Is w) =
 loadedIn f starts m Refused = m
 
 unfoldable pub loadedOf : List ℕ → Starts → List ℕ → List ℕ
-loadedOf f starts m = loadedIn f starts m (judgedOf f)
+loadedOf f starts m = loadedIn f starts m (fileJudged f)

@@ -10,18 +10,18 @@ use Rattle.walks.specs.Each.{Each}
 use Rattle.octets.specs.Octets.{Bytes}
 use Rattle.wave.specs.Fields.{fourAt}
 use Rattle.wave.specs.Files.{fileOf}
-use Rattle.wave.specs.Reader.{judgedOf, judgedNumber, readOf, wordsIn}
+use Rattle.wave.specs.Reader.{fileJudged, judgedNumber, readOf, wordsIn}
 use Rattle.wave.specs.Reader.Reading.{is}
 use Rattle.wave.specs.Grammar.{IsWave}
 use Rattle.wave.specs.Memory.{
   startAt,
   fitsMemory,
-  framesOf,
+  frameWords,
   channelWords,
   bytesOf,
   fitsFile,
   writtenOf,
-  outputOf,
+  outputAfter,
   layoutOf,
   loads,
   loadedOf,
@@ -57,7 +57,7 @@ pub record Promised : Type 0 where
       → IsWave f rate channels words
   pub good : (f : List ℕ) (rate channels : ℕ) (words : List ℕ) → IsWave f rate channels words
       → readOf f ≡ is rate channels words
-  pub numbers : (f : List ℕ) → (judgedNumber (judgedOf f) ≡ 0) ⊎ (judgedNumber (judgedOf f) ≡ 17)
+  pub numbers : (f : List ℕ) → (judgedNumber (fileJudged f) ≡ 0) ⊎ (judgedNumber (fileJudged f) ≡ 17)
   -- a file holds one recording
   pub one-reading : (f : List ℕ) (rate channels rate₁ channels₁ : ℕ) (words words₁ : List ℕ)
       → IsWave f rate channels words → IsWave f rate₁ channels₁ words₁
@@ -72,13 +72,13 @@ pub record Promised : Type 0 where
       → (i j : ℕ) → i < samples → j < channels
       → fourAt (fileOf rate channels samples words) (58 + 4 * (i * channels + j)) ≡ getD words (i * channels + j) 0
   pub frame-at : (l : Layout) (m : List ℕ) (i j : ℕ) → i < l .samples → j < l .channels
-      → getD (framesOf l m) (i * l .channels + j) 0 ≡ getD m (startAt (l .starts) j + i) 0
+      → getD (frameWords l m) (i * l .channels + j) 0 ≡ getD m (startAt (l .starts) j + i) 0
   -- "Reading replaces the recording of each channel": from its start on it has its words, and no other word moves
-  pub loaded-recording : (f : List ℕ) (w : Wave) (starts : Starts) (m : List ℕ) → judgedOf f ≡ Is w
+  pub loaded-recording : (f : List ℕ) (w : Wave) (starts : Starts) (m : List ℕ) → fileJudged f ≡ Is w
       → fitsMemory (layoutOf w starts) (length m) ≡ true → (j : ℕ) → j < w .channels
       → recordingAt starts (w .samples) j (loadedOf f starts m)
       ≡ channelWords (w .channels) (w .samples) j (wordsIn f w)
-  pub loaded-else : (f : List ℕ) (w : Wave) (starts : Starts) (m : List ℕ) → judgedOf f ≡ Is w → (x : ℕ)
+  pub loaded-else : (f : List ℕ) (w : Wave) (starts : Starts) (m : List ℕ) → fileJudged f ≡ Is w → (x : ℕ)
       → ((j : ℕ) → j < w .channels → (x < startAt starts j) ⊎ (startAt starts j + w .samples ≤ x))
       → getD (loadedOf f starts m) x 0 ≡ getD m x 0
   pub loaded-length : (f : List ℕ) (starts : Starts) (m : List ℕ) → length (loadedOf f starts m) ≡ length m
@@ -88,11 +88,11 @@ pub record Promised : Type 0 where
       → fitsMemory (record { channels = l .channels; samples = l .samples; starts = starts }) (length m₁) ≡ true
       → (j : ℕ) → j < l .channels
       → recordingAt starts (l .samples) j
-      (loadedOf (fileOf rate (l .channels) (l .samples) (framesOf l m)) starts m₁)
+      (loadedOf (fileOf rate (l .channels) (l .samples) (frameWords l m)) starts m₁)
       ≡ recordingAt (l .starts) (l .samples) j m
   pub write-rows : (l : Layout) (size room : ℕ) → Rows l size room
   -- what isn't done changes nothing
   pub load-held : (f : List ℕ) (starts : Starts) (m : List ℕ) → loads f starts (length m) ≡ false
       → loadedOf f starts m ≡ m
   pub write-held : (rate : ℕ) (l : Layout) (m out : List ℕ) → writtenOf l (length m) (length out) ≡ 0
-      → outputOf rate l m out ≡ out
+      → outputAfter rate l m out ≡ out

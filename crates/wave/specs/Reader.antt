@@ -103,8 +103,8 @@ abbrev pub judgedIn : List ℕ → Met → Judged
 judgedIn f (met.Is p) = judgedAt f p
 judgedIn f met.Refused = Refused
 
-unfoldable pub judgedOf : List ℕ → Judged
-judgedOf f = cond (goodRiff f) (judgedIn f (walkOf f)) Refused
+unfoldable pub fileJudged : List ℕ → Judged
+fileJudged f = cond (goodRiff f) (judgedIn f (walkOf f)) Refused
 
 -- the number of the answer
 unfoldable pub judgedNumber : Judged → ℕ
@@ -124,4 +124,4 @@ readIn f (Is w) = Reading.is (w .rate) (w .channels) (wordsIn f w)
 readIn f Refused = Reading.refused
 
 unfoldable pub readOf : List ℕ → Reading
-readOf f = readIn f (judgedOf f)
+readOf f = readIn f (fileJudged f)

@@ -12,8 +12,8 @@ ghost use mathlib.Core.Path.{_≡_};
 ghost use Prim.Native.Nat.{_^_, _≤_, _<_};
 ghost use lib.ListN.{length};
 ghost use Rattle.wave.specs.Files.{headPut, wordPut};
-ghost use Rattle.wave.specs.Reader.{goodRiff, goodFormat, goodFact, countedOf, judgedAt, judgedOf, judgedNumber};
-ghost use Rattle.wave.specs.Memory.{fitsFile, writtenOf, outputOf, loads, loadedOf};
+ghost use Rattle.wave.specs.Reader.{goodRiff, goodFormat, goodFact, countedOf, judgedAt, fileJudged, judgedNumber};
+ghost use Rattle.wave.specs.Memory.{fitsFile, writtenOf, outputAfter, loads, loadedOf};
 use chunks::Met;
 use chunks::Places;
 use fields::four_at;
@@ -157,7 +157,7 @@ fn judged_at(file: &[u8], p: Places) -> Judged
 
 // Whether a file is good, and what it holds.
 pub fn judge(file: &[u8]) -> Judged
-    ensures { λ r. ⌜ r ≡ judgedOf (now (file .entry)) ⌝ }
+    ensures { λ r. ⌜ r ≡ fileJudged (now (file .entry)) ⌝ }
 {
     if good_riff(file) {
         match chunks::walk(file) {
@@ -187,7 +187,7 @@ fn fits_file(l: Layout, room: usize) -> bool
 // Writes the recordings of a memory, and answers how many bytes; 0 where they have no room, and nothing is written.
 pub fn write(rate: u32, l: Layout, memory: &[u32], out: &mut [u8]) -> usize
     ensures { λ r. ⌜ r ≡ writtenOf l (length (now (memory .entry))) (length (now (out .entry))) ⌝ }
-    ensures { λ r. ⌜ now (out .exit) ≡ outputOf rate l (now (memory .entry)) (now (out .entry)) ⌝ }
+    ensures { λ r. ⌜ now (out .exit) ≡ outputAfter rate l (now (memory .entry)) (now (out .entry)) ⌝ }
 {
     if fits_memory(l, memory.len()) {
         if fits_file(l, out.len()) {

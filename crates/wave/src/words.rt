@@ -8,7 +8,7 @@ ghost use lib.ListN.{length};
 ghost use lib.Seq.{sets};
 ghost use Rattle.wave.specs.Fields.{wordBytes, listed};
 ghost use Rattle.wave.specs.Reader.{wordsIn};
-ghost use Rattle.wave.specs.Memory.{fitsMemory, wordOf, framesOf, channelWords, storedOf, layoutOf};
+ghost use Rattle.wave.specs.Memory.{fitsMemory, wordOf, frameWords, channelWords, storedOf, layoutOf};
 use crate::Layout;
 use crate::Starts;
 use crate::Wave;
@@ -64,7 +64,7 @@ fn put_frame(l: Layout, i: usize, memory: &[u32], out: &mut [u8])
 pub fn put_words(l: Layout, memory: &[u32], out: &mut [u8])
     requires { ⌜ fitsMemory l (length (now memory)) ≡ true ⌝ }
     requires { ⌜ 58 + 4 * (l .channels * l .samples) ≤ length (now out) ⌝ }
-    ensures { λ _. ⌜ now (out .exit) ≡ sets (now (out .entry)) 58 (wordBytes (framesOf l (now (memory .entry)))) ⌝ }
+    ensures { λ _. ⌜ now (out .exit) ≡ sets (now (out .entry)) 58 (wordBytes (frameWords l (now (memory .entry)))) ⌝ }
 {
     let mut i: usize = 0;
     while i < l.samples {

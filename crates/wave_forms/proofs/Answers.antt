@@ -16,8 +16,8 @@ use Rattle.wave.proofs.Standing.{two-below, four-below, length-numbers, length-
 use Rattle.wave.proofs.Tiles.{stands-size, stands-body, stands-long}
 use Rattle.wave.proofs.Held.{Held}
 use Rattle.wave.proofs.Frames.{body-is, Found, found, walked}
-use Rattle.wave_forms.specs.Values.{wordOf}
-use Rattle.wave_forms.specs.Reader.{tagAt, formAt, judgedOf, numberAt, numbersIn, wordsIn}
+use Rattle.wave_forms.specs.Values.{numberWord}
+use Rattle.wave_forms.specs.Reader.{tagAt, formAt, fileJudged, numberAt, numbersIn, wordsIn}
 use Rattle.wave_forms.specs.Grammar.{Kind, IsForm, Tail, wordsOf}
 use Rattle.wave_forms.specs.Grammar.Tail.{plain, empty, extensible}
 use Rattle.wave_forms.specs.declared.formats.Form.{Form}
@@ -35,7 +35,7 @@ listed-map h g k zero = refl
 listed-map h g k (suc n) = ap (λ (l : List ℕ). h (g k) ∷ l) (listed-map h g (k + 1) n)
 
 pub words-are : (f : List ℕ) (s : Source) → wordsIn f s ≡ wordsOf (s .form .tag) (s .form .bits) (numbersIn f s)
-words-are f s = listed-map (wordOf (s .form .tag) (s .form .bits)) (λ (k : ℕ). numberAt f (s .form .bits / 8) (s .first + s .form .bits / 8 * k)) 0 (s .count)
+words-are f s = listed-map (numberWord (s .form .tag) (s .form .bits)) (λ (k : ℕ). numberAt f (s .form .bits / 8) (s .first + s .form .bits / 8 * k)) 0 (s .count)
 
 -- ---- an answer's file is of a known form
 module _ (f : List ℕ) (bytes : Bytes f) where
@@ -103,7 +103,7 @@ module _ (f : List ℕ) (bytes : Bytes f) where
             ap (λ (k : ℕ). k * b) (count-is c b n some even) ∙ mul-assoc c (n / (c * b)) b ∙ ap (λ (k : ℕ). c * k) (mul-comm (n / (c * b)) b) ∙ sym (mul-assoc c b (n / (c * b)))
             ∙ omega (arith, div-add-mod' n (c * b), mul-comm (c * b) (n / (c * b)))
 
-  pub answer-good : (s : Source) → judgedOf f ≡ Is s → IsForm f (s .form .rate) (s .form .channels) (s .form .tag) (s .form .bits) (numbersIn f s)
+  pub answer-good : (s : Source) → fileJudged f ≡ Is s → IsForm f (s .form .rate) (s .form .channels) (s .form .tag) (s .form .bits) (numbersIn f s)
   unfolding formAt numberAt
   answer-good s e =
       let r = judged-rests f s e in
@@ -129,7 +129,7 @@ module _ (f : List ℕ) (rate channels tag bits : ℕ) (numbers : List ℕ) (g :
 
   pub record Known : Type 0 where
     pub places : Places
-    pub judged : judgedOf f ≡ Is (source places)
+    pub judged : fileJudged f ≡ Is (source places)
     pub same-numbers : numbersIn f (source places) ≡ numbers
 
   form-is : (p : Places) → Held f p (g .format ∷ g .sound ∷ []) (g .facts) → formAt f (p .format) ≡ source p .form

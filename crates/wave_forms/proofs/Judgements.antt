@@ -12,7 +12,7 @@ use Rattle.wave.specs.Fields.{fourAt}
 use Rattle.wave.specs.Reader.{walkOf, goodRiff}
 use Rattle.wave.specs.declared.chunks.Places.{Places}
 use Rattle.wave.specs.declared.chunks.Met.{Met}
-use Rattle.wave_forms.specs.Reader.{knownForm, goodForm, formAt, countedOf, judgedAt, judgedIn, judgedOf}
+use Rattle.wave_forms.specs.Reader.{knownForm, goodForm, formAt, countedOf, judgedAt, judgedIn, fileJudged}
 use Rattle.wave_forms.specs.Grammar.{Kind}
 use Rattle.wave_forms.specs.declared.formats.Form.{Form}
 use Rattle.wave_forms.specs.declared.Judged.{Judged}
@@ -74,10 +74,10 @@ module _ (f : List ℕ) (p : Places) where
   unfolding judgedAt
   judged-is h k = simp (ne-eqb _ _ h, k)
 
-pub judged-riff : (f : List ℕ) (m : Met) → goodRiff f ≡ true → walkOf f ≡ m → judgedOf f ≡ judgedIn f m
-unfolding judgedOf
+pub judged-riff : (f : List ℕ) (m : Met) → goodRiff f ≡ true → walkOf f ≡ m → fileJudged f ≡ judgedIn f m
+unfolding fileJudged
 judged-riff f m h e = rw (h, e)
 
-pub judged-no-riff : (f : List ℕ) → goodRiff f ≡ false → judgedOf f ≡ Refused
-unfolding judgedOf
+pub judged-no-riff : (f : List ℕ) → goodRiff f ≡ false → fileJudged f ≡ Refused
+unfolding fileJudged
 judged-no-riff f h = rw h

@@ -24,12 +24,12 @@ use Rattle.wave.proofs.Standing.{Word, words-are}
 use Rattle.wave.proofs.Answers.{framed}
 use Rattle.wave.proofs.Calls.{length-file}
 use Rattle.wave.proofs.Promised as wave
-use Rattle.wave_forms.specs.Values.{negative, magnitude, wholeOf, narrowOf, wordOf}
-use Rattle.wave_forms.specs.Reader.{judgedOf, numbersIn, wordsIn}
+use Rattle.wave_forms.specs.Values.{negative, magnitude, wholeOf, narrowOf, numberWord}
+use Rattle.wave_forms.specs.Reader.{fileJudged, numbersIn, wordsIn}
 use Rattle.wave_forms.specs.Grammar.{Kind, IsForm, bodyOf, wordsOf}
 use Rattle.wave_forms.specs.Grammar.Kind.{whole16, whole24, whole32, float32, float64}
 use Rattle.wave_forms.specs.Grammar.Tail.{empty}
-use Rattle.wave_forms.specs.Turns.{bytesOf, turnedInto, turnedOf, fileFrom, outputIn, outputOf}
+use Rattle.wave_forms.specs.Turns.{bytesOf, turnedInto, turnAnswer, fileFrom, outputBy, outputAfter}
 use Rattle.wave_forms.specs.Promised.{Formed, Promised}
 use Rattle.wave_forms.specs.declared.Source.{Source}
 use Rattle.wave_forms.specs.declared.Judged.{Judged}
@@ -41,17 +41,17 @@ use Rattle.wave_forms.proofs.Answers.{source, words-are as words-of, an
 abbrev numberFor : Bool → ℕ
 numberFor b = cond b 8 0
 
-answered : (f : List ℕ) (room : ℕ) → Bytes f → (turnedOf f room .number ≡ 17 → ⊥) → Formed f
-unfolding turnedOf
-answered f room bytes = go (judgedOf f) refl
+answered : (f : List ℕ) (room : ℕ) → Bytes f → (turnAnswer f room .number ≡ 17 → ⊥) → Formed f
+unfolding turnAnswer
+answered f room bytes = go (fileJudged f) refl
   where
-    go : (j : Judged) → judgedOf f ≡ j → (turnedInto room j .number ≡ 17 → ⊥) → Formed f
+    go : (j : Judged) → fileJudged f ≡ j → (turnedInto room j .number ≡ 17 → ⊥) → Formed f
     go (Is s) e h = record { rate = s .form .rate; channels = s .form .channels; tag = s .form .tag; bits = s .form .bits; numbers = numbersIn f s; form = answer-good f bytes s e }
     go Refused e h = absurd (h refl)
 
-numbered : (f : List ℕ) (room : ℕ) → (turnedOf f room .number ≡ 0) ⊎ (turnedOf f room .number ≡ 8) ⊎ (turnedOf f room ≡ record { length = 0; number = 17 })
-unfolding turnedOf
-numbered f room = go (judgedOf f)
+numbered : (f : List ℕ) (room : ℕ) → (turnAnswer f room .number ≡ 0) ⊎ (turnAnswer f room .number ≡ 8) ⊎ (turnAnswer f room ≡ record { length = 0; number = 17 })
+unfolding turnAnswer
+numbered f room = go (fileJudged f)
   where
     pick : (b : Bool) (P : Type 0) → (numberFor b ≡ 0) ⊎ (numberFor b ≡ 8) ⊎ P
     pick true P = inr (inl refl)
@@ -61,15 +61,15 @@ numbered f room = go (judgedOf f)
     go (Is s) = pick (ltb room (bytesOf s)) _
     go Refused = inr (inr refl)
 
-held : (f out : List ℕ) → (turnedOf f (length out) .number ≡ 0 → ⊥) → outputOf f out ≡ out
-unfolding turnedOf outputOf
-held f out = go (judgedOf f)
+held : (f out : List ℕ) → (turnAnswer f (length out) .number ≡ 0 → ⊥) → outputAfter f out ≡ out
+unfolding turnAnswer outputAfter
+held f out = go (fileJudged f)
   where
     pick : (b : Bool) (x : List ℕ) → (numberFor b ≡ 0 → ⊥) → cond b out x ≡ out
     pick true x h = refl
     pick false x h = absurd (h refl)
 
-    go : (j : Judged) → (turnedInto (length out) j .number ≡ 0 → ⊥) → outputIn f out j ≡ out
+    go : (j : Judged) → (turnedInto (length out) j .number ≡ 0 → ⊥) → outputBy f out j ≡ out
     go (Is s) h = pick (ltb (length out) (bytesOf s)) (fileFrom f s ++ drop (bytesOf s) out) h
     go Refused h = refl
 
@@ -93,8 +93,8 @@ narrow-fits nan = nan-fits binary32
 narrow-fits (inf s) = inf-fits binary32 s
 narrow-fits (fin s m e) = round-fits binary32 s _ _
 
-word-below : {tag bits : ℕ} → Kind tag bits → (n : ℕ) → n < 256 ^ (bits / 8) → wordOf tag bits n < 2 ^ 32
-unfolding wordOf
+word-below : {tag bits : ℕ} → Kind tag bits → (n : ℕ) → n < 256 ^ (bits / 8) → numberWord tag bits n < 2 ^ 32
+unfolding numberWord
 word-below whole16 n h = toBits-lt binary32 (wholeOf 16 n) (round-fits binary32 _ _ _)
 word-below whole24 n h = toBits-lt binary32 (wholeOf 24 n) (round-fits binary32 _ _ _)
 word-below whole32 n h = toBits-lt binary32 (wholeOf 32 n) (round-fits binary32 _ _ _)
@@ -108,16 +108,16 @@ module _ (f : List ℕ) (rate channels tag bits : ℕ) (numbers : List ℕ) (g :
       let k = known f rate channels tag bits numbers g in
       ap (fileOf rate channels (g .samples)) (words-of f (source f rate channels tag bits numbers g (k .places)) ∙ ap (wordsOf tag bits) (k .same-numbers))
 
-  good : (out : List ℕ) → 58 + 4 * length numbers ≤ length out → (turnedOf f (length out) ≡ record { length = 58 + 4 * length numbers; number = 0 })
-      × (outputOf f out ≡ fileOf rate channels (g .samples) (wordsOf tag bits numbers) ++ drop (58 + 4 * length numbers) out)
-  unfolding turnedOf outputOf
+  good : (out : List ℕ) → 58 + 4 * length numbers ≤ length out → (turnAnswer f (length out) ≡ record { length = 58 + 4 * length numbers; number = 0 })
+      × (outputAfter f out ≡ fileOf rate channels (g .samples) (wordsOf tag bits numbers) ++ drop (58 + 4 * length numbers) out)
+  unfolding turnAnswer outputAfter
   good out h =
       let k = known f rate channels tag bits numbers g in
       let fits = le-ltb (length out) (58 + 4 * length numbers) h in
       (rw (k .judged, fits), rw (k .judged, fits, words))
 
-  short : (room : ℕ) → room < 58 + 4 * length numbers → turnedOf f room ≡ record { length = 58 + 4 * length numbers; number = 8 }
-  unfolding turnedOf
+  short : (room : ℕ) → room < 58 + 4 * length numbers → turnAnswer f room ≡ record { length = 58 + 4 * length numbers; number = 8 }
+  unfolding turnAnswer
   short room h = rw (known f rate channels tag bits numbers g .judged, lt-ltb room (58 + 4 * length numbers) h)
 
   sized : Sized rate channels (g .samples) (wordsOf tag bits numbers)
@@ -150,7 +150,7 @@ unfolding formatOf bodyOf
 body-own channels rate byteRate = ap (λ (n : ℕ). littleBytes 2 3 ++ littleBytes 2 channels ++ littleBytes 4 rate ++ littleBytes 4 byteRate ++ littleBytes 2 n ++ littleBytes 2 32 ++ littleBytes 2 0) (mul-comm 4 channels)
 
 own-words : (words : List ℕ) → wordsOf 3 32 words ≡ words
-unfolding wordOf
+unfolding numberWord
 own-words [] = refl
 own-words (w ∷ words) = ap (λ (l : List ℕ). w ∷ l) (own-words words)
 
@@ -217,7 +217,7 @@ promised = record {
   file-length = λ f rate channels tag bits numbers g.
       length-file rate channels (g .samples) (wordsOf tag bits numbers) ∙ ap (λ (n : ℕ). 58 + 4 * n) (length-map _ numbers);
   taken = λ f rate channels tag bits numbers g. wave.promised .round-trip rate channels (g .samples) (wordsOf tag bits numbers) (sized f rate channels tag bits numbers g);
-  word-at = λ tag bits numbers k. getD-map (wordOf tag bits) numbers k;
+  word-at = λ tag bits numbers k. getD-map (numberWord tag bits) numbers k;
   exact = exact;
   kept = kept;
   own-form = own-form;

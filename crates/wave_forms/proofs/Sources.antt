@@ -19,8 +19,8 @@ use Rattle.wave.specs.declared.chunks.Met.the-variants as met
 use Rattle.wave.proofs.Judgements.{both, places-below}
 use Rattle.wave.proofs.Standing.{length-listed}
 use Rattle.wave.proofs.Calls.{file-put, head-made, head-done}
-use Rattle.wave_forms.specs.Reader.{formAt, goodForm, countedOf, judgedAt, judgedIn, judgedOf, wordsIn}
-use Rattle.wave_forms.specs.Turns.{bytesOf, turnedOf, outputOf}
+use Rattle.wave_forms.specs.Reader.{formAt, goodForm, countedOf, judgedAt, judgedIn, fileJudged, wordsIn}
+use Rattle.wave_forms.specs.Turns.{bytesOf, turnAnswer, outputAfter}
 use Rattle.wave_forms.specs.declared.formats.Form.{Form}
 use Rattle.wave_forms.specs.declared.Source.{Source}
 use Rattle.wave_forms.specs.declared.Judged.{Judged}
@@ -75,8 +75,8 @@ rests-in : (f : List ℕ) (s : Source) (m : Met) → goodRiff f ≡ true → wal
 rests-in f s (met.Is p) r e = rests-at f s p r e
 rests-in f s met.Refused r e = λ g. absurd (never g)
 
-pub judged-rests : (f : List ℕ) (s : Source) → judgedOf f ≡ Is s → Rests f s
-unfolding judgedOf
+pub judged-rests : (f : List ℕ) (s : Source) → fileJudged f ≡ Is s → Rests f s
+unfolding fileJudged
 judged-rests f s = both (Answers f s) (goodRiff f) _ _ (λ r. rests-in f s (walkOf f) r refl) (λ _ e. absurd (never e))
 
 -- whole frames: so many numbers
@@ -91,7 +91,7 @@ pub record Sourced (s : Source) : Type 0 where
   pub count : s .count ≡ s .form .channels * s .samples
   pub room : 50 + 4 * s .count < 2 ^ 32
 
-pub sourced : (f : List ℕ) (s : Source) → judgedOf f ≡ Is s → Sourced s
+pub sourced : (f : List ℕ) (s : Source) → fileJudged f ≡ Is s → Sourced s
 sourced f s e =
     let r = judged-rests f s e in
     let o = formAt f (r .places .format) in
@@ -103,7 +103,7 @@ sourced f s e =
       room = r .room;
     })
 
-pub first-below : (f : List ℕ) (s : Source) (n : ℕ) → judgedOf f ≡ Is s → length f < n → s .first < n + 8
+pub first-below : (f : List ℕ) (s : Source) (n : ℕ) → fileJudged f ≡ Is s → length f < n → s .first < n + 8
 first-below f s n e h =
     let r = judged-rests f s e in
     let below = places-below f (r .places) n (r .met) h in
@@ -111,18 +111,18 @@ first-below f s n e h =
 
 -- ---- what `turn` answers and leaves
 module _ (f out : List ℕ) where
-  pub turn-refused : judgedOf f ≡ Refused → (record { length = 0; number = 17 } ≡ turnedOf f (length out)) × (out ≡ outputOf f out)
-  unfolding turnedOf outputOf
+  pub turn-refused : fileJudged f ≡ Refused → (record { length = 0; number = 17 } ≡ turnAnswer f (length out)) × (out ≡ outputAfter f out)
+  unfolding turnAnswer outputAfter
   turn-refused e = (rw e, rw e)
 
-  module _ (s : Source) (e : judgedOf f ≡ Is s) where
-    pub turn-short : length out < bytesOf s → (record { length = bytesOf s; number = 8 } ≡ turnedOf f (length out)) × (out ≡ outputOf f out)
-    unfolding turnedOf outputOf
+  module _ (s : Source) (e : fileJudged f ≡ Is s) where
+    pub turn-short : length out < bytesOf s → (record { length = bytesOf s; number = 8 } ≡ turnAnswer f (length out)) × (out ≡ outputAfter f out)
+    unfolding turnAnswer outputAfter
     turn-short h = (rw (e, lt-ltb _ _ h), rw (e, lt-ltb _ _ h))
 
     pub turn-done : bytesOf s ≤ length out → {x y : List ℕ} → x ≡ headPut out (s .form .rate) (s .form .channels) (s .samples)
-        → y ≡ sets x 58 (wordBytes (wordsIn f s)) → (record { length = bytesOf s; number = 0 } ≡ turnedOf f (length out)) × (y ≡ outputOf f out)
-    unfolding turnedOf outputOf
+        → y ≡ sets x 58 (wordBytes (wordsIn f s)) → (record { length = bytesOf s; number = 0 } ≡ turnAnswer f (length out)) × (y ≡ outputAfter f out)
+    unfolding turnAnswer outputAfter
     turn-done h p q =
         let long : length (wordsIn f s) ≡ s .count = length-listed _ 0 (s .count) in
         let i = sourced f s e in

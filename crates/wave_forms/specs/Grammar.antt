@@ -9,7 +9,7 @@ use Rattle.walks.specs.Each.{Each}
 use Rattle.octets.specs.Octets.{littleBytes}
 use Rattle.wave.specs.Fields.{numberBytes}
 use Rattle.wave.specs.Grammar.{Chunk, InChunks}
-use Rattle.wave_forms.specs.Values.{wordOf}
+use Rattle.wave_forms.specs.Values.{numberWord}
 
 -- ---- what the numbers are: WAVE_FORMAT_PCM is 1, WAVE_FORMAT_IEEE_FLOAT is 3
 pub data Kind : ℕ → ℕ → Type 0 where
@@ -67,4 +67,4 @@ pub record IsForm (f : List ℕ) (rate channels tag bits : ℕ) (numbers : List 
 
 -- the words that it is turned into
 abbrev pub wordsOf : ℕ → ℕ → List ℕ → List ℕ
-wordsOf tag bits numbers = map (wordOf tag bits) numbers
+wordsOf tag bits numbers = map (numberWord tag bits) numbers

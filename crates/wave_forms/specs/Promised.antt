@@ -13,9 +13,9 @@ use Rattle.wave.specs.Files.{fileOf}
 use Rattle.wave.specs.Reader.{readOf}
 use Rattle.wave.specs.Reader.Reading.{is}
 use Rattle.wave.specs.Grammar.{IsWave}
-use Rattle.wave_forms.specs.Values.{negative, magnitude, wholeOf, narrowOf, wordOf}
+use Rattle.wave_forms.specs.Values.{negative, magnitude, wholeOf, narrowOf, numberWord}
 use Rattle.wave_forms.specs.Grammar.{IsForm, wordsOf}
-use Rattle.wave_forms.specs.Turns.{turnedOf, outputOf}
+use Rattle.wave_forms.specs.Turns.{turnAnswer, outputAfter}
 
 -- a file of some form
 pub record Formed (f : List ℕ) : Type 0 where
@@ -28,22 +28,22 @@ pub record Formed (f : List ℕ) : Type 0 where
 
 pub record Promised : Type 0 where
   -- what isn't answered 17 is of a known form,
-  pub answered : (f : List ℕ) (room : ℕ) → Bytes f → (turnedOf f room .number ≡ 17 → ⊥) → Formed f
+  pub answered : (f : List ℕ) (room : ℕ) → Bytes f → (turnAnswer f room .number ≡ 17 → ⊥) → Formed f
   -- and a file of a known form is turned where there is room: the bytes of 10/12's writer stand in front
   pub good : (f out : List ℕ) (rate channels tag bits : ℕ) (numbers : List ℕ)
       → (g : IsForm f rate channels tag bits numbers) → 58 + 4 * length numbers ≤ length out
-      → (turnedOf f (length out) ≡ record { length = 58 + 4 * length numbers; number = 0 })
-      × (outputOf f out
+      → (turnAnswer f (length out) ≡ record { length = 58 + 4 * length numbers; number = 0 })
+      × (outputAfter f out
       ≡ fileOf rate channels (g .samples) (wordsOf tag bits numbers) ++ drop (58 + 4 * length numbers) out)
   -- else it is answered 8 with the length that is needed
   pub short : (f : List ℕ) (room rate channels tag bits : ℕ) (numbers : List ℕ)
       → IsForm f rate channels tag bits numbers → room < 58 + 4 * length numbers
-      → turnedOf f room ≡ record { length = 58 + 4 * length numbers; number = 8 }
+      → turnAnswer f room ≡ record { length = 58 + 4 * length numbers; number = 8 }
   pub numbered : (f : List ℕ) (room : ℕ)
-      → (turnedOf f room .number ≡ 0) ⊎ (turnedOf f room .number ≡ 8)
-      ⊎ (turnedOf f room ≡ record { length = 0; number = 17 })
+      → (turnAnswer f room .number ≡ 0) ⊎ (turnAnswer f room .number ≡ 8)
+      ⊎ (turnAnswer f room ≡ record { length = 0; number = 17 })
   -- refused or short leaves the output as it was
-  pub held : (f out : List ℕ) → (turnedOf f (length out) .number ≡ 0 → ⊥) → outputOf f out ≡ out
+  pub held : (f out : List ℕ) → (turnAnswer f (length out) .number ≡ 0 → ⊥) → outputAfter f out ≡ out
   -- what is written is so long, and 10/12's reader takes it
   pub file-length : (f : List ℕ) (rate channels tag bits : ℕ) (numbers : List ℕ)
       → (g : IsForm f rate channels tag bits numbers)
@@ -54,7 +54,7 @@ pub record Promised : Type 0 where
       ≡ is rate channels (wordsOf tag bits numbers)
   -- word k is the value of number k
   pub word-at : (tag bits : ℕ) (numbers : List ℕ) (k : ℕ) → k < length numbers
-      → getD (wordsOf tag bits numbers) k 0 ≡ wordOf tag bits (getD numbers k 0)
+      → getD (wordsOf tag bits numbers) k 0 ≡ numberWord tag bits (getD numbers k 0)
   -- 16 and 24 bits lose nothing: the value is exactly the number over 2 ^ (bits - 1)
   pub exact : (bits n : ℕ) → 1 ≤ bits → bits ≤ 24 → n < 2 ^ bits
       → HasValue (wholeOf bits n) (negative bits n) (magnitude bits n) (2 ^ (bits - 1))

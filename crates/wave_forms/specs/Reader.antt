@@ -10,7 +10,7 @@ use Rattle.wave.specs.Reader.{missing, walkOf, goodRiff}
 use Rattle.wave.specs.declared.chunks.Places.{Places}
 use Rattle.wave.specs.declared.chunks.Met.{Met}
 use Rattle.wave.specs.declared.chunks.Met.the-variants as met
-use Rattle.wave_forms.specs.Values.{wordOf}
+use Rattle.wave_forms.specs.Values.{numberWord}
 use Rattle.wave_forms.specs.declared.formats.Form.{Form}
 use Rattle.wave_forms.specs.declared.Source.{Source}
 use Rattle.wave_forms.specs.declared.Judged.{Judged}
@@ -77,8 +77,8 @@ abbrev pub judgedIn : List ℕ → Met → Judged
 judgedIn f (met.Is p) = judgedAt f p
 judgedIn f met.Refused = Refused
 
-unfoldable pub judgedOf : List ℕ → Judged
-judgedOf f = cond (goodRiff f) (judgedIn f (walkOf f)) Refused
+unfoldable pub fileJudged : List ℕ → Judged
+fileJudged f = cond (goodRiff f) (judgedIn f (walkOf f)) Refused
 
 -- ---- the numbers, of so many bytes each, one behind the other, and their words
 unfoldable pub numberAt : List ℕ → ℕ → ℕ → ℕ
@@ -89,5 +89,5 @@ numbersIn f s = listed (λ (k : ℕ). numberAt f (s .form .bits / 8) (s .first +
 
 abbrev pub wordsIn : List ℕ → Source → List ℕ
 wordsIn f s =
-    listed (λ (k : ℕ). wordOf (s .form .tag) (s .form .bits)
+    listed (λ (k : ℕ). numberWord (s .form .tag) (s .form .bits)
     (numberAt f (s .form .bits / 8) (s .first + s .form .bits / 8 * k))) 0 (s .count)

@@ -5,7 +5,7 @@ use Prim.Native.Nat.{ℕ, _+_, _*_}
 use lib.Dec.{ltb}
 use lib.ListN.{length, drop}
 use Rattle.wave.specs.Files.{fileOf}
-use Rattle.wave_forms.specs.Reader.{judgedOf, wordsIn}
+use Rattle.wave_forms.specs.Reader.{fileJudged, wordsIn}
 use Rattle.wave_forms.specs.declared.Source.{Source}
 use Rattle.wave_forms.specs.declared.Judged.{Judged}
 use Rattle.wave_forms.specs.declared.Judged.the-variants.{Is, Refused}
@@ -18,16 +18,16 @@ abbrev pub turnedInto : ℕ → Judged → Turned
 turnedInto room (Is s) = record { length = bytesOf s; number = cond (ltb room (bytesOf s)) 8 0 }
 turnedInto room Refused = record { length = 0; number = 17 }
 
-unfoldable pub turnedOf : List ℕ → ℕ → Turned
-turnedOf f room = turnedInto room (judgedOf f)
+unfoldable pub turnAnswer : List ℕ → ℕ → Turned
+turnAnswer f room = turnedInto room (fileJudged f)
 
 -- the file of 10/12's form; a longer output keeps its rest
 abbrev pub fileFrom : List ℕ → Source → List ℕ
 fileFrom f s = fileOf (s .form .rate) (s .form .channels) (s .samples) (wordsIn f s)
 
-abbrev pub outputIn : List ℕ → List ℕ → Judged → List ℕ
-outputIn f out (Is s) = cond (ltb (length out) (bytesOf s)) out (fileFrom f s ++ drop (bytesOf s) out)
-outputIn f out Refused = out
+abbrev pub outputBy : List ℕ → List ℕ → Judged → List ℕ
+outputBy f out (Is s) = cond (ltb (length out) (bytesOf s)) out (fileFrom f s ++ drop (bytesOf s) out)
+outputBy f out Refused = out
 
-unfoldable pub outputOf : List ℕ → List ℕ → List ℕ
-outputOf f out = outputIn f out (judgedOf f)
+unfoldable pub outputAfter : List ℕ → List ℕ → List ℕ
+outputAfter f out = outputBy f out (fileJudged f)

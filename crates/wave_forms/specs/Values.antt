@@ -24,7 +24,7 @@ narrowOf (fin s m e) = round binary32 s (m * up e) (down e)
 
 -- ---- the word of a number, by the file's tag (1 for whole numbers, 3 for floats) and its bits: a float of 32 bits keeps
 -- its own
-unfoldable pub wordOf : ℕ → ℕ → ℕ → ℕ
-wordOf tag bits n =
+unfoldable pub numberWord : ℕ → ℕ → ℕ → ℕ
+numberWord tag bits n =
     cond (eqb tag 1) (toBits binary32 (wholeOf bits n))
     (cond (eqb bits 64) (toBits binary32 (narrowOf (ofBits binary64 n))) n)

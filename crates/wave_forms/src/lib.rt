@@ -8,8 +8,8 @@ ghost use mathlib.Core.Path.{_≡_};
 ghost use Prim.Native.Nat.{_+_, _*_, _/_, _^_, _≤_, _<_};
 ghost use mathlib.Core.Bool.{true};
 ghost use lib.ListN.{length};
-ghost use Rattle.wave_forms.specs.Reader.{countedOf, judgedAt, judgedOf};
-ghost use Rattle.wave_forms.specs.Turns.{turnedOf, outputOf};
+ghost use Rattle.wave_forms.specs.Reader.{countedOf, judgedAt, fileJudged};
+ghost use Rattle.wave_forms.specs.Turns.{turnAnswer, outputAfter};
 use formats::Form;
 use formats::form_at;
 use formats::good_form;
@@ -74,7 +74,7 @@ fn judged_at(file: &[u8], p: Places) -> Judged
 
 // Whether a file is of a known form, and what it holds.
 fn judge(file: &[u8]) -> Judged
-    ensures { λ r. ⌜ r ≡ judgedOf (now (file .entry)) ⌝ }
+    ensures { λ r. ⌜ r ≡ fileJudged (now (file .entry)) ⌝ }
 {
     if wave::good_riff(file) {
         match wave::chunks::walk(file) {
@@ -88,8 +88,8 @@ fn judge(file: &[u8]) -> Judged
 
 // Writes the file of 10/12's form that holds the same recording, each number rounded once.
 pub fn turn(file: &[u8], out: &mut [u8]) -> Turned
-    ensures { λ r. ⌜ r ≡ turnedOf (now (file .entry)) (length (now (out .entry))) ⌝ }
-    ensures { λ r. ⌜ now (out .exit) ≡ outputOf (now (file .entry)) (now (out .entry)) ⌝ }
+    ensures { λ r. ⌜ r ≡ turnAnswer (now (file .entry)) (length (now (out .entry))) ⌝ }
+    ensures { λ r. ⌜ now (out .exit) ≡ outputAfter (now (file .entry)) (now (out .entry)) ⌝ }
 {
     match judge(file) {
         Judged::Refused => Turned {

@@ -3,7 +3,7 @@ ghost use mathlib.Core.Path.{_≡_};
 ghost use mathlib.Core.Bool.{true, false};
 ghost use Prim.Native.Nat.{_-_, _*_, _/_, _^_, _≤_, _<_};
 ghost use lib.Ieee.{binary32, binary64, round, ofBits, toBits, ofFields};
-ghost use Rattle.wave_forms.specs.Values.{wholeOf, narrowOf, wordOf};
+ghost use Rattle.wave_forms.specs.Values.{wholeOf, narrowOf, numberWord};
 ghost use Rattle.wave_forms.specs.Reader.{knownForm};
 
 // a - b, or 0 where b is more.
@@ -83,7 +83,7 @@ fn double_word(n: u64) -> u32
 pub fn word_of(tag: u32, bits: u32, n: u64) -> u32
     requires { ⌜ knownForm tag bits ≡ true ⌝ }
     requires { ⌜ n < 256 ^ (bits / 8) ⌝ }
-    ensures { λ r. ⌜ r ≡ wordOf tag bits n ⌝ }
+    ensures { λ r. ⌜ r ≡ numberWord tag bits n ⌝ }
 {
     if tag == 1 {
         whole_word(bits, n)

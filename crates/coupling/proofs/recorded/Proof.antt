@@ -1,5 +1,5 @@
 -- `recorded` meets its contract. Assumes nothing.
-use Rattle.coupling.specs.Coupling.{recordedOf}
+use Rattle.coupling.specs.Coupling.{frameRecorded}
 use borrow.Author.Needs.{needs}
 use Rattle.coupling.proofs.recorded.Statement.{statement}
 use Rattle.coupling.proofs.recorded.Tie as tie
@@ -23,7 +23,7 @@ same-length-2 : tie.Need-same-length-2
 same-length-2 c = search needs
 
 returns : tie.Need-returns
-unfolding recordedOf
+unfolding frameRecorded
 returns c = record { sampler = (cc); frame = (cc); memory = (cc) }
 
 pub recorded-spec : {M : Type 1} → statement M

@@ -40,10 +40,10 @@ use Rattle.channel.proofs.Channel as C
 use Rattle.lent_channel.specs.Turns.{lookedAt}
 use Rattle.lent_channel.proofs.Bytes.{phrase-bytes}
 use Rattle.lent_channel.proofs.Places.{cv, entries-are}
-use Rattle.lent_channel.proofs.Holding.{channel, headed, phrase, points-entry, copies-entry}
+use Rattle.lent_channel.proofs.Holding.{channel, phrase, points-entry, copies-entry}
 use Rattle.lent_channel.proofs.Sharing.{Whole, Opened, looked, copies-head}
 use Rattle.lent_channel.proofs.Views.{Entry, Post, exits, meets}
-use Rattle.lent_channel.proofs.Besides.{judging, good-upto, good-none, good-one-more, good-all}
+use Rattle.lent_channel.proofs.Besides.{looking, judging, good-upto, good-none, good-one-more, good-all}
 use Rattle.lent_channel.proofs.looked_at.Symbol as look-def
 use Rattle.lent_channel.proofs.looked_at.Symbol.{name as #look}
 use Rattle.lent_channel.proofs.looked_at.Met as look-thm
@@ -54,10 +54,6 @@ use Rattle.lent_channel.proofs.phrase_good.Key.{name as #f}
 use Rattle.lent_channel.proofs.phrase_good as f
 use Rattle.lent_channel.proofs.phrase_good.Statement as stated
 use Rattle.lent_channel.proofs.phrase_good.Code as code
-
--- `looked_at`
-abbrev looking : Callee
-looking = record { takes = phrase ∷ word w64 ∷ headed ∷ []; gives = phrase; says = λ a. lookedAt (a .0) (a .1 .0) (a .1 .1 .0) }
 
 -- `ends_by`
 abbrev ending : Callee

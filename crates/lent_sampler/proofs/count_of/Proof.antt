@@ -41,7 +41,7 @@ use Rattle.walks.proofs.Steps.Locals.{less, no-less, over, its, held, fills, re
 use Rattle.lent_channel.proofs.Holding.{channel, points, copies-voice, reads-count}
 use Rattle.lent_channel.proofs.Sharing.{places as counting, count-fits, small, next-fits, place-fits, inside, Whole, Opened, looked}
 use Rattle.lent_channel.proofs.Viewing.{Entry, Post, exits, meets}
-use Rattle.lent_sampler.specs.Lists.{countOf, countIn}
+use Rattle.lent_sampler.specs.Lists.{listedCount, countIn}
 use Rattle.lent_sampler.proofs.Asking.{adding}
 use Rattle.lent_sampler.proofs.Lists.{count-none, count-few, count-next}
 use Rattle.lent_sampler.proofs.listed_next.Symbol as next-def
@@ -61,7 +61,7 @@ module _ {M : Type 1} (𝓤 : URA M) (H : Heap 𝓤) (A : Atoms 𝓤) (W : Given
 
   -- how many of the first i are listed
   abbrev upto : ℕ → ℕ
-  upto i = countOf every (take i (h .voices))
+  upto i = listedCount every (take i (h .voices))
 
   upto-fits : (i : ℕ) → i < 64 → upto i < 2 ^ 64
   upto-fits i lt = omega (arith, count-few every i (h .voices), lt)
@@ -108,7 +108,7 @@ module _ {M : Type 1} (𝓤 : URA M) (H : Heap 𝓤) (A : Atoms 𝓤) (W : Given
         leaves-loop ! (its ! refl) $ exec ! (𝓣 .C) (𝓣 .Λ) En code.Mir.t-6 (atRet En Ends) $
         puts ! (of-opd ! (its ! refl)) (fills ! refl (tt, record { fits = fits })) $
         move ! (1 ∷ 0 ∷ []) $ obor-close ! tt $ drop ! $ move ! (1 ∷ []) $ drop ! $ gives ! refl $
-        all-freed ! refl $ by ! (exits channel truth (word w64) countIn κ q x every 𝓤 H A W refl (upto i) (ap upto e ∙ ap (countOf every) (take-most (h .voices) (h .count) 32 all)) (refl, fits))
+        all-freed ! refl $ by ! (exits channel truth (word w64) countIn κ q x every 𝓤 H A W refl (upto i) (ap upto e ∙ ap (listedCount every) (take-most (h .voices) (h .count) 32 all)) (refl, fits))
 
     loops : ent 𝓤 (⋆ 𝓤 H A (At 0)) (Wp 𝓤 H (𝓣 .C) (𝓣 .Λ) En (loop code.Mir.turn-1) Left)
     loops = rounds 𝓤 H A W 𝓣 En code.Mir.turn-1 Left (λ i r. i + r ≡ n) At leaves more n 0 (omega arith)

@@ -31,7 +31,7 @@ use Rattle.sampler.specs.declared.Sampler.{Sampler}
 use Rattle.questions.specs.Questions.{voiceInfoOf}
 use Rattle.lent_channel.proofs.Holding.{voice, phrase-fits}
 use Rattle.lent_channel.proofs.Views.{viewing, views, Entry, Post, exits, meets}
-use Rattle.lent_sampler.specs.Lists.{seated, voiceIn, lengthIn}
+use Rattle.lent_sampler.specs.Lists.{seated, voiceIn, phraseLength}
 use Rattle.lent_sampler.proofs.Lent.{sampler, params, info}
 use Rattle.lent_sampler.proofs.Lists.{info-so}
 use Rattle.lent_sampler.proofs.Seated.{again}
@@ -66,7 +66,7 @@ module _ {M : Type 1} (𝓤 : URA M) (H : Heap 𝓤) (A : Atoms 𝓤) (W : Given
 
   -- how long its phrase is on a channel
   abbrev long : ℕ → ℕ
-  long j = lengthIn (v .phrase) (seated (s .now) j)
+  long j = phraseLength (v .phrase) (seated (s .now) j)
 
   walk : Triple 𝓤 (𝓣 .C #voice) (viewing sampler voicing 𝓤 H A) → Triple 𝓤 (𝓣 .C #length) (viewing sampler measuring 𝓤 H A) → Says 𝓤 H A 𝓣 #made making
       → ent 𝓤 (Entry sampler informing κ q s (k, (p, (i, tt))) 𝓤 H A) (WpFn 𝓤 H (𝓣 .C) (𝓣 .Λ) code.function (vptr b o ∷ vint w64 k ∷ params .val p ∷ vint w64 i ∷ []) (Post sampler informing κ q s (k, (p, (i, tt))) 𝓤 H A))

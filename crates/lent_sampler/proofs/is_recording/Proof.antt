@@ -6,7 +6,7 @@ use mathlib.Core.Path.{_≡_, _∙_}
 use mathlib.Core.List.{[], _∷_}
 use mir.Syntax.{w64}
 use Rattle.questions.specs.Questions.{isRecordingOf}
-use Rattle.questions.specs.Sights.{seenOf, recordingIn}
+use Rattle.questions.specs.Sights.{seenOf, recordsIn}
 use Rattle.questions.proofs.Sights.{recording-seen}
 use Rattle.questions.proofs.recording_in as g
 use Rattle.questions.proofs.recording_in.Symbol as g-def
@@ -31,7 +31,7 @@ unfolding code.routine tablesOf
 is-recording-spec 𝓤 H 𝓜 𝓖 𝓡 =
     entered 𝓤 H (tripleOf 𝓤 H (𝓖 .A) f.signature (f.spec 𝓤 H (𝓖 .A) (𝓜 .mem) (𝓡 .run)))
     (tables 𝓤 H 𝓜 𝓡 code.env .C) (tables 𝓤 H 𝓜 𝓡 code.env .Λ) #f code.function (code.unfolded 𝓤 H 𝓜 𝓡)
-    (glance sampler sight told seenOf 0 (value (word w64) ∷ []) #look #g (once (λ κs t v r e. r ≡ recordingIn t (v .0)))
+    (glance sampler sight told seenOf 0 (value (word w64) ∷ []) #look #g (once (λ κs t v r e. r ≡ recordsIn t (v .0)))
     (λ κs s v r e. r ≡ isRecordingOf s (v .0)) (λ κs s known v r e is. is ∙ recording-seen s (v .0))
     𝓤 H (𝓖 .A) (givenOf 𝓤 H 𝓜 𝓖) (tablesOf 𝓤 H 𝓜 (tables 𝓤 H 𝓜 𝓡 code.env))
     (cited 𝓤 H (tripleOf 𝓤 H (𝓖 .A) look.signature (look.spec 𝓤 H (𝓖 .A) (𝓜 .mem) (𝓡 .run))) 𝓜 𝓡 code.env #look look-def.routine code.calls-lent-sampler·look (look-thm.met 𝓤 H 𝓜 𝓖 𝓡))

@@ -59,7 +59,7 @@ use Rattle.lent_channel.proofs.Places.{places-are}
 use Rattle.lent_channel.proofs.Holding.{channel, voice}
 use Rattle.lent_channel.proofs.Views.{viewing, views}
 use Rattle.lent_sampler.specs.declared.Listing.{Listing}
-use Rattle.lent_sampler.specs.Lists.{seatOf, seated, voiceIn, countOf, countIn, listingBy, answeredOf}
+use Rattle.lent_sampler.specs.Lists.{seatOf, seated, voiceIn, listedCount, countIn, listingBy, answeredOf}
 use Rattle.lent_sampler.proofs.Listing as J
 use Rattle.lent_sampler.proofs.Listing.Laws as J′
 use Rattle.lent_sampler.proofs.Lent.{sampler, counted, listing}
@@ -118,7 +118,7 @@ module _ {M : Type 1} (𝓤 : URA M) (H : Heap 𝓤) (A : Atoms 𝓤) (W : Given
 
     -- of the first i voices: how many notes there are, and the list with these in its front
     abbrev upto : ℕ → ℕ
-    upto i = countOf false (take i (c .voices))
+    upto i = listedCount false (take i (c .voices))
 
     abbrev part : ℕ → List ℕ
     part i = noted-upto (c .voices) l i

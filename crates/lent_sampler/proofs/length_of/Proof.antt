@@ -47,7 +47,7 @@ use Rattle.lent_channel.proofs.Saying.{first-of}
 use Rattle.lent_channel.proofs.Holding.{channel, headed, phrase, points-entry, copies-entry, reads-head, reads-several}
 use Rattle.lent_channel.proofs.Sharing.{head-is, Whole, looked}
 use Rattle.lent_channel.proofs.Viewing.{Entry, Post, exits, meets}
-use Rattle.lent_sampler.specs.Lists.{lengthIn}
+use Rattle.lent_sampler.specs.Lists.{phraseLength}
 use Rattle.lent_sampler.proofs.length_of.Key.{name as #f}
 use Rattle.lent_sampler.proofs.length_of as f
 use Rattle.lent_sampler.proofs.length_of.Statement as stated
@@ -74,7 +74,7 @@ module _ {M : Type 1} (𝓤 : URA M) (H : Heap 𝓤) (A : Atoms 𝓤) (W : Given
   place-fits = omega arith
 
   walk : Says 𝓤 H A 𝓣 #place placing → Says 𝓤 H A 𝓣 #phrase choosing
-      → ent 𝓤 (Entry channel (word w8) (word w64) lengthIn κ q x k 𝓤 H A) (WpFn 𝓤 H (𝓣 .C) (𝓣 .Λ) code.function (vptr b o ∷ vint w8 k ∷ []) (Post channel (word w8) (word w64) lengthIn κ q x k 𝓤 H A))
+      → ent 𝓤 (Entry channel (word w8) (word w64) phraseLength κ q x k 𝓤 H A) (WpFn 𝓤 H (𝓣 .C) (𝓣 .Λ) code.function (vptr b o ∷ vint w8 k ∷ []) (Post channel (word w8) (word w64) phraseLength κ q x k 𝓤 H A))
   walk known-place known-phrase =
       qed W ((‵ (flft κ q) ⊛ ‵ ftrue) ∷ ‵ (owns (ShrRef (named 0) κ C.the-row ∷ u8 ∷ []) (x, (k, tt)) (vptr b o ∷ [], (vint w8 k ∷ [], tt))) ∷ []) ∵ enter ! (𝓣 .C) (𝓣 .Λ) code.function (vptr b o ∷ vint w8 k ∷ []) _ $
       allocated ! (λ at. params1 ! $ passed ! 1 refl (tt, tt) $ passed ! 2 refl (tt, record { fits = k-fits }) $ pass0 ! $
@@ -86,10 +86,10 @@ module _ {M : Type 1} (𝓤 : URA M) (H : Heap 𝓤) (A : Atoms 𝓤) (W : Given
       points-entry j b o ! place-fits (its ! refl) (fills ! refl (tt, record { fits = place-fits })) (held ! refl) (fills ! refl (tt, tt)) (held ! refl) (held ! refl) (fills ! refl (tt, tt)) $
       copies-entry j b o q′ h ! (omega (arith, entries-are h g)) (held ! refl) (fills ! refl) (λ ise.
       asks ! known-phrase (h .head, (k, (h .several, (entry, tt)))) (head-is h g, ((refl, k-fits), (refl, (ise, tt)))) (and-then ! (its ! refl) (and-then ! (its ! refl) (and-then ! (its ! refl) (and-then ! (its ! refl) (no-more !))))) (fills ! refl) (λ isp.
-      let fits : lengthIn k h < 2 ^ 64 = LL.owed F.the-type F′.the-laws (phraseAt h k) _ isp .1 .0 .1 in
+      let fits : phraseLength k h < 2 ^ 64 = LL.owed F.the-type F′.the-laws (phraseAt h k) _ isp .1 .0 .1 in
       puts ! (of-opd ! (field-of ! refl refl)) (fills ! refl (tt, record { fits = fits })) $
       move ! (1 ∷ 0 ∷ []) $ obor-close ! tt $ drop ! $ move ! (1 ∷ []) $ drop ! $ gives ! refl $
-      all-freed ! refl $ by ! (exits channel (word w8) (word w64) lengthIn κ q x k 𝓤 H A W (refl, k-fits) (lengthIn k h) refl (refl, fits)))))))
+      all-freed ! refl $ by ! (exits channel (word w8) (word w64) phraseLength κ q x k 𝓤 H A W (refl, k-fits) (phraseLength k h) refl (refl, fits)))))))
 
 pub length-of-spec : {M : Type 1} → stated.statement M
 unfolding code.routine tablesOf
@@ -98,7 +98,7 @@ length-of-spec 𝓤 H 𝓜 𝓖 𝓡 =
     let 𝓣 = tablesOf 𝓤 H 𝓜 (tables 𝓤 H 𝓜 𝓡 code.env) in
     entered 𝓤 H (tripleOf 𝓤 H (𝓖 .A) f.signature (f.spec 𝓤 H (𝓖 .A) (𝓜 .mem) (𝓡 .run)))
     (tables 𝓤 H 𝓜 𝓡 code.env .C) (tables 𝓤 H 𝓜 𝓡 code.env .Λ) #f code.function (code.unfolded 𝓤 H 𝓜 𝓡)
-    (meets channel (word w8) (word w64) lengthIn 𝓤 H (𝓖 .A) W 𝓣 code.function
+    (meets channel (word w8) (word w64) phraseLength 𝓤 H (𝓖 .A) W 𝓣 code.function
     (λ κ q c k is. walk 𝓤 H (𝓖 .A) W 𝓣 κ q (c .ptr .0) (c .ptr .1) (c .name) (c .now) k (is .1)
     (record {
       met = first-of placed.ended (λ κs a r. r ≡ placeOf (a .0)) (λ κs a r. r < 8) 𝓤 H (𝓖 .A) W 𝓣 #place

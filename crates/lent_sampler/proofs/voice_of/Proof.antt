@@ -34,7 +34,7 @@ use Rattle.lent_channel.proofs.Places.{cv, places-are}
 use Rattle.lent_channel.proofs.Holding.{channel, voice, points, copies-voice}
 use Rattle.lent_channel.proofs.Sharing.{Whole, looked}
 use Rattle.lent_channel.proofs.Viewing.{Entry, Post, exits, meets}
-use Rattle.lent_sampler.specs.Lists.{spotOf, voiceIn}
+use Rattle.lent_sampler.specs.Lists.{voicePlace, voiceIn}
 use Rattle.lent_sampler.proofs.Lists.{spot-within}
 use Rattle.lent_sampler.proofs.spot.Symbol as spot-def
 use Rattle.lent_sampler.proofs.spot.Symbol.{name as #spot}
@@ -46,14 +46,14 @@ use Rattle.lent_sampler.proofs.voice_of.Code as code
 
 -- `spot`
 abbrev placing : Callee
-placing = record { takes = word w64 ∷ []; gives = word w64; says = λ a. spotOf (a .0) }
+placing = record { takes = word w64 ∷ []; gives = word w64; says = λ a. voicePlace (a .0) }
 
 module _ {M : Type 1} (𝓤 : URA M) (H : Heap 𝓤) (A : Atoms 𝓤) (W : Given 𝓤 H A) (𝓣 : Tables 𝓤 H) (κ : Lft) (q : Share) (b o : ℕ) (γ : GName) (h : Channel) (i : ℕ) (i-fits : i < 2 ^ 64) where
   abbrev x : RefT Channel
   x = record { ptr = (b, o); name = γ; now = h }
 
   abbrev k : ℕ
-  k = spotOf i
+  k = voicePlace i
 
   place : k * voice-bytes < 2 ^ 64
   place = omega (arith, spot-within i)

@@ -2,7 +2,7 @@
 -- and shared with `any_unfinished`; between, its count is read. The side is lent on to `play`. The memory is lent again to `record`, and then shared with `play`. A channel whose voices are all
 -- ahead isn't played: what stands there, and beside it, is what its play would give (`Ends`). Both branches end alike (`shuts`). Assumes nothing.
 use mathlib.Core.Path.{_≡_, refl, sym, _∙_, ap, subst}
-use Prim.Native.Nat.{ℕ, _<_, _^_, min}
+use Prim.Native.Nat.{ℕ, _≤_, _<_, _^_, min}
 use mathlib.Core.Bool.{true, not}
 use mathlib.Core.Option.{none, some}
 use mathlib.Core.List.{List, [], _∷_}
@@ -26,7 +26,7 @@ use types.Kit.{Given, Item, ‵, raw, _⊛_, some as any, later, ⋆, atRet, _$_
 use types.Part.{agg, whole, sub, look-in}
 use types.Tokens.{lft-new, lft-end, lent-back}
 use types.SemTy.{Body}
-use types.Run.{stop, fld, load, addr, lit, of-opd, bin, and-then, no-more, first as either, branches, skips, enter, params1, pass0, exec}
+use types.Run.{stop, fld, load, addr, of-opd, bin, and-then, no-more, first as either, branches, skips, enter, params1, pass0, exec}
 use denote.Exit.{yes}
 use denote.RattleType.{owns}
 use denote.Memory.{mem, partAt}
@@ -69,9 +69,9 @@ use Rattle.channel.proofs.Channel.Laws as C′
 use Rattle.lent_channel.specs.declared.Heard.{Heard}
 use Rattle.lent_channel.specs.Turns.{glidedTo, restBy, restOf, heardOf, mixedWith}
 use Rattle.lent_channel.proofs.Bytes.{count-at}
-use Rattle.lent_channel.proofs.Places.{cv, yv, places-are}
+use Rattle.lent_channel.proofs.Places.{cv, yv}
 use Rattle.lent_channel.proofs.Holding.{channel, params, sounded}
-use Rattle.lent_channel.proofs.Sharing.{question, answered-last, count-fits}
+use Rattle.lent_channel.proofs.Sharing.{question, answered, count-fits}
 use Rattle.lent_channel.proofs.Heard as Y
 use Rattle.lent_channel.proofs.Heard.Laws as Y′
 use Rattle.lent_channel.proofs.«record» as taken
@@ -87,9 +87,9 @@ use Rattle.lent_channel.proofs.close.Symbol.{name as #close}
 use Rattle.lent_channel.proofs.close.Met as close-thm
 use Rattle.plain_channel.specs.declared.Side.{Side}
 use Rattle.plain_channel.specs.Sides.{withHots, restHots}
-use Rattle.plain_channel.specs.Ahead.{behindOf, hotsBehind, sideBehind, BehindSome}
-use Rattle.plain_channel.proofs.Ends.{ahead-heard, ahead-gone, ahead-beside, ahead-unfinished, taken-some}
-use Rattle.plain_channel.proofs.Pairing.{Kept, Closed, takes-one, closes-one, pairing, lends}
+use Rattle.plain_channel.specs.Ahead.{behindOf, hotsBehind, sideBehind}
+use Rattle.plain_channel.proofs.Ends.{ahead-heard, ahead-gone, ahead-beside, taken-some}
+use Rattle.plain_channel.proofs.Pairing.{Kept, Closed, takes-one, closes-one, pairing, lends-last}
 use Rattle.plain_channel.proofs.Hotting.{side}
 use Rattle.plain_channel.proofs.Playing.{playing}
 use Rattle.plain_channel.proofs.Side as S
@@ -128,7 +128,7 @@ module _ {M : Type 1} (𝓤 : URA M) (H : Heap 𝓤) (A : Atoms 𝓤) (mem : Mem
 
 module _ {M : Type 1} (𝓤 : URA M) (H : Heap 𝓤) (A : Atoms 𝓤) (W : Given 𝓤 H A) (at-mem : Memory → SProp 𝓤) (run : Routine → Fun 𝓤) (𝓣 : Tables 𝓤 H) (known : Known 𝓤 H A at-mem run 𝓣)
     (κ κ₁ κ₂ : Lft) (q q₁ q₂ : Share) (xc : RefT Channel) (xk : RefT Side) (p : Params) (x : Float) (xm : RefT (List ℕ)) (from : ℕ) (first : Float)
-    (room : Room u32 (length (xm .now))) (isp : Is P.the-row p (params .val p ∷ [])) (x-fits : fitsF binary32 x ≡ true) (from-fits : from < 2 ^ 64) (first-fits : fitsF binary32 first ≡ true) (asked : BehindSome from (xc .now)) where
+    (room : Room u32 (length (xm .now))) (isp : Is P.the-row p (params .val p ∷ [])) (x-fits : fitsF binary32 x ≡ true) (from-fits : from < 2 ^ 64) (first-fits : fitsF binary32 first ≡ true) (asked : from ≤ min (xc .now .count) 32) where
   abbrev b : ℕ
   b = xc .ptr .0
 
@@ -161,7 +161,7 @@ module _ {M : Type 1} (𝓤 : URA M) (H : Heap 𝓤) (A : Atoms 𝓤) (W : Given
   h₁ = takenOf ms h
 
   -- what is asked holds of it too
-  still : BehindSome from h₁
+  still : from ≤ min (h₁ .count) 32
   still = taken-some ms from h asked
 
   abbrev ms′ : List ℕ
@@ -275,11 +275,17 @@ module _ {M : Type 1} (𝓤 : URA M) (H : Heap 𝓤) (A : Atoms 𝓤) (W : Given
 
     -- where both branches meet: the channel once its voices have played, if it has any, and what was heard of them
     abbrev Meeting : List (Item 𝓤)
-    Meeting = over (Open h₂ k₂) En (none ∷ some (vptr b o) ∷ some (vptr b₁ o₁) ∷ some (params .val p) ∷ some (vfloat binary32 x) ∷ some sl ∷ some (vint w64 from) ∷ some (vfloat binary32 first) ∷ some (yv sum) ∷ some (vbool (anyUnfinishedOf h₂)) ∷ [])
+    Meeting = over (Open h₂ k₂) En (none ∷ some (vptr b o) ∷ some (vptr b₁ o₁) ∷ some (params .val p) ∷ some (vfloat binary32 x) ∷ some sl ∷ some (vint w64 from) ∷ some (vfloat binary32 first) ∷ some (yv sum) ∷ [])
 
-    shuts : ent 𝓤 (⋆ 𝓤 H A Meeting) (Wp 𝓤 H (𝓣 .C) (𝓣 .Λ) En (after 9 (code.function .body)) (atReturn 𝓤 H En Post))
+    shuts : ent 𝓤 (⋆ 𝓤 H A Meeting) (Wp 𝓤 H (𝓣 .C) (𝓣 .Λ) En (after 8 (code.function .body)) (atReturn 𝓤 H En Post))
     shuts =
-        qed W Meeting ∵ exec ! (𝓣 .C) (𝓣 .Λ) En (after 9 (code.function .body)) (atRet En Post) $
+        qed W Meeting ∵ exec ! (𝓣 .C) (𝓣 .Λ) En (after 8 (code.function .body)) (atRet En Post) $
+        -- whether a voice is unfinished: the channel is shared
+        puts ! (addr ! (beyond ! (holds ! refl) (stop !))) (fills ! refl (tt, tt)) $
+        lft-new ! tt (λ α₂. move ! (1 ∷ []) $ use1 W (later (any (λ (δ : GName). ‵ (ShrRef (named 0) (α₂ ∷ []) C.the-row .own (at-channel δ h₂) (vptr b o ∷ [])) ⊛ ‵ (flent (α₂ ∷ []) (partAt C.the-row fullShare h₂ b o))))) (lends-shr 𝓤 H A W C.the-row (named 0) (α₂ ∷ []) fullShare h₂ b o) $ await ! tt $
+        pick ! (λ δ₂. split ! $ move ! (2 ∷ 0 ∷ []) $ join ! $ answered anyUnfinishedOf ! (fmOf 𝓤 H (W .laws) 𝓣) (known .asked) (α₂ ∷ []) fullShare (at-channel δ₂ h₂) (and-then ! (its ! refl) (no-more !)) (
+        lft-end ! tt $ move ! (0 ∷ 1 ∷ []) $ lent-back ! tt $ arrives ! refl (fills ! refl (tt, tt)) $
+        leaves-only ! En 10 refl $
         -- the sample is closed: the channel is lent on
         puts ! (addr ! (beyond ! (holds ! refl) (stop !))) (fills ! refl (tt, tt)) $
         lft-new ! tt (λ α. move ! (1 ∷ []) $ use1 W (later (any (λ (δ : GName). ‵ (MutRef (named 0) (α ∷ []) C.the-row .own (at-channel δ h₂) (vptr b o ∷ [])) ⊛ ‵ (flent (α ∷ []) (Body (mem C.the-row) b o δ))))) (lends-ref 𝓤 H A W C.the-row (named 0) (α ∷ []) h₂ b o) $ await ! tt $
@@ -292,7 +298,7 @@ module _ {M : Type 1} (𝓤 : URA M) (H : Heap 𝓤) (A : Atoms 𝓤) (W : Given
         peeks ! Y.the-row (Is Y.the-row) (shows 𝓤 H A Y.the-row) r (w ∷ []) (λ is. drop ! $ let is-out : Is Y.the-row out (yv out ∷ []) = subst (λ (z : Heard). Is Y.the-row z (yv z ∷ [])) (e .0) (subst (Is Y.the-row r) (sounded .tells r _ is) is) in
         arrives ! (ap only (sounded .tells r _ is) ∙ ap yv (e .0)) (fills ! refl (sounded .typed 𝓤 H A W _ _ is-out)) $ split ! $ lft-end ! tt $ move ! (0 ∷ 3 ∷ 2 ∷ []) $ use3 W (later (‵ (partAt C.the-row fullShare last b o))) (ref-back 𝓤 H A W C.the-row (α ∷ []) δ last b o) $ await ! tt $
         move ! (1 ∷ []) $ drop ! $ move ! (1 ∷ 3 ∷ []) $ closes-one side κ₁ q₁ xk ! tt k₂ $ move ! (1 ∷ 2 ∷ []) $ closes-one channel κ q xc ! tt last $ gives ! refl $ all-freed ! refl $
-        by ! (exits is-out))))))))
+        by ! (exits is-out)))))))))))
 
   walk : ent 𝓤 (onEntry 𝓤 H A f.signature (κ, (κ₁, (κ₂, tt))) (q, (q₁, (q₂, tt))) a vals) (WpFn 𝓤 H (𝓣 .C) (𝓣 .Λ) code.function (vptr b o ∷ vptr b₁ o₁ ∷ params .val p ∷ vfloat binary32 x ∷ sl ∷ vint w64 from ∷ vfloat binary32 first ∷ []) Post)
   walk =
@@ -326,7 +332,6 @@ module _ {M : Type 1} (𝓤 : URA M) (H : Heap 𝓤) (A : Atoms 𝓤) (W : Given
       -- what stands where no other voice plays; and whether one does
       leaves-only ! (env (code.function .locals) at) 8 refl $ stands ! (over (Open h₁ k) (env (code.function .locals) at) (none ∷ some (vptr b o) ∷ some (vptr b₁ o₁) ∷ some (params .val p) ∷ some (vfloat binary32 x) ∷ some sl ∷ some (vint w64 from) ∷ some (vfloat binary32 first) ∷ [])) refl $
       asks ! (known .aheads) (first, tt) ((refl, first-fits), tt) (and-then ! (its ! refl) (no-more !)) (fills ! refl) (λ is₀.
-      puts ! (bin ! (lit ! tt) (its ! refl) tt) (fills ! refl (tt, tt)) $
       opened ! fullShare C.the-row (Is C.the-row) (shows 𝓤 H A C.the-row) (LL.vals C.the-type C′.the-laws) (LL.tells C.the-type C′.the-laws) h₁ b o (λ g.
       use1 W (‵ (fat fullShare C′.mir b o (cv h₁))) (W .laws .raw-at fullShare C′.mir b o (cv h₁)) $
       puts ! (of-opd ! (load ! (beyond ! (holds ! refl) (fld ! {τ = tyInt w64} {d = count-at} refl (stop !))) (look-in ! 0 (sub ! 2 {τ = tyInt w64} {d = count-at} refl (whole !))))) (fills ! refl (tt, record { fits = count-fits h₁ g })) $
@@ -341,35 +346,30 @@ module _ {M : Type 1} (𝓤 : URA M) (H : Heap 𝓤) (A : Atoms 𝓤) (W : Given
       lft-new ! tt (λ η. move ! (6 ∷ 5 ∷ []) $ rewrite ! 0 (λ (n : ℕ). ‵ (MutSlice (named 2) κ₂ u32 .own (at-memory (xm .name) ms′) (sliceVal (b₂, o₂) n ∷ []))) (sym long) refl $
       use2 W (later (any (λ (ε : GName). ‵ (ShrSlice (named 2) (η ∷ []) u32 .own (at-memory ε ms′) (sliceVal (b₂, o₂) (length ms′) ∷ [])) ⊛ ‵ (LentShared u32 κ₂ (η ∷ []) q₂ (xm .name) b₂ o₂ ms′)))) (shares-again u32 κ₂ (η ∷ []) q₂ (xm .name) b₂ o₂ ms′ 𝓤 H A W (named 2) (named 2)) $ await ! tt $
       pick ! (λ ε₁. split ! $ nothing ! $ move ! (3 ∷ 0 ∷ []) $ join ! $ move ! (3 ∷ 4 ∷ 1 ∷ 0 ∷ []) $
-      lends playing b o b₁ o₁ h₁ k (η ∷ []) fullShare (λ _. (p, (from, (first, (at-memory ε₁ ms′, tt))))) (at-memory ε₁ ms′) (λ _. refl) 𝓣 ! (known .sounds) (λ _. (isp, ((refl, from-fits), ((refl, first-fits), (((refl, room′), (tt, tt)), tt))))) (λ _. still .inside)
+      lends-last playing b o b₁ o₁ h₁ k (η ∷ []) fullShare (λ _. (p, (from, (first, (at-memory ε₁ ms′, tt))))) (at-memory ε₁ ms′) (λ _. refl) 𝓣 ! (known .sounds) (λ _. (isp, ((refl, from-fits), ((refl, first-fits), (((refl, room′), (tt, tt)), tt))))) (λ _. still)
       (λ α₁ β₁ δ₁ ζ₁. and-then ! (its ! refl) (and-then ! (its ! refl) (and-then ! (its ! refl) (and-then ! (its ! refl) (and-then ! (its ! refl) (and-then ! (its ! refl) (no-more !))))))) (λ α₁ β₁ r₁ c₁ l₁ said is₁ isc isl.
       let is-sum : Is Y.the-row sum (yv sum ∷ []) = subst (λ (z : Heard). Is Y.the-row z (yv z ∷ [])) (said .heard) is₁ in
-      arrives ! (ap yv (said .heard)) (refills ! refl (sounded .typed 𝓤 H A W _ _ is-sum)) $
       rewrite ! 0 (λ (c : Channel). ‵ (partAt C.the-row fullShare c b o)) (said .channel) refl $ rewrite ! 1 (λ (l : Side). ‵ (partAt S.the-row fullShare l b₁ o₁)) (said .side) refl $
       move ! (2 ∷ []) $ split ! $ lft-end ! tt $ move ! (0 ∷ 4 ∷ []) $
       use2 W (later (‵ (MutSlice (named 2) κ₂ u32 .own (at-memory (xm .name) ms′) (sliceVal (b₂, o₂) (length ms′) ∷ [])) ⊛ ‵ (flft κ₂ q₂))) (is-back u32 κ₂ (η ∷ []) q₂ (xm .name) b₂ o₂ ms′ 𝓤 H A W (named 2) (named 2) room′) $ await ! tt $ split ! $
       rewrite ! 0 (λ (n : ℕ). ‵ (MutSlice (named 2) κ₂ u32 .own (at-memory (xm .name) ms′) (sliceVal (b₂, o₂) n ∷ []))) long refl $ move ! (2 ∷ []) $ drop ! $ move ! (2 ∷ 3 ∷ 4 ∷ 5 ∷ 1 ∷ []) $
-      -- whether a voice is unfinished: the channel is shared
-      puts ! (addr ! (beyond ! (holds ! refl) (stop !))) (fills ! refl (tt, tt)) $
-      lft-new ! tt (λ α₂. move ! (1 ∷ []) $ use1 W (later (any (λ (δ : GName). ‵ (ShrRef (named 0) (α₂ ∷ []) C.the-row .own (at-channel δ h₂) (vptr b o ∷ [])) ⊛ ‵ (flent (α₂ ∷ []) (partAt C.the-row fullShare h₂ b o))))) (lends-shr 𝓤 H A W C.the-row (named 0) (α₂ ∷ []) fullShare h₂ b o) $ await ! tt $
-      pick ! (λ δ₂. split ! $ move ! (2 ∷ 0 ∷ []) $ join ! $ answered-last anyUnfinishedOf ! (fmOf 𝓤 H (W .laws) 𝓣) (known .asked) (α₂ ∷ []) fullShare (at-channel δ₂ h₂) (and-then ! (its ! refl) (no-more !)) (
-      lft-end ! tt $ move ! (0 ∷ 1 ∷ []) $ lent-back ! tt $ arrives-last ! (refills ! refl (tt, tt)) $
-      leaves-only ! (env (code.function .locals) at) 10 refl $
-      by ! (shuts is-sum at))))))))
+      arrives-last ! (refills ! refl (sounded .typed 𝓤 H A W _ _ is₁)) $ now-holds ! 8 (ap yv (said .heard)) refl $
+      leaves-only ! (env (code.function .locals) at) 9 refl $
+      by ! (shuts is-sum at)))))
       (λ no.
-      -- there is no other voice: the channel, what stands beside it, what is heard of it and whether a voice is unfinished are as if it had played
+      -- there is no other voice: the channel, what stands beside it, and what is heard of it are as if it had played
       skips ! $ let level : h₁ .count ≡ from = eqb-true (h₁ .count) from (not-false (eqb (h₁ .count) from) (denied (not (eqb (h₁ .count) from)) no)) in
-      rewrite ! 0 (λ (c : Channel). ‵ (partAt C.the-row fullShare c b o)) (ahead-gone by-phrase h₁ from first (still .inside) level) refl $ rewrite ! 1 (λ (l : Side). ‵ (partAt S.the-row fullShare l b₁ o₁)) (ahead-beside by-phrase h₁ from first (still .inside) level k) refl $
-      now-holds ! 8 (ap yv (ahead-heard by-phrase h₁ from first (still .inside) level)) refl $ now-holds ! 9 (ap vbool (ahead-unfinished by-phrase h₁ from first (still .inside) level (places-are h₁ g) (still .unfinished))) refl $
-      leaves-only ! (env (code.function .locals) at) 10 refl $
-      by ! (shuts (subst (λ (z : Heard). Is Y.the-row z (yv z ∷ [])) (ahead-heard by-phrase h₁ from first (still .inside) level) is₀) at)))))))))))))))))
+      rewrite ! 0 (λ (c : Channel). ‵ (partAt C.the-row fullShare c b o)) (ahead-gone by-phrase h₁ from first still level) refl $ rewrite ! 1 (λ (l : Side). ‵ (partAt S.the-row fullShare l b₁ o₁)) (ahead-beside by-phrase h₁ from first still level k) refl $
+      now-holds ! 8 (ap yv (ahead-heard by-phrase h₁ from first still level)) refl $
+      leaves-only ! (env (code.function .locals) at) 9 refl $
+      by ! (shuts (subst (λ (z : Heard). Is Y.the-row z (yv z ∷ [])) (ahead-heard by-phrase h₁ from first still level) is₀) at)))))))))))))))))
 
 module _ {M : Type 1} (𝓤 : URA M) (H : Heap 𝓤) (A : Atoms 𝓤) (W : Given 𝓤 H A) (at-mem : Memory → SProp 𝓤) (run : Routine → Fun 𝓤) (𝓣 : Tables 𝓤 H) (known : Known 𝓤 H A at-mem run 𝓣) where
   behind-walks : Walks 𝓤 H A f.ended stayed (WpFn 𝓤 H (𝓣 .C) (𝓣 .Λ) code.function) (f.clauses 𝓤 H A at-mem run)
   behind-walks = walked 𝓤 H A f.ended stayed (f.clauses 𝓤 H A at-mem run) (WpFn 𝓤 H (𝓣 .C) (𝓣 .Λ) code.function)
       (λ κs. (ptr-vals, (ptr-vals, (LL.vals P.the-type P′.the-laws, (float-vals binary32, (slice-vals, (uint-vals w64, (float-vals binary32, tt))))))))
       (λ κs. (mut-tells (named 0) (κs .0) C.the-row, (mut-tells (named 1) (κs .1 .0) S.the-row, (LL.tells P.the-type P′.the-laws, (float-tells binary32, (mut-slice-tells (named 2) (κs .1 .1 .0) u32, (uint-tells w64, (float-tells binary32, tt))))))))
-      (λ κs qs bounds a _ are. needs 𝓤 (BehindSome (a .1 .1 .1 .1 .1 .0) (a .0 .now)) _
+      (λ κs qs bounds a _ are. needs 𝓤 (a .1 .1 .1 .1 .1 .0 ≤ min (a .0 .now .count) 32) _
       (walk 𝓤 H A W at-mem run 𝓣 known (κs .0) (κs .1 .0) (κs .1 .1 .0) (qs .0) (qs .1 .0) (qs .1 .1 .0) (a .0) (a .1 .0) (a .1 .1 .0) (a .1 .1 .1 .0) (a .1 .1 .1 .1 .0) (a .1 .1 .1 .1 .1 .0) (a .1 .1 .1 .1 .1 .1 .0)
       (are .1 .1 .1 .1 .0 .0 .1) (are .1 .1 .0) (are .1 .1 .1 .0 .1) (are .1 .1 .1 .1 .1 .0 .1) (are .1 .1 .1 .1 .1 .1 .0 .1)))
 

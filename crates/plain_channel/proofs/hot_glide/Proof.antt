@@ -54,7 +54,7 @@ use Rattle.voice.proofs.Quick as Q
 use Rattle.voice.proofs.Quick.Laws as Q′
 use Rattle.plain_voice.specs.declared.Hot.{Hot}
 use Rattle.plain_voice.specs.declared.Beat.{Beat}
-use Rattle.plain_voice.specs.Hots.{cold, steppedOf, PlainQuickly}
+use Rattle.plain_voice.specs.Hots.{cold, steppedHot, PlainQuickly}
 use Rattle.plain_voice.proofs.Beat as B
 use Rattle.plain_voice.proofs.Beat.Laws as B′
 use Rattle.plain_voice.proofs.Hot as O
@@ -104,7 +104,7 @@ abbrev arriving : Callee
 arriving = record { takes = word w64 ∷ float binary32 ∷ []; gives = going; says = λ a. glidedTo (a .0) (a .1 .0) }
 
 abbrev stepping : Callee
-stepping = record { takes = hot ∷ word w32 ∷ []; gives = hot; says = λ a. steppedOf (a .0) (a .1 .0) }
+stepping = record { takes = hot ∷ word w32 ∷ []; gives = hot; says = λ a. steppedHot (a .0) (a .1 .0) }
 
 abbrev Turn : {M : Type 1} (𝓤 : URA M) (H : Heap 𝓤) (A : Atoms 𝓤) (mem : Memory → SProp 𝓤) (run : Routine → Fun 𝓤) → Contract 𝓤
 Turn 𝓤 H A mem run = tripleOf 𝓤 H A quick.signature (quick.spec 𝓤 H A mem run)
@@ -266,7 +266,7 @@ module _ {M : Type 1} (𝓤 : URA M) (H : Heap 𝓤) (A : Atoms 𝓤) (W : Given
       p = getD hs i cold
 
       abbrev stepped : Hot
-      stepped = steppedOf p (pace .length)
+      stepped = steppedHot p (pace .length)
 
       module _ (w : Quick) (quickly : PlainQuickly p v t pace ms w) (fits : fitsF binary32 (add binary32 out (w .voice .«last_sample_value»)) ≡ true) where
         abbrev next : State
@@ -276,8 +276,8 @@ module _ {M : Type 1} (𝓤 : URA M) (H : Heap 𝓤) (A : Atoms 𝓤) (W : Given
         goes-further plain glides = record {
           left = omega (arith, g .left);
           from = omega (arith, g .from);
-          goes = goes-together (g .goes) (hot-on t pace ms n (turned l) (beside hs) i out v p w few small (g .all) (g .beside-all) (getD-any l i blankVoice none inside) refl (paced l) quickly
-              (not-false (p .plain) (denied (not (p .plain)) plain)) (not-false (w .glides) (denied (not (w .glides)) glides)));
+          goes = goes-together (g .goes) (hot-on t ms n (turned l) (beside hs) i out v w few small (g .all) (g .beside-all) (getD-any l i blankVoice none inside) (quickly (may .2 .beat) .0)
+              (not-false (w .glides) (denied (not (w .glides)) glides)) pace p refl (paced l) quickly (not-false (p .plain) (denied (not (p .plain)) plain)));
           same = λ e. absurd (omega (arith, g .from, e));
           all = length-set l i (w .voice) ∙ g .all;
           beside-all = length-set hs i stepped ∙ g .beside-all;

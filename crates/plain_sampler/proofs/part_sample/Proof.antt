@@ -196,7 +196,7 @@ module _ {M : Type 1} (𝓤 : URA M) (H : Heap 𝓤) (A : Atoms 𝓤) (W : Given
 
   goes : (α : ℕ) (δ : GName) → ent 𝓤 (⋆ 𝓤 H A (Going-in α δ)) (G 𝓤 H A at-mem run .pre (to-g α δ))
   goes α δ =
-      qed W (Going-in α δ) ∵ says ! (record { inside = zero-le; unfinished = λ some. absurd (omega (arith, some)) }) $
+      qed W (Going-in α δ) ∵ says ! zero-le $
       split ! $ move ! (1 ∷ []) $ split ! $ nothing ! $ move ! (2 ∷ 0 ∷ []) $ join ! $ move ! (1 ∷ 0 ∷ []) $ join ! $ move ! (1 ∷ 0 ∷ []) $ join ! $ frame ! $ split ! $
       -- [the channel; its side; the part]
       nothing ! $ owned ! f32 (Is f32) (float-makes 𝓤 H A W binary32) none-adds _ zero-is $ fjoin ! $ owned ! usize (Is usize) (uint-makes 𝓤 H A W w64) 0 _ (refl, lit< tt) $ fjoin ! $ move ! (3 ∷ 0 ∷ []) $ fjoin ! $ owned ! f32 (Is f32) (float-makes 𝓤 H A W binary32) x _ isx $ fjoin ! $

@@ -14,7 +14,7 @@ use Rattle.pours.proofs.lasts.Tie as tie
 returns : tie.Need-returns
 unfolding ofBits
 returns c told k h =
-    let s = c .before .before .before .before .before .before .before in
+    let s = c .before .before .before .before .before .before .before .before .before in
     let a = s .args in
     let by : Float = paceOf (a .t) (a .v) in
     let on = yes (c .before .if2 .taken) in

@@ -1,6 +1,6 @@
 -- `places_from` meets its contract. The invariant: so many samples stand, if each was told. The measure is how many are left. Assumes nothing.
 use mathlib.Core.Path.{_≡_, refl, sym, ap, _∙_, subst}
-use Prim.Native.Nat.{_-_, _≤_, _<_, zero-le}
+use Prim.Native.Nat.{ℕ, _+_, _-_, _≤_, _<_, zero-le}
 use native.Mathlib.Omega.{arith}
 use mathlib.Core.Bool.{Bool, true, not}
 use lib.Dec.{T}
@@ -11,8 +11,8 @@ use lib.ListN.{length, length-set}
 use borrow.Author.Needs.{needs}
 use Rattle.binary32.specs.Leaves.{zero32}
 use Rattle.binary32.proofs.Truth.{yes}
-use Rattle.pours.specs.Steady.{CountedPlaces}
-use Rattle.pours.proofs.Placing.{counted-next}
+use Rattle.pours.specs.Steady.{travelBy, CountedPlaces}
+use Rattle.pours.proofs.Placing.{told-next}
 use Rattle.pours.proofs.places_from.Statement.{statement}
 use Rattle.pours.proofs.places_from.Tie as tie
 
@@ -66,7 +66,7 @@ loop-again c =
       λ told.
           let h = and-r (l .told) _ (yes told) in
           let S = spot .ensures (is-true _ (and-r (le zero32 (place .result)) _ h)) in
-          counted-next (a .c) (a .from) (l .k) (l .values) _ (place .result) (spot .result .index) (omega (arith, below, s .pre .1, l .inv .1)) (c .before .before .before .travel .ensures) (place .ensures (and-l (le zero32 (place .result)) _ h)) (S .1)
+          told-next (a .c) (λ (j : ℕ). travelBy (a .c .shift) (a .c .speed) (a .from + j)) (l .k) (l .values) _ (place .result) (spot .result .index) (omega (arith, below, s .pre .1, l .inv .1)) (c .before .before .before .travel .ensures) (place .ensures (and-l (le zero32 (place .result)) _ h)) (S .1)
           (l .inv .2 (is-true (l .told) (and-l (l .told) _ (yes told)))),
     )
 

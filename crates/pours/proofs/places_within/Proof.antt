@@ -1,6 +1,6 @@
 -- `places_within` meets its contract. The invariant: so many samples stand, if each was told. The measure is how many are left. Assumes nothing.
 use mathlib.Core.Path.{_≡_, refl, sym, ap, _∙_, subst}
-use Prim.Native.Nat.{_-_, _≤_, _<_, zero-le}
+use Prim.Native.Nat.{ℕ, _+_, _-_, _≤_, _<_, zero-le}
 use native.Mathlib.Omega.{arith}
 use mathlib.Core.Bool.{Bool, true, not}
 use lib.Dec.{T}
@@ -11,8 +11,8 @@ use lib.ListN.{length, length-set}
 use borrow.Author.Needs.{needs}
 use Rattle.binary32.specs.Leaves.{zero32}
 use Rattle.binary32.proofs.Truth.{yes}
-use Rattle.pours.specs.Steady.{CountedPlaces}
-use Rattle.pours.proofs.Placing.{counted-next, within-by}
+use Rattle.pours.specs.Steady.{travelBy, CountedPlaces}
+use Rattle.pours.proofs.Placing.{told-next, within-by}
 use Rattle.pours.proofs.places_within.Statement.{statement}
 use Rattle.pours.proofs.places_within.Tie as tie
 
@@ -77,7 +77,7 @@ loop-again c =
           let h = and-r (l .told) _ (yes told) in
           let some = and-l (lt zero32 (left .result)) _ h in
           let S = spot .ensures (is-true _ (and-r (lt zero32 (left .result)) _ h)) in
-          counted-next (a .c) (a .from) (l .k) (l .values) _ (place .result) (spot .result .index) (omega (arith, below, s .pre .2, l .inv .1)) (c .before .before .before .before .before .before .travel .ensures)
+          told-next (a .c) (λ (j : ℕ). travelBy (a .c .shift) (a .c .speed) (a .from + j)) (l .k) (l .values) _ (place .result) (spot .result .index) (omega (arith, below, s .pre .2, l .inv .1)) (c .before .before .before .before .before .before .travel .ensures)
           (within-by (a .way) (a .c .mode) _ _ _ (left .result) (place .result) (a .c .length) (s .pre .0) (c .before .before .before .before .before .size-by .ensures) (c .before .before .before .before .period .ensures) (place .ensures) (left .ensures) some (S .0))
           (S .1) (l .inv .2 (is-true (l .told) (and-l (l .told) _ (yes told)))),
     )

@@ -15,6 +15,9 @@ returns-2 c told = absurd (true≢false (sym told))
 returns-3 : tie.Need-returns-3
 returns-3 c told = absurd (true≢false (sym told))
 
+may-go-requires : tie.Need-may-go-requires
+may-go-requires c κs = search needs
+
 add-keeps : tie.Need-add-keeps
 add-keeps c = search needs
 
@@ -27,9 +30,9 @@ same-all-requires c κs = search needs
 returns-4 : tie.Need-returns-4
 returns-4 c =
     let a = c .before .before .before .before .before .before .before .before .before .before .before .before .before .before .before .args in
-    steady-told (a .v) (a .t) (a .n) (c .before .before .before .before .before .before .before .before .before .before .before .before .before .before .if1 .left) (c .before .before .before .before .before .before .before .before .before .before .before .before .before .if2 .left) (c .before .before .before .before .before .before .before .before .before .before .before .if3 .left) _ _ (c .before .before .before .keeps .ensures) (c .same-all .ensures)
+    steady-told (a .v) (a .t) (a .n) (c .before .before .before .before .before .before .before .before .before .before .before .before .before .before .if1 .left) (c .before .before .before .before .before .before .before .before .before .before .before .before .before .if2 .left) (c .before .before .before .before .before .before .before .before .before .before .before .if3 .left) _ _ _ (c .before .before .before .before .before .before .before .before .may-go .ensures) (c .before .before .before .keeps .ensures) (c .same-all .ensures)
 
 pub steady-spec : {M : Type 1} → statement M
 steady-spec =
     tie.close
-    (tie.spec returns returns-2 returns-3 add-keeps keeps-requires same-all-requires returns-4)
+    (tie.spec returns returns-2 returns-3 may-go-requires add-keeps keeps-requires same-all-requires returns-4)

@@ -52,7 +52,7 @@ pub use Rattle.voice.specs.declared.Tick.{Tick}
 pub use Rattle.voice.specs.Voices.{movedOf, recordedValueOf, valueOf, freshOf, atSpeedOf}
 pub use Rattle.channel.specs.declared.Channel.{Channel}
 pub use Rattle.channel.specs.Heads.{momentOf}
-pub use Rattle.channel.specs.Channels.{live, fullOf, memoryOf, recordingOf, phraseAt, heardOf}
+pub use Rattle.channel.specs.Channels.{live, fullOf, memoryOf, recordingOf, phraseAt, heardSum}
 pub use Rattle.sampler.specs.declared.Answer.{Answer}
 pub use Rattle.sampler.specs.Samplers.{ranOf}
 pub use Rattle.sampler.specs.Soundness.{FittingSampler}
@@ -70,7 +70,7 @@ pub use Rattle.sampler.specs.Refusals.{
   atEnd,
   row,
   setUpNumber,
-  roomOf,
+  framesLeft,
   runNumber,
 }
 pub use Rattle.questions.specs.declared.VoiceInfo.{VoiceInfo}

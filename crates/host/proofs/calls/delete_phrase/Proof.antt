@@ -8,7 +8,7 @@ use Rattle.channel.specs.declared.Change.the-variants as change
 use Rattle.channel.specs.declared.HeadChange.the-variants as head
 use Rattle.walks.proofs.Steps.Data.{word}
 use Rattle.lent_sampler.proofs.Lent.{sampler, change as changing, changes}
-use Rattle.host.specs.Crossing.{phraseBy}
+use Rattle.host.specs.Crossing.{phraseByte}
 use Rattle.walks.proofs.Lending.Arguments.{value}
 use Rattle.walks.proofs.Lending.Named.{named}
 use Rattle.host.proofs.calls.deletion_of as k
@@ -29,6 +29,6 @@ unfolding code.routine tablesOf
 delete-phrase-spec 𝓤 H 𝓜 𝓖 𝓡 =
     entered 𝓤 H (tripleOf 𝓤 H (𝓖 .A) f.signature (f.spec 𝓤 H (𝓖 .A) (𝓜 .mem) (𝓡 .run)))
     (tables 𝓤 H 𝓜 𝓡 code.env .C) (tables 𝓤 H 𝓜 𝓡 code.env .Λ) #f code.function (code.unfolded 𝓤 H 𝓜 𝓡)
-    (named sampler (word w8) changing (value (word w64) ∷ []) #k #j (λ v. change.Head (head.Delete (phraseBy (v .0)))) changes 𝓤 H (𝓖 .A) (givenOf 𝓤 H 𝓜 𝓖) (tablesOf 𝓤 H 𝓜 (tables 𝓤 H 𝓜 𝓡 code.env))
+    (named sampler (word w8) changing (value (word w64) ∷ []) #k #j (λ v. change.Head (head.Delete (phraseByte (v .0)))) changes 𝓤 H (𝓖 .A) (givenOf 𝓤 H 𝓜 𝓖) (tablesOf 𝓤 H 𝓜 (tables 𝓤 H 𝓜 𝓡 code.env))
     (cited 𝓤 H (tripleOf 𝓤 H (𝓖 .A) k.signature (k.spec 𝓤 H (𝓖 .A) (𝓜 .mem) (𝓡 .run))) 𝓜 𝓡 code.env #k k-def.routine code.calls-host·calls·deletion-of (k-thm.met 𝓤 H 𝓜 𝓖 𝓡))
     (cited 𝓤 H (tripleOf 𝓤 H (𝓖 .A) j.signature (j.spec 𝓤 H (𝓖 .A) (𝓜 .mem) (𝓡 .run))) 𝓜 𝓡 code.env #j j-def.routine code.calls-lent-sampler·change (j-thm.met 𝓤 H 𝓜 𝓖 𝓡)))

@@ -1,7 +1,7 @@
 -- `Listing::step` meets its contract. Assumes nothing.
 use mathlib.Core.Path.{sym, _∙_}
 use borrow.Author.Tests.{ne-eqb}
-use Rattle.listing.specs.Steps.{stepOf, stepMemory}
+use Rattle.listing.specs.Steps.{recordStep, stepMemory}
 use borrow.Author.Needs.{needs}
 use Rattle.listing.proofs.Listing.step.Statement.{statement}
 use Rattle.listing.proofs.Listing.step.Tie as tie
@@ -13,7 +13,7 @@ ended-requires : tie.Need-ended-requires
 ended-requires c κs = search needs
 
 returns : tie.Need-returns
-unfolding stepOf stepMemory
+unfolding recordStep stepMemory
 returns c = (simp (c .before .before .if1 .taken, c .ended .ensures, c .before .new .ensures), simp (c .before .before .if1 .taken))
 
 read-record-requires : tie.Need-read-record-requires
@@ -41,13 +41,13 @@ same-length : tie.Need-same-length
 same-length c = search needs
 
 returns-2 : tie.Need-returns-2
-unfolding stepOf stepMemory
+unfolding recordStep stepMemory
 returns-2 c = let some = ne-eqb _ _ (c .before .before .before .before .before .before .before .before .before .before .before .before .before .if1 .left) in
     let good = sym (c .before .before .before .before .before .before .before .before .before .before .before .read-record .ensures) ∙ c .before .before .before .before .before .before .before .before .before .call .given .1 in
     (simp (some, good, c .later .ensures, c .before .before .before .before .before .play .ensures .0), c .before .before .before .before .before .play .ensures .1 ∙ simp (some, good))
 
 returns-3 : tie.Need-returns-3
-unfolding stepOf stepMemory
+unfolding recordStep stepMemory
 returns-3 c = let some = ne-eqb _ _ (c .before .before .before .before .before .before .if1 .left) in
     let bad = sym (c .before .before .before .before .read-record .ensures) ∙ c .before .before .enum-told .given .1 in
     (simp (some, bad, c .ended2 .ensures, c .before .bad-line .ensures), simp (some, bad))

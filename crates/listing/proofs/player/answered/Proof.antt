@@ -1,5 +1,5 @@
 -- `answered` meets its contract. Assumes nothing.
-use Rattle.listing.specs.Steps.{answeredOf}
+use Rattle.listing.specs.Steps.{answerPlayed}
 use borrow.Author.Needs.{needs}
 use Rattle.listing.proofs.player.answered.Statement.{statement}
 use Rattle.listing.proofs.player.answered.Tie as tie
@@ -8,7 +8,7 @@ answer-line-requires : tie.Need-answer-line-requires
 answer-line-requires c κs = search needs
 
 returns : tie.Need-returns
-unfolding answeredOf
+unfolding answerPlayed
 returns c = simp (c .answer-line .ensures)
 
 pub answered-spec : {M : Type 1} → statement M

@@ -2,7 +2,7 @@
 use mathlib.Core.Path.{sym, ap}
 use Prim.Native.Nat.{ℕ, _+_, _*_}
 use lib.ListN.{getD, List·getD-eq-default}
-use Rattle.listing.specs.Records.{channelCount, lengths, lengthOf}
+use Rattle.listing.specs.Records.{channelCount, lengths, kindLength}
 use borrow.Author.Needs.{needs}
 use Rattle.listing.proofs.records.length_of.Statement.{statement}
 use Rattle.listing.proofs.records.length_of.Tie as tie
@@ -17,11 +17,11 @@ array-read-result : tie.Need-array-read-result
 array-read-result c = search needs
 
 returns : tie.Need-returns
-unfolding lengthOf
+unfolding kindLength
 returns c = ap (λ (n : ℕ). getD (lengths n) (c .before .before .args .kind) 0) (c .before .frame-length .ensures)
 
 returns-2 : tie.Need-returns-2
-unfolding lengthOf
+unfolding kindLength
 returns-2 c = let s = c .before .before in
     sym (List·getD-eq-default (lengths (1 + 4 * channelCount (s .args .h))) 0 (c .if1 .left))
 

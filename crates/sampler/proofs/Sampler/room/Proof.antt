@@ -1,5 +1,5 @@
 -- `Sampler::room` meets its contract. Assumes nothing.
-use Rattle.sampler.specs.Refusals.{roomOf}
+use Rattle.sampler.specs.Refusals.{framesLeft}
 use borrow.Author.Needs.{needs}
 use Rattle.sampler.proofs.Sampler.room.Statement.{statement}
 use Rattle.sampler.proofs.Sampler.room.Tie as tie
@@ -11,11 +11,11 @@ sub-result : tie.Need-sub-result
 sub-result c = search needs
 
 returns : tie.Need-returns
-unfolding roomOf
+unfolding framesLeft
 returns c = search needs
 
 returns-2 : tie.Need-returns-2
-unfolding roomOf
+unfolding framesLeft
 returns-2 c = search needs
 
 pub room-spec : {M : Type 1} → statement M

@@ -5,7 +5,7 @@ use Prim.Native.Nat.{ℕ, _+_, _-_, _*_, _/_, _≤_}
 use native.Mathlib.Omega.{arith}
 use lib.ListN.{length}
 use borrow.Author.Needs.{needs}
-use Rattle.wave_forms.specs.Values.{wordOf}
+use Rattle.wave_forms.specs.Values.{numberWord}
 use Rattle.wave_forms.specs.Reader.{numberAt}
 use Rattle.wave_forms.specs.declared.Source.{Source}
 use Rattle.wave_forms.proofs.Widths.{kind-of, bytes-few}
@@ -14,7 +14,7 @@ use Rattle.wave_forms.proofs.numbers.put_words.Statement.{statement}
 use Rattle.wave_forms.proofs.numbers.put_words.Tie as tie
 
 abbrev wordAt : List ℕ → Source → ℕ → ℕ
-wordAt f s k = wordOf (s .form .tag) (s .form .bits) (numberAt f (s .form .bits / 8) (s .first + s .form .bits / 8 * k))
+wordAt f s k = numberWord (s .form .tag) (s .form .bits) (numberAt f (s .form .bits / 8) (s .first + s .form .bits / 8 * k))
 
 abbrev Inv-loop : tie.InvT-loop
 Inv-loop file s out₀ o bytes k₀ out k = (k ≤ s .count) × (out ≡ written out₀ (wordAt file s) k)
@@ -69,7 +69,7 @@ loop-less c = omega arith
 
 loop-again : tie.Need-loop-again Inv-loop μ-loop
 loop-again c =
-    let word = c .before .before .before .word-of .ensures ∙ ap (wordOf _ _) (c .before .before .before .before .before .number-at .ensures .0) in
+    let word = c .before .before .before .word-of .ensures ∙ ap (numberWord _ _) (c .before .before .before .before .before .number-at .ensures .0) in
     let now = c .before .before .before .before .before .before .before .before .before .loop .inv .1 in
     let kept = length-written _ _ _ _ now in
     (omega arith, c .before .before .put-word .ensures ∙ written-next _ _ _ _ _ now word (omega arith))

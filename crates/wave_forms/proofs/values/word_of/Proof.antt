@@ -4,22 +4,22 @@ use Prim.Native.Nat.{ℕ}
 use lib.Ieee.{binary32, binary64, ofBits, toBits}
 use borrow.Author.Tests.{eq-eqb, ne-eqb}
 use borrow.Author.Needs.{needs}
-use Rattle.wave_forms.specs.Values.{wholeOf, narrowOf, wordOf}
+use Rattle.wave_forms.specs.Values.{wholeOf, narrowOf, numberWord}
 use Rattle.wave_forms.proofs.Widths.{kind-of, whole-fits, word-fits}
 use Rattle.wave_forms.proofs.values.word_of.Statement.{statement}
 use Rattle.wave_forms.proofs.values.word_of.Tie as tie
 
 module _ (tag bits n : ℕ) where
-  whole-is : tag ≡ 1 → toBits binary32 (wholeOf bits n) ≡ wordOf tag bits n
-  unfolding wordOf
+  whole-is : tag ≡ 1 → toBits binary32 (wholeOf bits n) ≡ numberWord tag bits n
+  unfolding numberWord
   whole-is e = rw (eq-eqb tag 1 e)
 
-  double-is : (tag ≡ 1 → ⊥) → bits ≡ 64 → toBits binary32 (narrowOf (ofBits binary64 n)) ≡ wordOf tag bits n
-  unfolding wordOf
+  double-is : (tag ≡ 1 → ⊥) → bits ≡ 64 → toBits binary32 (narrowOf (ofBits binary64 n)) ≡ numberWord tag bits n
+  unfolding numberWord
   double-is e g = rw (ne-eqb tag 1 e, eq-eqb bits 64 g)
 
-  own-is : (tag ≡ 1 → ⊥) → (bits ≡ 64 → ⊥) → n ≡ wordOf tag bits n
-  unfolding wordOf
+  own-is : (tag ≡ 1 → ⊥) → (bits ≡ 64 → ⊥) → n ≡ numberWord tag bits n
+  unfolding numberWord
   own-is e g = rw (ne-eqb tag 1 e, ne-eqb bits 64 g)
 
 whole-word-requires : tie.Need-whole-word-requires

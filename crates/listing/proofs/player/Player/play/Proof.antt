@@ -1,6 +1,6 @@
 -- `Player::play` meets its contract: each arm is its case of the definition. Assumes nothing.
 use mathlib.Core.Path.{_∙_}
-use Rattle.listing.specs.Steps.{playedOf, memoryAfter}
+use Rattle.listing.specs.Steps.{callPlayed, memoryAfter}
 use borrow.Author.Needs.{needs}
 use Rattle.listing.proofs.player.Player.play.Statement.{statement}
 use Rattle.listing.proofs.player.Player.play.Tie as tie
@@ -78,32 +78,32 @@ answered-requires-6 : tie.Need-answered-requires-6
 answered-requires-6 c κs = search needs
 
 returns : tie.Need-returns
-unfolding playedOf memoryAfter
+unfolding callPlayed memoryAfter
 returns c = let is = c .before .before .call .given .1 in
     (simp (c .settings .ensures, is), simp is)
 
 returns-2 : tie.Need-returns-2
-unfolding playedOf memoryAfter
+unfolding callPlayed memoryAfter
 returns-2 c = let is = c .before .before .before .call2 .given .1 in
     (simp (c .answered .ensures, c .before .start-playing .ensures, is), simp is)
 
 returns-3 : tie.Need-returns-3
-unfolding playedOf memoryAfter
+unfolding callPlayed memoryAfter
 returns-3 c = let is = c .before .before .before .call3 .given .1 in
     (simp (c .answered2 .ensures, c .before .stop-playing .ensures, is), simp is)
 
 returns-4 : tie.Need-returns-4
-unfolding playedOf memoryAfter
+unfolding callPlayed memoryAfter
 returns-4 c = let is = c .before .before .before .call4 .given .1 in
     (simp (c .answered3 .ensures, c .before .set-note-speed .ensures, is), simp is)
 
 returns-5 : tie.Need-returns-5
-unfolding playedOf memoryAfter
+unfolding callPlayed memoryAfter
 returns-5 c = let is = c .before .before .enum-told .given .1 in
     (simp (c .answered4 .ensures, c .before .start-recording .ensures, is), simp is)
 
 returns-6 : tie.Need-returns-6
-unfolding playedOf memoryAfter
+unfolding callPlayed memoryAfter
 returns-6 c = let is = c .before .before .enum-told2 .given .1 in
     (simp (c .answered5 .ensures, c .before .stop-recording .ensures, is), simp is)
 
@@ -111,7 +111,7 @@ same-length : tie.Need-same-length
 same-length c = search needs
 
 returns-7 : tie.Need-returns-7
-unfolding playedOf memoryAfter
+unfolding callPlayed memoryAfter
 returns-7 c = let is = c .before .before .before .before .before .call5 .given .1 in
     (simp (c .before .before .mono .ensures .0, is), c .before .before .mono .ensures .1 ∙ simp is)
 
@@ -119,12 +119,12 @@ same-length-2 : tie.Need-same-length-2
 same-length-2 c = search needs
 
 returns-8 : tie.Need-returns-8
-unfolding playedOf memoryAfter
+unfolding callPlayed memoryAfter
 returns-8 c = let is = c .before .before .before .before .before .call6 .given .1 in
     (simp (c .before .before .stereo .ensures .0, is), c .before .before .stereo .ensures .1 ∙ simp is)
 
 returns-9 : tie.Need-returns-9
-unfolding playedOf memoryAfter
+unfolding callPlayed memoryAfter
 returns-9 c = let is = c .before .before .enum-told3 .given .1 in
     (simp (c .answered6 .ensures, c .before .reset .ensures, is), simp is)
 
