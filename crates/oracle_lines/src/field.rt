@@ -5,10 +5,7 @@ ghost use lib.ListN.{length};
 pub fn u32_at(fields: &[u8], at: usize) -> u32
     requires { ⌜ at + 4 ≤ length (now fields) ⌝ }
 {
-    wide(fields[at]) * 0x100_0000
-        + wide(fields[at + 1]) * 0x1_0000
-        + wide(fields[at + 2]) * 0x100
-        + wide(fields[at + 3])
+    octets::of_four(fields[at], fields[at + 1], fields[at + 2], fields[at + 3])
 }
 
 pub fn u64_at(fields: &[u8], at: usize) -> u64
