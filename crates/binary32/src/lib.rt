@@ -1,6 +1,8 @@
 // What the engine needs of binary32 beyond the language's own operators: conversions, rounded shifts, floor, minimum,
 // maximum, size, the crossing test, bit patterns, the square root and a quick remainder. Each public function takes every
 // value of its arguments, and equals a definition in specs/Leaves.antt; the remainder may be left undone.
+#![tactic(auto)]
+
 ghost use Rattle.std.specs.Prelude.{◌≡◌, ◌+◌, ◌*◌, ◌^◌, ◌<◌, ◌≤◌, false, T, from_bits};
 ghost use Rattle.std.specs.Float.{nan, binary32};
 ghost use Rattle.std.specs.Float.Ieee.{rem, lt, le, round};

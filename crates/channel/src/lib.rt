@@ -3,6 +3,8 @@
 // a stop, a note's speed, a sample): they refuse nothing, and are for records that are known to be good. The sampler's
 // calls, under the Rust's names, refuse first. A sample is its 32-bit pattern, and `data` is the channel's part of the
 // lent memory.
+#![tactic(auto)]
+
 ghost use Rattle.std.specs.Prelude.{◌≡◌, ◌+◌, ◌-◌, ◌≤◌, ◌<◌, min, cond, ltb, length};
 ghost use Rattle.binary32.specs.Leaves.{bits_of, zero32, one32};
 ghost use Rattle.volume.specs.Levels.{toward_of};
@@ -99,7 +101,7 @@ pub const LAST_TIME: usize = 0x1_0000_0000_0000;
 
 // What of a channel is not its voices and not its table. It holds the enums, and is stored whole. The recording is the
 // phrase of the number `chosen`: `data_len` samples from `start` on.
-#[derive(Drop)]
+#[derive(Clone, Copy)]
 pub struct Head {
     pub now: usize,
     pub data_len: usize,
@@ -113,7 +115,7 @@ pub struct Head {
 
 // The voices are the first `count` of the 32. The table has the phrases that aren't chosen; all of them are empty unless
 // there are several, and then it isn't looked at. The chosen one's entry never is.
-#[derive(Drop)]
+#[derive(Clone, Copy)]
 pub struct Channel {
     pub voices: [Voice; 32],
     pub table: [Phrase; 8],
@@ -123,21 +125,21 @@ pub struct Channel {
 }
 
 // What a sample leaves and what is heard of it, and how many voices moved up as others left.
-#[derive(Drop)]
+#[derive(Clone, Copy)]
 pub struct Played {
     pub channel: Channel,
     pub output: f32,
     pub moved: u8,
 }
 
-#[derive(Drop)]
+#[derive(Clone, Copy)]
 pub enum Found {
     At(usize),
     Nothing,
 }
 
 // What a call other than a sample does to each channel.
-#[derive(Drop)]
+#[derive(Clone, Copy)]
 pub enum Change {
     Start {
         params: Params,
@@ -158,7 +160,7 @@ pub enum Change {
 }
 
 // A change that touches no voice.
-#[derive(Drop)]
+#[derive(Clone, Copy)]
 pub enum HeadChange {
     StartRecording,
     StopRecording,
@@ -169,7 +171,7 @@ pub enum HeadChange {
 }
 
 // What a change stores in the table: one entry at a place, all others emptied before it if it clears.
-#[derive(Drop)]
+#[derive(Clone, Copy)]
 pub struct Entry {
     pub place: usize,
     pub phrase: Phrase,
@@ -178,7 +180,7 @@ pub struct Entry {
 }
 
 // What a channel has against a change: something in its way, or too little room.
-#[derive(Drop)]
+#[derive(Clone, Copy)]
 pub struct Against {
     pub blocked: bool,
     pub short: bool,
@@ -505,7 +507,7 @@ impl Head {
 
 // What the rows of a change ask of each channel: room for one more voice, for so many samples, that another phrase may be
 // chosen, that one may be deleted, or nothing.
-#[derive(Drop)]
+#[derive(Clone, Copy)]
 pub enum Ask {
     Voice,
     Samples(usize),
@@ -1171,7 +1173,7 @@ pub fn sped(v: Voice, note: Note, speed: f32) -> Voice
 }
 
 // What a voice's turn gives: the voice after it, whether it stays, and the output with what it adds.
-#[derive(Drop)]
+#[derive(Clone, Copy)]
 pub struct Turned {
     pub voice: Voice,
     pub stays: bool,

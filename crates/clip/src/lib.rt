@@ -4,6 +4,8 @@
 // clip that `with_all` would not change `quick_index` is `index_at` or no index, and `quick_next` is `next_at` or no
 // index. Those under the Rust's names, and `update_all`, first refuse bad arguments (number 7 of document 01), and then
 // answer the same.
+#![tactic(auto)]
+
 ghost use Rattle.std.specs.Prelude.{◌≡◌, not, cond, T};
 ghost use Rattle.std.specs.Float.{binary32};
 ghost use Rattle.std.specs.Float.Ieee.{add, rem, lt, is_nan};
@@ -73,13 +75,13 @@ ghost use Rattle.clip.specs.Refusals.{
 // A place or a length in samples.
 pub type T = f32;
 
-#[derive(Drop)]
+#[derive(Clone, Copy)]
 pub enum Mode {
     Loop,
     PingPong,
 }
 
-#[derive(Drop)]
+#[derive(Clone, Copy)]
 pub struct Clip {
     pub since: usize,
     pub start: T,
@@ -91,21 +93,21 @@ pub struct Clip {
 }
 
 // Where a position in the data lies in a clip.
-#[derive(Drop)]
+#[derive(Clone, Copy)]
 pub enum Found {
     At(f32),
     Nothing,
 }
 
 // An offset in the data: its whole part, which is the sample there, and what remains. The two add up to it.
-#[derive(Drop)]
+#[derive(Clone, Copy)]
 pub struct Position {
     pub index: usize,
     pub fraction: f32,
 }
 
 // A clip as it sounds at a time: with where it does, and the next index where that is asked for.
-#[derive(Drop)]
+#[derive(Clone, Copy)]
 pub struct Sounding {
     pub clip: Clip,
     pub position: Position,
@@ -113,7 +115,7 @@ pub struct Sounding {
 }
 
 // An index, or NONE, with the offset that it is of: the fraction takes some work, and is wanted by few.
-#[derive(Drop)]
+#[derive(Clone, Copy)]
 pub struct Near {
     pub index: usize,
     pub offset: f32,
@@ -121,44 +123,44 @@ pub struct Near {
 
 // A clip at a time, with the samples since its last change as a float: it is worked out once for all that is read and
 // changed at that time, since a change that sets `since` leaves 0 of it.
-#[derive(Drop)]
+#[derive(Clone, Copy)]
 struct Standing {
     clip: Clip,
     now: usize,
     elapsed: f32,
 }
 
-#[derive(Drop)]
+#[derive(Clone, Copy)]
 pub enum ClipAnswer {
     Done(Clip),
     Refused,
 }
 
-#[derive(Drop)]
+#[derive(Clone, Copy)]
 pub enum FoundAnswer {
     Done(Found),
     Refused,
 }
 
-#[derive(Drop)]
+#[derive(Clone, Copy)]
 pub enum PlaceAnswer {
     Done(f32),
     Refused,
 }
 
-#[derive(Drop)]
+#[derive(Clone, Copy)]
 pub enum PositionAnswer {
     Done(Position),
     Refused,
 }
 
-#[derive(Drop)]
+#[derive(Clone, Copy)]
 pub enum ElapsedAnswer {
     Done(usize),
     Refused,
 }
 
-#[derive(Drop)]
+#[derive(Clone, Copy)]
 pub enum ReversingAnswer {
     Done(bool),
     Refused,

@@ -1,5 +1,7 @@
 // The settings of the engine: notes, modes, transport and parameters. `time_value` is a module of this crate, since
 // each of the two uses the other. Each public function equals a definition in specs/, for every value of its arguments.
+#![tactic(auto)]
+
 ghost use Rattle.std.specs.Prelude.{◌≡◌};
 ghost use Rattle.binary32.specs.Leaves.{max_of, one32};
 ghost use Rattle.common_types.specs.Notes.{note_of, default_note, into_u64_of, from_u64_of};
@@ -36,7 +38,7 @@ pub mod time_value;
 
 use time_value::{TimeOrRatio, TimeValue, calc_samples_per_quarter_note};
 
-#[derive(Drop)]
+#[derive(Clone, Copy)]
 pub struct Note {
     pub note: u8,
     pub channel: u8,
@@ -68,14 +70,14 @@ impl Note {
     }
 }
 
-#[derive(Drop)]
+#[derive(Clone, Copy)]
 pub enum LoopMode {
     PlayOnce,
     Loop,
     PingPong,
 }
 
-#[derive(Drop)]
+#[derive(Clone, Copy)]
 pub enum LoopModeAnswer {
     Done(LoopMode),
     Refused,
@@ -118,14 +120,14 @@ impl LoopMode {
     }
 }
 
-#[derive(Drop)]
+#[derive(Clone, Copy)]
 pub enum NoteOffBehaviour {
     Decay,
     ZeroCrossing,
     DecayAndZeroCrossing,
 }
 
-#[derive(Drop)]
+#[derive(Clone, Copy)]
 pub enum NoteOffBehaviourAnswer {
     Done(NoteOffBehaviour),
     Refused,
@@ -186,7 +188,7 @@ fn index_from_f32(x: f32, length: usize) -> usize
 
 pub const DEFAULT_AUTO_PASSTHRU: bool = true;
 
-#[derive(Drop)]
+#[derive(Clone, Copy)]
 pub struct Transport {
     pub sample_rate: f32,
     pub tempo: f32,
@@ -208,7 +210,7 @@ impl Transport {
 }
 
 // The fields stand in another order than in the Rust, so that the record has little padding.
-#[derive(Drop)]
+#[derive(Clone, Copy)]
 pub struct Params {
     pub attack_samples: usize,
     pub decay_samples: usize,
@@ -309,7 +311,7 @@ impl Params {
 }
 
 // A loop length before it is known of which recording: a part of the recording's length, or a length of its own.
-#[derive(Drop)]
+#[derive(Clone, Copy)]
 pub struct Measure {
     pub value: f32,
     pub by_ratio: bool,
@@ -407,7 +409,7 @@ fn time_length(value: TimeValue, whole: bool, transport: Transport) -> f32
     }
 }
 
-#[derive(Drop)]
+#[derive(Clone, Copy)]
 pub struct InitParams {
     pub auto_passthru: bool,
 }

@@ -10,7 +10,7 @@ ghost use Rattle.common_types.specs.Times.{
 
 use crate::Transport;
 
-#[derive(Drop)]
+#[derive(Clone, Copy)]
 pub enum TimeUnit {
     SixteenthNotes,
     QuarterNotes,
@@ -21,14 +21,14 @@ pub enum TimeUnit {
 
 // A length is a time, a part of the data, or bars of numerator / denominator * 4 quarter notes. A time of bars is
 // shorter: it has the Rust's `loop_length`.
-#[derive(Drop)]
+#[derive(Clone, Copy)]
 pub enum TimeOrRatio {
     Time(TimeValue),
     Ratio(f32),
     WholeBars(f32),
 }
 
-#[derive(Drop)]
+#[derive(Clone, Copy)]
 pub enum TimeValue {
     QuarterNotes(f32),
     Samples(f32),

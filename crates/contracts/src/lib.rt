@@ -1,6 +1,8 @@
 // Each public call of the engine by value once more, with its contract in the words of promises/specs/Outcomes.antt:
 // what the theorems take a contract to allow is what the contract says. Nothing calls these functions. The calls on a
 // record that is lent are in specs/Lent.antt.
+#![tactic(auto)]
+
 ghost use Rattle.std.specs.Prelude.{List, ℕ};
 ghost use Rattle.promises.specs.Runs.{
   get_frames_processed,

@@ -1,5 +1,7 @@
 // A host, as small as it can be: it sets the engine up, records a frame, presses a key, plays a frame, lets the key go,
 // and asks what sounds. `rt check coupling` proves it, runs it, and holds what it prints to the file `stdout`.
+#![tactic(auto)]
+
 ghost use Rattle.std.specs.Prelude.{◌≡◌, length};
 ghost use Rattle.sampler.specs.Refusals.{frame_number};
 ghost use Rattle.sampler.specs.Samplers.{Frames, framed_of, frame_moved, change_of};

@@ -1,5 +1,7 @@
 // A line of text of at most 64 bytes, built from its left end by value, with numbers in decimal. Each public function
 // equals a definition in specs/, for every value of its arguments.
+#![tactic(auto)]
+
 mod writing;
 
 ghost use Rattle.std.specs.Prelude.{◌≡◌, [], ◌+◌, min, leb};
@@ -9,7 +11,7 @@ ghost use Rattle.decimal.specs.Lines.{line_of, with_of, text_of, fits_in, printe
 use writing::{decimal_length, write_bytes, write_decimal};
 
 // The text is the first `length` of the bytes.
-#[derive(Drop)]
+#[derive(Clone, Copy)]
 pub struct Line {
     pub bytes: [u8; 64],
     pub length: usize,

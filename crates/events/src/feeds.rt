@@ -19,14 +19,14 @@ use listing::records::rest;
 use listing::{Listing, Step};
 
 // How far a listing is, and whether its header was read.
-#[derive(Drop)]
+#[derive(Clone, Copy)]
 pub struct State {
     pub listing: Listing,
     pub opened: bool,
 }
 
 // What a feed leaves, how many of the bytes it used, and how long its text is.
-#[derive(Drop)]
+#[derive(Clone, Copy)]
 pub struct Fed {
     pub state: State,
     pub used: usize,

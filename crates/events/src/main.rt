@@ -1,6 +1,8 @@
 // Plays document 01's event listing from standard input, and prints a line for each record. What the bytes mean is said
 // and proved in the crate `listing`, what is handed out while they arrive in `feeds`; here is the loop that reads, feeds
 // and writes. It plays what is there before it waits for more.
+#![tactic(auto)]
+
 mod feeds;
 mod words;
 
@@ -11,7 +13,7 @@ use feeds::{State, begun, feed, part};
 use libc::{STDIN_FILENO, STDOUT_FILENO};
 
 // How far the listing is, how many bytes wait in front of the input, and how long the text is that was handed out last.
-#[derive(Drop)]
+#[derive(Clone, Copy)]
 struct Run {
     state: State,
     have: usize,

@@ -21,14 +21,14 @@ use questions::{Counted, OffsetAnswer, Told, VoiceInfo, WaveformSummary};
 use recorder::LastOffset;
 use sampler::Sampler;
 
-#[derive(Drop)]
+#[derive(Clone, Copy)]
 pub struct Count {
     pub count: usize,
     pub number: u8,
 }
 
 // A place, with 1 where there is one.
-#[derive(Drop)]
+#[derive(Clone, Copy)]
 pub struct Offset {
     pub at: usize,
     pub number: u8,

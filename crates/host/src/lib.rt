@@ -1,5 +1,7 @@
 // What a host in C or Rust calls: functions of one lent record, or two, scalars and slices over the proved calls. What a host
 // gives as a byte may be any byte, and each answer is plain numbers.
+#![tactic(auto)]
+
 pub mod answers;
 pub mod backed;
 pub mod calls;

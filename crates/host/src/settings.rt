@@ -7,7 +7,7 @@ use listing::records::{loop_length, loop_mode, note_off};
 use sampler::{Answer, Sampler};
 
 // The parameters as a host gives them, in an order without holes.
-#[derive(Drop)]
+#[derive(Clone, Copy)]
 pub struct Settings {
     pub attack_samples: usize,
     pub decay_samples: usize,
@@ -26,7 +26,7 @@ pub struct Settings {
 }
 
 // The parameters that settings make, or those that hold by themselves and 7.
-#[derive(Drop)]
+#[derive(Clone, Copy)]
 pub struct Made {
     pub params: Params,
     pub number: u8,

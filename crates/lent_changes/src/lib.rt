@@ -1,5 +1,7 @@
 // A change other than a sample, and a gather, made of a lent channel in place. One loop serves a stop, a note's speed and
 // a start that finds no place; a new voice, the count and the head are stored once, after it.
+#![tactic(auto)]
+
 ghost use Rattle.std.specs.Prelude.{◌≡◌, ◌-◌, ◌<◌, ◌≤◌, not, ◌&&◌, ◌||◌, ◌++◌, length, take, drop};
 ghost use Rattle.phrases.specs.Gathering.{gathering_of};
 ghost use Rattle.channel.specs.Channels.{changed_of, gathered_in, gathered_memory};
@@ -31,7 +33,7 @@ use voice::Voice;
 // The first `turns` voices are gone through, and there are `count` afterwards. Those with the note are finished if it is
 // a stop, and have the speed set otherwise. If `fresh`, a new voice is stored behind all. What those gone through tell:
 // one was changed, and one is unfinished.
-#[derive(Drop)]
+#[derive(Clone, Copy)]
 pub struct Pass {
     pub turns: usize,
     pub count: usize,
@@ -202,7 +204,7 @@ fn opened(change: Change, head: Head) -> Voice
 }
 
 // What pass-through does at a change: whether a ramp of it begins, to which state, and over how many samples.
-#[derive(Drop)]
+#[derive(Clone, Copy)]
 pub struct Passing {
     pub begins: bool,
     pub on: bool,
@@ -286,7 +288,7 @@ fn ending(p: Pass, change: Change, head: Head, aside: Aside) -> Head
 
 // What is read of the table before a change: the entry of the number that it names, whether it counts, and how far the
 // phrases reach that aren't chosen.
-#[derive(Drop)]
+#[derive(Clone, Copy)]
 pub struct Aside {
     pub entry: Phrase,
     pub several: bool,
@@ -341,7 +343,7 @@ pub fn change(c: &mut Channel, change: Change)
 }
 
 // Where the phrases of a channel stand: the table, and the head, which has the chosen one's place.
-#[derive(Drop)]
+#[derive(Clone, Copy)]
 pub struct Laid {
     pub table: [Phrase; 8],
     pub head: Head,

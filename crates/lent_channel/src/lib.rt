@@ -1,6 +1,8 @@
 // One channel's sample in place: the channel is lent, and its voices are moved one at a time, so that no channel is
 // copied. Each function equals the same definition as that of crate `channel` by value. Those that take a channel lent
 // are proved by hand.
+#![tactic(auto)]
+
 ghost use Rattle.std.specs.Prelude.{◌≡◌, ◌≤◌, ◌<◌, ◌&&◌, cond, get_or};
 ghost use Rattle.std.specs.Float.{binary32};
 ghost use Rattle.std.specs.Float.Ieee.{add};
@@ -51,7 +53,7 @@ use phrases::{Beside, Phrase};
 use voice::{Tick, Voice};
 
 // What a sample of a channel hands up to the frame: its output, and how many voices moved up as others left.
-#[derive(Drop)]
+#[derive(Clone, Copy)]
 pub struct Heard {
     pub output: f32,
     pub moved: u8,
@@ -261,7 +263,7 @@ pub fn beside(c: &Channel, capacity: usize) -> Beside
 }
 
 // What a change asks of a channel in a record of that capacity.
-#[derive(Drop)]
+#[derive(Clone, Copy)]
 pub struct Asking {
     pub ask: Ask,
     pub capacity: usize,
@@ -291,7 +293,7 @@ pub fn added(output: f32, w: Voice) -> f32
 
 // Where the voices' turns stand: the place of the next, how many have stayed, what was heard of them, the place of the
 // first that left, if one did, and whether each of them glided.
-#[derive(Drop)]
+#[derive(Clone, Copy)]
 pub struct Going {
     pub place: usize,
     pub kept: usize,
@@ -301,7 +303,7 @@ pub struct Going {
 }
 
 // What a turn gives: the voice, whether it stays, and where the turns stand then.
-#[derive(Drop)]
+#[derive(Clone, Copy)]
 pub struct Turn {
     pub voice: Voice,
     pub stays: bool,

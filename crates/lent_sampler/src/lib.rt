@@ -1,6 +1,8 @@
 // The sampler's calls on one record that its host lends, with the definitions of the calls by value in their contracts.
 // Each is done where the record stands: a frame, a run or a sample is played there, a change, a gather or a read made, a
 // question answered, and no channel is copied. What takes a record, a channel or a list of records lent is proved by hand.
+#![tactic(auto)]
+
 ghost use Rattle.std.specs.Prelude.{◌≡◌, ◌+◌, ◌-◌, ◌*◌, ◌%◌, ◌^◌, ◌<◌, ◌≤◌, true, [], ◌∷◌, ◌++◌, length, take, drop, if◌then◌else◌, nat_eq, slice_range};
 ghost use Rattle.sampler.specs.Samplers.{
   start_playing_of,
@@ -125,7 +127,7 @@ fn any_of(n: usize, first: bool, second: bool) -> bool
 
 // What is read of a record before a call: what it says of itself, whether each of its two channels is good, and their
 // clocks.
-#[derive(Drop)]
+#[derive(Clone, Copy)]
 struct Readings {
     count: usize,
     capacity: usize,
@@ -491,7 +493,7 @@ fn count_at(s: &Sampler, channel: usize, all: bool) -> usize
 }
 
 // What is asked before a list is written: how many voices are looked at, how many entries it has, and its number.
-#[derive(Drop)]
+#[derive(Clone, Copy)]
 struct Listing {
     turns: usize,
     count: usize,
@@ -751,7 +753,7 @@ pub fn sample_asked(s: &Sampler, channel: usize, params: Params, size: usize) ->
 }
 
 // What is asked before a frame is played: how many entries are, and its number.
-#[derive(Drop)]
+#[derive(Clone, Copy)]
 pub struct Framing {
     pub entries: usize,
     pub number: u8,
@@ -815,7 +817,7 @@ fn room(t: Readings) -> usize
 }
 
 // What is asked before a run is played: how many entries are, and what it answers.
-#[derive(Drop)]
+#[derive(Clone, Copy)]
 pub struct Running {
     pub entries: usize,
     pub ran: Ran,
@@ -900,7 +902,7 @@ fn part_sample(
 
 // What a sample of one channel answers: its output, the number of document 01, and how many voices moved up as others
 // left.
-#[derive(Drop)]
+#[derive(Clone, Copy)]
 pub struct Sampled {
     pub output: f32,
     pub number: u8,
@@ -952,7 +954,7 @@ pub fn process_sample(
 }
 
 // What a frame answers: its number, and how many voices of its channels moved up.
-#[derive(Drop)]
+#[derive(Clone, Copy)]
 pub struct FrameDone {
     pub number: u8,
     pub moved: u8,

@@ -1,5 +1,7 @@
 // A song's list played on a record that its host lends: the calls that are due are made where it stands, with the
 // definition of the player by value (songs/specs/Plays.antt) in the contract.
+#![tactic(auto)]
+
 ghost use Rattle.std.specs.Prelude.{◌≡◌, length, get_or, ◌+◌, ◌*◌, ◌<◌};
 ghost use Rattle.smf.specs.Cues.{cue_of};
 ghost use Rattle.songs.specs.Plays.{change_by, play_of};
@@ -10,7 +12,7 @@ use sampler::Sampler;
 use smf::Cue;
 
 // The place of the next entry in the list, and how many of the calls were refused.
-#[derive(Drop)]
+#[derive(Clone, Copy)]
 pub struct Played {
     pub next: usize,
     pub refused: usize,

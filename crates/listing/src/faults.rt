@@ -6,7 +6,7 @@ use crate::fields::half_at;
 use crate::records::{Header, last_length_kind, length_of};
 use octets::byte_at;
 
-#[derive(Drop)]
+#[derive(Clone, Copy)]
 pub enum HeaderFault {
     None,
     Empty,
@@ -16,7 +16,7 @@ pub enum HeaderFault {
     Passthru(u8),
 }
 
-#[derive(Drop)]
+#[derive(Clone, Copy)]
 pub enum RecordFault {
     None,
     NoLength,

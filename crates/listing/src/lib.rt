@@ -1,5 +1,7 @@
 // Document 01's event listing: what each header and each record of it means, what it does to the engine, and the line
 // that it prints. Each public function equals a definition in specs/, for every value of its arguments.
+#![tactic(auto)]
+
 pub mod faults;
 mod fields;
 pub mod player;
@@ -18,7 +20,7 @@ use sampler::Sampler;
 use texts::bad_line;
 
 // How far a listing is: the offset is that of its next record. It is on until it ends.
-#[derive(Drop)]
+#[derive(Clone, Copy)]
 pub struct Listing {
     pub header: Header,
     pub player: Player,
@@ -27,7 +29,7 @@ pub struct Listing {
 }
 
 // What a header or a record leaves, and the line that it prints, if any.
-#[derive(Drop)]
+#[derive(Clone, Copy)]
 pub struct Step {
     pub listing: Listing,
     pub line: Line,

@@ -17,13 +17,13 @@ use common_types::Params;
 use decimal::Line;
 use sampler::{Answer, Sampler};
 
-#[derive(Drop)]
+#[derive(Clone, Copy)]
 pub struct Player {
     pub sampler: Sampler,
     pub params: Params,
 }
 
-#[derive(Drop)]
+#[derive(Clone, Copy)]
 pub struct Played {
     pub player: Player,
     pub line: Line,

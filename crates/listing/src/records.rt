@@ -28,21 +28,21 @@ use common_types::{
 use octets::byte_at;
 
 // A listing is of the first version or the second, and has one channel or two.
-#[derive(Drop)]
+#[derive(Clone, Copy)]
 pub struct Header {
     pub second: bool,
     pub stereo: bool,
     pub auto_passthru: bool,
 }
 
-#[derive(Drop)]
+#[derive(Clone, Copy)]
 pub enum Opening {
     Good(Header),
     Bad,
 }
 
 // What a record asks for. A frame is one float a channel.
-#[derive(Drop)]
+#[derive(Clone, Copy)]
 pub enum Call {
     Parameters(Params),
     Start {
@@ -69,7 +69,7 @@ pub enum Call {
     Reset,
 }
 
-#[derive(Drop)]
+#[derive(Clone, Copy)]
 pub enum Reading {
     Good(Call),
     Bad,

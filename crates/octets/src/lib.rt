@@ -1,6 +1,8 @@
 // The bytes of a file, and the numbers that they make, two, three or four of them, the most significant first; two or
 // four also the least significant first (`little_`), which is the same of the bytes in that order. Each function equals
 // a definition in specs/Octets.antt, for every value of its arguments.
+#![tactic(auto)]
+
 ghost use Rattle.std.specs.Prelude.{◌≡◌, [], ◌∷◌, ◌^◌, ◌<◌};
 ghost use Rattle.octets.specs.Octets.{byte_at, number_of, little_of};
 

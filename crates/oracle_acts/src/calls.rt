@@ -9,7 +9,7 @@ use sampler::{Answer, RunAnswer, Sampler};
 
 // What a sample or a frame leaves, with the entries of the frame, of which a sample is the first, and how many voices
 // moved up.
-#[derive(Drop)]
+#[derive(Clone, Copy)]
 pub struct Heard {
     pub sampler: Sampler,
     pub entries: [f32; 3],

@@ -15,7 +15,7 @@ use voice::Voice;
 use volume::Volume;
 
 // What to put: n past a limit, or x; m is the length of a ramp or of a phrase.
-#[derive(Drop)]
+#[derive(Clone, Copy)]
 struct Order {
     what: u8,
     voice: u8,

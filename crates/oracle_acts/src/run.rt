@@ -11,7 +11,7 @@ use recordings::ReadAnswer;
 use sampler::{Answer, RunAnswer, Sampler};
 
 // The sampler and the parameters of its calls; how much text waits to be written; and whether the listing goes on.
-#[derive(Drop)]
+#[derive(Clone, Copy)]
 pub struct Run {
     pub sampler: Sampler,
     pub params: Params,

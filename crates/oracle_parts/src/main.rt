@@ -1,6 +1,8 @@
 // Answers records from standard input with a line each on standard output, for the comparison with the Rust
 // (oracle/README.md). A record is 64 bytes: the number of a part, then the arguments of that part's functions. A record
 // that is cut short or that names no part is answered by `X`, and the program ends.
+#![tactic(auto)]
+
 ghost use Rattle.std.specs.Prelude.{◌+◌, ◌*◌, ◌≤◌, ◌<◌, length};
 
 use libc::STDIN_FILENO;
@@ -13,7 +15,7 @@ mod levels;
 mod settings;
 
 // How many bytes of text there are, and whether every record was answered.
-#[derive(Drop)]
+#[derive(Clone, Copy)]
 struct Answered {
     size: usize,
     all: bool,

@@ -8,6 +8,8 @@
 // is recording, 15 last recorded offset, 16 error text, 17 active notes, 18 voice info; 19 many frames; 20 waveform
 // summary; 21 a run of frames; 22 request 7/12's setting; 23 a piece of a WAVE file, 24 the recordings written as a file,
 // 25 a file read; 26 a phrase chosen, 27 one deleted, 28 all gathered. A set-up takes back the parameters to the defaults, and empties the file.
+#![tactic(auto)]
+
 ghost use Rattle.std.specs.Prelude.{◌≡◌, ◌+◌, ◌*◌, ◌≤◌, ◌<◌, length};
 
 use libc::STDIN_FILENO;

@@ -1,6 +1,8 @@
 // The per-frame call and the run of frames on a record by value, played where the record stands: it is lent to the call
 // of `lent_sampler`, which copies no channel. The contract is that of the call by value. A function that lends a record
 // of its own is proved by hand.
+#![tactic(auto)]
+
 ghost use Rattle.std.specs.Prelude.{◌≡◌, length};
 ghost use Rattle.sampler.specs.Refusals.{frame_number};
 ghost use Rattle.sampler.specs.Samplers.{Frames, framed_of, frame_moved, ran_of, run_answer};
@@ -10,7 +12,7 @@ use lent_sampler::FrameDone;
 use sampler::{RunAnswer, Sampler};
 
 // What a frame leaves, and what it answers.
-#[derive(Drop)]
+#[derive(Clone, Copy)]
 pub struct FramePlayed {
     pub sampler: Sampler,
     pub done: FrameDone,

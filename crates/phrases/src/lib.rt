@@ -1,5 +1,7 @@
 // A phrase: a stretch of a channel's part of the lent memory (request 11/12). Each function takes every value of its
 // arguments, and equals a definition in specs/Phrases.antt.
+#![tactic(auto)]
+
 ghost use Rattle.std.specs.Prelude.{◌≡◌, ◌+◌, ◌≤◌, length, slice_index_or, slice_set};
 ghost use Rattle.phrases.specs.Phrases.{
   no_phrase,
@@ -24,7 +26,7 @@ ghost use Rattle.phrases.specs.Gathering.{first_from, moved_down, gathering_of};
 use walks::{larger, smaller};
 
 // Where it begins, and how many samples it has.
-#[derive(Drop)]
+#[derive(Clone, Copy)]
 pub struct Phrase {
     pub start: usize,
     pub length: usize,
@@ -34,7 +36,7 @@ pub struct Phrase {
 pub const PHRASES: usize = 8;
 
 // The places of a memory from one up to another.
-#[derive(Drop)]
+#[derive(Clone, Copy)]
 pub struct Room {
     pub from: usize,
     pub to: usize,
@@ -133,7 +135,7 @@ impl Phrase {
 
 // What a channel's other phrases say to one that begins at a place: how far they reach, and where the first of them begins
 // that begins there or behind it.
-#[derive(Drop)]
+#[derive(Clone, Copy)]
 pub struct Beside {
     pub behind: usize,
     pub next: usize,

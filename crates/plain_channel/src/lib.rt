@@ -1,5 +1,7 @@
 // One channel's sample in place, with the positions of plain voices lent beside the channel (request 9/12). The channel is
 // the one that `lent_channel` leaves, whatever the positions are.
+#![tactic(auto)]
+
 ghost use Rattle.std.specs.Prelude.{◌≡◌, ◌≤◌, ◌<◌, min, [], ◌∷◌};
 ghost use Rattle.common_types.specs.Settings.{measure_of};
 ghost use Rattle.channel.specs.Channels.{turning_in, memory_of};
@@ -41,7 +43,7 @@ pub const STRETCH: usize = 64;
 
 // In a run the first `eased` voices are `left` samples ahead of their channel. What they add in these samples stands from
 // `next` on; `values` is room to work one voice out in.
-#[derive(Drop)]
+#[derive(Clone, Copy)]
 pub struct Pour {
     pub sums: [f32; STRETCH],
     pub values: [u32; STRETCH],
@@ -65,7 +67,7 @@ impl Pour {
 }
 
 // What stands beside a channel: a position for each voice, and in a run what the first have poured.
-#[derive(Drop)]
+#[derive(Clone, Copy)]
 pub struct Side {
     pub hots: [Hot; 32],
     pub pour: Pour,

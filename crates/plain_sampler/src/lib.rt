@@ -1,6 +1,8 @@
 // The second engine (request 9/12): the sampler's calls on a record that its host lends, with a second record lent beside
 // it in which plain voices have their positions. Of the first, of the memory and of the answer each contract says what
 // that of the lent call says; and it says what becomes of the second.
+#![tactic(auto)]
+
 ghost use Rattle.std.specs.Prelude.{◌≡◌, ◌++◌, ◌-◌, ◌≤◌, ◌<◌, length, take, drop};
 ghost use Rattle.sampler.specs.Samplers.{
   start_playing_of,
@@ -43,7 +45,7 @@ use plain_channel::Side;
 use sampler::{Ran, Sampler};
 
 // What is lent beside the sampler: a side for each channel.
-#[derive(Drop)]
+#[derive(Clone, Copy)]
 pub struct Backing {
     pub sides: [Side; 2],
 }

@@ -1,5 +1,7 @@
 // A voice whose position is kept beside it as a whole number (request 9/12): its clip is of 8/12's profile and no voice
 // interpolates. A position is held to its clip each time before it is used, so that a wrong one is never heard.
+#![tactic(auto)]
+
 ghost use Rattle.std.specs.Prelude.{◌≡◌, ◌^◌, ◌≤◌, true};
 ghost use Rattle.clip.specs.Plain.{is_plain};
 ghost use Rattle.plain_voice.specs.Hots.{
@@ -27,7 +29,7 @@ const LONGEST: u32 = 0x40_0000;
 
 // Whether the plain engine has the voice, and where it stands then: elapsed = lap * length + place, and start is the
 // clip's, as a whole number.
-#[derive(Drop)]
+#[derive(Clone, Copy)]
 pub struct Hot {
     pub place: u32,
     pub lap: u32,
@@ -36,7 +38,7 @@ pub struct Hot {
 }
 
 // A tick's lengths as whole numbers, both 0 where no voice can be plain.
-#[derive(Drop)]
+#[derive(Clone, Copy)]
 pub struct Beat {
     pub length: u32,
     pub total: u32,

@@ -1,6 +1,8 @@
 // A voice's samples of a run in one go (request 9/12): while nothing of it changes and nothing ends it, each is a recorded
 // value times its level, and they are added to the sums of their frames. A plain voice at a steady level goes straight on
 // through the recording; of any other the places are worked out first, and nothing is added where one isn't quickly told.
+#![tactic(auto)]
+
 ghost use Rattle.std.specs.Prelude.{◌≡◌, true, false, cond, ℕ, ◌+◌, ◌-◌, ◌%◌, ◌^◌, ◌≤◌, ◌<◌, T, length, get_or};
 ghost use Rattle.std.specs.Float.{binary32};
 ghost use Rattle.std.specs.Float.Ieee.{sub, mul, rem, neg, lt, le};
@@ -45,7 +47,7 @@ use walks::smaller;
 const LATEST: usize = 0x4000_0000_0000_0000;
 
 // What pouring a voice gives: whether it eases; if so the voice and its position after all samples.
-#[derive(Drop)]
+#[derive(Clone, Copy)]
 pub struct Pouring {
     pub voice: Voice,
     pub hot: Hot,
@@ -53,21 +55,21 @@ pub struct Pouring {
 }
 
 // The position of a voice after some samples, where it is known.
-#[derive(Drop)]
+#[derive(Clone, Copy)]
 struct Stood {
     hot: Hot,
     known: bool,
 }
 
 // The sample of a place, where it is told.
-#[derive(Drop)]
+#[derive(Clone, Copy)]
 struct Spot {
     index: u32,
     told: bool,
 }
 
 // Which way a voice goes through one lap: on through its loop or back through it, or there and back.
-#[derive(Drop)]
+#[derive(Clone, Copy)]
 enum Way {
     Up,
     Down,
@@ -75,7 +77,7 @@ enum Way {
 }
 
 // What fetching comes to, where it is told: the last index, and how far the voice has played.
-#[derive(Drop)]
+#[derive(Clone, Copy)]
 struct Fetched {
     index: usize,
     played: f32,

@@ -1,5 +1,7 @@
 // The questions of the sampler: what its host may ask of one channel, with the refusals of document 01's table. Each
 // takes every value of its arguments, and equals a definition in specs/. On a refusal a lent list holds what it held.
+#![tactic(auto)]
+
 ghost use Rattle.std.specs.Prelude.{◌≡◌, ◌+◌, ◌^◌, ◌≤◌, not, [], ◌∷◌, map, ltb, length};
 ghost use Rattle.std.specs.Float.{binary32};
 ghost use Rattle.std.specs.Float.Ieee.{mul};
@@ -58,26 +60,26 @@ use sampler::{Sampler, first_of};
 use voice::Voice;
 
 // Each answer is Done, or the number of its refusal.
-#[derive(Drop)]
+#[derive(Clone, Copy)]
 pub enum Counted {
     Done(usize),
     Refused(u8),
 }
 
-#[derive(Drop)]
+#[derive(Clone, Copy)]
 pub enum Told {
     Done(bool),
     Refused(u8),
 }
 
-#[derive(Drop)]
+#[derive(Clone, Copy)]
 pub enum OffsetAnswer {
     Done(LastOffset),
     Refused(u8),
 }
 
 // The figures of one voice, as parts of the recording.
-#[derive(Drop)]
+#[derive(Clone, Copy)]
 pub struct VoiceInfo {
     pub start: f32,
     pub end: f32,
@@ -97,7 +99,7 @@ impl VoiceInfo {
 }
 
 // The infos are the first `count` of the 32.
-#[derive(Drop)]
+#[derive(Clone, Copy)]
 pub struct VoiceInfos {
     pub infos: [VoiceInfo; 32],
     pub count: usize,
@@ -106,7 +108,7 @@ pub struct VoiceInfos {
 
 // What the questions of a recording ask of a record: whether it is good, what it says of itself, and the heads of its two
 // channels.
-#[derive(Drop)]
+#[derive(Clone, Copy)]
 pub struct Seen {
     pub good: bool,
     pub count: usize,
@@ -385,7 +387,7 @@ pub fn get_voice_info(s: Sampler, channel: usize, params: Params, room: usize) -
 const MOST_COLUMNS: usize = 4096;
 
 // The smallest and the largest of a waveform's columns; on a refusal both are 0.
-#[derive(Drop)]
+#[derive(Clone, Copy)]
 pub struct WaveformSummary {
     pub smallest: f32,
     pub largest: f32,

@@ -1,6 +1,8 @@
 // The recorder: writes incoming samples to the memory that its host lends, and counts what went wrong. A sample is its
 // 32-bit pattern. The memory's length is the capacity; data_len is the length of the recording in it. `with_sample`
 // takes every write place, also one past the data, and is for recorders that are known to be good.
+#![tactic(auto)]
+
 ghost use Rattle.std.specs.Prelude.{◌≡◌, length};
 ghost use Rattle.decimal.specs.Lines.{line_of};
 ghost use Rattle.recorder.specs.ErrorText.{error_text, print_error_info_of, text_after};
@@ -20,7 +22,7 @@ ghost use Rattle.recorder.specs.Recording.{
 use decimal::Line;
 use walks::{larger, smaller};
 
-#[derive(Drop)]
+#[derive(Clone, Copy)]
 pub enum State {
     Triggered { write: usize },
     Idle,
@@ -38,7 +40,7 @@ impl State {
 }
 
 // Of each list of errors that the Rust keeps, its length is kept.
-#[derive(Drop)]
+#[derive(Clone, Copy)]
 pub struct Recorder {
     pub state: State,
     pub skipped_samples: u32,
@@ -46,20 +48,20 @@ pub struct Recorder {
 }
 
 // What a stop or a sample leaves.
-#[derive(Drop)]
+#[derive(Clone, Copy)]
 pub struct Recorded {
     pub recorder: Recorder,
     pub data_len: usize,
 }
 
-#[derive(Drop)]
+#[derive(Clone, Copy)]
 pub enum LastOffset {
     At(usize),
     Nothing,
 }
 
 // How many bytes were written, or that the lent list is shorter than the text.
-#[derive(Drop)]
+#[derive(Clone, Copy)]
 pub enum Text {
     Written(usize),
     Short,

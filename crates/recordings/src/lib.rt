@@ -1,6 +1,8 @@
 // Recordings out and in as WAVE files: the sampler's two calls of request 10/12, with their refusals, by value and by
 // what is seen of a record. Each takes every value of its arguments, and equals a definition in specs/. On a refusal the
 // record and what is lent with it hold what they held.
+#![tactic(auto)]
+
 ghost use Rattle.std.specs.Prelude.{◌≡◌, true, length};
 ghost use Rattle.sampler.specs.Refusals.{good_sampler};
 ghost use Rattle.questions.specs.Sights.{sound_in};
@@ -37,14 +39,14 @@ use sampler::{Sampler, first_of};
 use wave::{Judged, Layout, Starts, Wave};
 
 // What a read answers: the file's rate, 0 where it is refused, and the number.
-#[derive(Drop)]
+#[derive(Clone, Copy)]
 pub struct WaveRead {
     pub rate: u32,
     pub number: u8,
 }
 
 // What a read asks of a record: what is seen of it, and what each channel's other phrases say to its recording.
-#[derive(Drop)]
+#[derive(Clone, Copy)]
 pub struct Surveyed {
     pub seen: Seen,
     pub first: Beside,
@@ -52,14 +54,14 @@ pub struct Surveyed {
 }
 
 // What a read answers, and how many samples the file has for each channel.
-#[derive(Drop)]
+#[derive(Clone, Copy)]
 pub struct Loading {
     pub read: WaveRead,
     pub samples: usize,
 }
 
 // What a read leaves, and what it answers.
-#[derive(Drop)]
+#[derive(Clone, Copy)]
 pub struct ReadAnswer {
     pub sampler: Sampler,
     pub read: WaveRead,

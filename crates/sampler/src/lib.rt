@@ -1,5 +1,7 @@
 // The sampler by value: every public call, with the refusals of document 01's table. Each takes every value of its
 // arguments, and equals a definition in specs/. On a refusal the record and what is lent with it hold what they held.
+#![tactic(auto)]
+
 ghost use Rattle.std.specs.Prelude.{◌≡◌, ◌+◌, ◌*◌, ◌/◌, ◌%◌, ◌≤◌, ◌<◌, min, ◌&&◌, leb, length, take};
 ghost use Rattle.std.specs.Float.Ieee.{le};
 ghost use Rattle.binary32.specs.Leaves.{zero32, one32};
@@ -83,7 +85,7 @@ use walks::{larger, smaller};
 const MOST_SAMPLES: usize = 0x40_0000;
 
 // The channels are the first `count` of the two; each owns a part of the lent memory of `capacity` samples.
-#[derive(Drop)]
+#[derive(Clone, Copy)]
 pub struct Sampler {
     pub channels: [Channel; 2],
     pub count: usize,
@@ -91,14 +93,14 @@ pub struct Sampler {
 }
 
 // What a call leaves, and its number.
-#[derive(Drop)]
+#[derive(Clone, Copy)]
 pub struct Answer {
     pub sampler: Sampler,
     pub number: u8,
 }
 
 // What a sample leaves and its output, its number, and how many voices moved up as others left.
-#[derive(Drop)]
+#[derive(Clone, Copy)]
 pub struct SampleAnswer {
     pub sampler: Sampler,
     pub output: f32,
@@ -107,7 +109,7 @@ pub struct SampleAnswer {
 }
 
 // What a frame leaves, its number, and how many voices of its channels moved up.
-#[derive(Drop)]
+#[derive(Clone, Copy)]
 pub struct FrameAnswer {
     pub sampler: Sampler,
     pub number: u8,
@@ -115,14 +117,14 @@ pub struct FrameAnswer {
 }
 
 // The frames of a run that are done, and its number.
-#[derive(Drop)]
+#[derive(Clone, Copy)]
 pub struct Ran {
     pub frames: usize,
     pub number: u8,
 }
 
 // What a run of frames leaves, and what it answers.
-#[derive(Drop)]
+#[derive(Clone, Copy)]
 pub struct RunAnswer {
     pub sampler: Sampler,
     pub ran: Ran,
@@ -130,7 +132,7 @@ pub struct RunAnswer {
 
 // What the rows of a change ask of a record: whether it is good, and what its channels have against the change. Each
 // engine answers in its own way, and the rows stand once.
-#[derive(Drop)]
+#[derive(Clone, Copy)]
 pub struct Asked {
     pub good: bool,
     pub against: Against,
@@ -138,7 +140,7 @@ pub struct Asked {
 
 // What those of a frame ask: whether record and memory are good, how many channels there are, and whether the clock of
 // one that would be stepped stands at its end.
-#[derive(Drop)]
+#[derive(Clone, Copy)]
 pub struct FrameAsked {
     pub good: bool,
     pub count: usize,
@@ -146,21 +148,21 @@ pub struct FrameAsked {
 }
 
 // What those of a run of frames ask: the same, and how many frames there is room for.
-#[derive(Drop)]
+#[derive(Clone, Copy)]
 pub struct RunAsked {
     pub good: bool,
     pub count: usize,
     pub room: usize,
 }
 
-#[derive(Drop)]
+#[derive(Clone, Copy)]
 struct Stepped {
     sampler: Sampler,
     output: f32,
     moved: u8,
 }
 
-#[derive(Drop)]
+#[derive(Clone, Copy)]
 struct Entered {
     sampler: Sampler,
     moved: u8,

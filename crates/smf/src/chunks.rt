@@ -11,21 +11,21 @@ pub const HEADER_TYPE: u32 = 0x4d54_6864;
 pub const TRACK_TYPE: u32 = 0x4d54_726b;
 
 // Ticks a quarter note, and the place behind the header.
-#[derive(Drop)]
+#[derive(Clone, Copy)]
 pub enum Opening {
     Is { division: u32, next: usize },
     Broken(Fault),
 }
 
 // The place of a track chunk.
-#[derive(Drop)]
+#[derive(Clone, Copy)]
 pub enum Found {
     Track(usize),
     Nothing,
     Broken(Fault),
 }
 
-#[derive(Drop)]
+#[derive(Clone, Copy)]
 pub enum Verdict {
     Good,
     Broken(Fault),

@@ -5,14 +5,14 @@ ghost use Rattle.smf.specs.Times.{last_frame, clock_at};
 pub const LAST_FRAME: u64 = 0x1_0000_0000_0000;
 
 // Frames a second, and ticks times microseconds in a second.
-#[derive(Drop)]
+#[derive(Clone, Copy)]
 pub struct Tune {
     pub rate: u64,
     pub unit: u64,
 }
 
 // Whole frames, and what is over of the next one, in parts of a frame of which `unit` make one.
-#[derive(Drop)]
+#[derive(Clone, Copy)]
 pub struct Clock {
     pub frames: u64,
     pub rest: u64,

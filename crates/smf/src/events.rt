@@ -18,7 +18,7 @@ use crate::faults::{Fault, Reason};
 use crate::fields::{Quantity, quantity_at, three_at};
 use octets::byte_at;
 
-#[derive(Drop)]
+#[derive(Clone, Copy)]
 pub enum Event {
     // A start or a stop: note * 256 + channel + velocity * 65536, where velocity 0 is a stop.
     Note(u64),
@@ -29,7 +29,7 @@ pub enum Event {
 
 // An event, the running status after it (0: none) and the place behind it; or the end of the track, and the place
 // behind that.
-#[derive(Drop)]
+#[derive(Clone, Copy)]
 pub enum Read {
     Is {
         event: Event,
@@ -41,7 +41,7 @@ pub enum Read {
 }
 
 // The same with the event's delta-time.
-#[derive(Drop)]
+#[derive(Clone, Copy)]
 pub enum Step {
     Is {
         delta: u32,
@@ -53,7 +53,7 @@ pub enum Step {
     Broken(Fault),
 }
 
-#[derive(Drop)]
+#[derive(Clone, Copy)]
 pub enum Data {
     Is(u8),
     Broken(Fault),

@@ -36,7 +36,7 @@ pub fn four_at(file: &[u8], at: usize) -> u32
     )
 }
 
-#[derive(Drop)]
+#[derive(Clone, Copy)]
 pub enum Quantity {
     Is { value: u32, next: usize },
     Broken(Fault),

@@ -1,5 +1,7 @@
 // Songs from Standard MIDI Files 1.0 of format 0: a list of starts and stops, each with its frame count. It takes every
 // list of bytes, and each public function equals a definition in specs/, for every value of its arguments.
+#![tactic(auto)]
+
 pub mod chunks;
 mod clock;
 pub mod events;
@@ -13,7 +15,7 @@ ghost use Rattle.smf.specs.Cues.{counted_judged, list_of, cues_number, cue_of};
 use faults::Fault;
 use tracks::{Count, song};
 
-#[derive(Drop)]
+#[derive(Clone, Copy)]
 pub enum Counted {
     // So many starts and stops are in the list, two numbers each.
     Done(usize),
@@ -24,7 +26,7 @@ pub enum Counted {
 }
 
 // A start or a stop, as the engine takes it; `note` is the note times 256 plus the channel.
-#[derive(Drop)]
+#[derive(Clone, Copy)]
 pub struct Cue {
     pub frame: u64,
     pub velocity: f32,

@@ -23,7 +23,7 @@ use crate::fields::four_at;
 use walks::smaller;
 
 // How many starts and stops a song has.
-#[derive(Drop)]
+#[derive(Clone, Copy)]
 pub enum Count {
     Done(usize),
     Broken(Fault),

@@ -11,7 +11,7 @@ use smf::faults::{Fault, Reason};
 use smf::fields::{four_at, two_at};
 
 // Ticks a quarter note, how many tracks, and the place behind the header.
-#[derive(Drop)]
+#[derive(Clone, Copy)]
 pub enum Opened {
     Is {
         division: u32,

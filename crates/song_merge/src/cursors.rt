@@ -8,7 +8,7 @@ use smf::fields::{Quantity, quantity_at};
 
 // `wait` is in ticks since the event that was written last. `before` and `after` are the running status before the
 // event and behind it; the event stands from `from` to `next`. Where the track has ended its end is what is waited for.
-#[derive(Drop)]
+#[derive(Clone, Copy)]
 pub struct Cursor {
     pub ended: bool,
     pub wait: u32,

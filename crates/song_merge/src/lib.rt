@@ -1,6 +1,8 @@
 // A song of format 1 becomes one of format 0: the events of all its tracks in one, by tick and then by track. An event
 // keeps its bytes, but for its delta-time and a status byte that running status left out; the last tick is that of the
 // track that ends last. Tracks are merged one after another, so the cost is events times tracks.
+#![tactic(auto)]
+
 mod chunks;
 mod cursors;
 mod merging;
@@ -15,7 +17,7 @@ use smf::faults::refusal;
 use writing::put_heading;
 
 // How many bytes of the list are the song, with 0; with 8 so many are enough for either list; otherwise 0.
-#[derive(Drop)]
+#[derive(Clone, Copy)]
 pub struct Merged {
     pub length: usize,
     pub number: u8,

@@ -76,7 +76,7 @@ fn with_track(
 }
 
 // The place behind the merged track, which begins at 22.
-#[derive(Drop)]
+#[derive(Clone, Copy)]
 pub enum Gathered {
     To(usize),
     Short,

@@ -1,5 +1,7 @@
 // Plays a song's list on the engine: the starts and stops that are due before a frame are made as calls, in the list's
 // order. Each public function equals a definition in specs/Plays.antt, for every value of its arguments.
+#![tactic(auto)]
+
 ghost use Rattle.std.specs.Prelude.{◌≡◌, ◌+◌, ◌*◌, ◌%◌, ◌^◌, length, drop};
 ghost use Rattle.songs.specs.Plays.{change_by, one_more_refused, cues_of, due_of, play_of};
 
@@ -9,7 +11,7 @@ use sampler::Sampler;
 use smf::Cue;
 
 // The engine after the calls, the place of the next entry in the list, and how many of the calls were refused.
-#[derive(Drop)]
+#[derive(Clone, Copy)]
 pub struct Playing {
     pub sampler: Sampler,
     pub next: usize,

@@ -1,5 +1,7 @@
 // One voice, and what it does in one sample. Each function takes every value of its arguments, and equals a definition
 // in specs/Voices.antt.
+#![tactic(auto)]
+
 ghost use Rattle.std.specs.Prelude.{◌≡◌, cond};
 ghost use Rattle.clip.specs.Positions.{sounding_of};
 ghost use Rattle.voice.specs.Voices.{
@@ -34,7 +36,7 @@ use common_types::{LoopMode, Measure, Note, NoteOffBehaviour, Params};
 use volume::{Volume, since};
 
 // The fields stand in an order that leaves no gaps between them.
-#[derive(Drop)]
+#[derive(Clone, Copy)]
 pub struct Voice {
     pub finished_at: usize,
     pub last_sample_index: usize,
@@ -52,7 +54,7 @@ pub struct Voice {
 
 // What the voices of one phrase go by in one sample: the channel's clock, how many samples the phrase has, whether voices
 // interpolate, and the phrase's number.
-#[derive(Drop)]
+#[derive(Clone, Copy)]
 pub struct Moment {
     pub now: usize,
     pub data_len: usize,
@@ -61,7 +63,7 @@ pub struct Moment {
 }
 
 // What of a sample's settings depends on the recording: the loop length, that rounded down, and the recording's length.
-#[derive(Drop)]
+#[derive(Clone, Copy)]
 pub struct Span {
     pub length: f32,
     pub whole_length: f32,
@@ -69,7 +71,7 @@ pub struct Span {
 }
 
 // What all voices of one phrase share in one sample, worked out once.
-#[derive(Drop)]
+#[derive(Clone, Copy)]
 pub struct Tick {
     pub now: usize,
     pub decay_samples: usize,
@@ -83,7 +85,7 @@ pub struct Tick {
 }
 
 // A turn taken the quick way, where the voice glides; elsewhere `voice` is not to be looked at.
-#[derive(Drop)]
+#[derive(Clone, Copy)]
 pub struct Quick {
     pub voice: Voice,
     pub glides: bool,

@@ -1,6 +1,8 @@
 // The level of a sound over time: steady, or a ramp. `level`, `toward`, `stepped` and `good` take every value of their
 // arguments, and are for records that are known to be good. `value`, `to` and `step`, the Rust's names, refuse a bad
 // argument first (number 7 of document 01).
+#![tactic(auto)]
+
 ghost use Rattle.std.specs.Prelude.{◌≡◌, ◌-◌};
 ghost use Rattle.volume.specs.Levels.{
   default_volume,
@@ -21,7 +23,7 @@ ghost use Rattle.volume.specs.Levels.{
   step_answer,
 };
 
-#[derive(Drop)]
+#[derive(Clone, Copy)]
 pub enum Volume {
     Static(f32),
     Linear {
@@ -32,20 +34,20 @@ pub enum Volume {
     },
 }
 
-#[derive(Drop)]
+#[derive(Clone, Copy)]
 pub enum LevelAnswer {
     Done(f32),
     Refused,
 }
 
-#[derive(Drop)]
+#[derive(Clone, Copy)]
 pub enum VolumeAnswer {
     Done(Volume),
     Refused,
 }
 
 // A level at a time, and whether the step there changes nothing.
-#[derive(Drop)]
+#[derive(Clone, Copy)]
 pub struct Held {
     pub level: f32,
     pub keeps: bool,

@@ -1,5 +1,7 @@
 // Walks over the front of a list: definitions and the law of the loops that go over them. Beside them the smaller and the
 // larger of two whole numbers, which crates ask for that stand on no other in common.
+#![tactic(auto)]
+
 ghost use Rattle.std.specs.Prelude.{◌≡◌, min, max};
 
 pub fn smaller(a: usize, b: usize) -> usize

@@ -6,14 +6,14 @@ use crate::fields::four_at;
 use crate::ids::{DATA, FACT, FORMAT};
 
 // 0 is the place of a chunk that wasn't met.
-#[derive(Drop)]
+#[derive(Clone, Copy)]
 pub struct Places {
     pub format: usize,
     pub words: usize,
     pub fact: usize,
 }
 
-#[derive(Drop)]
+#[derive(Clone, Copy)]
 pub enum Met {
     Is(Places),
     Refused,

@@ -1,6 +1,8 @@
 // Recordings as RIFF WAVE files of 32-bit floats, on bytes alone: a file is judged, its words are copied to a memory,
 // and a memory's are written to a file. It takes every list of bytes, and each public function equals a definition in
 // specs/, for every value of its arguments.
+#![tactic(auto)]
+
 pub mod chunks;
 pub mod fields;
 mod headers;
@@ -21,7 +23,7 @@ use stores::put_four;
 use words::{ends_by, fits_memory, put_words, take_words};
 
 // A good file: `samples` words for each of `channels` channels, frame by frame, stand from `first` on.
-#[derive(Drop)]
+#[derive(Clone, Copy)]
 pub struct Wave {
     pub rate: u32,
     pub channels: usize,
@@ -29,21 +31,21 @@ pub struct Wave {
     pub first: usize,
 }
 
-#[derive(Drop)]
+#[derive(Clone, Copy)]
 pub enum Judged {
     Is(Wave),
     Refused,
 }
 
 // Where the recordings of channels 0 and 1 begin in a memory. Of one channel the second isn't looked at.
-#[derive(Drop)]
+#[derive(Clone, Copy)]
 pub struct Starts {
     pub first: usize,
     pub second: usize,
 }
 
 // `samples` words of each of `channels` channels.
-#[derive(Drop)]
+#[derive(Clone, Copy)]
 pub struct Layout {
     pub channels: usize,
     pub samples: usize,

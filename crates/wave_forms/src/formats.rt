@@ -5,7 +5,7 @@ ghost use Rattle.wave_forms.specs.Reader.{bare_format, sub_format_at, extensible
 use wave::fields::{four_at, two_at};
 
 // `tag` is 1 for whole numbers, 3 for floats, and 0 where the chunk has no known shape.
-#[derive(Drop)]
+#[derive(Clone, Copy)]
 pub struct Form {
     pub tag: u32,
     pub channels: u32,

@@ -1,5 +1,7 @@
 // WAVE files of other forms turned into 10/12's: whole numbers of 16, 24 or 32 bits, floats of 32 or 64, under a `fmt `
 // of 16, 18 or 40 bytes. It takes every list of bytes, and each function equals a definition in specs/.
+#![tactic(auto)]
+
 mod formats;
 mod numbers;
 mod values;
@@ -14,7 +16,7 @@ use wave::chunks::{Met, Places};
 use wave::fields::four_at;
 
 // A file of a known form: `count` numbers, `samples` for each channel, frame by frame, stand from `first` on.
-#[derive(Drop)]
+#[derive(Clone, Copy)]
 struct Source {
     pub form: Form,
     pub samples: u32,
@@ -22,14 +24,14 @@ struct Source {
     pub first: usize,
 }
 
-#[derive(Drop)]
+#[derive(Clone, Copy)]
 enum Judged {
     Is(Source),
     Refused,
 }
 
 // 0 and how many bytes were written; 8 and how many there have to be room for; 17 and 0 for a file of no known form.
-#[derive(Drop)]
+#[derive(Clone, Copy)]
 pub struct Turned {
     pub length: usize,
     pub number: u8,
