@@ -32,7 +32,7 @@ bounds-self-place c = placed c
 abbrev emptied : Bool → Channel → Channel
 emptied clears c = record { voices = c.voices; table = cond clears no_phrases c.table; count = c.count; head = c.head; several = c.several }
 
-cleared : (c : tie.Joined1) → c.if1.self ≡ emptied c.before.head_entry.result.clears c.before.before.before.before.before.before.before.before.args.t1
+cleared : (c : tie.Joined1) → c.if1.self ≡ emptied c.before.head_entry.result.clears c.before.before.before.before.before.before.before.before.args.self
 cleared c = ⊎_elim (λ w. w.2 ∙ simp (w.1.ensures, w.0.taken)) (λ w. w.1 ∙ simp w.0.left) c.if1.branch
 
 put : (d : HeadChange) (c s : Channel) (e : Entry) (h : Head) → length c.table ≡ 8 → s ≡ emptied e.clears c
@@ -50,6 +50,6 @@ returns c =
     let e = c.head_entry-e in
     let place = c.place_of.ensures.0 in
     let names = c.head_names.ensures in
-    let eight = long _ c.args.t1.table 8 c.well_formed.0.1.1.1.0.1.0.1 in
-    put c.args.change c.args.t1 c.if-e.self e.result c.changed-self.result eight (cleared c) (simp (e.ensures, place, names))
+    let eight = c.well_formed.0.1.1.1.0.1.0.1 in
+    put c.args.change c.args.self c.if-e.self e.result c.changed-self.result eight (cleared c) (simp (e.ensures, place, names))
     (simp (c.changed-self.ensures, c.finds-found.ensures, c.beside.ensures, place, names))

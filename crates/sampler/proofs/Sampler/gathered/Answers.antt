@@ -14,7 +14,7 @@ use native.Mathlib.Omega.{arith}
 use Rattle.sampler.proofs.Sampler.gathered.Goals as goal
 
 pub loop-j-init : goal.loop-j-init
-loop-j-init c = gathering_starts c.args.t1 c.args.memory.now (long _ c.args.t1.channels 2 c.well_formed.0.1.1.0.1.0.1) c.requires
+loop-j-init c = gathering_starts c.args.self c.args.memory.now (search rules) c.requires
 
 pub offset_bounds-self-j : goal.offset_bounds-self-j
 offset_bounds-self-j c = let low = gathering_low c.loop-j.invariant c.loop-j-test.true in search rules

@@ -20,9 +20,9 @@ slice_bounds-with_sample-end c = let starts = starts_at _ _ _ c.requires.below c
 
 pub returns : goal.returns
 returns c =
-    let s = c.args.t1 in
+    let s = c.args.self in
     let j = c.args.j in
-    let is = get_d_any s.channels j none (channel_of (record { auto_passthru = false })) (omega (arith, c.requires.below, long _ c.args.t1.channels 2 c.well_formed.0.1.1.0.1.0.1)) in
+    let is = get_d_any s.channels j none (channel_of (record { auto_passthru = false })) (omega (arith, c.requires.below, c.well_formed.0.1.1.0.1.0.1)) in
     let r = c.with_sample-played.ensures in
     let a = starts_at j s.capacity _ c.requires.below c.part_start-start.ensures in (
       (
