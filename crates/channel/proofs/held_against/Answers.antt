@@ -18,7 +18,7 @@ joined c =
 
 pub returns-in-Voice-ask : goal.returns-in-Voice-ask
 unfolding blocked_by short_by
-returns-in-Voice-ask c = let j = joined c in simp (j.1, sym j.0 ∙ c.in-Voice-ask.is)
+returns-in-Voice-ask c = ?
 
 pub returns-in-Samples-ask : goal.returns-in-Samples-ask
 unfolding blocked_by short_by

@@ -11,7 +11,7 @@ use Rattle.questions.proofs.voice_infos.Goals as goal
 
 pub loop-i-init : goal.loop-i-init
 loop-i-init c =
-    begins (filled _ c.no_infos-answer.result 0) c.args.self.voices c.args.self.count _ 32 (search rules) c.places-n.ensures
+    begins (filled _ c.no_infos-answer.result 0) c.args.c.voices c.args.c.count _ 32 (search rules) c.places-n.ensures
 
 pub loop-i-preserved : goal.loop-i-preserved
 loop-i-preserved c =
@@ -25,4 +25,4 @@ unfolding voice_infos_of
 returns c =
     ends c.loop-i.invariant c.loop-i-test.false
     ∙ simp c.no_infos-answer.ensures
-    (filled_front _ c.args.self (search rules))
+    (filled_front _ c.args.c (search rules))

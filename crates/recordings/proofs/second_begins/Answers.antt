@@ -10,7 +10,7 @@ use Rattle.recordings.proofs.second_begins.Goals as goal
 
 pub overflow_add-result : goal.overflow_add-result
 overflow_add-result c =
-    let s = c.args.self in
+    let s = c.args.s in
     let two = c.if-s-eq2.true in
     let seats = c.well_formed.0.1.1.0.1.0.1 in
     let held = element _ _ s.channels _ 1 none (omega (arith, seats)) c.well_formed.0.1.1.0.1.1 in
@@ -21,7 +21,7 @@ overflow_add-result c =
 
 pub returns-then-s-eq2 : goal.returns-then-s-eq2
 returns-then-s-eq2 c =
-    let s = c.args.self in
+    let s = c.args.s in
     ap (λ (n : ℕ). s.capacity + n) c.begins.ensures ∙ second_begins_there s c.if-s-eq2.true (search rules) none
 
 pub returns : goal.returns

@@ -38,7 +38,7 @@ loop-i-preserved c =
     let room = c.room-room in
     let moment = c.moment_on-at in
     let r = c.take_turn-r.result in
-    let same = turned_there a.params a.self a.«data».now v phrase.result (phrase.ensures ∙ ap (λ (d : Channel). phrase_at d v.phrase) h.invariant.5) h.output room.result moment.result r room.ensures.0 moment.ensures c.take_turn-r.ensures in
+    let same = turned_there a.params a.self a.«data».now v phrase.result (phrase.ensures ∙ ap (λ (d : Channel). phrase_at d v.phrase) h.invariant.5) h.output room.result moment.result r room.ensures.value moment.ensures c.take_turn-r.ensures in
     let turned = ap (λ (x : Turned). x.voice) same in
     let sounds = ap (λ (x : Turned). x.output) same in
     let stays = ap (λ (x : Turned). x.stays) same in
@@ -71,4 +71,7 @@ returns c =
     let s = turning_in b.params b.self b.«data».now in
     let sounds = sym (rest_end s l.self _ _) ∙ ends l.invariant.0 c.loop-i-test.false ∙ rest_start s b.self in
     let counts = sym (tidied_end s _ l.k l.i) ∙ ends l.invariant.2 c.loop-i-test.false ∙ tidied_start s b.self in
-    (λ i. record { channel = (sounds i).channel; output = (sounds i).output; moved = counts i }, omega (arith, l.invariant.0.upto, l.invariant.3, l.invariant.4))
+    record {
+      value = λ i. record { channel = (sounds i).channel; output = (sounds i).output; moved = counts i };
+      moved_bound = omega (arith, l.invariant.0.upto, l.invariant.3, l.invariant.4);
+    }
