@@ -21,14 +21,14 @@ use Rattle.channel.proofs.Channel.head_changed.Goals as goal
 use Rattle.channel.proofs.Channel.head_changed.Goals.{then-e, else-e}
 
 -- what is stored has a place below eight
-placed : {d : HeadChange} {h : Head} {several : Bool} {entry : Phrase} {e : Entry} → e ≡ head_entry d h several entry → e.place < 8
-placed is = subst (λ (e : Entry). e.place < 8) (sym is) (head_entry_below _ _ _ _)
+placed : (d : HeadChange) (h : Head) (several : Bool) (entry : Phrase) (e : Entry) → e ≡ head_entry d h several entry → e.place < 8
+placed d h several entry e is = subst (λ (e : Entry). e.place < 8) (sym is) (head_entry_below _ _ _ _)
 
 pub offset_bounds-self-place : goal.offset_bounds-self-place
-offset_bounds-self-place c = let below = placed c.head_entry-e.ensures in omega arith
+offset_bounds-self-place c = let below = placed _ _ _ _ _ c.head_entry-e.ensures in omega arith
 
 pub bounds-self-place : goal.bounds-self-place
-bounds-self-place c = placed c.head_entry-e.ensures
+bounds-self-place c = placed _ _ _ _ _ c.head_entry-e.ensures
 
 -- the channel with its table emptied or not
 abbrev emptied : Bool → Channel → Channel
@@ -50,6 +50,6 @@ returns c =
     let place = c.place_of.ensures.value in
     let names = c.head_names.ensures in
     let eight = c.well_formed.0.1.1.1.0.1.0.1 in
-    let cleared : c.if-e.self ≡ emptied e.result.clears c.args.self = elim c.if-e.branch [ then-e w ↦ w.self-is ∙ simp (w.none.ensures, w.if-e.true) | else-e w ↦ w.self-is ∙ simp w.if-e.false ] in
+    let cleared : c.if-e.self ≡ emptied e.result.clears c.args.self = elim c.if-e.branch [ then-e w ↦ w.self-is ∙ simp (w.none-self.ensures, w.if-e.true) | else-e w ↦ w.self-is ∙ simp w.if-e.false ] in
     put c.args.change c.args.self c.if-e.self e.result c.changed-self.result eight cleared (simp (e.ensures, place, names))
     (simp (c.changed-self.ensures, c.finds-found.ensures, c.beside.ensures, place, names))

@@ -13,6 +13,7 @@ use Rattle.channel.proofs.Turns.{turned_there, rest_of, rest_start, rest_end, re
 use borrow.Author.Rules.{rules}
 use native.Mathlib.Omega.{arith}
 use Rattle.channel.proofs.Channel.play.Goals as goal
+use Rattle.channel.proofs.Channel.play.Goals.{then-r, else-r}
 
 pub loop-i-init : goal.loop-i-init
 unfolding of_bits
@@ -43,25 +44,25 @@ loop-i-preserved c =
     let sounds = ap (λ (x : Turned). x.output) same in
     let stays = ap (λ (x : Turned). x.stays) same in
     let is = ap s.leaves (sym turned) in
-    ⊎_elim
-    (λ w. rw (w.3, w.4, w.5) (
-      stores none h.k _ h.invariant.0 below h.invariant.1 (λ vs. rest_keep s h.self _ _ _ _ _ _ turned sounds is vs (sym stays ∙ w.0.taken)),
+    elim c.if-r.branch [
+      then-r w ↦ rw (w.self-is, w.moved-is, w.k-is) (
+      stores none h.k _ h.invariant.0 below h.invariant.1 (λ vs. rest_keep s h.self _ _ _ _ _ _ turned sounds is vs (sym stays ∙ w.if-r.true)),
       omega arith,
       stores none h.k _ h.invariant.2 below h.invariant.1
-          (λ vs. tidied_keep s h.self h.k _ _ _ _ _ turned sounds is vs h.moved h.i h.invariant.1 _ w.1.ensures (sym stays ∙ w.0.taken)),
-      step_up h.moved h.k h.i _ h.invariant.3 w.1.ensures,
+          (λ vs. tidied_keep s h.self h.k _ _ _ _ _ turned sounds is vs h.moved h.i h.invariant.1 _ w.moved_up-moved.ensures (sym stays ∙ w.if-r.true)),
+      step_up h.moved h.k h.i _ h.invariant.3 w.moved_up-moved.ensures,
       h.invariant.4,
       ap (with_voices _ _) h.invariant.5,
-    ))
-    (λ w. rw (w.1, w.2, w.3) (
-      turns none h.invariant.0 below (λ vs. rest_gone s h.self _ _ _ _ _ _ turned sounds is vs (sym stays ∙ w.0.left)),
+      )
+    | else-r w ↦ rw (w.self-is, w.moved-is, w.k-is) (
+      turns none h.invariant.0 below (λ vs. rest_gone s h.self _ _ _ _ _ _ turned sounds is vs (sym stays ∙ w.if-r.false)),
       omega arith,
-      turns none h.invariant.2 below (λ vs. tidied_gone s h.self h.k _ _ _ _ _ turned sounds is vs h.moved h.i h.invariant.1 (sym stays ∙ w.0.left)),
+      turns none h.invariant.2 below (λ vs. tidied_gone s h.self h.k _ _ _ _ _ turned sounds is vs h.moved h.i h.invariant.1 (sym stays ∙ w.if-r.false)),
       omega arith,
       h.invariant.4,
       h.invariant.5,
-    ))
-    c.if-r.branch
+      )
+    ]
 
 pub returns : goal.returns
 unfolding of_bits
