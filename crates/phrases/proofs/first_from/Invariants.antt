@@ -6,7 +6,7 @@ use Rattle.phrases.specs.declared.Phrase.{Phrase}
 use Rattle.phrases.proofs.first_from.Given as goal
 
 abbrev pub invariant-loop-i : goal.invariant-loop-i
-invariant-loop-i l = (l.i ≤ 8) × (l.start ≡ first_below l.place l.all l.i) × Begins l.all l.start l.initial.i
+invariant-loop-i l = (l.i ≤ 8) × (l.found ≡ first_below l.place l.all l.i) × Begins l.all l.found l.start
 
 abbrev pub decreases-loop-i : goal.decreases-loop-i
 decreases-loop-i l = 8 - l.i

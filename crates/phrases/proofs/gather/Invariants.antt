@@ -8,7 +8,7 @@ use Rattle.phrases.proofs.gather.Given as goal
 
 abbrev pub invariant-loop-turn : goal.invariant-loop-turn
 invariant-loop-turn l =
-    Going l.data l.initial.data l.turn (record { phrases = l.initial.to; memory = l.from; l.to = l.to; l.initial.turn = l.initial.turn })
+    Going l.initial.moved l.initial.data l.turn (record { phrases = l.moved; memory = l.data; from = l.from; to = l.to })
 
 abbrev pub decreases-loop-turn : goal.decreases-loop-turn
 decreases-loop-turn l = 8 - l.turn
