@@ -1,7 +1,6 @@
 -- `judged_at` meets its contract: a good form has blocks of some bytes. Assumes nothing.
 -- by what was read
 use mathlib.Core.Path.{◌≡◌, sym, ap, ◌∙◌}
-use mathlib.Core.Bool.{Bool}
 use Prim.Native.Nat.{ℕ}
 use Rattle.wave_forms.specs.Reader.{good_form, counted_judged}
 use Rattle.wave_forms.specs.declared.formats.Form.{Form}

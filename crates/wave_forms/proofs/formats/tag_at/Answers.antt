@@ -1,5 +1,4 @@
 -- `formats::tag_at` meets its contract. Assumes nothing.
-use mathlib.Core.Path.{sym, ◌∙◌}
 use Rattle.wave_forms.specs.Reader.{tag_at}
 use Rattle.wave_forms.proofs.formats.tag_at.Goals as goal
 

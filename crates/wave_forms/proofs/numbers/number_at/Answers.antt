@@ -1,6 +1,6 @@
 -- `numbers::number_at` meets its contract. The invariant: the bytes from here on are read (`Copies: Read`). Assumes nothing.
 use native.Mathlib.Omega.{arith}
-use Rattle.wave_forms.proofs.Copies.{Read, read_none, read_all, read_next, next_fits}
+use Rattle.wave_forms.proofs.Copies.{read_none, read_all, read_next, next_fits}
 use Rattle.wave_forms.proofs.numbers.number_at.Goals as goal
 
 pub loop-i-init : goal.loop-i-init

@@ -1,12 +1,8 @@
 -- `numbers::put_words` meets its contract. The invariant: the words up to here are written (`Copies: written`). Assumes nothing.
 use mathlib.Core.Path.{◌≡◌, ap, ◌∙◌}
-use mathlib.Core.List.{List}
-use Prim.Native.Nat.{ℕ, ◌+◌, ◌-◌, ◌*◌, ◌/◌, ◌≤◌}
+use Prim.Native.Nat.{◌/◌}
 use native.Mathlib.Omega.{arith}
-use lib.ListN.{length}
 use Rattle.wave_forms.specs.Values.{number_word}
-use Rattle.wave_forms.specs.Reader.{number_at}
-use Rattle.wave_forms.specs.declared.Source.{Source}
 use Rattle.wave_forms.proofs.Widths.{kind_of, bytes_few}
 use Rattle.wave_forms.proofs.Copies.{place_fits, written, written_none, written_next, length_written}
 use Rattle.wave_forms.proofs.numbers.put_words.Goals as goal

@@ -1,5 +1,4 @@
 -- `values::double_word` meets its contract. Assumes nothing.
-use native.Mathlib.Omega.{arith}
 use Rattle.wave_forms.proofs.Doubles.{nan_word, plus_word, minus_word}
 use Rattle.wave_forms.proofs.values.double_word.Goals as goal
 

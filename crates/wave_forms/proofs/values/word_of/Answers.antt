@@ -1,5 +1,5 @@
 -- `values::word_of` meets its contract. Assumes nothing.
-use mathlib.Core.Path.{◌≡◌, sym, ◌∙◌}
+use mathlib.Core.Path.{◌≡◌, ◌∙◌}
 use Prim.Native.Nat.{ℕ}
 use lib.Ieee.{binary32, binary64, of_bits, to_bits}
 use borrow.Author.Tests.{eq-eqb, ne_eqb}
