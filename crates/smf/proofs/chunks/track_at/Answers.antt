@@ -2,13 +2,12 @@
 -- what is left, and the end of what is due
 use mathlib.Core.Path.{◌≡◌, refl, sym, ◌∙◌}
 use mathlib.Core.Bool.{true, false}
-use mathlib.Core.List.{List}
 use Prim.Native.Nat.{ℕ, pred, ◌+◌, ◌-◌, ◌≤◌, ◌<◌}
 use native.Mathlib.Omega.{arith}
 use lib.Dec.{ltb}
 use lib.ListN.{length}
 use borrow.Author.Tests.{lt-ltb, le-ltb, lt-leb, eq-eqb, ne_eqb}
-use Rattle.smf.specs.Files.{chunk_at, track_from, track_at}
+use Rattle.smf.specs.Files.{chunk_at, track_at}
 use Rattle.smf.proofs.Searches.{track_on, track_over}
 use Rattle.smf.proofs.chunks.track_at.Goals as goal
 

@@ -1,8 +1,7 @@
 -- `quantity_at` meets its contract. The invariant: what is left of the quantity, after the bytes that were read, is the whole quantity. Assumes nothing.
-use mathlib.Core.Path.{◌≡◌, refl, sym, ap, ◌∙◌}
-use Prim.Native.Nat.{ℕ, suc, ◌+◌, ◌-◌, ◌*◌, ◌^◌, ◌≤◌, ◌<◌}
+use mathlib.Core.Path.{◌≡◌, refl, sym, ◌∙◌}
+use Prim.Native.Nat.{suc, ◌+◌, ◌-◌}
 use native.Mathlib.Omega.{arith}
-use Rattle.smf.specs.Fields.{quantity_from, quantity_at}
 use Rattle.smf.proofs.Quantities.{quantity_missing, quantity_last, quantity_long, quantity_more, value_more, value_small}
 use Rattle.smf.proofs.fields.quantity_at.Goals as goal
 

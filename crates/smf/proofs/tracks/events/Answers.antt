@@ -1,18 +1,12 @@
 -- `events` meets its contract. The invariant: what is left of the song, behind what was counted and written, is the whole song (`Turns: Going`). Assumes nothing.
-use mathlib.Core.Path.{◌≡◌, refl, sym, ap, ◌∙◌, subst}
-use Prim.Native.Nat.{ℕ, ◌+◌, ◌-◌, ◌*◌, ◌≤◌, ◌<◌, min}
-use native.Mathlib.Nat.{mul-zero}
+use mathlib.Core.Path.{sym, ap, ◌∙◌}
+use Prim.Native.Nat.{ℕ}
 use native.Mathlib.Omega.{arith}
-use lib.ListN.{length}
 use Rattle.smf.specs.Events.{step_at}
-use Rattle.smf.specs.Files.{behind_track, chunk_events}
-use Rattle.smf.specs.Times.{first_tempo, unit_of, clock_at}
-use Rattle.smf.specs.Cues.{count_closed, song_from}
-use Rattle.smf.specs.declared.clock.Clock.{Clock}
+use Rattle.smf.specs.Cues.{count_closed}
 use Rattle.smf.specs.declared.chunks.Verdict.{Verdict}
 use Rattle.smf.proofs.Inside.{step-ends}
-use Rattle.smf.proofs.Frames.{clock_bounds}
-use Rattle.smf.proofs.Turns.{Going, begun, bounded, broken, ended, late, again, one_entry}
+use Rattle.smf.proofs.Turns.{begun, bounded, broken, ended, late, again, one_entry}
 use Rattle.smf.proofs.tracks.events.Goals as goal
 
 pub loop-fault-init : goal.loop-fault-init

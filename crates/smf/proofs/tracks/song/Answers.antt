@@ -1,5 +1,5 @@
 -- `song` meets its contract. Assumes nothing.
-use mathlib.Core.Path.{◌≡◌, refl, sym, ap, ◌∙◌}
+use mathlib.Core.Path.{refl, sym, ap, ◌∙◌}
 use native.Mathlib.Omega.{arith}
 use Rattle.smf.specs.Cues.{count_closed, numbers_of, song_in, song_of}
 use Rattle.smf.proofs.Searches.{header_divided}
