@@ -2,18 +2,13 @@
 use mathlib.Core.Path.{◌≡◌, refl, sym, ◌∙◌, ap, subst}
 use Prim.Native.Nat.{ℕ, zero, suc, ◌+◌, ◌<◌, ◌^◌}
 use native.Mathlib.Nat.{not-suc-le-zero, le_of_suc-le-suc, le_of_eq, max-zero}
-use mathlib.Core.Option.{some}
-use mathlib.Core.Bool.{Bool, true, false, not, ◌&&◌, cond}
+use mathlib.Core.Bool.{Bool, true, false, ◌&&◌, cond}
 use mathlib.Core.List.{List, [], ◌∷◌}
-use lib.Dec.{T}
 use lib.ListN.{length, get_or, take, set, length-set}
 use lib.Seq.{take_all}
-use mir.Syntax.{w64}
 use borrow.Author.Tests.{eq-eqb, ne_eqb}
 use Rattle.walks.specs.Walks.{fold}
 use Rattle.walks.proofs.Tests.{one_more, joined, and-true, and_assoc}
-use Rattle.walks.proofs.Steps.Data.{word, truth}
-use Rattle.walks.proofs.Steps.Calls.{Callee}
 use Rattle.phrases.specs.declared.Phrase.{Phrase}
 use Rattle.phrases.specs.declared.Beside.{Beside}
 use Rattle.phrases.specs.Phrases.{no_phrase, no_samples, is_over_by, reach_of, apart_of, others_of, every_below, good_at, good_phrases, beside_of_nothing, beside_with, beside_of, is_in_order}
@@ -22,12 +17,9 @@ use Rattle.phrases.proofs.Order.{order_good}
 use Rattle.phrases.proofs.Table.{set_entry}
 use Rattle.phrases.proofs.Reaches.{beside_alone}
 use Rattle.channel.specs.declared.Head.{Head}
-use Rattle.channel.specs.declared.Channel.{Channel}
 use Rattle.channel.specs.Heads.{recording_in}
 use Rattle.channel.specs.Tables.{with_recording, good_table}
 use Rattle.lent_channel.specs.Turns.{looked_at, beside_next}
-use Rattle.lent_channel.proofs.Holding.{channel, headed, phrase}
-use Rattle.lent_channel.proofs.Views.{Viewer}
 
 -- how many entries are looked at
 abbrev pub entries : Bool → ℕ
@@ -36,40 +28,6 @@ entries several = cond several 8 0
 pub few : (several : Bool) (k : ℕ) → k < entries several → k < 8
 few true k lt = lt
 few false k lt = absurd (not-suc-le-zero lt)
-
--- the functions of a channel's table as walks call them: `entries`, `looked_at`, `numbered`, `phrase_good`, `in_order`, and `good_pairs` and `good_phrases`
-abbrev pub counting : Callee
-counting = record { takes = truth ∷ []; gives = word w64; says = λ a. entries a.0 }
-
-abbrev pub looking : Callee
-looking = record { takes = phrase ∷ word w64 ∷ headed ∷ []; gives = phrase; says = λ a. looked_at a.0 a.1.0 a.1.1.0 }
-
-abbrev pub numbering : Viewer channel
-numbering = record {
-  takes = word w64 ∷ [];
-  gives = phrase;
-  asks = λ κs a. some (a.0 < 8);
-  says = λ κs a c. get_or (with_recording c.head c.table) a.0 no_phrase;
-}
-
-abbrev pub judging : Viewer channel
-judging = record {
-  takes = word w64 ∷ word w64 ∷ [];
-  gives = truth;
-  asks = λ κs a. some (a.0 < 8);
-  says = λ κs a c. good_at a.1.0 (with_recording c.head c.table) a.0;
-}
-
-abbrev pub in_order_in : ℕ → Channel → Bool
-in_order_in capacity c = is_in_order capacity (with_recording c.head c.table) (entries c.several)
-
-abbrev pub good_table_in : ℕ → Channel → Bool
-good_table_in capacity c = good_table capacity c.head c.several c.table
-
--- what a test that isn't denied says
-pub affirmed : (t : Bool) → T (not (not t)) → t ≡ true
-affirmed true y = refl
-affirmed false y = absurd y
 
 fold_next : {A S : Type 0} (f : S → A → S) (d : A) (s : S) (i : ℕ) (l : List A) → i < length l → f (fold f s (take i l)) (get_or l i d) ≡ fold f s (take (suc i) l)
 unfolding fold
