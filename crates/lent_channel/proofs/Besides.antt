@@ -1,8 +1,9 @@
 -- What the loops over a channel's table work out, entry by entry: `good_at` and `good_table`, and `beside_of` those that aren't chosen. Assumes nothing.
 use mathlib.Core.Path.{◌≡◌, refl, sym, ◌∙◌, ap, subst}
 use Prim.Native.Nat.{ℕ, zero, suc, ◌+◌, ◌<◌, ◌^◌}
+use native.Mathlib.Omega.{arith}
 use native.Mathlib.Nat.{not-suc-le-zero, le_of_suc-le-suc, le_of_eq, max-zero}
-use mathlib.Core.Bool.{Bool, true, false, ◌&&◌, cond}
+use mathlib.Core.Bool.{Bool, true, false, ◌&&◌, cond, true≢false}
 use mathlib.Core.List.{List, [], ◌∷◌}
 use lib.ListN.{length, get_or, take, set, length-set}
 use lib.Seq.{take_all}
@@ -111,7 +112,15 @@ module _ (h : Head) (table : List Phrase) where
         ∙ fold_next (beside_with h.start) no_phrase (beside_of_nothing capacity) k (set table h.chosen no_phrase) (subst (λ (n : ℕ). k < n) (sym (length-set table h.chosen no_phrase)) lt)
         ∙ ap beside_upto (sym (one_more k))
 
-    pub beside_all : (several : Bool) → length table ≡ 8 → beside_upto (entries several) ≡ beside_of h.start capacity (others_of several h.chosen table)
+    beside_all : (several : Bool) → (several ≡ true → length table ≡ 8) → beside_upto (entries several) ≡ beside_of h.start capacity (others_of several h.chosen table)
     unfolding beside_of others_of fold
-    beside_all true all = ap (fold (beside_with h.start) (beside_of_nothing capacity)) (take_all 8 (set table h.chosen no_phrase) (le_of_eq (length-set table h.chosen no_phrase ∙ all)))
+    beside_all true all = ap (fold (beside_with h.start) (beside_of_nothing capacity)) (take_all 8 (set table h.chosen no_phrase) (le_of_eq (length-set table h.chosen no_phrase ∙ all refl)))
     beside_all false all = sym (beside_alone h.start capacity h.chosen table)
+
+    -- how long the table is, is known once an entry of it has been looked at
+    pub beside_seen : (several : Bool) (k : ℕ) → k ≡ entries several → (0 < k → length table ≡ 8) → beside_upto k ≡ beside_of h.start capacity (others_of several h.chosen table)
+    beside_seen several k end long = ap beside_upto end ∙ beside_all several (all several end)
+      where
+        all : (b : Bool) → k ≡ entries b → b ≡ true → length table ≡ 8
+        all true e some = long (omega (arith, e))
+        all false e some = absurd (true≢false (sym some))

@@ -1,27 +1,29 @@
-use Rattle.std.proofs.Common.{rules, ◌≡◌, ◌≤◌, ◌<◌, ◌&&◌, cond, get_or, ℕ, ◌+◌, ◌-◌, ◌*◌, length, ◌/◌, ◌%◌, Bool, true, false, nat_eq, nat_lt, List, [], ◌∷◌, ◌++◌, slice_set, bit_and, bit_or, Fits, w8, w32, w64, Bor, MutBor}
-use Rattle.std.specs.Float.{binary32}
-use Rattle.std.specs.Float.Ieee.{add}
-use Rattle.common_types.specs.Settings.{measure_of}
-use Rattle.voice.specs.Voices.{good_voice}
-use Rattle.phrases.specs.Phrases.{no_phrase, apart_of, good_at, is_in_order}
-use Rattle.channel.specs.Heads.{closed_of}
-use Rattle.channel.specs.Tables.{with_recording, good_table, against_by}
-use Rattle.channel.specs.Channels.{any_unfinished_of, with_head, played_of, turning_in, taken_of, memory_of, process_sample_of, beside_in, uses_of, against_of, good_voices_of, good_channel}
-use Rattle.lent_channel.specs.Turns.{silent, begun, glided_to, next_voice, next_turn, turned_in, rested_of, rested_in, moved_by, Stands, Next, Onward, Goes, Glides, head_good_of, heard_of, mixed_with, looked_at, beside_next}
+-- `any_unfinished` meets its contract: voices are looked at until one is unfinished. Assumes nothing.
+use Rattle.std.proofs.Common.{rules, arith, ◌≡◌, ◌<◌, ◌≤◌, length, min}
+use Rattle.walks.specs.Walks.{any}
+use Rattle.walks.proofs.Lists.Loops.{turns, stops}
+use Rattle.channel.proofs.Slots.{none}
+use Rattle.channel.specs.Channels.{unfinished_of, any_unfinished_of}
+use Rattle.lent_channel.proofs.Seen.{seen_none, seen_next, seen_all}
 use Rattle.lent_channel.proofs.any_unfinished.Goals as goal
 
--- src/lib.rt:111:5
 pub loop-i-init : goal.loop-i-init
-loop-i-init c = ?
+loop-i-init c = seen_none (any unfinished_of) c.args.c.now.voices c.args.c.now.count 32
 
--- src/lib.rt:113:13
 pub returns-then-not-c-i : goal.returns-then-not-c-i
-returns-then-not-c-i c = ?
+unfolding any_unfinished_of any
+returns-then-not-c-i c =
+    let all : length c.args.c.now.voices ≡ 32 = search rules in
+    let lt : c.loop-i.i < min c.args.c.now.count 32 = omega arith in
+    stops none (c.loop-i.invariant.walk all) lt (λ xs. simp c.if-not-c-i.true)
 
--- src/lib.rt:111:5
 pub loop-i-preserved : goal.loop-i-preserved
-loop-i-preserved c = ?
+unfolding any
+loop-i-preserved c =
+    let all : length c.args.c.now.voices ≡ 32 = search rules in
+    let lt : c.loop-i.i < min c.args.c.now.count 32 = omega arith in
+    seen_next lt all (turns none (c.loop-i.invariant.walk all) lt (λ xs. simp c.if-not-c-i.false))
 
--- src/lib.rt:106:1
 pub returns : goal.returns
-returns c = ?
+unfolding any_unfinished_of any
+returns c = seen_all (omega arith) c.loop-i.invariant (omega arith)

@@ -1,23 +1,32 @@
-use Rattle.std.proofs.Common.{rules, ◌≡◌, ◌≤◌, ◌<◌, ◌&&◌, cond, get_or, ℕ, ◌+◌, ◌-◌, ◌*◌, length, ◌/◌, ◌%◌, Bool, true, false, nat_eq, nat_lt, List, [], ◌∷◌, ◌++◌, slice_set, bit_and, bit_or, Fits, w8, w32, w64, Bor, MutBor}
-use Rattle.std.specs.Float.{binary32}
-use Rattle.std.specs.Float.Ieee.{add}
-use Rattle.common_types.specs.Settings.{measure_of}
-use Rattle.voice.specs.Voices.{good_voice}
-use Rattle.phrases.specs.Phrases.{no_phrase, apart_of, good_at, is_in_order}
-use Rattle.channel.specs.Heads.{closed_of}
-use Rattle.channel.specs.Tables.{with_recording, good_table, against_by}
-use Rattle.channel.specs.Channels.{any_unfinished_of, with_head, played_of, turning_in, taken_of, memory_of, process_sample_of, beside_in, uses_of, against_of, good_voices_of, good_channel}
-use Rattle.lent_channel.specs.Turns.{silent, begun, glided_to, next_voice, next_turn, turned_in, rested_of, rested_in, moved_by, Stands, Next, Onward, Goes, Glides, head_good_of, heard_of, mixed_with, looked_at, beside_next}
+-- `beside` meets its contract: what the phrases so far say goes from turn to turn. Assumes nothing.
+use Rattle.std.proofs.Common.{rules, arith, ◌≡◌, ◌≤◌, ◌<◌, length, get_or, cond, sym, ap, ◌∙◌}
+use Rattle.phrases.specs.declared.Beside.{Beside}
+use Rattle.phrases.specs.Phrases.{no_phrase}
+use Rattle.lent_channel.specs.Turns.{beside_next}
+use Rattle.lent_channel.proofs.Besides.{entries, beside_nothing, beside_one_more, beside_seen, beside_upto}
 use Rattle.lent_channel.proofs.beside.Goals as goal
 
--- src/lib.rt:258:5
 pub loop-k-init : goal.loop-k-init
-loop-k-init c = ?
+loop-k-init c = record {
+  upto = omega arith;
+  long = λ h. absurd (omega (arith, h));
+  so_far = c.none-b.ensures ∙ beside_nothing c.args.c.now.head c.args.c.now.table c.args.capacity;
+}
 
--- src/lib.rt:258:5
 pub loop-k-preserved : goal.loop-k-preserved
-loop-k-preserved c = ?
+loop-k-preserved c =
+    let h = c.args.c.now.head in
+    let table = c.args.c.now.table in
+    let all : length table ≡ 8 = search rules in
+    let lt : c.loop-k.k < length table = let few : c.entries-n.result ≤ 8 = ? in omega (arith, all) in
+    record {
+      upto = omega arith;
+      long = λ z. all;
+      so_far = c.beside_next-b.ensures ∙ ap (λ (b : Beside). beside_next b h c.loop-k.k (get_or table c.loop-k.k no_phrase)) c.loop-k.invariant.so_far
+          ∙ beside_one_more h table c.args.capacity c.loop-k.k lt;
+    }
 
--- src/lib.rt:252:1
 pub returns : goal.returns
-returns c = ?
+returns c =
+    let end : c.loop-k.k ≡ entries c.args.c.now.several = omega (arith, c.entries-n.ensures) in
+    c.loop-k.invariant.so_far ∙ beside_seen c.args.c.now.head c.args.c.now.table c.args.capacity c.args.c.now.several c.loop-k.k end c.loop-k.invariant.long

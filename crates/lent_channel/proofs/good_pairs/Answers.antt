@@ -1,27 +1,29 @@
-use Rattle.std.proofs.Common.{rules, ◌≡◌, ◌≤◌, ◌<◌, ◌&&◌, cond, get_or, ℕ, ◌+◌, ◌-◌, ◌*◌, length, ◌/◌, ◌%◌, Bool, true, false, nat_eq, nat_lt, List, [], ◌∷◌, ◌++◌, slice_set, bit_and, bit_or, Fits, w8, w32, w64, Bor, MutBor}
-use Rattle.std.specs.Float.{binary32}
-use Rattle.std.specs.Float.Ieee.{add}
-use Rattle.common_types.specs.Settings.{measure_of}
-use Rattle.voice.specs.Voices.{good_voice}
-use Rattle.phrases.specs.Phrases.{no_phrase, apart_of, good_at, is_in_order}
-use Rattle.channel.specs.Heads.{closed_of}
-use Rattle.channel.specs.Tables.{with_recording, good_table, against_by}
-use Rattle.channel.specs.Channels.{any_unfinished_of, with_head, played_of, turning_in, taken_of, memory_of, process_sample_of, beside_in, uses_of, against_of, good_voices_of, good_channel}
-use Rattle.lent_channel.specs.Turns.{silent, begun, glided_to, next_voice, next_turn, turned_in, rested_of, rested_in, moved_by, Stands, Next, Onward, Goes, Glides, head_good_of, heard_of, mixed_with, looked_at, beside_next}
+-- `good_pairs` meets its contract: phrases are judged until one is not good. Assumes nothing.
+use Rattle.std.proofs.Common.{rules, arith, ◌≡◌, ◌≤◌, ◌<◌, cond, sym, ap, ◌∙◌}
+use Rattle.lent_channel.proofs.Besides.{entries, few, table_none, table_one_more, table_all, table_not, table_upto}
 use Rattle.lent_channel.proofs.good_pairs.Goals as goal
 
--- src/lib.rt:194:5
 pub loop-k-init : goal.loop-k-init
-loop-k-init c = ?
+loop-k-init c = record { upto = omega arith; so_far = table_none c.args.c.now.head c.args.c.now.table c.args.capacity }
 
--- src/lib.rt:196:13
+pub phrase_good-requires : goal.phrase_good-requires
+phrase_good-requires c =
+    let lt : c.loop-k.k < entries c.args.c.now.several = omega (arith, c.entries-n.ensures) in
+    few c.args.c.now.several c.loop-k.k lt
+
 pub returns-then-not-phrase_good : goal.returns-then-not-phrase_good
-returns-then-not-phrase_good c = ?
+returns-then-not-phrase_good c =
+    let lt : c.loop-k.k < entries c.args.c.now.several = omega (arith, c.entries-n.ensures) in
+    table_not c.args.c.now.head c.args.c.now.table c.args.capacity c.args.c.now.several c.loop-k.k lt (sym c.phrase_good.ensures ∙ c.if-not-phrase_good.true)
 
--- src/lib.rt:194:5
 pub loop-k-preserved : goal.loop-k-preserved
-loop-k-preserved c = ?
+loop-k-preserved c = record {
+  upto = omega arith;
+  so_far = table_one_more c.args.c.now.head c.args.c.now.table c.args.capacity c.loop-k.k c.loop-k.invariant.so_far (sym c.phrase_good.ensures ∙ c.if-not-phrase_good.false);
+}
 
--- src/lib.rt:188:1
 pub returns : goal.returns
-returns c = ?
+returns c =
+    let end : c.loop-k.k ≡ entries c.args.c.now.several = omega (arith, c.entries-n.ensures) in
+    sym c.loop-k.invariant.so_far ∙ ap (table_upto c.args.c.now.head c.args.c.now.table c.args.capacity) end
+    ∙ table_all c.args.c.now.head c.args.c.now.table c.args.capacity c.args.c.now.several

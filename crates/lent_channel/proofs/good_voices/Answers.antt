@@ -1,23 +1,33 @@
-use Rattle.std.proofs.Common.{rules, ◌≡◌, ◌≤◌, ◌<◌, ◌&&◌, cond, get_or, ℕ, ◌+◌, ◌-◌, ◌*◌, length, ◌/◌, ◌%◌, Bool, true, false, nat_eq, nat_lt, List, [], ◌∷◌, ◌++◌, slice_set, bit_and, bit_or, Fits, w8, w32, w64, Bor, MutBor}
-use Rattle.std.specs.Float.{binary32}
-use Rattle.std.specs.Float.Ieee.{add}
-use Rattle.common_types.specs.Settings.{measure_of}
+-- `good_voices` meets its contract: its answer is that of the voices so far. Assumes nothing.
+use Rattle.std.proofs.Common.{rules, arith, ◌≡◌, ◌≤◌, ◌<◌, ◌&&◌, Bool, length, get_or, take, ap, sym, refl, ◌∙◌}
+use Rattle.walks.specs.Walks.{every}
+use Rattle.walks.proofs.Tests.{one_more}
+use Rattle.walks.proofs.Lists.Fronts.{every_next}
 use Rattle.voice.specs.Voices.{good_voice}
-use Rattle.phrases.specs.Phrases.{no_phrase, apart_of, good_at, is_in_order}
-use Rattle.channel.specs.Heads.{closed_of}
-use Rattle.channel.specs.Tables.{with_recording, good_table, against_by}
-use Rattle.channel.specs.Channels.{any_unfinished_of, with_head, played_of, turning_in, taken_of, memory_of, process_sample_of, beside_in, uses_of, against_of, good_voices_of, good_channel}
-use Rattle.lent_channel.specs.Turns.{silent, begun, glided_to, next_voice, next_turn, turned_in, rested_of, rested_in, moved_by, Stands, Next, Onward, Goes, Glides, head_good_of, heard_of, mixed_with, looked_at, beside_next}
+use Rattle.channel.specs.Channels.{good_voices_of}
+use Rattle.channel.proofs.Slots.{none}
+use Rattle.lent_channel.proofs.Seen.{take_seen}
 use Rattle.lent_channel.proofs.good_voices.Goals as goal
 
--- src/lib.rt:98:5
 pub loop-i-init : goal.loop-i-init
-loop-i-init c = ?
+unfolding every
+loop-i-init c = record { upto = omega arith; long = λ h. absurd (omega (arith, h)); so_far = refl }
 
--- src/lib.rt:98:5
 pub loop-i-preserved : goal.loop-i-preserved
-loop-i-preserved c = ?
+loop-i-preserved c =
+    let all : length c.args.c.now.voices ≡ 32 = search rules in
+    let lt : c.loop-i.i < length c.args.c.now.voices = omega (arith, all) in
+    let p = good_voice c.args.c.now.head.now in
+    let v = get_or c.args.c.now.voices c.loop-i.i none in
+    record {
+      upto = omega arith;
+      long = λ h. all;
+      so_far = c.still_good-ok.ensures ∙ ap (λ (b : Bool). b && p v) c.loop-i.invariant.so_far
+          ∙ every_next p none c.loop-i.i c.args.c.now.voices lt ∙ ap (λ k. every p (take k c.args.c.now.voices)) (sym (one_more c.loop-i.i));
+    }
 
--- src/lib.rt:91:1
 pub returns : goal.returns
-returns c = ?
+unfolding good_voices_of
+returns c =
+    c.loop-i.invariant.so_far
+    ∙ ap (every (good_voice c.args.c.now.head.now)) (take_seen c.args.c.now.voices c.args.c.now.count 32 c.loop-i.i (omega arith) (omega arith) c.loop-i.invariant.long)

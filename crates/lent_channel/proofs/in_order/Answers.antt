@@ -1,27 +1,44 @@
-use Rattle.std.proofs.Common.{rules, ◌≡◌, ◌≤◌, ◌<◌, ◌&&◌, cond, get_or, ℕ, ◌+◌, ◌-◌, ◌*◌, length, ◌/◌, ◌%◌, Bool, true, false, nat_eq, nat_lt, List, [], ◌∷◌, ◌++◌, slice_set, bit_and, bit_or, Fits, w8, w32, w64, Bor, MutBor}
-use Rattle.std.specs.Float.{binary32}
-use Rattle.std.specs.Float.Ieee.{add}
-use Rattle.common_types.specs.Settings.{measure_of}
-use Rattle.voice.specs.Voices.{good_voice}
-use Rattle.phrases.specs.Phrases.{no_phrase, apart_of, good_at, is_in_order}
-use Rattle.channel.specs.Heads.{closed_of}
-use Rattle.channel.specs.Tables.{with_recording, good_table, against_by}
-use Rattle.channel.specs.Channels.{any_unfinished_of, with_head, played_of, turning_in, taken_of, memory_of, process_sample_of, beside_in, uses_of, against_of, good_voices_of, good_channel}
-use Rattle.lent_channel.specs.Turns.{silent, begun, glided_to, next_voice, next_turn, turned_in, rested_of, rested_in, moved_by, Stands, Next, Onward, Goes, Glides, head_good_of, heard_of, mixed_with, looked_at, beside_next}
+-- `in_order` meets its contract: phrases are looked at until one isn't clear of those before it. Assumes nothing.
+use Rattle.std.proofs.Common.{rules, arith, ◌≡◌, ◌≤◌, ◌<◌, ℕ, List, Bool, false, cond, sym, ap, ◌∙◌}
+use Rattle.phrases.specs.declared.Phrase.{Phrase}
+use Rattle.phrases.specs.Phrases.{clear_of, reach_from, reach_below, is_in_order}
+use Rattle.phrases.proofs.Order.{reach_none, reach_next, order_none, order_next, order_not}
+use Rattle.channel.specs.Tables.{with_recording}
+use Rattle.lent_channel.proofs.Besides.{entries, few}
 use Rattle.lent_channel.proofs.in_order.Goals as goal
 
--- src/lib.rt:176:5
 pub loop-k-init : goal.loop-k-init
-loop-k-init c = ?
+loop-k-init c =
+    let ps = with_recording c.args.c.now.head c.args.c.now.table in
+    record { upto = omega arith; reach = reach_none ps; so_far = order_none c.args.capacity ps }
 
--- src/lib.rt:179:13
+pub numbered-p-requires : goal.numbered-p-requires
+numbered-p-requires c =
+    let lt : c.loop-k.k < entries c.args.c.now.several = omega (arith, c.entries-n.ensures) in
+    few c.args.c.now.several c.loop-k.k lt
+
 pub returns-then-not-clear : goal.returns-then-not-clear
-returns-then-not-clear c = ?
+returns-then-not-clear c =
+    let ps = with_recording c.args.c.now.head c.args.c.now.table in
+    let lt : c.loop-k.k < entries c.args.c.now.several = omega (arith, c.entries-n.ensures) in
+    order_not c.args.capacity ps (entries c.args.c.now.several) c.loop-k.k lt
+    (sym (ap (λ (n : ℕ). clear_of n c.args.capacity c.numbered-p.result) c.loop-k.invariant.reach ∙ ap (clear_of (reach_below ps c.loop-k.k) c.args.capacity) c.numbered-p.ensures)
+    ∙ sym c.clear.ensures ∙ c.if-not-clear.true)
 
--- src/lib.rt:176:5
 pub loop-k-preserved : goal.loop-k-preserved
-loop-k-preserved c = ?
+loop-k-preserved c =
+    let ps = with_recording c.args.c.now.head c.args.c.now.table in
+    record {
+      upto = omega arith;
+      reach = c.reach_from-upto.ensures ∙ ap (λ (n : ℕ). reach_from n c.numbered-p.result) c.loop-k.invariant.reach
+          ∙ ap (reach_from (reach_below ps c.loop-k.k)) c.numbered-p.ensures ∙ reach_next ps c.loop-k.k;
+      so_far = order_next c.args.capacity ps c.loop-k.k c.loop-k.invariant.so_far
+          (sym (ap (λ (n : ℕ). clear_of n c.args.capacity c.numbered-p.result) c.loop-k.invariant.reach ∙ ap (clear_of (reach_below ps c.loop-k.k) c.args.capacity) c.numbered-p.ensures)
+          ∙ sym c.clear.ensures ∙ c.if-not-clear.false);
+    }
 
--- src/lib.rt:168:1
 pub returns : goal.returns
-returns c = ?
+returns c =
+    let ps = with_recording c.args.c.now.head c.args.c.now.table in
+    let end : c.loop-k.k ≡ entries c.args.c.now.several = omega (arith, c.entries-n.ensures) in
+    sym c.loop-k.invariant.so_far ∙ ap (is_in_order c.args.capacity ps) end

@@ -1,23 +1,37 @@
-use Rattle.std.proofs.Common.{rules, ◌≡◌, ◌≤◌, ◌<◌, ◌&&◌, cond, get_or, ℕ, ◌+◌, ◌-◌, ◌*◌, length, ◌/◌, ◌%◌, Bool, true, false, nat_eq, nat_lt, List, [], ◌∷◌, ◌++◌, slice_set, bit_and, bit_or, Fits, w8, w32, w64, Bor, MutBor}
-use Rattle.std.specs.Float.{binary32}
-use Rattle.std.specs.Float.Ieee.{add}
-use Rattle.common_types.specs.Settings.{measure_of}
-use Rattle.voice.specs.Voices.{good_voice}
-use Rattle.phrases.specs.Phrases.{no_phrase, apart_of, good_at, is_in_order}
-use Rattle.channel.specs.Heads.{closed_of}
-use Rattle.channel.specs.Tables.{with_recording, good_table, against_by}
-use Rattle.channel.specs.Channels.{any_unfinished_of, with_head, played_of, turning_in, taken_of, memory_of, process_sample_of, beside_in, uses_of, against_of, good_voices_of, good_channel}
-use Rattle.lent_channel.specs.Turns.{silent, begun, glided_to, next_voice, next_turn, turned_in, rested_of, rested_in, moved_by, Stands, Next, Onward, Goes, Glides, head_good_of, heard_of, mixed_with, looked_at, beside_next}
+-- `phrase_good` meets its contract: its answer is that of the phrases so far. Assumes nothing.
+use Rattle.std.proofs.Common.{rules, arith, ◌≡◌, ◌≤◌, ◌<◌, ◌&&◌, Bool, length, get_or, ap, ◌∙◌}
+use Rattle.phrases.specs.declared.Phrase.{Phrase}
+use Rattle.phrases.specs.Phrases.{no_phrase, is_over_by, apart_of}
+use Rattle.lent_channel.specs.Turns.{looked_at}
+use Rattle.lent_channel.proofs.Besides.{good_none, good_one_more, good_all, good_upto}
 use Rattle.lent_channel.proofs.phrase_good.Goals as goal
 
--- src/lib.rt:153:5
 pub loop-j-init : goal.loop-j-init
-loop-j-init c = ?
+loop-j-init c = record {
+  upto = omega arith;
+  so_far = c.ends_by-ok.ensures ∙ ap (is_over_by c.args.capacity) c.looked_at-p.ensures ∙ good_none c.args.c.now.head c.args.c.now.table c.args.capacity c.args.k;
+}
 
--- src/lib.rt:153:5
 pub loop-j-preserved : goal.loop-j-preserved
-loop-j-preserved c = ?
+loop-j-preserved c =
+    let h = c.args.c.now.head in
+    let table = c.args.c.now.table in
+    let all : length table ≡ 8 = search rules in
+    let lt : c.loop-j.j < length table = let k = c.requires in omega (arith, all, k) in
+    let before = good_upto h table c.args.capacity c.args.k c.loop-j.j in
+    record {
+      upto = omega arith;
+      so_far = c.still_apart-ok.ensures ∙ ap (λ (b : Bool). b && apart_of c.looked_at-p.result c.looked_at.result) c.loop-j.invariant.so_far
+          ∙ ap (λ (p : Phrase). before && apart_of p c.looked_at.result) c.looked_at-p.ensures
+          ∙ ap (λ (q : Phrase). before && apart_of (looked_at (get_or table c.args.k no_phrase) c.args.k h) q) c.looked_at.ensures
+          ∙ good_one_more h table c.args.capacity c.args.k c.loop-j.j lt;
+    }
 
--- src/lib.rt:146:1
 pub returns : goal.returns
-returns c = ?
+returns c =
+    let h = c.args.c.now.head in
+    let table = c.args.c.now.table in
+    let all : length table ≡ 8 = search rules in
+    let lt : c.args.k < length table = let k = c.requires in omega (arith, all, k) in
+    let end : c.loop-j.j ≡ c.args.k = omega arith in
+    c.loop-j.invariant.so_far ∙ ap (good_upto h table c.args.capacity c.args.k) end ∙ good_all h table c.args.capacity c.args.k lt

@@ -1,27 +1,30 @@
-use Rattle.std.proofs.Common.{rules, ◌≡◌, ◌≤◌, ◌<◌, ◌&&◌, cond, get_or, ℕ, ◌+◌, ◌-◌, ◌*◌, length, ◌/◌, ◌%◌, Bool, true, false, nat_eq, nat_lt, List, [], ◌∷◌, ◌++◌, slice_set, bit_and, bit_or, Fits, w8, w32, w64, Bor, MutBor}
-use Rattle.std.specs.Float.{binary32}
-use Rattle.std.specs.Float.Ieee.{add}
-use Rattle.common_types.specs.Settings.{measure_of}
-use Rattle.voice.specs.Voices.{good_voice}
-use Rattle.phrases.specs.Phrases.{no_phrase, apart_of, good_at, is_in_order}
-use Rattle.channel.specs.Heads.{closed_of}
-use Rattle.channel.specs.Tables.{with_recording, good_table, against_by}
-use Rattle.channel.specs.Channels.{any_unfinished_of, with_head, played_of, turning_in, taken_of, memory_of, process_sample_of, beside_in, uses_of, against_of, good_voices_of, good_channel}
-use Rattle.lent_channel.specs.Turns.{silent, begun, glided_to, next_voice, next_turn, turned_in, rested_of, rested_in, moved_by, Stands, Next, Onward, Goes, Glides, head_good_of, heard_of, mixed_with, looked_at, beside_next}
+-- `uses` meets its contract: voices are looked at until one has the phrase. Assumes nothing.
+use Rattle.std.proofs.Common.{rules, arith, ◌≡◌, ◌<◌, ◌≤◌, length, min}
+use borrow.Author.Tests.{eq-eqb, ne_eqb}
+use Rattle.walks.specs.Walks.{any}
+use Rattle.walks.proofs.Lists.Loops.{turns, stops}
+use Rattle.channel.proofs.Slots.{none}
+use Rattle.channel.specs.Channels.{uses_of}
+use Rattle.lent_channel.proofs.Seen.{has, seen_none, seen_next, seen_all}
 use Rattle.lent_channel.proofs.uses.Goals as goal
 
--- src/lib.rt:232:5
 pub loop-i-init : goal.loop-i-init
-loop-i-init c = ?
+loop-i-init c = seen_none (any (has c.args.k)) c.args.c.now.voices c.args.c.now.count 32
 
--- src/lib.rt:234:13
 pub returns-then-c-i : goal.returns-then-c-i
-returns-then-c-i c = ?
+unfolding uses_of any
+returns-then-c-i c =
+    let all : length c.args.c.now.voices ≡ 32 = search rules in
+    let lt : c.loop-i.i < min c.args.c.now.count 32 = omega arith in
+    stops none (c.loop-i.invariant.walk all) lt (λ xs. simp (eq-eqb _ _ c.if-c-i.true))
 
--- src/lib.rt:232:5
 pub loop-i-preserved : goal.loop-i-preserved
-loop-i-preserved c = ?
+unfolding any
+loop-i-preserved c =
+    let all : length c.args.c.now.voices ≡ 32 = search rules in
+    let lt : c.loop-i.i < min c.args.c.now.count 32 = omega arith in
+    seen_next lt all (turns none (c.loop-i.invariant.walk all) lt (λ xs. simp (ne_eqb _ _ c.if-c-i.false)))
 
--- src/lib.rt:227:1
 pub returns : goal.returns
-returns c = ?
+unfolding uses_of any
+returns c = seen_all (omega arith) c.loop-i.invariant (omega arith)
