@@ -20,7 +20,9 @@ use Rattle.phrases.proofs.Reaches.{beside_alone}
 use Rattle.channel.specs.declared.Head.{Head}
 use Rattle.channel.specs.Heads.{recording_in}
 use Rattle.channel.specs.Tables.{with_recording, good_table}
-use Rattle.lent_channel.specs.Turns.{looked_at, beside_next}
+use Rattle.channel.specs.declared.Channel.{Channel}
+use Rattle.channel.specs.Channels.{good_voices_of, good_channel}
+use Rattle.lent_channel.specs.Turns.{looked_at, beside_next, head_good_of}
 
 -- how many entries are looked at
 abbrev pub entries : Bool → ℕ
@@ -124,3 +126,29 @@ module _ (h : Head) (table : List Phrase) where
         all : (b : Bool) → k ≡ entries b → b ≡ true → length table ≡ 8
         all true e some = long (omega (arith, e))
         all false e some = absurd (true≢false (sym some))
+
+-- ---- a channel is good where its head, its voices and its phrases are, judged in that order
+either_first : (a b : Bool) → (a && b) ≡ (b && a)
+either_first true b = and-true b
+either_first false true = refl
+either_first false false = refl
+
+module _ (capacity : ℕ) (c : Channel) where
+  abbrev head : Bool
+  head = head_good_of capacity c.head c.count
+
+  abbrev phrases : Bool
+  phrases = good_table capacity c.head c.several c.table
+
+  by_parts : (head && (good_voices_of c && phrases)) ≡ good_channel capacity c
+  unfolding good_channel head_good_of
+  by_parts = ap (λ (t : Bool). head && t) (either_first (good_voices_of c) phrases)
+
+  pub all_good : head ≡ true → good_voices_of c ≡ true → phrases ≡ good_channel capacity c
+  all_good e d = sym (ap (λ (t : Bool). t && (good_voices_of c && phrases)) e ∙ ap (λ (t : Bool). t && phrases) d) ∙ by_parts
+
+  pub no_voices_good : head ≡ true → good_voices_of c ≡ false → false ≡ good_channel capacity c
+  no_voices_good e d = sym (ap (λ (t : Bool). t && (good_voices_of c && phrases)) e ∙ ap (λ (t : Bool). t && phrases) d) ∙ by_parts
+
+  pub no_head_good : head ≡ false → false ≡ good_channel capacity c
+  no_head_good e = sym (ap (λ (t : Bool). t && (good_voices_of c && phrases)) e) ∙ by_parts

@@ -1,3 +1,4 @@
 pub mod Seen
 pub mod Besides
 pub mod Turns
+pub mod Gliding

@@ -3,7 +3,7 @@ use Rattle.std.proofs.Common.{rules, arith, ◌≡◌, ◌≤◌, ◌<◌, lengt
 use Rattle.phrases.specs.declared.Beside.{Beside}
 use Rattle.phrases.specs.Phrases.{no_phrase}
 use Rattle.lent_channel.specs.Turns.{beside_next}
-use Rattle.lent_channel.proofs.Besides.{entries, beside_nothing, beside_one_more, beside_seen, beside_upto}
+use Rattle.lent_channel.proofs.Besides.{entries, few, beside_nothing, beside_one_more, beside_seen, beside_upto}
 use Rattle.lent_channel.proofs.beside.Goals as goal
 
 pub loop-k-init : goal.loop-k-init
@@ -18,7 +18,7 @@ loop-k-preserved c =
     let h = c.args.c.now.head in
     let table = c.args.c.now.table in
     let all : length table ≡ 8 = search rules in
-    let lt : c.loop-k.k < length table = let few : c.entries-n.result ≤ 8 = ? in omega (arith, all) in
+    let lt : c.loop-k.k < length table = let on : c.loop-k.k < entries c.args.c.now.several = omega (arith, c.entries-n.ensures) in omega (arith, all, few c.args.c.now.several c.loop-k.k on) in
     record {
       upto = omega arith;
       long = λ z. all;
