@@ -6,7 +6,7 @@ use Rattle.common_types.proofs.length.Goals as goal
 
 pub returns-in-Ratio : goal.returns-in-Ratio
 unfolding length_of
-returns-in-Ratio c = simp (c.usize_to_f32.ensures, c.length-1.given.1)
+returns-in-Ratio c = simp (c.usize_to_f32.ensures, c.in-Ratio.is)
 
 pub returns-in_default : goal.returns-in_default
 returns-in_default c =
