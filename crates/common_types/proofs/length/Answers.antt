@@ -14,5 +14,5 @@ returns-in_default c =
       c.time_length.ensures,
       c.whole.ensures,
       c.timed.ensures,
-      worked_length c.args.length c.args.transport c.args.data_len c.in_default.keys2,
+      worked_length c.args.length c.args.transport c.args.data_len c.in_default.not-Ratio,
     )

@@ -16,5 +16,5 @@ returns-in_default c =
       c.time_length.ensures,
       c.whole.ensures,
       c.timed.ensures,
-      worked_beyond c.args.length c.args.transport c.in_default.keys2,
+      worked_beyond c.args.length c.args.transport c.in_default.not-Ratio,
     )
