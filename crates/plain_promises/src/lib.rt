@@ -2,4 +2,3 @@
 // record, and has exactly the voices that the request says. Definitions and theorems over the definitions that the
 // contracts cite. It has no code of its own.
 #![tactic(auto)]
-

@@ -1,4 +1,2 @@
 pub mod Tests
 pub mod Lists
-pub mod Steps
-pub mod Lending

@@ -1,0 +1,22 @@
+-- `binary32::low_whole` meets its contract, by `sum_pattern`. Assumes nothing.
+use Rattle.std.proofs.Common.{not, rules}
+use lib.Ieee.{binary64, fits, is_nan, of_bits}
+use lib.Ieee.Fits.{and_i, fits_widens}
+use Rattle.binary32.specs.Leaves.{zero32}
+use Rattle.binary32.proofs.Between.{le_not_nan}
+use Rattle.binary32.proofs.SumPatterns.{sum_pattern, sum_not_nan}
+use Rattle.binary32.proofs.low_whole.Goals as goal
+
+pub float_to_float-result : goal.float_to_float-result
+unfolding of_bits
+float_to_float-result c =
+    let x = c.args.x in
+    and_i (fits binary64 x) (not (is_nan x)) (fits_widens x c.row_known-1.given) (le_not_nan zero32 x (search rules)).1
+
+pub float_to_bits-result : goal.float_to_bits-result
+unfolding of_bits
+float_to_bits-result c = sum_not_nan c.args.x (search rules) (search rules) (search rules)
+
+pub returns : goal.returns
+unfolding of_bits
+returns c = sum_pattern c.args.x (search rules) (search rules) (search rules)

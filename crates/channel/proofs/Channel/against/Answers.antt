@@ -1,0 +1,6 @@
+-- `Channel::against` meets its contract. Assumes nothing.
+use borrow.Author.Rules.{rules}
+use Rattle.channel.proofs.Channel.against.Goals as goal
+
+pub returns : goal.returns
+returns c = simp (c.held_against.ensures, c.beside-b.ensures, c.uses-used.ensures, c.leaving.ensures)

@@ -1,0 +1,23 @@
+-- `Channel::any_unfinished` meets its contract, by the law of loops. Assumes nothing.
+use Prim.Native.Nat.{◌-◌}
+use Rattle.walks.specs.Walks.{any}
+use Rattle.walks.proofs.Lists.Loops.{Walk, turns, stops, ends, long, begins}
+use Rattle.channel.specs.Channels.{live, unfinished_of, any_unfinished_of}
+use Rattle.channel.proofs.Slots.{none}
+use borrow.Author.Rules.{rules}
+use Rattle.channel.proofs.Channel.any_unfinished.Goals as goal
+
+pub loop-i-init : goal.loop-i-init
+loop-i-init c = begins (any unfinished_of) c.args.t1.voices c.args.t1.count _ 32 (long _ c.args.t1.voices 32 c.well_formed.0.1.1.0.1.0.1) c.places-n.ensures
+
+pub returns-then-not-self-i : goal.returns-then-not-self-i
+unfolding any_unfinished_of any
+returns-then-not-self-i c = stops none c.loop-i.invariant (search rules) (λ xs. simp c.if-not-self-i.true)
+
+pub loop-i-preserved : goal.loop-i-preserved
+unfolding any
+loop-i-preserved c = turns none c.loop-i.invariant (search rules) (λ xs. simp c.if-not-self-i.false)
+
+pub returns : goal.returns
+unfolding any_unfinished_of any
+returns c = ends c.loop-i.invariant c.loop-i-test.false

@@ -1,0 +1,31 @@
+-- `Channel::find` meets its contract, by the law of loops: the search is left at the first voice that is wanted. Assumes nothing.
+use mathlib.Core.List.{List}
+use Prim.Native.Nat.{ℕ, ◌-◌}
+use Rattle.common_types.specs.declared.Note.{Note}
+use Rattle.voice.specs.declared.Voice.{Voice}
+use Rattle.walks.specs.Walks.{seek}
+use Rattle.walks.proofs.Lists.Loops.{Walk, turns, stops, ends, long, begins}
+use Rattle.channel.specs.Channels.{live, wanted_of, find_of}
+use Rattle.channel.specs.declared.Found.{Found}
+use Rattle.channel.specs.declared.Found.TheVariants.{At, Nothing}
+use Rattle.channel.proofs.Slots.{none}
+use borrow.Author.Rules.{rules}
+use Rattle.channel.proofs.Channel.find.Goals as goal
+
+abbrev from : Note → ℕ → List Voice → Found
+from note i = seek At Nothing (wanted_of note) i
+
+pub loop-i-init : goal.loop-i-init
+loop-i-init c = begins (from c.args.note 0) c.args.t1.voices c.args.t1.count _ 32 (long _ c.args.t1.voices 32 c.well_formed.0.1.1.0.1.0.1) c.places-n.ensures
+
+pub loop-i-preserved : goal.loop-i-preserved
+unfolding seek
+loop-i-preserved c = turns none c.loop-i.invariant (search rules) (λ xs. simp (← c.wanted.ensures, c.if-wanted.false))
+
+pub returns-then-n-i : goal.returns-then-n-i
+unfolding find_of seek
+returns-then-n-i c = ends c.loop-i.invariant c.if-n-i.true
+
+pub returns-then-wanted : goal.returns-then-wanted
+unfolding find_of seek
+returns-then-wanted c = stops none c.loop-i.invariant (search rules) (λ xs. simp (← c.wanted.ensures, c.if-wanted.true))

@@ -1,0 +1,21 @@
+-- `Channel::finish_voice` meets its contract: its tests are those of `finished_at_of`. Assumes nothing.
+use borrow.Author.Tests.{lt-ltb, le-ltb}
+use Rattle.voice.specs.Voices.{blank_voice}
+use Rattle.walks.proofs.Lists.Loops.{long, get_d_any}
+use Rattle.channel.specs.Channels.{finished_at_of}
+use Rattle.channel.proofs.Slots.{none}
+use borrow.Author.Rules.{rules}
+use native.Mathlib.Omega.{arith}
+use Rattle.channel.proofs.Channel.finish_voice.Goals as goal
+
+pub returns-in_default : goal.returns-in_default
+unfolding finished_at_of
+returns-in_default c = simp c.enum_told-1.given.1
+
+pub returns-then-i-ge32 : goal.returns-then-i-ge32
+unfolding finished_at_of
+returns-then-i-ge32 c = simp (c.found-1.given.1, le-ltb _ _ c.if-i-ge32.true)
+
+pub returns : goal.returns
+unfolding finished_at_of
+returns c = simp (c.handle_passthru.ensures, c.finish.ensures, c.found-1.given.1, lt-ltb _ _ c.if-i-ge32.false, get_d_any c.args.t1.voices c.found-1.given.0.0 none blank_voice (omega (arith, long _ c.args.t1.voices 32 c.well_formed.0.1.1.0.1.0.1)))

@@ -1,0 +1,25 @@
+-- `Channel::good_voices` meets its contract, by the law of loops. Assumes nothing.
+use Prim.Native.Nat.{◌-◌}
+use borrow.Author.Tests.{not-true, not-false}
+use Rattle.walks.specs.Walks.{every}
+use Rattle.walks.proofs.Lists.Loops.{Walk, turns, stops, ends, long, begins}
+use Rattle.voice.specs.Voices.{good_voice}
+use Rattle.channel.specs.Channels.{live, good_voices_of}
+use Rattle.channel.proofs.Slots.{none}
+use borrow.Author.Rules.{rules}
+use Rattle.channel.proofs.Channel.good_voices.Goals as goal
+
+pub loop-i-init : goal.loop-i-init
+loop-i-init c = begins (every (good_voice c.args.t1.head.now)) c.args.t1.voices c.args.t1.count _ 32 (long _ c.args.t1.voices 32 c.well_formed.0.1.1.0.1.0.1) c.places-n.ensures
+
+pub returns-then-not-good : goal.returns-then-not-good
+unfolding good_voices_of every
+returns-then-not-good c = stops none c.loop-i.invariant (search rules) (λ xs. simp (← c.good.ensures, not-true c.good.result c.if-not-good.true))
+
+pub loop-i-preserved : goal.loop-i-preserved
+unfolding every
+loop-i-preserved c = turns none c.loop-i.invariant (search rules) (λ xs. simp (← c.good.ensures, not-false c.good.result c.if-not-good.false))
+
+pub returns : goal.returns
+unfolding good_voices_of every
+returns c = ends c.loop-i.invariant c.loop-i-test.false

@@ -1,0 +1,55 @@
+-- `Channel::head_changed` meets its contract: what it stores in the table is the table after the change. Assumes nothing.
+use mathlib.Core.Path.{◌≡◌, sym, ap, subst, ◌∙◌}
+use mathlib.Core.Bool.{Bool, cond}
+use mathlib.Core.Logic.{⊎_elim}
+use Prim.Native.Nat.{◌<◌}
+use native.Mathlib.Omega.{arith}
+use lib.ListN.{length, get_or, set}
+use Rattle.walks.proofs.Lists.Loops.{long}
+use Rattle.phrases.specs.Phrases.{no_phrase, no_phrases}
+use Rattle.channel.specs.Heads.{head_changed_of}
+use Rattle.channel.specs.Tables.{place_of, head_names, found_by, head_entry, stored_by}
+use Rattle.channel.specs.Channels.{behind_in, head_changed_in}
+use Rattle.channel.specs.declared.Head.{Head}
+use Rattle.channel.specs.declared.Channel.{Channel}
+use Rattle.channel.specs.declared.Entry.{Entry}
+use Rattle.channel.specs.declared.HeadChange.{HeadChange}
+use Rattle.channel.proofs.Entries.{head_entry_below, head_stored, head_several}
+use borrow.Author.Rules.{rules}
+use Rattle.channel.proofs.Channel.head_changed.Goals as goal
+
+-- what is stored has a place below eight
+placed : (c : tie.Joined1) → c.before.head_entry.result.place < 8
+placed c = subst (λ (e : Entry). e.place < 8) (sym c.before.head_entry.ensures) (head_entry_below _ _ _ _)
+
+pub offset_bounds-self-place : goal.offset_bounds-self-place
+offset_bounds-self-place c = let below = placed c in omega (arith, below)
+
+pub bounds-self-place : goal.bounds-self-place
+bounds-self-place c = placed c
+
+-- the channel with its table emptied or not
+abbrev emptied : Bool → Channel → Channel
+emptied clears c = record { voices = c.voices; table = cond clears no_phrases c.table; count = c.count; head = c.head; several = c.several }
+
+cleared : (c : tie.Joined1) → c.if1.self ≡ emptied c.before.head_entry.result.clears c.before.before.before.before.before.before.before.before.args.t1
+cleared c = ⊎_elim (λ w. w.2 ∙ simp (w.1.ensures, w.0.taken)) (λ w. w.1 ∙ simp w.0.left) c.if1.branch
+
+put : (d : HeadChange) (c s : Channel) (e : Entry) (h : Head) → length c.table ≡ 8 → s ≡ emptied e.clears c
+    → e ≡ head_entry d c.head c.several (get_or c.table (place_of (head_names d)) no_phrase)
+    → h ≡ head_changed_of d (found_by d c.several (get_or c.table (place_of (head_names d)) no_phrase) (behind_in c)) c.head
+    → record { voices = s.voices; table = set s.table e.place e.phrase; count = s.count; head = h; several = e.several } ≡ head_changed_in d c
+unfolding head_changed_in stored_by
+put d c s e h eight is stores changes =
+    let table = ap (λ (z : Channel). set z.table e.place e.phrase) is ∙ ap (λ (z : Entry). stored_by z c.table) stores ∙ head_stored d c.head c.several c.table eight in
+    let several = ap (λ (z : Entry). z.several) stores ∙ head_several d c.head c.several _ in
+    λ i. record { voices = (is i).voices; table = table i; count = (is i).count; head = changes i; several = several i }
+
+pub returns : goal.returns
+returns c =
+    let e = c.head_entry-e in
+    let place = c.place_of.ensures.0 in
+    let names = c.head_names.ensures in
+    let eight = long _ c.args.t1.table 8 c.well_formed.0.1.1.1.0.1.0.1 in
+    put c.args.change c.args.t1 c.if-e.self e.result c.changed-self.result eight (cleared c) (simp (e.ensures, place, names))
+    (simp (c.changed-self.ensures, c.finds-found.ensures, c.beside.ensures, place, names))

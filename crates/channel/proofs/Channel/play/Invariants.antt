@@ -1,0 +1,23 @@
+use mathlib.Core.Path.{◌≡◌, refl, sym, ap, ◌∙◌}
+use mathlib.Core.Logic.{⊎_elim}
+use Prim.Native.Nat.{◌≤◌, ◌-◌}
+use lib.ListN.{get_or}
+use lib.Ieee.{of_bits}
+use Rattle.walks.proofs.Lists.Loops.{Walk, turns, stores, ends, long, begins}
+use Rattle.channel.specs.Channels.{with_voices, live, phrase_at, turning_in}
+use Rattle.channel.specs.declared.Channel.{Channel}
+use Rattle.channel.specs.declared.Turned.{Turned}
+use Rattle.channel.proofs.Slots.{none}
+use Rattle.channel.proofs.Turns.{turned_there, rest_of, rest_start, rest_end, rest_keep, rest_gone, tidied_from, tidied_start, tidied_end, tidied_keep, tidied_gone, step_up}
+use borrow.Author.Rules.{rules}
+use native.Mathlib.Omega.{arith}
+use Rattle.channel.proofs.Channel.play.Given as goal
+
+abbrev pub invariant-loop-i : goal.invariant-loop-i
+invariant-loop-i l =
+    let s = turning_in l.params l.initial.self l.data in
+    Walk (rest_of s l.initial.self 0 l.n (live l.initial.self)) (rest_of s l.moved l.initial.i l.initial.k) l.moved.voices l.head l.i
+    × (l.initial.i ≤ l.i) × Walk (tidied_from s 0 0 0 (live l.initial.self)) (tidied_from s l.k l.initial.i l.i) l.moved.voices l.head l.i × (l.k ≤ l.i) × (l.head ≤ 32) × (l.moved ≡ with_voices l.moved.voices l.moved.count l.initial.self)
+
+abbrev pub decreases-loop-i : goal.decreases-loop-i
+decreases-loop-i l = l.head - l.i

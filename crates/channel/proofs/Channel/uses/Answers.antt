@@ -1,0 +1,30 @@
+-- `Channel::uses` meets its contract, by the law of loops. Assumes nothing.
+use mathlib.Core.Bool.{Bool}
+use Prim.Native.Nat.{ℕ, ◌-◌}
+use lib.Dec.{eqb}
+use borrow.Author.Tests.{eq-eqb, ne_eqb}
+use Rattle.walks.specs.Walks.{any}
+use Rattle.walks.proofs.Lists.Loops.{Walk, turns, stops, ends, long, begins}
+use Rattle.voice.specs.declared.Voice.{Voice}
+use Rattle.channel.specs.Channels.{live, uses_of}
+use Rattle.channel.proofs.Slots.{none}
+use borrow.Author.Rules.{rules}
+use Rattle.channel.proofs.Channel.uses.Goals as goal
+
+abbrev has : ℕ → Voice → Bool
+has k v = eqb v.phrase k
+
+pub loop-i-init : goal.loop-i-init
+loop-i-init c = begins (any (has c.args.k)) c.args.t1.voices c.args.t1.count _ 32 (long _ c.args.t1.voices 32 c.well_formed.0.1.1.0.1.0.1) c.places-n.ensures
+
+pub returns-then-self-i : goal.returns-then-self-i
+unfolding uses_of any
+returns-then-self-i c = stops none c.loop-i.invariant (search rules) (λ xs. simp (eq-eqb _ _ c.if-self-i.true))
+
+pub loop-i-preserved : goal.loop-i-preserved
+unfolding any
+loop-i-preserved c = turns none c.loop-i.invariant (search rules) (λ xs. simp (ne_eqb _ _ c.if-self-i.false))
+
+pub returns : goal.returns
+unfolding uses_of any
+returns c = ends c.loop-i.invariant c.loop-i-test.false

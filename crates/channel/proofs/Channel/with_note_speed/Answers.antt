@@ -1,0 +1,18 @@
+-- `Channel::with_note_speed` meets its contract, by the law of loops that store. Assumes nothing.
+use Prim.Native.Nat.{◌-◌}
+use native.Mathlib.Nat.{le_refl}
+use Rattle.walks.proofs.Lists.Loops.{Walk, stores, ends, long, begins}
+use Rattle.channel.specs.Channels.{live, sped_of, set_note_speed_of}
+use Rattle.channel.proofs.Slots.{none, map_from, map_on}
+use borrow.Author.Rules.{rules}
+use Rattle.channel.proofs.Channel.with_note_speed.Goals as goal
+
+pub loop-i-init : goal.loop-i-init
+loop-i-init c = begins (map_from (sped_of c.args.note c.args.speed) c.args.t1 0) c.args.t1.voices c.args.t1.count _ 32 (long _ c.args.t1.voices 32 c.well_formed.0.1.1.0.1.0.1) c.places-n.ensures
+
+pub loop-i-preserved : goal.loop-i-preserved
+loop-i-preserved c = stores none c.loop-i.i _ c.loop-i.invariant (search rules) (le_refl _) (λ xs. map_on _ c.loop-i.self c.loop-i.i _ _ xs c.sped.ensures)
+
+pub returns : goal.returns
+unfolding set_note_speed_of
+returns c = ends c.loop-i.invariant c.loop-i-test.false

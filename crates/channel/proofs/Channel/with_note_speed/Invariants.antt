@@ -1,0 +1,13 @@
+use Prim.Native.Nat.{◌-◌}
+use native.Mathlib.Nat.{le_refl}
+use Rattle.walks.proofs.Lists.Loops.{Walk, stores, ends, long, begins}
+use Rattle.channel.specs.Channels.{live, sped_of, set_note_speed_of}
+use Rattle.channel.proofs.Slots.{none, map_from, map_on}
+use borrow.Author.Rules.{rules}
+use Rattle.channel.proofs.Channel.with_note_speed.Given as goal
+
+abbrev pub invariant-loop-i : goal.invariant-loop-i
+invariant-loop-i l = Walk (map_from (sped_of l.note l.speed) l.initial.self 0 (live l.initial.self)) (map_from (sped_of l.note l.speed) l.initial.i l.i) l.initial.i.voices l.self l.i
+
+abbrev pub decreases-loop-i : goal.decreases-loop-i
+decreases-loop-i l = l.self - l.i

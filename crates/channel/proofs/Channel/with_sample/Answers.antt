@@ -1,0 +1,11 @@
+-- `Channel::with_sample` meets its contract: recording first, then the voices, then the input at its level, then the close. Assumes nothing.
+use Rattle.channel.specs.Channels.{process_sample_of}
+use borrow.Author.Rules.{rules}
+use Rattle.channel.proofs.Channel.with_sample.Goals as goal
+
+pub returns : goal.returns
+unfolding process_sample_of
+returns c =
+    let e = c.«record».ensures.1 in
+    let plays = rw e at c.play-played.ensures.0 in
+    (simp (c.closed-channel.ensures, c.any_unfinished-unfinished.ensures, c.mixed-output.ensures, plays, c.«record».ensures.0), (e, c.play-played.ensures.1))

@@ -1,0 +1,6 @@
+-- `Head::ramped` meets its contract. Assumes nothing.
+use borrow.Author.Rules.{rules}
+use Rattle.channel.proofs.Head.ramped.Goals as goal
+
+pub returns : goal.returns
+returns c = simp (c.with_passthru.ensures, c.toward.ensures, c.full.ensures)

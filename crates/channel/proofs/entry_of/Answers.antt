@@ -1,0 +1,36 @@
+-- `entry_of` meets its contract, by its cases. Assumes nothing.
+-- with it, its place is below eight
+use mathlib.Core.Path.{◌≡◌, sym, subst}
+use mathlib.Core.Bool.{Bool}
+use Prim.Native.Nat.{◌<◌}
+use Rattle.phrases.specs.declared.Phrase.{Phrase}
+use Rattle.channel.specs.Tables.{entry_stored}
+use Rattle.channel.specs.declared.Change.{Change}
+use Rattle.channel.specs.declared.Entry.{Entry}
+use Rattle.channel.specs.declared.Head.{Head}
+use Rattle.channel.proofs.Entries.{entry_below}
+use borrow.Author.Rules.{rules}
+use Rattle.channel.proofs.entry_of.Goals as goal
+
+placed : (x : Change) (h : Head) (several : Bool) (entry : Phrase) (e : Entry) → e ≡ entry_stored x h several entry → (e ≡ entry_stored x h several entry) × (e.place < 8)
+placed x h several entry e is = (is, subst (λ (z : Entry). z.place < 8) (sym is) (entry_below x h several entry))
+
+pub returns-in-Start : goal.returns-in-Start
+unfolding entry_stored
+returns-in-Start c = let a = c.args in placed a.change a.head a.several a.entry _ (simp (c.as_is.ensures, c.enum_told-1.given.1))
+
+pub returns-in-Stop : goal.returns-in-Stop
+unfolding entry_stored
+returns-in-Stop c = let a = c.args in placed a.change a.head a.several a.entry _ (simp (c.as_is-in-Stop.ensures, c.enum_told-in-Stop-1.given.1))
+
+pub returns-in-Speed : goal.returns-in-Speed
+unfolding entry_stored
+returns-in-Speed c = let a = c.args in placed a.change a.head a.several a.entry _ (simp (c.as_is-in-Speed.ensures, c.enum_told-in-Speed-1.given.1))
+
+pub returns-in-Head : goal.returns-in-Head
+unfolding entry_stored
+returns-in-Head c = let a = c.args in placed a.change a.head a.several a.entry _ (simp (c.head_entry.ensures, c.change-1.given.1))
+
+pub returns-in-Reset : goal.returns-in-Reset
+unfolding entry_stored
+returns-in-Reset c = let a = c.args in placed a.change a.head a.several a.entry _ (simp (c.as_is-in-Reset.ensures, c.enum_told-in-Reset-1.given.1))

@@ -1,0 +1,12 @@
+-- `Clip::update_speed` meets its contract: `refused_at` is the test of `update_speed_of`. Assumes nothing.
+use borrow.Author.Rules.{rules}
+use Rattle.clip.specs.Refusals.{update_speed_of}
+use Rattle.clip.proofs.Clip.update_speed.Goals as goal
+
+pub returns-then-refused_at : goal.returns-then-refused_at
+unfolding update_speed_of
+returns-then-refused_at c = simp (← c.refused_at.ensures, c.if-refused_at.true)
+
+pub returns-else-refused_at : goal.returns-else-refused_at
+unfolding update_speed_of
+returns-else-refused_at c = simp (c.with_speed.ensures, ← c.refused_at.ensures, c.if-refused_at.false)

@@ -1,0 +1,12 @@
+-- `folded` meets its contract, by those of `mirrored` and `max`. Assumes nothing.
+use mathlib.Core.Path.{◌∙◌}
+use lib.Ieee.{of_bits}
+use borrow.Author.Rules.{rules}
+use Rattle.clip.proofs.folded.Goals as goal
+
+pub returns-then-y-length : goal.returns-then-y-length
+returns-then-y-length c = simp c.if-y-length.true
+
+pub returns-else-y-length : goal.returns-else-y-length
+unfolding of_bits
+returns-else-y-length c = c.max.ensures ∙ simp (c.mirrored.ensures, c.if-y-length.false)

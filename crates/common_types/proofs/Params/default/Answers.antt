@@ -1,0 +1,8 @@
+-- `Params::default` meets its contract: its literals are the floats that the definition names. Assumes nothing.
+use borrow.Author.Rules.{rules}
+use lib.Ieee.{of_bits, of_int}
+use Rattle.common_types.proofs.Params.default.Goals as goal
+
+pub returns : goal.returns
+unfolding of_bits of_int
+returns c = rw c.default.ensures

@@ -1,0 +1,9 @@
+-- `asking` meets its contract. Assumes nothing.
+use borrow.Author.Rules.{rules}
+use Rattle.lent_changes.specs.Changes.{asks_voices}
+use lib.Ieee.{of_bits}
+use Rattle.lent_changes.proofs.asking.Goals as goal
+
+pub returns : goal.returns
+unfolding asks_voices of_bits
+returns c = simp c.default-note.ensures

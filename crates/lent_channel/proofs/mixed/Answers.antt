@@ -1,0 +1,6 @@
+-- `mixed` meets its contract. Assumes nothing.
+use borrow.Author.Rules.{rules}
+use Rattle.lent_channel.proofs.mixed.Goals as goal
+
+pub returns : goal.returns
+returns c = simp c.mixed.ensures

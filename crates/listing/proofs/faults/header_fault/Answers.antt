@@ -1,0 +1,47 @@
+-- `header_fault` meets its contract. Assumes nothing.
+-- a version that there isn't
+use mathlib.Core.Path.{◌≡◌}
+use mathlib.Core.Bool.{true, false, not, ◌||◌}
+use mathlib.Core.List.{List}
+use Prim.Native.Nat.{ℕ}
+use lib.Dec.{eqb}
+use lib.ListN.{length}
+use borrow.Author.Tests.{lt-leb, le-leb, ne_eqb, not-true}
+use Rattle.octets.specs.Octets.{byte_at}
+use Rattle.listing.specs.declared.faults.HeaderFault.TheVariants as header
+use Rattle.listing.specs.Faults.{header_fault_of}
+use borrow.Author.Rules.{rules}
+use Rattle.listing.proofs.faults.header_fault.Goals as goal
+
+other_version : (b : List ℕ) (version : ℕ) → version ≡ byte_at b 0 → length b ≡ 3
+    → not (eqb version 1 || eqb version 2) ≡ true → header.Version version ≡ header_fault_of b
+unfolding header_fault_of
+other_version b version v size other = simp (← v, size, not-true (eqb version 1 || eqb version 2) other)
+
+-- a number of channels that there isn't
+channels : (b : List ℕ) (version count : ℕ) → version ≡ byte_at b 0 → count ≡ byte_at b 1 → length b ≡ 3
+    → not (eqb version 1 || eqb version 2) ≡ false → not (eqb count 1 || eqb count 2) ≡ true → header.Channels count ≡ header_fault_of b
+unfolding header_fault_of
+channels b version count v n size known other = simp (← v, ← n, size, known, not-true (eqb count 1 || eqb count 2) other)
+
+pub returns-then-bytes-eq0 : goal.returns-then-bytes-eq0
+unfolding header_fault_of
+returns-then-bytes-eq0 c = simp c.if-bytes-eq0.true
+
+pub returns-then-bytes-ne3 : goal.returns-then-bytes-ne3
+unfolding header_fault_of
+returns-then-bytes-ne3 c = simp (ne_eqb _ _ c.if-bytes-eq0.false, ne_eqb _ _ c.if-bytes-ne3.true)
+
+pub returns-then-not-version : goal.returns-then-not-version
+returns-then-not-version c = other_version c.args.bytes.now _ c.byte_at-version.ensures c.if-bytes-ne3.false c.if-not-version.true
+
+pub returns-then-not-count : goal.returns-then-not-count
+returns-then-not-count c = channels c.args.bytes.now _ _ c.byte_at-version.ensures c.byte_at-count.ensures c.if-bytes-ne3.false c.if-not-version.false c.if-not-count.true
+
+pub returns-then-passthru-gt1 : goal.returns-then-passthru-gt1
+unfolding header_fault_of
+returns-then-passthru-gt1 c = simp (← c.byte_at-version.ensures, ← c.byte_at-count.ensures, ← c.byte_at-passthru.ensures, c.if-bytes-ne3.false, c.if-not-version.false, c.if-not-count.false, lt-leb _ _ c.if-passthru-gt1.true)
+
+pub returns : goal.returns
+unfolding header_fault_of
+returns c = simp (← c.byte_at-version.ensures, ← c.byte_at-count.ensures, ← c.byte_at-passthru.ensures, c.if-bytes-ne3.false, c.if-not-version.false, c.if-not-count.false, le-leb _ _ c.if-passthru-gt1.false)

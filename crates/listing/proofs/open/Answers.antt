@@ -1,0 +1,12 @@
+-- `open` meets its contract. Assumes nothing.
+use Rattle.listing.specs.Steps.{opened_of}
+use borrow.Author.Rules.{rules}
+use Rattle.listing.proofs.open.Goals as goal
+
+pub returns-in-Good : goal.returns-in-Good
+unfolding opened_of
+returns-in-Good c = simp (← c.read_header.ensures, c.header-1.given.1, c.new.ensures, c.player_for.ensures)
+
+pub returns-in-Bad : goal.returns-in-Bad
+unfolding opened_of
+returns-in-Bad c = simp (← c.read_header.ensures, c.enum_told-1.given.1, c.bad_line.ensures, c.player_for-in-Bad.ensures)

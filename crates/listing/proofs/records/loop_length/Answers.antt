@@ -1,0 +1,33 @@
+-- `loop_length` meets its contract. Assumes nothing.
+use mathlib.Core.Path.{sym}
+use native.Mathlib.Omega.{arith}
+use Rattle.common_types.specs.declared.time_value.TimeOrRatio.TheVariants.{WholeBars}
+use lib.ListN.{get_or-eq_default}
+use Rattle.listing.specs.Records.{first_lengths, length_by_kind}
+use Rattle.listing.proofs.records.loop_length.Goals as goal
+
+pub returns-in-0 : goal.returns-in-0
+unfolding length_by_kind
+returns-in-0 c = rw c.in-0.keys1
+
+pub returns-in-1 : goal.returns-in-1
+unfolding length_by_kind
+returns-in-1 c = rw c.in-1.keys2
+
+pub returns-in-2 : goal.returns-in-2
+unfolding length_by_kind
+returns-in-2 c = rw c.in-2.keys3
+
+pub returns-in-3 : goal.returns-in-3
+unfolding length_by_kind
+returns-in-3 c = rw c.in-3.keys4
+
+pub returns-in-4 : goal.returns-in-4
+unfolding length_by_kind
+returns-in-4 c = rw c.in-4.keys5
+
+pub returns-in_default : goal.returns-in_default
+unfolding length_by_kind
+returns-in_default c =
+    sym (get_or-eq_default (first_lengths c.args.value) (WholeBars c.args.value) {n = c.args.kind}
+    (omega (arith, c.in_default.rest.0.0.0.0.1, c.in_default.rest.0.0.0.1, c.in_default.rest.0.0.1, c.in_default.rest.0.1, c.in_default.rest.1)))

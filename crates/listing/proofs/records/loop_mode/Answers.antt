@@ -1,0 +1,12 @@
+-- `loop_mode` meets its contract. Assumes nothing.
+use Rattle.listing.specs.Records.{loop_mode_of}
+use borrow.Author.Rules.{rules}
+use Rattle.listing.proofs.records.loop_mode.Goals as goal
+
+pub returns-in-Done : goal.returns-in-Done
+unfolding loop_mode_of
+returns-in-Done c = simp (← c.from_index.ensures, c.mode-1.given.1)
+
+pub returns-in-Refused : goal.returns-in-Refused
+unfolding loop_mode_of
+returns-in-Refused c = simp (← c.from_index.ensures, c.enum_told-1.given.1)

@@ -1,0 +1,12 @@
+-- `note_off` meets its contract. Assumes nothing.
+use Rattle.listing.specs.Records.{note_off_of}
+use borrow.Author.Rules.{rules}
+use Rattle.listing.proofs.records.note_off.Goals as goal
+
+pub returns-in-Done : goal.returns-in-Done
+unfolding note_off_of
+returns-in-Done c = simp (← c.from_index.ensures, c.behaviour-1.given.1)
+
+pub returns-in-Refused : goal.returns-in-Refused
+unfolding note_off_of
+returns-in-Refused c = simp (← c.from_index.ensures, c.enum_told-1.given.1)

@@ -1,0 +1,59 @@
+-- `first_from` meets its contract. The loop's invariant: it found the first of those passed, and has where it begins. Assumes nothing.
+-- where the one found begins
+use Rattle.std.proofs.Common.{◌≡◌, ℕ, ◌+◌, ◌-◌, ◌≤◌, Bool, true, false, cond, not, ◌&&◌, ◌||◌, eqb, ltb, leb, List, get_or, sym, refl, ap, ◌∙◌, ⊎_elim, add-one, arith, rules}
+use borrow.Author.Tests.{eqb-false}
+use Rattle.phrases.specs.Phrases.{no_phrase, no_samples}
+use Rattle.phrases.specs.Gathering.{first_below}
+use Rattle.phrases.specs.declared.Phrase.{Phrase}
+use Rattle.phrases.proofs.first_from.Goals as goal
+
+abbrev Begins : List Phrase → ℕ → ℕ → Type 0
+Begins all found start = (found ≡ 8 → ⊥) → start ≡ (get_or all found no_phrase).start
+
+-- one more, by the test that the code makes
+module _ (place : ℕ) (all : List Phrase) (i found start : ℕ) (is : found ≡ first_below place all i) (begins : Begins all found start) where
+  abbrev p : Phrase
+  p = get_or all i no_phrase
+
+  earlier : (b : Bool) → eqb found 8 ≡ b → (eqb found 8 || ltb p.start (get_or all found no_phrase).start) ≡ (eqb found 8 || ltb p.start start)
+  earlier true e = rw e
+  earlier false e = rw (begins (eqb-false found 8 e))
+
+  next : (none test : Bool) → none ≡ no_samples p → ((not none && leb place p.start) && (eqb found 8 || ltb p.start start)) ≡ test
+      → first_below place all (i + 1) ≡ cond test i found
+  unfolding first_below
+  next none test e t = rw (add-one i, ← is, earlier (eqb found 8) refl, ← e, t)
+
+pub loop-i-init : goal.loop-i-init
+unfolding first_below
+loop-i-init c = (omega arith, refl, λ h. absurd (h refl))
+
+pub offset_bounds-all-i : goal.offset_bounds-all-i
+offset_bounds-all-i c = omega arith
+
+pub bounds-all-i : goal.bounds-all-i
+bounds-all-i c = omega arith
+
+pub overflow_add-i : goal.overflow_add-i
+overflow_add-i c = omega arith
+
+pub loop-i-smaller : goal.loop-i-smaller
+loop-i-smaller c = omega arith
+
+pub loop-i-preserved : goal.loop-i-preserved
+loop-i-preserved c =
+    let l = c.loop-i in
+    let a = c.args in
+    let n = next a.place a.t1 l.i l.found l.start l.invariant.1 l.invariant.2 c.is_empty.result in
+    let e = c.is_empty.ensures in
+    let begins : ℕ → ℕ = λ k. (get_or a.t1 k no_phrase).start in
+    ⊎_elim
+    (λ w. (omega arith, w.1 ∙ sym (n true e w.0.taken), λ h. w.2 ∙ ap begins (sym w.1)))
+    (λ w. (omega arith, w.1 ∙ sym (n false e w.0.left), λ h. w.2 ∙ l.invariant.2 (λ z. h (w.1 ∙ z)) ∙ ap begins (sym w.1)))
+    c.if-is_empty-place.branch
+
+pub returns : goal.returns
+returns c =
+    let l = c.loop-i in
+    let e : l.i ≡ 8 = omega arith in
+    l.invariant.1 ∙ ap (first_below c.args.place c.args.t1) e

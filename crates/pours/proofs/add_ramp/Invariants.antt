@@ -1,0 +1,16 @@
+use mathlib.Core.Path.{ap₂, subst}
+use Prim.Native.Nat.{ℕ, ◌+◌, ◌-◌, ◌≤◌, ◌<◌, zero-le}
+use native.Mathlib.Omega.{arith}
+use lib.Ieee.{Float, nan, binary32, add, mul}
+use lib.ListN.{get_or}
+use borrow.Author.Rules.{rules}
+use Rattle.pours.specs.Eases.{term_at, Added}
+use Rattle.pours.specs.Steady.{ramp_by}
+use Rattle.pours.proofs.Added.{none, one}
+use Rattle.pours.proofs.add_ramp.Given as goal
+
+abbrev pub invariant-loop-k : goal.invariant-loop-k
+invariant-loop-k l = (l.k ≤ l.sums) × Added (λ (j : ℕ). term_at l.values (ramp_by l.over l.low l.rise (l.from + j)) j) 0 l.k l.initial.sums l.initial.k
+
+abbrev pub decreases-loop-k : goal.decreases-loop-k
+decreases-loop-k l = l.sums - l.k

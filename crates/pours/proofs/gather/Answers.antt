@@ -1,0 +1,22 @@
+-- `gather` meets its contract. Assumes nothing.
+use mathlib.Core.Path.{refl, sym, ◌∙◌}
+use native.Mathlib.Omega.{arith}
+use mathlib.Core.Bool.{true≢false}
+use borrow.Author.Tests.{not-false}
+use Rattle.pours.proofs.Promised.{gathered}
+use borrow.Author.Rules.{rules}
+use Rattle.pours.proofs.gather.Goals as goal
+
+pub returns-then-not-places : goal.returns-then-not-places
+returns-then-not-places c = (c.places.ensures.0, λ told. absurd (true≢false (sym told)))
+
+pub returns-then-not-lasts : goal.returns-then-not-lasts
+returns-then-not-lasts c = (c.fetch-f.ensures.size ∙ c.places.ensures.0, λ told. absurd (true≢false (sym told)))
+
+pub returns : goal.returns
+returns c =
+    let a = c.args in
+    let f = c.fetch-f in
+    let o = c.places in
+    let l = c.lasts in
+    (f.ensures.size ∙ o.ensures.0, λ told. gathered a.«data».now a.t a.n a.v _ _ f.result c.requires.0.some (l.ensures (not-false l.result c.if-not-lasts.false)) (o.ensures.1 (not-false o.result c.if-not-places.false)) f.ensures)

@@ -1,0 +1,13 @@
+-- `place_by` meets its contract, by the way. Assumes nothing.
+use mathlib.Core.Path.{◌∙◌}
+use borrow.Author.Rules.{rules}
+use Rattle.pours.proofs.place_by.Goals as goal
+
+pub returns-in-Up : goal.returns-in-Up
+returns-in-Up c = simp c.enum_told-1.given.1
+
+pub returns-in-Down : goal.returns-in-Down
+returns-in-Down c = simp c.enum_told-in-Down-1.given.1
+
+pub returns-in-Fold : goal.returns-in-Fold
+returns-in-Fold c = c.fold.ensures ∙ simp c.enum_told-in-Fold-1.given.1

@@ -1,0 +1,44 @@
+-- `places_within` meets its contract. The invariant: so many samples stand, if each was told. The measure is how many are left. Assumes nothing.
+use mathlib.Core.Path.{◌≡◌, refl, sym, ap, ◌∙◌, subst}
+use Prim.Native.Nat.{ℕ, ◌+◌, ◌-◌, ◌≤◌, ◌<◌, zero-le}
+use native.Mathlib.Omega.{arith}
+use mathlib.Core.Bool.{Bool, true, not}
+use lib.Dec.{T}
+use lib.Ieee.{Float, lt, le, is_nan, of_bits}
+use lib.Ieee.Bits.{is_true}
+use lib.Ieee.Fits.{and_l, and_r}
+use lib.ListN.{length, length-set}
+use borrow.Author.Rules.{rules}
+use Rattle.binary32.specs.Leaves.{zero32}
+use Rattle.binary32.proofs.Truth.{yes}
+use Rattle.pours.specs.Steady.{travel_by, CountedPlaces}
+use Rattle.pours.proofs.Placing.{told_next, within_by}
+use Rattle.pours.proofs.places_within.Goals as goal
+
+pub loop-k-init : goal.loop-k-init
+loop-k-init c = (zero-le, refl, λ told k h. absurd (omega (arith, h)))
+
+pub loop-k-preserved : goal.loop-k-preserved
+unfolding of_bits
+loop-k-preserved c =
+    let a = c.args in
+    let l = c.loop-k in
+    let left = c.left_by-y in
+    let place = c.place_by in
+    let spot = c.spot_at-p in
+    let below : l.k < a.n = c.loop-k-test.true in (
+      omega (arith, below),
+      length-set l.values l.k spot.result.index ∙ l.invariant.1,
+      λ told.
+          let h = and_r l.told _ (yes told) in
+          let some = and_l (lt zero32 left.result) _ h in
+          let S = spot.ensures (is_true _ (and_r (lt zero32 left.result) _ h)) in
+          told_next a.c (λ (j : ℕ). travel_by a.c.shift a.c.speed (a.from + j)) l.k l.values _ place.result spot.result.index (omega (arith, below, c.requires.2, l.invariant.1)) c.travel.ensures
+          (within_by a.way a.c.mode _ _ _ left.result place.result a.c.length c.requires.0 c.size_by-x.ensures c.period.ensures place.ensures left.ensures some S.0)
+          S.1 (l.invariant.2 (is_true l.told (and_l l.told _ (yes told)))),
+    )
+
+pub returns : goal.returns
+returns c =
+    let l = c.loop-k in
+    (l.invariant.1, λ told k h. l.invariant.2 told k (omega (arith, h, c.loop-k-test.false)))

@@ -1,0 +1,32 @@
+-- `pour` meets its contract. The invariant: so many terms are added. The measure is how many are left. Assumes nothing.
+-- one term more
+use mathlib.Core.Path.{◌≡◌, sym, ap, ◌∙◌, subst}
+use Prim.Native.Nat.{ℕ, ◌+◌, ◌-◌, ◌≤◌, ◌<◌}
+use native.Mathlib.Nat.{add_assoc, add-sub_cancel_left, add-zero}
+use native.Mathlib.Omega.{arith}
+use mathlib.Core.List.{List}
+use lib.Ieee.{Float, nan, binary32, add, mul}
+use lib.ListN.{length, get_or, set}
+use borrow.Author.Rules.{rules}
+use Rattle.voice.specs.Voices.{recorded_value_of}
+use Rattle.pours.specs.Eases.{term_at, Added}
+use Rattle.pours.proofs.Added.{none, one}
+use Rattle.pours.proofs.pour.Goals as goal
+
+pub loop-k-init : goal.loop-k-init
+loop-k-init c =
+    let a = c.args in
+    (omega arith, subst (λ (e : ℕ). Added (term a.«data».now a.from a.level a.at) a.at e a.sums.now a.sums.now) (sym (add-zero a.at)) (none _ a.at a.sums.now))
+
+pub loop-k-preserved : goal.loop-k-preserved
+loop-k-preserved c =
+    let a = c.args in
+    let l = c.loop-k in
+    let below : a.at + l.k < length a.sums.now = omega (arith, l.invariant.0, c.requires.1, c.loop-k-test.true) in
+    (omega (arith, c.loop-k-test.true), more a.«data».now a.from a.level a.at a.sums.now l.sums l.k c.from_bits.result c.from_bits.ensures below l.invariant.1)
+
+pub returns : goal.returns
+returns c =
+    let a = c.args in
+    let l = c.loop-k in
+    subst (λ (k : ℕ). Added (term a.«data».now a.from a.level a.at) a.at (a.at + k) a.sums.now l.sums) (omega (arith, l.invariant.0, c.loop-k-test.false)) l.invariant.1

@@ -1,0 +1,16 @@
+use mathlib.Core.Path.{◌≡◌, sym, ap, ◌∙◌, subst}
+use Prim.Native.Nat.{ℕ, ◌+◌, ◌-◌, ◌%◌, ◌≤◌, ◌<◌, zero-le, min}
+use native.Mathlib.Nat.{mod-lt, mod-eq_of_lt, add-zero}
+use native.Mathlib.Omega.{arith}
+use borrow.Author.Rules.{rules}
+use Rattle.pours.specs.Eases.{Added}
+use Rattle.pours.proofs.Added.{none}
+use Rattle.pours.proofs.Straight.{term, further, place_next}
+use Rattle.pours.proofs.pour_all.Given as goal
+
+abbrev pub invariant-loop-f : goal.invariant-loop-f
+invariant-loop-f l =
+    (l.f ≤ l.sums) × (l.initial.f < l.round) × (l.initial.f ≡ (l.place + l.f) % l.round) × Added (term l.start l.place l.round l.total l.data l.level) 0 l.f l.initial.sums l.at
+
+abbrev pub decreases-loop-f : goal.decreases-loop-f
+decreases-loop-f l = l.sums - l.f

@@ -1,0 +1,8 @@
+-- `ramp_level` meets its contract. Assumes nothing.
+use lib.Ieee.{of_bits}
+use borrow.Author.Rules.{rules}
+use Rattle.pours.proofs.ramp_level.Goals as goal
+
+pub returns : goal.returns
+unfolding of_bits
+returns c = simp (c.min.ensures, c.max.ensures, c.float_of.ensures)

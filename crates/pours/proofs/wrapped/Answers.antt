@@ -1,0 +1,13 @@
+-- `wrapped` meets its contract, by the mode. Assumes nothing.
+use mathlib.Core.Path.{◌∙◌}
+use Rattle.clip.specs.Positions.{wrapped_of}
+use borrow.Author.Rules.{rules}
+use Rattle.pours.proofs.wrapped.Goals as goal
+
+pub returns-in-Loop : goal.returns-in-Loop
+unfolding wrapped_of
+returns-in-Loop c h = c.looped.ensures h ∙ simp c.enum_told-1.given.1
+
+pub returns-in-PingPong : goal.returns-in-PingPong
+unfolding wrapped_of
+returns-in-PingPong c h = c.bounced.ensures h ∙ simp c.enum_told-in-PingPong-1.given.1

@@ -1,0 +1,29 @@
+-- `active_count` meets its contract, by the law of loops. Assumes nothing.
+use mathlib.Core.Path.{sym, ◌∙◌}
+use Prim.Native.Nat.{◌+◌, ◌-◌, ◌≤◌}
+use native.Mathlib.Nat.{add-zero, zero-add}
+use native.Mathlib.Omega.{arith}
+use mathlib.Core.List.{List}
+use lib.ListN.{length}
+use Rattle.walks.specs.Walks.{without}
+use Rattle.walks.proofs.Lists.Loops.{Walk, turns, ends, long, begins}
+use Rattle.voice.specs.declared.Voice.{Voice}
+use Rattle.channel.specs.Channels.{live}
+use Rattle.channel.proofs.Slots.{none}
+use Rattle.questions.specs.Questions.{notes_of}
+use Rattle.questions.proofs.Notes.{one_note, count_on}
+use borrow.Author.Rules.{rules}
+use Rattle.questions.proofs.active_count.Goals as goal
+
+pub loop-i-init : goal.loop-i-init
+loop-i-init c = (begins (λ (vs : List Voice). 0 + length (notes_of vs)) c.args.t1.voices c.args.t1.count _ 32 (long _ c.args.t1.voices 32 c.well_formed.0.1.1.0.1.0.1) c.places-n.ensures, search rules)
+
+pub overflow_add-k : goal.overflow_add-k
+overflow_add-k c = omega (arith, one_note _ _ c.note_count-k.ensures)
+
+pub loop-i-preserved : goal.loop-i-preserved
+loop-i-preserved c = (turns none c.loop-i.invariant.0 (search rules) (λ vs. count_on _ _ _ vs c.note_count-k.ensures), omega (arith, one_note _ _ c.note_count-k.ensures))
+
+pub returns : goal.returns
+unfolding notes_of without
+returns c = sym (add-zero _) ∙ ends c.loop-i.invariant.0 c.loop-i-test.false ∙ zero-add _

@@ -1,0 +1,6 @@
+-- `asked` meets its contract. Assumes nothing.
+use borrow.Author.Rules.{rules}
+use Rattle.questions.proofs.asked.Goals as goal
+
+pub returns : goal.returns
+returns c = simp (c.rows.ensures, c.good.ensures)

@@ -1,0 +1,8 @@
+-- `get_waveform_summary` meets its contract: what it answers of what is seen is what it answers of the record. Assumes nothing.
+use borrow.Author.Rules.{rules}
+use Rattle.questions.proofs.Seats.{waveform_seen, list_seen}
+use Rattle.questions.proofs.get_waveform_summary.Goals as goal
+
+pub returns : goal.returns
+returns c =
+    (simp (c.waveform_in.ensures.0, c.look.ensures) (waveform_seen _ _ _ _), simp (c.waveform_in.ensures.1, c.look.ensures) (list_seen _ _ _ _))

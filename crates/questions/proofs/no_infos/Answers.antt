@@ -1,0 +1,6 @@
+-- `no_infos` meets its contract. Assumes nothing.
+use borrow.Author.Rules.{rules}
+use Rattle.questions.proofs.no_infos.Goals as goal
+
+pub returns : goal.returns
+returns c = simp c.default-none.ensures

@@ -1,0 +1,13 @@
+-- `offset_in` meets its contract. Assumes nothing.
+use borrow.Author.Tests.{ne_eqb}
+use Rattle.questions.specs.Questions.{answered}
+use borrow.Author.Rules.{rules}
+use Rattle.questions.proofs.offset_in.Goals as goal
+
+pub returns-then-number-ne0 : goal.returns-then-number-ne0
+unfolding answered
+returns-then-number-ne0 c = simp (← c.number_in-number.ensures, ne_eqb _ _ c.if-number-ne0.true)
+
+pub returns : goal.returns
+unfolding answered
+returns c = simp (← c.number_in-number.ensures, c.if-number-ne0.false, c.last_recorded_offset.ensures, c.recorder_in.ensures)

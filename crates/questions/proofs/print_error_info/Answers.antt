@@ -1,0 +1,8 @@
+-- `print_error_info` meets its contract: what it answers of what is seen is what it answers of the record. Assumes nothing.
+use borrow.Author.Rules.{rules}
+use Rattle.questions.proofs.Sights.{error_seen, text_seen}
+use Rattle.questions.proofs.print_error_info.Goals as goal
+
+pub returns : goal.returns
+returns c =
+    (simp (c.error_in.ensures.0, c.look.ensures) (error_seen _ _ _), simp (c.error_in.ensures.1, c.look.ensures) (text_seen _ _ _))

@@ -1,0 +1,18 @@
+use mathlib.Core.Path.{◌≡◌, refl, sym, ap}
+use mathlib.Core.List.{List, map}
+use Prim.Native.Nat.{ℕ, ◌-◌}
+use lib.ListN.{length}
+use lib.Ieee.{Float, of_bits}
+use Rattle.binary32.specs.Leaves.{float_of, zero32}
+use Rattle.walks.specs.Walks.{fold}
+use Rattle.walks.proofs.Lists.Loops.{Walk, turns, ends}
+use Rattle.questions.specs.Waveforms.{with_square, squares_of}
+use Rattle.questions.proofs.Filling.{from_start}
+use borrow.Author.Rules.{rules}
+use Rattle.questions.proofs.squares.Given as goal
+
+abbrev pub invariant-loop-i : goal.invariant-loop-i
+invariant-loop-i l = Walk (squares_of (map float_of l.samples)) (λ (xs : List ℕ). fold with_square l.initial.i (map float_of xs)) l.samples l.n l.i × (l.n ≡ length l.samples)
+
+abbrev pub decreases-loop-i : goal.decreases-loop-i
+decreases-loop-i l = l.n - l.i

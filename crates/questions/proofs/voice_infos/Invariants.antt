@@ -1,0 +1,17 @@
+use mathlib.Core.Path.{◌∙◌}
+use Prim.Native.Nat.{◌-◌}
+use Rattle.walks.proofs.Lists.Loops.{Walk, turns, ends, long, begins}
+use Rattle.channel.specs.Channels.{live}
+use Rattle.channel.proofs.Slots.{none}
+use Rattle.questions.specs.Questions.{figures_of, voice_infos_of}
+use Rattle.questions.proofs.Infos.{figured, filled, filled_on, filled_front}
+use borrow.Author.Rules.{rules}
+use Rattle.questions.proofs.voice_infos.Given as goal
+
+abbrev pub invariant-loop-i : goal.invariant-loop-i
+invariant-loop-i l =
+    let f = figures_of l.params l.first l.c in
+    Walk (filled f l.initial.answer 0 (live l.c)) (filled f l.initial.i l.i) l.c.voices l.n l.i
+
+abbrev pub decreases-loop-i : goal.decreases-loop-i
+decreases-loop-i l = l.n - l.i

@@ -1,0 +1,21 @@
+-- `with_sample` meets its contract, by the state and the room at the write place. Assumes nothing.
+use borrow.Author.Tests.{lt-ltb, le-ltb}
+use borrow.Author.Rules.{rules}
+use Rattle.recorder.specs.Recording.{recorded_of, data_after, in_state, skipped_of}
+use Rattle.recorder.proofs.Recorder.with_sample.Goals as goal
+
+pub returns-in_default : goal.returns-in_default
+unfolding recorded_of data_after
+returns-in_default c = (simp (c.enum_told-1.given.1, c.copied.ensures), simp c.enum_told-1.given.1)
+
+pub returns-then-data-write : goal.returns-then-data-write
+unfolding recorded_of data_after skipped_of
+returns-then-data-write c =
+    let is = c.state-1.given.1 in
+    (simp (is, le-ltb _ _ c.if-data-write.true, c.raised_count.ensures), simp (is, le-ltb _ _ c.if-data-write.true))
+
+pub returns : goal.returns
+unfolding recorded_of data_after in_state
+returns c =
+    let is = c.state-1.given.1 in
+    (simp (is, lt-ltb _ _ c.if-data-write.false, c.larger.ensures), simp (is, lt-ltb _ _ c.if-data-write.false))

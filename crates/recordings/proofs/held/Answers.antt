@@ -1,0 +1,6 @@
+-- `held` meets its contract, by its cases. Assumes nothing.
+use Rattle.std.proofs.Common.{rules}
+use Rattle.recordings.proofs.held.Goals as goal
+
+pub returns-in-Refused : goal.returns-in-Refused
+returns-in-Refused c = simp c.enum_told-1.given.1

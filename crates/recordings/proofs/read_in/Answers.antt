@@ -1,0 +1,14 @@
+-- `read_in` meets its contract: refused with the memory kept, or done with the file's words in it. Assumes nothing.
+use Rattle.recordings.proofs.Sights.{loading_refused, loading_done}
+use Rattle.std.proofs.Common.{rules}
+use Rattle.recordings.proofs.read_in.Goals as goal
+
+pub returns-then-number-ne0 : goal.returns-then-number-ne0
+returns-then-number-ne0 c =
+    let a = c.args in
+    loading_refused a.t a.file.now a.memory.now _ c.judge-judged.ensures _ c.held-w.ensures _ c.number_in-number.ensures c.if-number-ne0.true
+
+pub returns : goal.returns
+returns c =
+    let a = c.args in
+    loading_done a.t a.file.now a.memory.now _ c.judge-judged.ensures _ c.held-w.ensures _ c.number_in-number.ensures c.if-number-ne0.false _ c.beginnings_in.ensures _ c.load.ensures.1

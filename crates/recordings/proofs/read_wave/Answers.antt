@@ -1,0 +1,16 @@
+-- `read_wave` meets its contract: the request's rows in their order, and then the file's words and length. Assumes nothing.
+use Rattle.std.proofs.Common.{sym, ◌∙◌, rules}
+use Rattle.sampler.proofs.Rows.{fitting}
+use Rattle.recordings.proofs.Numbers.{read-refused, read_done, read_says}
+use Rattle.recordings.proofs.read_wave.Goals as goal
+
+pub returns-then-number-ne0 : goal.returns-then-number-ne0
+returns-then-number-ne0 c = let a = c.args in read-refused a.s a.file.now a.memory.now _ c.judge-judged.ensures _ c.read_number-number.ensures c.if-number-ne0.true
+
+pub beginnings-requires : goal.beginnings-requires
+beginnings-requires c = (fitting _ _ (read_says _ _ _ (sym c.read_number-number.ensures ∙ c.if-number-ne0.false)).good).good
+
+pub returns : goal.returns
+returns c =
+    let a = c.args in
+    read_done a.s a.file.now a.memory.now _ c.judge-judged.ensures _ c.read_number-number.ensures c.if-number-ne0.false _ c.beginnings.ensures _ c.load.ensures.1 _ c.held-w.ensures _ c.loaded-sampler.ensures

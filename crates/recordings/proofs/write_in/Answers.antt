@@ -1,0 +1,18 @@
+-- `write_in` meets its contract: the request's rows in their order, and then the file. Assumes nothing.
+use Rattle.questions.proofs.Seats.{seated}
+use Rattle.recordings.proofs.Sights.{write_refused, write_good, write_done}
+use Rattle.std.proofs.Common.{rules}
+use Rattle.recordings.proofs.write_in.Goals as goal
+
+pub returns-then-number-ne0 : goal.returns-then-number-ne0
+returns-then-number-ne0 c = let a = c.args in write_refused a.t a.rate a.memory.now a.out.now _ c.write_number-number.ensures c.if-number-ne0.true
+
+pub layout-requires : goal.layout-requires
+layout-requires c =
+    let a = c.args in
+    (seated _ _ (write_good a.t a.rate a.memory.now a.out.now _ c.write_number-number.ensures c.if-number-ne0.false)).sound
+
+pub returns : goal.returns
+returns c =
+    let a = c.args in
+    write_done a.t a.rate a.memory.now a.out.now _ c.write_number-number.ensures c.if-number-ne0.false _ c.layout.ensures _ c.write.ensures.0 _ c.write.ensures.1

@@ -1,0 +1,10 @@
+-- `write_wave` meets its contract: what it answers of what is seen is what it answers of the record. Assumes nothing.
+use Rattle.walks.proofs.Lists.Loops.{long}
+use Rattle.recordings.proofs.Sights.{write_seen_lem, wave_seen}
+use Rattle.std.proofs.Common.{rules}
+use Rattle.recordings.proofs.write_wave.Goals as goal
+
+pub returns : goal.returns
+returns c =
+    let two = long _ c.args.s.channels 2 c.well_formed.0.1.1.0.1.0.1 in
+    (simp (c.write_in.ensures.0, c.look.ensures) (write_seen_lem _ two _ _), simp (c.write_in.ensures.1, c.look.ensures) (wave_seen _ two _ _ _))

@@ -1,0 +1,21 @@
+-- `Sampler::against` meets its contract, by the law of loops. Assumes nothing.
+use mathlib.Core.Path.{◌∙◌}
+use mathlib.Core.Bool.{false}
+use Prim.Native.Nat.{◌-◌}
+use Rattle.walks.proofs.Lists.Loops.{Walk, turns, ends, long, begins}
+use Rattle.sampler.specs.Refusals.{present, against_any}
+use Rattle.sampler.proofs.Seats.{none}
+use Rattle.sampler.proofs.Against.{against_from, against_on, against_ends}
+use borrow.Author.Rules.{rules}
+use Rattle.sampler.proofs.Sampler.against.Goals as goal
+
+pub loop-j-init : goal.loop-j-init
+loop-j-init c = begins (against_from c.args.t1.capacity c.args.ask false false) c.args.t1.channels c.args.t1.count _ 2 (long _ c.args.t1.channels 2 c.well_formed.0.1.1.0.1.0.1) c.places-n.ensures
+
+pub loop-j-preserved : goal.loop-j-preserved
+loop-j-preserved c =
+    turns none c.loop-j.invariant (search rules) (λ xs. against_on c.args.t1.capacity c.args.ask c.loop-j.blocked c.loop-j.short _ _ xs c.against-a.ensures)
+
+pub returns : goal.returns
+unfolding against_any
+returns c = against_ends c.args.t1.capacity c.args.ask c.loop-j.blocked c.loop-j.short ∙ ends c.loop-j.invariant c.loop-j-test.false

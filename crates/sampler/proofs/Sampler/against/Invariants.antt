@@ -1,0 +1,16 @@
+use mathlib.Core.Path.{◌∙◌}
+use mathlib.Core.Bool.{false}
+use Prim.Native.Nat.{◌-◌}
+use Rattle.walks.proofs.Lists.Loops.{Walk, turns, ends, long, begins}
+use Rattle.sampler.specs.Refusals.{present, against_any}
+use Rattle.sampler.proofs.Seats.{none}
+use Rattle.sampler.proofs.Against.{against_from, against_on, against_ends}
+use borrow.Author.Rules.{rules}
+use Rattle.sampler.proofs.Sampler.against.Given as goal
+
+abbrev pub invariant-loop-j : goal.invariant-loop-j
+invariant-loop-j l =
+    Walk (against_from l.capacity l.ask false false (present l.self)) (against_from l.capacity l.ask l.short l.initial.j) l.self.channels l.n l.j
+
+abbrev pub decreases-loop-j : goal.decreases-loop-j
+decreases-loop-j l = l.n - l.j

@@ -1,0 +1,23 @@
+-- `Sampler::any_recording` meets its contract, by the law of loops. Assumes nothing.
+use Prim.Native.Nat.{◌-◌}
+use Rattle.walks.specs.Walks.{any}
+use Rattle.walks.proofs.Lists.Loops.{Walk, turns, stops, ends, long, begins}
+use Rattle.sampler.specs.Refusals.{present, records}
+use Rattle.sampler.proofs.Seats.{none}
+use borrow.Author.Rules.{rules}
+use Rattle.sampler.proofs.Sampler.any_recording.Goals as goal
+
+pub loop-j-init : goal.loop-j-init
+loop-j-init c = begins (any records) c.args.t1.channels c.args.t1.count _ 2 (long _ c.args.t1.channels 2 c.well_formed.0.1.1.0.1.0.1) c.places-n.ensures
+
+pub returns-then-is_recording : goal.returns-then-is_recording
+unfolding any
+returns-then-is_recording c = stops none c.loop-j.invariant (search rules) (λ xs. simp (← c.is_recording.ensures, c.if-is_recording.true))
+
+pub loop-j-preserved : goal.loop-j-preserved
+unfolding any
+loop-j-preserved c = turns none c.loop-j.invariant (search rules) (λ xs. simp (← c.is_recording.ensures, c.if-is_recording.false))
+
+pub returns : goal.returns
+unfolding any
+returns c = ends c.loop-j.invariant c.loop-j-test.false

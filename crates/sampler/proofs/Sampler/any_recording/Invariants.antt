@@ -1,0 +1,13 @@
+use Prim.Native.Nat.{◌-◌}
+use Rattle.walks.specs.Walks.{any}
+use Rattle.walks.proofs.Lists.Loops.{Walk, turns, stops, ends, long, begins}
+use Rattle.sampler.specs.Refusals.{present, records}
+use Rattle.sampler.proofs.Seats.{none}
+use borrow.Author.Rules.{rules}
+use Rattle.sampler.proofs.Sampler.any_recording.Given as goal
+
+abbrev pub invariant-loop-j : goal.invariant-loop-j
+invariant-loop-j l = Walk (any records (present l.self)) (any records) l.self.channels l.n l.j
+
+abbrev pub decreases-loop-j : goal.decreases-loop-j
+decreases-loop-j l = l.n - l.j

@@ -1,0 +1,14 @@
+use Prim.Native.Nat.{◌-◌}
+use native.Mathlib.Nat.{le_refl}
+use Rattle.walks.proofs.Lists.Loops.{Walk, stores, ends, long, begins}
+use Rattle.sampler.specs.Refusals.{present}
+use Rattle.sampler.specs.Samplers.{each_of}
+use Rattle.sampler.proofs.Seats.{none, each_from, each_on}
+use borrow.Author.Rules.{rules}
+use Rattle.sampler.proofs.Sampler.each.Given as goal
+
+abbrev pub invariant-loop-j : goal.invariant-loop-j
+invariant-loop-j l = Walk (each_from l.change l.initial.self 0 (present l.initial.self)) (each_from l.change l.initial.j l.j) l.initial.j.channels l.self l.j
+
+abbrev pub decreases-loop-j : goal.decreases-loop-j
+decreases-loop-j l = l.self - l.j

@@ -1,0 +1,48 @@
+-- `Sampler::entries` meets its contract, by the laws of `Framing`. Assumes nothing.
+use Prim.Native.Nat.{◌-◌}
+use lib.ListN.{length}
+use Rattle.sampler.specs.Samplers.{framed, entries_of, entries_moved}
+use Rattle.sampler.proofs.Framing.{Framing, framing_starts, framing_ready, framing_on, framing_ends, Summing, summing_starts, summing_on, summing_ends}
+use borrow.Author.Rules.{rules}
+use native.Mathlib.Omega.{arith}
+use Rattle.sampler.proofs.Sampler.entries.Goals as goal
+
+pub loop-j-init : goal.loop-j-init
+loop-j-init c = (
+  framing_starts c.args.params c.args.self c.args.frame.now c.args.memory.now c.requires,
+  summing_starts c.args.params c.args.self c.args.frame.now c.args.memory.now,
+)
+
+pub bounds-frame-j : goal.bounds-frame-j
+bounds-frame-j c = omega (arith, c.loop-j.invariant.0.entries)
+
+pub step-stepped-requires : goal.step-stepped-requires
+step-stepped-requires c = framing_ready c.loop-j.invariant.0 c.loop-j-test.true
+
+pub bounds-frame-j-in-loop-j : goal.bounds-frame-j-in-loop-j
+bounds-frame-j-in-loop-j c = omega (arith, c.loop-j.invariant.0.entries)
+
+pub overflow_add-moved : goal.overflow_add-moved
+overflow_add-moved c =
+    let h = c.loop-j.invariant in
+    let t = c.loop-j-test.true in
+    record { fits = omega (arith, h.1.few, h.0.steps.below, t, c.step-stepped.ensures.0.3) }
+
+pub loop-j-preserved : goal.loop-j-preserved
+loop-j-preserved c =
+    let h = c.loop-j.invariant in
+    let t = c.loop-j-test.true in
+    let r = c.step-stepped in
+    let e = r.ensures in (
+      framing_on h.0 t _ _ _ e.0.0 e.0.1 e.1 r.auto.1.1.1.1.0,
+      summing_on h.0 t _ _ _ e.0.0 e.0.1 e.1 r.auto.1.1.1.1.0 _ _ _ h.1 e.0.2 e.0.3,
+    )
+
+pub shape_of-frame : goal.shape_of-frame
+shape_of-frame c = c.loop-j.invariant.0.entries
+
+pub shape_of-memory : goal.shape_of-memory
+shape_of-memory c = c.loop-j.invariant.0.whole
+
+pub returns : goal.returns
+returns c = (framing_ends c.loop-j.invariant.0 c.loop-j-test.false, summing_ends c.loop-j.invariant.1 c.loop-j-test.false)

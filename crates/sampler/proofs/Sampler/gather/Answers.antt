@@ -1,0 +1,20 @@
+-- `Sampler::gather` meets its contract: refused where the number is not 0, and otherwise each channel gathered. Assumes nothing.
+use mathlib.Core.Path.{sym, ◌∙◌}
+use borrow.Author.Tests.{ne_eqb}
+use Rattle.sampler.specs.Samplers.{gather_of, gather_memory}
+use Rattle.sampler.proofs.Rows.{gather_steps}
+use borrow.Author.Rules.{rules}
+use Rattle.sampler.proofs.Sampler.gather.Goals as goal
+
+pub returns-then-number-ne0 : goal.returns-then-number-ne0
+unfolding gather_of gather_memory
+returns-then-number-ne0 c = (simp (← c.gather_number-number.ensures, ne_eqb _ _ c.if-number-ne0.true), simp (← c.gather_number-number.ensures, ne_eqb _ _ c.if-number-ne0.true))
+
+pub gathered-sampler-requires : goal.gathered-sampler-requires
+gathered-sampler-requires c = gather_steps _ _ (sym c.gather_number-number.ensures ∙ c.if-number-ne0.false)
+
+pub returns : goal.returns
+unfolding gather_of gather_memory
+returns c =
+    let e = sym c.gather_number-number.ensures ∙ c.if-number-ne0.false in
+    (simp (c.gathered-sampler.ensures.0, e), simp (c.gathered-sampler.ensures.1, e))

@@ -1,0 +1,20 @@
+-- `Sampler::latest` meets its contract, by the law of loops. Assumes nothing.
+use Prim.Native.Nat.{◌-◌}
+use Rattle.walks.specs.Walks.{fold}
+use Rattle.walks.proofs.Lists.Loops.{Walk, turns, ends, long, begins}
+use Rattle.sampler.specs.Refusals.{later_of, latest_of, present}
+use Rattle.sampler.proofs.Seats.{none}
+use borrow.Author.Rules.{rules}
+use Rattle.sampler.proofs.Sampler.latest.Goals as goal
+
+pub loop-j-init : goal.loop-j-init
+unfolding latest_of
+loop-j-init c = begins (fold later_of 0) c.args.t1.channels c.args.t1.count _ 2 (long _ c.args.t1.channels 2 c.well_formed.0.1.1.0.1.0.1) c.places-n.ensures
+
+pub loop-j-preserved : goal.loop-j-preserved
+unfolding fold
+loop-j-preserved c = turns none c.loop-j.invariant (search rules) (λ xs. simp c.larger-time.ensures)
+
+pub returns : goal.returns
+unfolding fold
+returns c = ends c.loop-j.invariant c.loop-j-test.false

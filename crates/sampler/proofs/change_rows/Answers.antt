@@ -1,0 +1,18 @@
+-- `change_rows` meets its contract, by its cases. Assumes nothing.
+use borrow.Author.Rules.{rules}
+use Rattle.sampler.proofs.change_rows.Goals as goal
+
+pub returns-in-Start : goal.returns-in-Start
+returns-in-Start c = simp (c.start_rows.ensures, c.change-1.given.1)
+
+pub returns-in-Stop : goal.returns-in-Stop
+returns-in-Stop c = simp (c.stop_rows.ensures, c.change-in-Stop-1.given.1)
+
+pub returns-in-Speed : goal.returns-in-Speed
+returns-in-Speed c = simp (c.speed_rows.ensures, c.change-in-Speed-1.given.1)
+
+pub returns-in-Head : goal.returns-in-Head
+returns-in-Head c = simp (c.first_of.ensures, c.head_rows.ensures, c.change-in-Head-1.given.1)
+
+pub returns-in-Reset : goal.returns-in-Reset
+returns-in-Reset c = simp (c.first_of-in-Reset.ensures, c.enum_told-1.given.1)

@@ -1,0 +1,26 @@
+-- `step_at` meets its contract. Assumes nothing.
+use mathlib.Core.Path.{sym, ◌∙◌}
+use borrow.Author.Tests.{lt-ltb, le-ltb}
+use Rattle.smf.specs.Events.{step_at}
+use borrow.Author.Rules.{rules}
+use Rattle.smf.proofs.events.step_at.Goals as goal
+
+pub returns-then-end-at : goal.returns-then-end-at
+unfolding step_at
+returns-then-end-at c = simp (le-ltb _ _ c.if-end-at.true)
+
+pub returns-in-Broken : goal.returns-in-Broken
+unfolding step_at
+returns-in-Broken c = simp (lt-ltb _ _ c.if-end-at.false, sym c.quantity_at.ensures ∙ c.fault-1.given.1)
+
+pub returns-in-Broken-event_at : goal.returns-in-Broken-event_at
+unfolding step_at
+returns-in-Broken-event_at c = simp (lt-ltb _ _ c.if-end-at.false, sym c.quantity_at.ensures ∙ c.value-1.given.1, sym c.event_at.ensures ∙ c.fault-in-Broken-event_at-1.given.1)
+
+pub returns-in-End : goal.returns-in-End
+unfolding step_at
+returns-in-End c = simp (lt-ltb _ _ c.if-end-at.false, sym c.quantity_at.ensures ∙ c.value-1.given.1, sym c.event_at.ensures ∙ c.behind-1.given.1)
+
+pub returns-in-Is-event_at : goal.returns-in-Is-event_at
+unfolding step_at
+returns-in-Is-event_at c = simp (lt-ltb _ _ c.if-end-at.false, sym c.quantity_at.ensures ∙ c.value-1.given.1, sym c.event_at.ensures ∙ c.event-1.given.1)

@@ -1,0 +1,16 @@
+-- `over` meets its contract. Assumes nothing.
+use Rattle.voice.specs.Voices.{over_of}
+use borrow.Author.Rules.{rules}
+use Rattle.voice.proofs.over.Goals as goal
+
+pub returns-in-Decay : goal.returns-in-Decay
+unfolding over_of
+returns-in-Decay c = simp c.enum_told-1.given.1
+
+pub returns-in-ZeroCrossing : goal.returns-in-ZeroCrossing
+unfolding over_of
+returns-in-ZeroCrossing c = simp c.enum_told-in-ZeroCrossing-1.given.1
+
+pub returns-in-DecayAndZeroCrossing : goal.returns-in-DecayAndZeroCrossing
+unfolding over_of
+returns-in-DecayAndZeroCrossing c = simp c.enum_told-in-DecayAndZeroCrossing-1.given.1

@@ -1,0 +1,12 @@
+-- `Judged::number` meets its contract. Assumes nothing.
+use Rattle.wave.specs.Reader.{judged_number}
+use borrow.Author.Rules.{rules}
+use Rattle.wave.proofs.Judged.number.Goals as goal
+
+pub returns-in-Is : goal.returns-in-Is
+unfolding judged_number
+returns-in-Is c = simp c.enum_told-1.given.1
+
+pub returns-in-Refused : goal.returns-in-Refused
+unfolding judged_number
+returns-in-Refused c = simp c.enum_told-in-Refused-1.given.1
