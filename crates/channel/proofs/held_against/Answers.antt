@@ -18,20 +18,20 @@ joined c =
 
 pub returns-in-Voice-ask : goal.returns-in-Voice-ask
 unfolding blocked_by short_by
-returns-in-Voice-ask c = let j = joined c in simp (j.1, sym j.0 ∙ c.enum_told-in-Voice-ask-1.given.1)
+returns-in-Voice-ask c = let j = joined c in simp (j.1, sym j.0 ∙ c.in-Voice-ask.is)
 
 pub returns-in-Samples-ask : goal.returns-in-Samples-ask
 unfolding blocked_by short_by
-returns-in-Samples-ask c = let j = joined c in simp (c.holds.ensures, j.1, sym j.0 ∙ c.ask-in-Samples-ask-2-1.given.1)
+returns-in-Samples-ask c = let j = joined c in simp (c.holds.ensures, j.1, sym j.0 ∙ c.in-Samples-ask.is)
 
 pub returns-in-Choice-ask : goal.returns-in-Choice-ask
 unfolding blocked_by short_by
-returns-in-Choice-ask c = let j = joined c in simp (j.1, sym j.0 ∙ c.enum_told-in-Choice-ask-1.given.1)
+returns-in-Choice-ask c = let j = joined c in simp (j.1, sym j.0 ∙ c.in-Choice-ask.is)
 
 pub returns-in-Delete-ask : goal.returns-in-Delete-ask
 unfolding blocked_by short_by
-returns-in-Delete-ask c = let j = joined c in simp (j.1, sym j.0 ∙ c.enum_told-in-Delete-ask-1.given.1)
+returns-in-Delete-ask c = let j = joined c in simp (j.1, sym j.0 ∙ c.in-Delete-ask.is)
 
 pub returns-in-Nothing-ask : goal.returns-in-Nothing-ask
 unfolding blocked_by short_by
-returns-in-Nothing-ask c = let j = joined c in simp (j.1, sym j.0 ∙ c.enum_told-in-Nothing-ask-1.given.1)
+returns-in-Nothing-ask c = let j = joined c in simp (j.1, sym j.0 ∙ c.in-Nothing-ask.is)

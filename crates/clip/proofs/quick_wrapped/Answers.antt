@@ -8,8 +8,8 @@ use Rattle.clip.proofs.quick_wrapped.Goals as goal
 pub returns-in-Loop-old : goal.returns-in-Loop-old
 unfolding wrapped_of
 returns-in-Loop-old c h =
-    let old = c.enum_told-in-Loop-old-1.given.1 in
-    (simp (c.enum_told-1.given.1, old), c.quick_looped.ensures h ∙ simp (old))
+    let old = c.in-Loop-old.is in
+    (simp (c.in-Loop.is, old), c.quick_looped.ensures h ∙ simp (old))
 
 pub returns-in-PingPong-old : goal.returns-in-PingPong-old
 unfolding of_bits le neg
@@ -22,5 +22,5 @@ returns-in-Loop-old-2 c h = absurd h
 pub returns-in-PingPong-old-2 : goal.returns-in-PingPong-old-2
 unfolding wrapped_of
 returns-in-PingPong-old-2 c h =
-    let old = c.enum_told-in-PingPong-old-2-1.given.1 in
-    (simp (c.enum_told-in-PingPong-1.given.1, old), c.quick_bounced.ensures h ∙ simp (old))
+    let old = c.in-PingPong-old-2.is in
+    (simp (c.in-PingPong.is, old), c.quick_bounced.ensures h ∙ simp (old))

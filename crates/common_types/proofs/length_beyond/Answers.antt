@@ -7,7 +7,7 @@ use Rattle.common_types.proofs.length_beyond.Goals as goal
 
 pub returns-in-Ratio : goal.returns-in-Ratio
 unfolding length_beyond of_bits
-returns-in-Ratio c = simp c.length-1.given.1
+returns-in-Ratio c = simp c.in-Ratio.is
 
 pub returns-in_default : goal.returns-in_default
 unfolding of_bits
@@ -16,5 +16,5 @@ returns-in_default c =
       c.time_length.ensures,
       c.whole.ensures,
       c.timed.ensures,
-      worked_beyond c.args.length c.args.transport c.in_default.keys2,
+      worked_beyond c.args.length c.args.transport c.in_default.not-Ratio,
     )

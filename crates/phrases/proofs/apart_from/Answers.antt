@@ -27,4 +27,4 @@ pub returns : goal.returns
 returns c =
     let l = c.loop-j in
     let e : l.j ≡ c.args.i = omega arith in
-    l.invariant.1 ∙ ap (λ (n : ℕ). every_below n (λ (k : ℕ). apart_of c.args.p (get_or c.args.t1 k no_phrase))) e
+    l.invariant.1 ∙ ap (λ (n : ℕ). every_below n (λ (k : ℕ). apart_of c.args.p (get_or c.args.all k no_phrase))) e

@@ -32,4 +32,4 @@ unfolding good_phrases
 returns c =
     let l = c.loop-i in
     let e : l.i ≡ 8 = omega arith in
-    l.invariant.1 ∙ ap (λ (n : ℕ). every_below n (good_at c.args.capacity c.args.t1)) e
+    l.invariant.1 ∙ ap (λ (n : ℕ). every_below n (good_at c.args.capacity c.args.all)) e

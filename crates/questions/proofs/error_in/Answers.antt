@@ -12,11 +12,11 @@ returns-then-number-ne0 c = let at = c.args in text_refused (not at.t.good) (not
 pub returns-in-Written : goal.returns-in-Written
 returns-in-Written c =
     let at = c.args in
-    let is = text_written (not at.t.good) (not (ltb at.channel at.t.count)) c.recorder_in.result _ _ c.number_in-number.ensures c.if-number-ne0.false _ (sym c.print_error_info-written.ensures.0 ∙ c.written-1.given.1) in
+    let is = text_written (not at.t.good) (not (ltb at.channel at.t.count)) c.recorder_in.result _ _ c.number_in-number.ensures c.if-number-ne0.false _ (sym c.print_error_info-written.ensures.0 ∙ c.in-Written.is) in
     rw (← c.recorder_in.ensures) (is.0, c.print_error_info-written.ensures.1 ∙ is.1)
 
 pub returns-in-Short : goal.returns-in-Short
 returns-in-Short c =
     let at = c.args in
-    let is = text_short (not at.t.good) (not (ltb at.channel at.t.count)) c.recorder_in.result _ _ c.number_in-number.ensures c.if-number-ne0.false (sym c.print_error_info-written.ensures.0 ∙ c.enum_told-1.given.1) in
+    let is = text_short (not at.t.good) (not (ltb at.channel at.t.count)) c.recorder_in.result _ _ c.number_in-number.ensures c.if-number-ne0.false (sym c.print_error_info-written.ensures.0 ∙ c.in-Short.is) in
     rw (← c.recorder_in.ensures) (is.0, c.print_error_info-written.ensures.1 ∙ is.1)

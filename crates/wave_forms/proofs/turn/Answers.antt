@@ -8,22 +8,22 @@ use borrow.Author.Rules.{rules}
 use Rattle.wave_forms.proofs.turn.Goals as goal
 
 pub overflow_mul-length : goal.overflow_mul-length
-overflow_mul-length c = let s = sourced _ _ (sym c.judge.ensures ∙ c.s-1.given.1) in omega arith
+overflow_mul-length c = let s = sourced _ _ (sym c.judge.ensures ∙ c.in-Is.is) in omega arith
 
 pub overflow_add-length : goal.overflow_add-length
-overflow_add-length c = let s = sourced _ _ (sym c.judge.ensures ∙ c.s-1.given.1) in omega arith
+overflow_add-length c = let s = sourced _ _ (sym c.judge.ensures ∙ c.in-Is.is) in omega arith
 
 pub returns-then-out-length : goal.returns-then-out-length
-returns-then-out-length c = turn_short _ _ _ (sym c.judge.ensures ∙ c.s-1.given.1) c.if-out-length.true
+returns-then-out-length c = turn_short _ _ _ (sym c.judge.ensures ∙ c.in-Is.is) c.if-out-length.true
 
 pub put_head-requires : goal.put_head-requires
 put_head-requires c = tt
 
 pub put_words-requires : goal.put_words-requires
-put_words-requires c = let s = sourced _ _ (sym c.judge.ensures ∙ c.s-1.given.1) in (known_is s.form.kind, (first_below _ _ (2 ^ 63) (sym c.judge.ensures ∙ c.s-1.given.1) (omega arith), omega arith, omega (arith, c.put_head.auto.0)))
+put_words-requires c = let s = sourced _ _ (sym c.judge.ensures ∙ c.in-Is.is) in (known_is s.form.kind, (first_below _ _ (2 ^ 63) (sym c.judge.ensures ∙ c.in-Is.is) (omega arith), omega arith, omega (arith, c.put_head.auto.0)))
 
 pub returns-in-Refused : goal.returns-in-Refused
-returns-in-Refused c = turn_refused _ _ (sym c.judge.ensures ∙ c.enum_told-1.given.1)
+returns-in-Refused c = turn_refused _ _ (sym c.judge.ensures ∙ c.in-Refused.is)
 
 pub returns-else-out-length : goal.returns-else-out-length
-returns-else-out-length c = turn_done _ _ _ (sym c.judge.ensures ∙ c.s-1.given.1) (omega arith) c.put_head.ensures c.put_words.ensures
+returns-else-out-length c = turn_done _ _ _ (sym c.judge.ensures ∙ c.in-Is.is) (omega arith) c.put_head.ensures c.put_words.ensures

@@ -8,7 +8,7 @@ use Rattle.walks.proofs.Lists.Runs.{run_first, run_over}
 use Rattle.decimal.proofs.writing.write_bytes.Given as goal
 
 abbrev pub invariant-loop-i : goal.invariant-loop-i
-invariant-loop-i l = (l.i ≤ length l.at) × (length l.initial.i ≡ length l.initial.text) × (sets l.initial.i (l.text + l.i) (drop l.i l.at) ≡ sets l.initial.text l.text l.at)
+invariant-loop-i l = (l.i ≤ length l.bytes) × (length l.text ≡ length l.initial.text) × (sets l.text (l.at + l.i) (drop l.i l.bytes) ≡ sets l.initial.text l.at l.bytes)
 
 abbrev pub decreases-loop-i : goal.decreases-loop-i
-decreases-loop-i l = length l.at - l.i
+decreases-loop-i l = length l.bytes - l.i

@@ -12,8 +12,8 @@ use Rattle.decimal.proofs.writing.write_decimal.Given as goal
 
 abbrev pub invariant-loop-rest : goal.invariant-loop-rest
 invariant-loop-rest l =
-    (l.initial.rest ≡ l.text + length (decimal l.rest)) × (l.initial.rest ≤ length l.initial.text) × (length l.place ≡ length l.initial.text)
-    × (sets l.place l.text (decimal l.rest) ≡ sets l.initial.text l.text (decimal l.at))
+    (l.place ≡ l.at + length (decimal l.rest)) × (l.place ≤ length l.initial.text) × (length l.text ≡ length l.initial.text)
+    × (sets l.text l.at (decimal l.rest) ≡ sets l.initial.text l.at (decimal l.n))
 
 abbrev pub decreases-loop-rest : goal.decreases-loop-rest
 decreases-loop-rest l = l.rest

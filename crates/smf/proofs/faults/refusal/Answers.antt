@@ -39,15 +39,15 @@ other LateFrame h = absurd (miss others 18 tt h)
 
 pub returns-in-OtherFormat : goal.returns-in-OtherFormat
 unfolding refusal_of
-returns-in-OtherFormat c = simp c.enum_told-1.given.1
+returns-in-OtherFormat c = simp c.in-OtherFormat.is
 
 pub returns-in-SmpteDivision : goal.returns-in-SmpteDivision
 unfolding refusal_of
-returns-in-SmpteDivision c = simp c.enum_told-in-SmpteDivision-1.given.1
+returns-in-SmpteDivision c = simp c.in-SmpteDivision.is
 
 pub returns-in-LateFrame : goal.returns-in-LateFrame
 unfolding refusal_of
-returns-in-LateFrame c = simp c.enum_told-in-LateFrame-1.given.1
+returns-in-LateFrame c = simp c.in-LateFrame.is
 
 pub returns-in_default : goal.returns-in_default
 returns-in_default c = other c.args.reason c.in_default.keys4

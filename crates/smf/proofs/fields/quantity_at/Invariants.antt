@@ -7,7 +7,7 @@ use Rattle.smf.proofs.Quantities.{quantity_missing, quantity_last, quantity_long
 use Rattle.smf.proofs.fields.quantity_at.Given as goal
 
 abbrev pub invariant-loop-place : goal.invariant-loop-place
-invariant-loop-place l = (l.value ≤ 3) × (l.initial.place < 128 ^ l.value) × (quantity_from (3 - l.value) l.file l.end l.initial.place l.place ≡ quantity_at l.file l.end l.at)
+invariant-loop-place l = (l.used ≤ 3) × (l.value < 128 ^ l.used) × (quantity_from (3 - l.used) l.file l.end l.value l.place ≡ quantity_at l.file l.end l.at)
 
 abbrev pub decreases-loop-place : goal.decreases-loop-place
-decreases-loop-place l = 3 - l.value
+decreases-loop-place l = 3 - l.used

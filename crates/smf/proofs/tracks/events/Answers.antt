@@ -30,34 +30,34 @@ shape_of-list-in-Broken c = c.loop-fault.invariant.kept
 
 pub returns-in-Broken : goal.returns-in-Broken
 unfolding count_closed
-returns-in-Broken c = broken _ _ _ _ c.loop-fault.invariant _ (ap (λ (n : ℕ). step_at c.args.file.now n c.loop-fault.running c.loop-fault.place) (sym c.smaller-end.ensures) ∙ sym c.step_at.ensures ∙ c.fault-1.given.1)
+returns-in-Broken c = broken _ _ _ _ c.loop-fault.invariant _ (ap (λ (n : ℕ). step_at c.args.file.now n c.loop-fault.running c.loop-fault.place) (sym c.smaller-end.ensures) ∙ sym c.step_at.ensures ∙ c.in-Broken.is)
 
 pub shape_of-list-in-End : goal.shape_of-list-in-End
 shape_of-list-in-End c = c.loop-fault.invariant.kept
 
 pub returns-in-End : goal.returns-in-End
-returns-in-End c = let over = ended _ _ _ _ c.loop-fault.invariant _ (ap (λ (n : ℕ). step_at c.args.file.now n c.loop-fault.running c.loop-fault.place) (sym c.smaller-end.ensures) ∙ sym c.step_at.ensures ∙ c.next-1.given.1) in
+returns-in-End c = let over = ended _ _ _ _ c.loop-fault.invariant _ (ap (λ (n : ℕ). step_at c.args.file.now n c.loop-fault.running c.loop-fault.place) (sym c.smaller-end.ensures) ∙ sym c.step_at.ensures ∙ c.in-End.is) in
     (c.closed.ensures ∙ ap (λ (v : Verdict). count_closed v c.loop-fault.count) c.behind.ensures ∙ over.0, over.1)
 
 pub later-clock-requires : goal.later-clock-requires
 later-clock-requires c = ((omega arith, omega arith, omega arith), bounded _ _ _ _ c.loop-fault.invariant (omega arith))
 
 pub overflow_sub-result : goal.overflow_sub-result
-overflow_sub-result c = let moves = step-ends _ _ _ _ _ (sym c.step_at.ensures ∙ c.delta-1.given.1) in omega arith
+overflow_sub-result c = let moves = step-ends _ _ _ _ _ (sym c.step_at.ensures ∙ c.in-Is.is) in omega arith
 
 pub shape_of-list-then-late : goal.shape_of-list-then-late
 shape_of-list-then-late c = c.loop-fault.invariant.kept
 
 pub returns-then-late : goal.returns-then-late
 unfolding count_closed
-returns-then-late c = late _ _ _ _ c.loop-fault.invariant _ _ _ _ (ap (λ (n : ℕ). step_at c.args.file.now n c.loop-fault.running c.loop-fault.place) (sym c.smaller-end.ensures) ∙ sym c.step_at.ensures ∙ c.delta-1.given.1) _ (c.later-clock.ensures _ c.loop-fault.invariant.time) (sym c.late.ensures ∙ c.if-late.true)
+returns-then-late c = late _ _ _ _ c.loop-fault.invariant _ _ _ _ (ap (λ (n : ℕ). step_at c.args.file.now n c.loop-fault.running c.loop-fault.place) (sym c.smaller-end.ensures) ∙ sym c.step_at.ensures ∙ c.in-Is.is) _ (c.later-clock.ensures _ c.loop-fault.invariant.time) (sym c.late.ensures ∙ c.if-late.true)
 
 pub put-count-requires : goal.put-count-requires
 put-count-requires c = let a = c.loop-fault.invariant.counted in let b = c.loop-fault.invariant.inside in omega arith
 
 pub loop-fault-smaller : goal.loop-fault-smaller
-loop-fault-smaller c = let moves = step-ends _ _ _ _ _ (sym c.step_at.ensures ∙ c.delta-1.given.1) in omega arith
+loop-fault-smaller c = let moves = step-ends _ _ _ _ _ (sym c.step_at.ensures ∙ c.in-Is.is) in omega arith
 
 pub loop-fault-preserved : goal.loop-fault-preserved
-loop-fault-preserved c = let is = (ap (λ (n : ℕ). step_at c.args.file.now n c.loop-fault.running c.loop-fault.place) (sym c.smaller-end.ensures) ∙ sym c.step_at.ensures ∙ c.delta-1.given.1) in
+loop-fault-preserved c = let is = (ap (λ (n : ℕ). step_at c.args.file.now n c.loop-fault.running c.loop-fault.place) (sym c.smaller-end.ensures) ∙ sym c.step_at.ensures ∙ c.in-Is.is) in
     rw c.tempo_after-tempo.ensures (again _ _ _ _ c.loop-fault.invariant _ _ _ _ is _ (c.later-clock.ensures _ c.loop-fault.invariant.time) (sym c.late.ensures ∙ c.if-late.false) _ _ c.put-count.ensures.0 c.put-count.auto.0 c.put-count.ensures.1 (one_entry _ _) (step-ends _ _ _ _ _ is))

@@ -17,8 +17,8 @@ use Rattle.smf.proofs.tracks.events.Given as goal
 
 abbrev pub invariant-loop-fault : goal.invariant-loop-fault
 invariant-loop-fault l =
-    Going l.file l.rate l.division l.full (song_from l.rate l.division first_tempo 0 (chunk_events l.file l.full l.at)) l.initial.list l.tempo l.initial.clock l.clock l.initial.count l.count l.initial.tempo
+    Going l.file l.rate l.division l.full (song_from l.rate l.division first_tempo 0 (chunk_events l.file l.full l.at)) l.initial.list l.place l.running l.tempo l.clock l.count l.list
 
 abbrev pub decreases-loop-fault : goal.decreases-loop-fault
 decreases-loop-fault l =
-    l.tune - l.tempo
+    l.end - l.place

@@ -5,4 +5,4 @@ use Rattle.volume.proofs.Volume.is_static_and_mute.Goals as goal
 
 pub returns-in-Static : goal.returns-in-Static
 unfolding of_bits
-returns-in-Static c = simp c.self-1.given.1
+returns-in-Static c = simp c.in-Static.is

@@ -5,8 +5,8 @@ use Rattle.volume.proofs.Volume.keeps.Goals as goal
 
 pub returns-in-Static : goal.returns-in-Static
 unfolding keeps_of
-returns-in-Static c = simp c.enum_told-1.given.1
+returns-in-Static c = simp c.in-Static.is
 
 pub returns-in-Linear : goal.returns-in-Linear
 unfolding keeps_of
-returns-in-Linear c = simp c.self-1.given.1
+returns-in-Linear c = simp c.in-Linear.is

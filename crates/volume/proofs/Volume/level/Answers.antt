@@ -5,8 +5,8 @@ use Rattle.volume.proofs.Volume.level.Goals as goal
 
 pub returns-in-Static : goal.returns-in-Static
 unfolding level_of
-returns-in-Static c = simp c.self-1.given.1
+returns-in-Static c = simp c.in-Static.is
 
 pub returns-in-Linear : goal.returns-in-Linear
 unfolding level_of
-returns-in-Linear c = simp (c.progress.ensures, c.self-in-Linear-1.given.1)
+returns-in-Linear c = simp (c.progress.ensures, c.in-Linear.is)

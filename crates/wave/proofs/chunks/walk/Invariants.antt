@@ -12,7 +12,7 @@ use Rattle.wave.proofs.Walks.{walk_over, walk_short, walk_cut, walk-next}
 use Rattle.wave.proofs.chunks.walk.Given as goal
 
 abbrev pub invariant-loop-at : goal.invariant-loop-at
-invariant-loop-at l = (n : ℕ) × (length l.file - l.initial.places ≤ n) × (walk_from n l.file l.initial.places l.places ≡ walk_of l.file)
+invariant-loop-at l = (n : ℕ) × (length l.file - l.at ≤ n) × (walk_from n l.file l.at l.places ≡ walk_of l.file)
 
 abbrev pub decreases-loop-at : goal.decreases-loop-at
-decreases-loop-at l = length l.file - l.initial.places
+decreases-loop-at l = length l.file - l.at

@@ -13,7 +13,7 @@ use Rattle.wave.proofs.words.take_channel.Given as goal
 
 abbrev pub invariant-loop-i : goal.invariant-loop-i
 invariant-loop-i l =
-    (l.i ≤ l.w.samples) × (l.initial.i ≡ sets l.initial.memory l.start (listed (λ (n : ℕ). get_or (words_in l.file l.w) (n * l.w.channels + l.j) 0) 0 l.i))
+    (l.i ≤ l.w.samples) × (l.memory ≡ sets l.initial.memory l.start (listed (λ (n : ℕ). get_or (words_in l.file l.w) (n * l.w.channels + l.j) 0) 0 l.i))
 
 abbrev pub decreases-loop-i : goal.decreases-loop-i
 decreases-loop-i l = l.w.samples - l.i

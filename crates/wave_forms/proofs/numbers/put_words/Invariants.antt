@@ -12,7 +12,7 @@ use Rattle.wave_forms.proofs.Copies.{place_fits, written, written_none, written_
 use Rattle.wave_forms.proofs.numbers.put_words.Given as goal
 
 abbrev pub invariant-loop-k : goal.invariant-loop-k
-invariant-loop-k l = (l.k ≤ l.s.count) × (l.initial.k ≡ written l.initial.out (word_at l.file l.s) l.k)
+invariant-loop-k l = (l.k ≤ l.s.count) × (l.out ≡ written l.initial.out (word_at l.file l.s) l.k)
 
 abbrev pub decreases-loop-k : goal.decreases-loop-k
 decreases-loop-k l = l.s.count - l.k
