@@ -104,8 +104,8 @@ pub fn f32_to_usize(x: f32) -> usize
 
 // The sum with 2^28 in f64 has 24 digits of fraction, in which no float below 2^23 is rounded up to a whole number.
 fn low_whole(x: f32) -> usize
-    requires t { T (le (from_bits binary32 0) x) }
-    requires t_2 { T (lt x (from_bits binary32 0x4b00_0000)) }
+    requires from_zero { T (le (from_bits binary32 0) x) }
+    requires below_top { T (lt x (from_bits binary32 0x4b00_0000)) }
     ensures { result ≡ as_whole 64 x }
 {
     (f64::to_bits((x as f64) + 268435456.0) / 0x100_0000 % 0x1000_0000) as usize
@@ -139,8 +139,8 @@ pub fn floor(x: f32) -> f32
 
 // A float of 2^23 or more has no room for a fraction: adding 2^23 rounds x to a whole number, at most one too high.
 fn whole_part(x: f32) -> f32
-    requires t { T (lt (from_bits binary32 0) x) }
-    requires t_2 { T (lt x (from_bits binary32 0x4b00_0000)) }
+    requires above_zero { T (lt (from_bits binary32 0) x) }
+    requires below_top { T (lt x (from_bits binary32 0x4b00_0000)) }
     ensures { result ≡ floor_of x }
 {
     let near = (x + 8388608.0) - 8388608.0;

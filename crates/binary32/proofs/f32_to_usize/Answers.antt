@@ -1,6 +1,6 @@
 -- `binary32::f32_to_usize` meets its contract: from 0 to below 2^23 by that of `low_whole`, and beyond each end of the range the laws of `Casts` hold.
 -- Assumes nothing.
-use Rattle.std.proofs.Common.{T, T_not, rules}
+use Rattle.std.proofs.Common.{T, T_not}
 use lib.Dec.{not_T}
 use lib.Ieee.{lt, le, of_bits}
 use lib.Ieee.Bits.{is_false}
@@ -12,7 +12,7 @@ use Rattle.binary32.proofs.f32_to_usize.Goals as goal
 
 pub truncating_f32_to_u64-requires : goal.truncating_f32_to_u64-requires
 unfolding of_bits
-truncating_f32_to_u64-requires c = (above_minus_one 23 c.args.x _ c.if-x.false c.if-x-3.true, yes c.if-x-3.true)
+truncating_f32_to_u64-requires c = record { lower_bound = above_minus_one 23 c.args.x _ c.if-x.false c.if-x-3.true; upper_bound = yes c.if-x-3.true }
 
 pub returns-else-x-2 : goal.returns-else-x-2
 unfolding of_bits

@@ -6,7 +6,9 @@ use Rattle.binary32.proofs.floor.Goals as goal
 
 pub whole_part-below-requires : goal.whole_part-below-requires
 unfolding of_bits neg
-whole_part-below-requires c = turned c.args.x c.if-x-3.true c.if-x-4.true
+whole_part-below-requires c =
+    let h = turned c.args.x c.if-x-3.true c.if-x-4.true in
+    record { above_zero = h.0; below_top = h.1 }
 
 pub returns-else-x-2 : goal.returns-else-x-2
 unfolding of_bits

@@ -10,10 +10,10 @@ pub returns-then-x-near : goal.returns-then-x-near
 unfolding of_bits
 returns-then-x-near c =
     let x = c.args.x in
-    sym (ap (λ (b : Bool). cond b (sub binary32 (snapped binary32 x) one) (snapped binary32 x)) c.if-x-near.true) ∙ small_floor x (search rules) c.requires.0 c.requires.1
+    sym (ap (λ (b : Bool). cond b (sub binary32 (snapped binary32 x) one) (snapped binary32 x)) c.if-x-near.true) ∙ small_floor x (search rules) c.requires.above_zero c.requires.below_top
 
 pub returns-else-x-near : goal.returns-else-x-near
 unfolding of_bits
 returns-else-x-near c =
     let x = c.args.x in
-    sym (ap (λ (b : Bool). cond b (sub binary32 (snapped binary32 x) one) (snapped binary32 x)) c.if-x-near.false) ∙ small_floor x (search rules) c.requires.0 c.requires.1
+    sym (ap (λ (b : Bool). cond b (sub binary32 (snapped binary32 x) one) (snapped binary32 x)) c.if-x-near.false) ∙ small_floor x (search rules) c.requires.above_zero c.requires.below_top

@@ -11,3 +11,7 @@ unfolding of_bits
 returns-then-t c =
     let a = c.args in
     looped_ahead a.x a.length _ (yes c.if-t.true) (c.quick_rem-t.ensures (yes c.if-t.true))
+
+pub returns : goal.returns
+unfolding looped_of
+returns c = search rules
