@@ -6,8 +6,8 @@ use Rattle.lent_songs.proofs.play.Goals as goal
 pub loop-place-init : goal.loop-place-init
 loop-place-init c = begins _ _ _ _ _ _ c.due-end.ensures
 
-pub change_at-requires : goal.change_at-requires
-change_at-requires c = (here c.loop-place.invariant c.loop-place-test.true).0
+pub change_at-change-requires : goal.change_at-change-requires
+change_at-change-requires c = (here c.loop-place.invariant c.loop-place-test.true).0
 
 pub overflow_add-place : goal.overflow_add-place
 overflow_add-place c = omega arith
@@ -23,4 +23,4 @@ loop-place-preserved c =
     (goes_on g more (record { sampler = c.change-number.new.s; number = c.change-number.result }) (simp (c.change-number.ensures, c.change_at-change.ensures)))
 
 pub returns : goal.returns
-returns c = over c.loop-place.invariant c.loop-place-test.false
+returns c = simp c.answer.ensures (over c.loop-place.invariant c.loop-place-test.false)
