@@ -1,15 +1,14 @@
 -- `quick_wrapped` meets its contract, by the modes. Assumes nothing.
 use mathlib.Core.Path.{◌∙◌}
 use lib.Ieee.{le, neg, of_bits}
-use borrow.Author.Rules.{rules}
 use Rattle.clip.specs.Positions.{wrapped_of}
 use Rattle.clip.proofs.quick_wrapped.Goals as goal
 
 pub returns-in-Loop-old : goal.returns-in-Loop-old
 unfolding wrapped_of
 returns-in-Loop-old c h =
-    let old = c.enum_told-in-Loop-old-1.given.1 in
-    (simp (c.enum_told-1.given.1, old), c.quick_looped.ensures h ∙ simp (old))
+    let old = c.in-Loop-old.is in
+    (simp (c.in-Loop.is, old), c.quick_looped.ensures h ∙ simp (old))
 
 pub returns-in-PingPong-old : goal.returns-in-PingPong-old
 unfolding of_bits le neg
@@ -22,5 +21,5 @@ returns-in-Loop-old-2 c h = absurd h
 pub returns-in-PingPong-old-2 : goal.returns-in-PingPong-old-2
 unfolding wrapped_of
 returns-in-PingPong-old-2 c h =
-    let old = c.enum_told-in-PingPong-old-2-1.given.1 in
-    (simp (c.enum_told-in-PingPong-1.given.1, old), c.quick_bounced.ensures h ∙ simp (old))
+    let old = c.in-PingPong-old-2.is in
+    (simp (c.in-PingPong.is, old), c.quick_bounced.ensures h ∙ simp (old))

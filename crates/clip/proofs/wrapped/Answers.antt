@@ -1,13 +1,12 @@
 -- `wrapped` meets its contract, by the mode. Assumes nothing.
 use mathlib.Core.Path.{◌∙◌}
-use borrow.Author.Rules.{rules}
 use Rattle.clip.specs.Positions.{wrapped_of}
 use Rattle.clip.proofs.wrapped.Goals as goal
 
 pub returns-in-Loop : goal.returns-in-Loop
 unfolding wrapped_of
-returns-in-Loop c = c.looped.ensures ∙ simp c.enum_told-1.given.1
+returns-in-Loop c = c.looped.ensures ∙ simp c.in-Loop.is
 
 pub returns-in-PingPong : goal.returns-in-PingPong
 unfolding wrapped_of
-returns-in-PingPong c = c.bounced.ensures ∙ simp c.enum_told-in-PingPong-1.given.1
+returns-in-PingPong c = c.bounced.ensures ∙ simp c.in-PingPong.is

@@ -6,20 +6,20 @@ use Rattle.lent_changes.proofs.altered.Goals as goal
 
 pub returns-in-Start : goal.returns-in-Start
 unfolding altered_of
-returns-in-Start c = simp c.enum_told-1.given.1
+returns-in-Start c = simp c.in-Start.is
 
 pub returns-in-Stop : goal.returns-in-Stop
 unfolding altered_of
-returns-in-Stop c = simp c.enum_told-in-Stop-1.given.1
+returns-in-Stop c = simp c.in-Stop.is
 
 pub returns-in-Speed : goal.returns-in-Speed
 unfolding altered_of
-returns-in-Speed c = simp c.enum_told-in-Speed-1.given.1
+returns-in-Speed c = simp c.in-Speed.is
 
 pub returns-in-Head : goal.returns-in-Head
 unfolding altered_of
-returns-in-Head c = simp (c.changed.ensures, c.finds.ensures, c.change-1.given.1)
+returns-in-Head c = simp (c.changed.ensures, c.finds.ensures, c.in-Head.is)
 
 pub returns-in-Reset : goal.returns-in-Reset
 unfolding altered_of of_bits
-returns-in-Reset c = simp (c.new.ensures, c.enum_told-in-Reset-1.given.1)
+returns-in-Reset c = simp (c.new.ensures, c.in-Reset.is)

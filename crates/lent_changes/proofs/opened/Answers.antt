@@ -5,20 +5,20 @@ use Rattle.lent_changes.proofs.opened.Goals as goal
 
 pub returns-in-Start : goal.returns-in-Start
 unfolding started_voice
-returns-in-Start c = simp (c.new.ensures, c.moment.ensures, c.change-1.given.1)
+returns-in-Start c = simp (c.new.ensures, c.moment.ensures, c.in-Start.is)
 
 pub returns-in-Stop : goal.returns-in-Stop
 unfolding started_voice
-returns-in-Stop c = simp (c.blank.ensures, c.enum_told-1.given.1)
+returns-in-Stop c = simp (c.blank.ensures, c.in-Stop.is)
 
 pub returns-in-Speed : goal.returns-in-Speed
 unfolding started_voice
-returns-in-Speed c = simp (c.blank-in-Speed.ensures, c.enum_told-in-Speed-1.given.1)
+returns-in-Speed c = simp (c.blank-in-Speed.ensures, c.in-Speed.is)
 
 pub returns-in-Head : goal.returns-in-Head
 unfolding started_voice
-returns-in-Head c = simp (c.blank-in-Head.ensures, c.enum_told-in-Head-1.given.1)
+returns-in-Head c = simp (c.blank-in-Head.ensures, c.in-Head.is)
 
 pub returns-in-Reset : goal.returns-in-Reset
 unfolding started_voice
-returns-in-Reset c = simp (c.blank-in-Reset.ensures, c.enum_told-in-Reset-1.given.1)
+returns-in-Reset c = simp (c.blank-in-Reset.ensures, c.in-Reset.is)

@@ -5,8 +5,8 @@ use Rattle.listing.proofs.open.Goals as goal
 
 pub returns-in-Good : goal.returns-in-Good
 unfolding opened_of
-returns-in-Good c = simp (← c.read_header.ensures, c.header-1.given.1, c.new.ensures, c.player_for.ensures)
+returns-in-Good c = simp (← c.read_header.ensures, c.in-Good.is, c.new.ensures, c.player_for.ensures)
 
 pub returns-in-Bad : goal.returns-in-Bad
 unfolding opened_of
-returns-in-Bad c = simp (← c.read_header.ensures, c.enum_told-1.given.1, c.bad_line.ensures, c.player_for-in-Bad.ensures)
+returns-in-Bad c = simp (← c.read_header.ensures, c.in-Bad.is, c.bad_line.ensures, c.player_for-in-Bad.ensures)

@@ -27,16 +27,16 @@ pub returns-in-Decay : goal.returns-in-Decay
 unfolding over_of
 returns-in-Decay c =
     let a = c.args in
-    c.is_static_and_mute.ensures ∙ by_behaviour a.v a.behavior _ (not-false a.v.finished c.if-not-v.false) c.enum_told-1.given.1
+    c.is_static_and_mute.ensures ∙ by_behaviour a.v a.behavior _ (not-false a.v.finished c.if-not-v.false) c.in-Decay.is
 
 pub returns-in-ZeroCrossing : goal.returns-in-ZeroCrossing
 unfolding over_of
 returns-in-ZeroCrossing c =
     let a = c.args in
-    by_behaviour a.v a.behavior _ (not-false a.v.finished c.if-not-v.false) c.enum_told-in-ZeroCrossing-1.given.1
+    by_behaviour a.v a.behavior _ (not-false a.v.finished c.if-not-v.false) c.in-ZeroCrossing.is
 
 pub returns-in-DecayAndZeroCrossing : goal.returns-in-DecayAndZeroCrossing
 unfolding over_of
 returns-in-DecayAndZeroCrossing c =
     let a = c.args in
-    or-true (is_static_and_mute_of a.v.volume) ∙ by_behaviour a.v a.behavior _ (not-false a.v.finished c.if-not-v.false) c.enum_told-in-DecayAndZeroCrossing-1.given.1
+    or-true (is_static_and_mute_of a.v.volume) ∙ by_behaviour a.v a.behavior _ (not-false a.v.finished c.if-not-v.false) c.in-DecayAndZeroCrossing.is

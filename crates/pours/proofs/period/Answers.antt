@@ -4,11 +4,11 @@ use borrow.Author.Rules.{rules}
 use Rattle.pours.proofs.period.Goals as goal
 
 pub returns-in-Up : goal.returns-in-Up
-returns-in-Up c = simp c.enum_told-1.given.1
+returns-in-Up c = simp c.in-Up.is
 
 pub returns-in-Down : goal.returns-in-Down
-returns-in-Down c = simp c.enum_told-in-Down-1.given.1
+returns-in-Down c = simp c.in-Down.is
 
 pub returns-in-Fold : goal.returns-in-Fold
 unfolding of_bits
-returns-in-Fold c = simp c.enum_told-in-Fold-1.given.1
+returns-in-Fold c = simp c.in-Fold.is

@@ -6,12 +6,12 @@ use Rattle.pours.proofs.places_by.Goals as goal
 
 pub places_up-requires : goal.places_up-requires
 places_up-requires c =
-    (c.way_of-way.ensures ∙ ap mode_by c.enum_told-1.given.1, c.requires.1, c.requires.2)
+    (c.way_of-way.ensures ∙ ap mode_by c.in-Up.is, c.requires.1, c.requires.2)
 
 pub places_down-requires : goal.places_down-requires
 places_down-requires c =
-    (c.way_of-way.ensures ∙ ap mode_by c.enum_told-in-Down-1.given.1, c.requires.1, c.requires.2)
+    (c.way_of-way.ensures ∙ ap mode_by c.in-Down.is, c.requires.1, c.requires.2)
 
 pub places_fold-requires : goal.places_fold-requires
 places_fold-requires c =
-    (c.way_of-way.ensures ∙ ap mode_by c.enum_told-in-Fold-1.given.1, c.requires.1, c.requires.2)
+    (c.way_of-way.ensures ∙ ap mode_by c.in-Fold.is, c.requires.1, c.requires.2)

@@ -6,8 +6,8 @@ use Rattle.pours.proofs.wrapped.Goals as goal
 
 pub returns-in-Loop : goal.returns-in-Loop
 unfolding wrapped_of
-returns-in-Loop c h = c.looped.ensures h ∙ simp c.enum_told-1.given.1
+returns-in-Loop c h = c.looped.ensures h ∙ simp c.in-Loop.is
 
 pub returns-in-PingPong : goal.returns-in-PingPong
 unfolding wrapped_of
-returns-in-PingPong c h = c.bounced.ensures h ∙ simp c.enum_told-in-PingPong-1.given.1
+returns-in-PingPong c h = c.bounced.ensures h ∙ simp c.in-PingPong.is

@@ -3,4 +3,4 @@ use Rattle.std.proofs.Common.{rules}
 use Rattle.recordings.proofs.held.Goals as goal
 
 pub returns-in-Refused : goal.returns-in-Refused
-returns-in-Refused c = simp c.enum_told-1.given.1
+returns-in-Refused c = simp c.in-Refused.is

@@ -3,16 +3,16 @@ use borrow.Author.Rules.{rules}
 use Rattle.sampler.proofs.change_rows.Goals as goal
 
 pub returns-in-Start : goal.returns-in-Start
-returns-in-Start c = simp (c.start_rows.ensures, c.change-1.given.1)
+returns-in-Start c = simp (c.start_rows.ensures, c.in-Start.is)
 
 pub returns-in-Stop : goal.returns-in-Stop
-returns-in-Stop c = simp (c.stop_rows.ensures, c.change-in-Stop-1.given.1)
+returns-in-Stop c = simp (c.stop_rows.ensures, c.in-Stop.is)
 
 pub returns-in-Speed : goal.returns-in-Speed
-returns-in-Speed c = simp (c.speed_rows.ensures, c.change-in-Speed-1.given.1)
+returns-in-Speed c = simp (c.speed_rows.ensures, c.in-Speed.is)
 
 pub returns-in-Head : goal.returns-in-Head
-returns-in-Head c = simp (c.first_of.ensures, c.head_rows.ensures, c.change-in-Head-1.given.1)
+returns-in-Head c = simp (c.first_of.ensures, c.head_rows.ensures, c.in-Head.is)
 
 pub returns-in-Reset : goal.returns-in-Reset
-returns-in-Reset c = simp (c.first_of-in-Reset.ensures, c.enum_told-1.given.1)
+returns-in-Reset c = simp (c.first_of-in-Reset.ensures, c.in-Reset.is)

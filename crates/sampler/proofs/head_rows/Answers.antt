@@ -3,10 +3,10 @@ use borrow.Author.Rules.{rules}
 use Rattle.sampler.proofs.head_rows.Goals as goal
 
 pub returns-in-Load : goal.returns-in-Load
-returns-in-Load c = simp (c.first_of-in-Load.ensures, c.first_of.ensures, c.enum_told-in-Load-1.given.1)
+returns-in-Load c = simp (c.first_of-in-Load.ensures, c.first_of.ensures, c.in-Load.is)
 
 pub returns-in-Choose : goal.returns-in-Choose
-returns-in-Choose c = simp (c.first_of-in-Choose-2.ensures, c.first_of-in-Choose.ensures, c.change-1.given.1)
+returns-in-Choose c = simp (c.first_of-in-Choose-2.ensures, c.first_of-in-Choose.ensures, c.in-Choose.is)
 
 pub returns-in-Delete : goal.returns-in-Delete
-returns-in-Delete c = simp (c.first_of-in-Delete-2.ensures, c.first_of-in-Delete.ensures, c.change-in-Delete-1.given.1)
+returns-in-Delete c = simp (c.first_of-in-Delete-2.ensures, c.first_of-in-Delete.ensures, c.in-Delete.is)

@@ -2,17 +2,16 @@
 use mathlib.Core.Path.{sym, ◌∙◌}
 use native.Mathlib.Omega.{arith}
 use Rattle.wave.proofs.Judgements.{places_below, judged_riff, judged_no_riff}
-use borrow.Author.Rules.{rules}
 use Rattle.wave.proofs.judge.Goals as goal
 
 pub judged_at-requires : goal.judged_at-requires
-judged_at-requires c = places_below _ _ _ (sym c.walk.ensures ∙ c.p-1.given.1) (omega arith)
+judged_at-requires c = places_below _ _ _ (sym c.walk.ensures ∙ c.in-Is.is) (omega arith)
 
 pub returns-in-Is : goal.returns-in-Is
-returns-in-Is c = c.judged_at.ensures ∙ sym (judged_riff _ _ (sym c.good_riff.ensures ∙ c.if-good_riff.true) (sym c.walk.ensures ∙ c.p-1.given.1))
+returns-in-Is c = c.judged_at.ensures ∙ sym (judged_riff _ _ (sym c.good_riff.ensures ∙ c.if-good_riff.true) (sym c.walk.ensures ∙ c.in-Is.is))
 
 pub returns-in-Refused : goal.returns-in-Refused
-returns-in-Refused c = sym (judged_riff _ _ (sym c.good_riff.ensures ∙ c.if-good_riff.true) (sym c.walk.ensures ∙ c.enum_told-1.given.1))
+returns-in-Refused c = sym (judged_riff _ _ (sym c.good_riff.ensures ∙ c.if-good_riff.true) (sym c.walk.ensures ∙ c.in-Refused.is))
 
 pub returns-else-good_riff : goal.returns-else-good_riff
 returns-else-good_riff c = sym (judged_no_riff _ (sym c.good_riff.ensures ∙ c.if-good_riff.false))

@@ -4,17 +4,16 @@ use Prim.Native.Nat.{◌^◌}
 use native.Mathlib.Omega.{arith}
 use Rattle.wave.proofs.Judgements.{places_below}
 use Rattle.wave_forms.proofs.Judgements.{judged_riff, judged_no_riff}
-use borrow.Author.Rules.{rules}
 use Rattle.wave_forms.proofs.judge.Goals as goal
 
 pub judged_at-requires : goal.judged_at-requires
-judged_at-requires c = let below = places_below _ _ (2 ^ 63) (sym c.walk.ensures ∙ c.p-1.given.1) (omega arith) in (below.0, below.1)
+judged_at-requires c = let below = places_below _ _ (2 ^ 63) (sym c.walk.ensures ∙ c.in-Is.is) (omega arith) in (below.0, below.1)
 
 pub returns-in-Is : goal.returns-in-Is
-returns-in-Is c = c.judged_at.ensures ∙ sym (judged_riff _ _ (sym c.good_riff.ensures ∙ c.if-good_riff.true) (sym c.walk.ensures ∙ c.p-1.given.1))
+returns-in-Is c = c.judged_at.ensures ∙ sym (judged_riff _ _ (sym c.good_riff.ensures ∙ c.if-good_riff.true) (sym c.walk.ensures ∙ c.in-Is.is))
 
 pub returns-in-Refused : goal.returns-in-Refused
-returns-in-Refused c = sym (judged_riff _ _ (sym c.good_riff.ensures ∙ c.if-good_riff.true) (sym c.walk.ensures ∙ c.enum_told-1.given.1))
+returns-in-Refused c = sym (judged_riff _ _ (sym c.good_riff.ensures ∙ c.if-good_riff.true) (sym c.walk.ensures ∙ c.in-Refused.is))
 
 pub returns-else-good_riff : goal.returns-else-good_riff
 returns-else-good_riff c = sym (judged_no_riff _ (sym c.good_riff.ensures ∙ c.if-good_riff.false))

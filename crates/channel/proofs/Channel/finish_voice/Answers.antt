@@ -10,12 +10,12 @@ use Rattle.channel.proofs.Channel.finish_voice.Goals as goal
 
 pub returns-in_default : goal.returns-in_default
 unfolding finished_at_of
-returns-in_default c = simp c.enum_told-1.given.1
+returns-in_default c = simp c.in_default.is
 
 pub returns-then-i-ge32 : goal.returns-then-i-ge32
 unfolding finished_at_of
-returns-then-i-ge32 c = simp (c.found-1.given.1, le-ltb _ _ c.if-i-ge32.true)
+returns-then-i-ge32 c = simp (c.in-At.is, le-ltb _ _ c.if-i-ge32.true)
 
 pub returns : goal.returns
 unfolding finished_at_of
-returns c = simp (c.handle_passthru.ensures, c.finish.ensures, c.found-1.given.1, lt-ltb _ _ c.if-i-ge32.false, get_d_any c.args.t1.voices c.found-1.given.0.0 none blank_voice (omega (arith, long _ c.args.t1.voices 32 c.well_formed.0.1.1.0.1.0.1)))
+returns c = simp (c.handle_passthru.ensures, c.finish.ensures, c.in-At.is, lt-ltb _ _ c.if-i-ge32.false, get_d_any c.args.self.voices c.in-At.i none blank_voice (omega (arith, c.well_formed.0.1.1.0.1.0.1)))

@@ -3,10 +3,10 @@ use borrow.Author.Rules.{rules}
 use Rattle.host.proofs.answers.told_by.Goals as goal
 
 pub returns-then-so : goal.returns-then-so
-returns-then-so c = simp (c.told-1.given.1, c.if-so.true)
+returns-then-so c = simp (c.in-Done.is, c.if-so.true)
 
 pub returns-else-so : goal.returns-else-so
-returns-else-so c = simp (c.told-1.given.1, c.if-so.false)
+returns-else-so c = simp (c.in-Done.is, c.if-so.false)
 
 pub returns-in-Refused : goal.returns-in-Refused
-returns-in-Refused c = simp c.told-in-Refused-1.given.1
+returns-in-Refused c = simp c.in-Refused.is

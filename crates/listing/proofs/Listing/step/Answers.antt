@@ -12,11 +12,11 @@ returns-then-bytes-eq0 c = (simp (c.if-bytes-eq0.true, c.ended.ensures, c.new.en
 pub returns-in-Good : goal.returns-in-Good
 unfolding record_step step_memory
 returns-in-Good c = let some = ne_eqb _ _ c.if-bytes-eq0.false in
-    let good = sym c.read_record.ensures ∙ c.call-1.given.1 in
+    let good = sym c.read_record.ensures ∙ c.in-Good.is in
     (simp (some, good, c.later.ensures, c.play-played.ensures.0), c.play-played.ensures.1 ∙ simp (some, good))
 
 pub returns-in-Bad : goal.returns-in-Bad
 unfolding record_step step_memory
 returns-in-Bad c = let some = ne_eqb _ _ c.if-bytes-eq0.false in
-    let bad = sym c.read_record.ensures ∙ c.enum_told-1.given.1 in
+    let bad = sym c.read_record.ensures ∙ c.in-Bad.is in
     (simp (some, bad, c.ended-in-Bad.ensures, c.bad_line.ensures), simp (some, bad))

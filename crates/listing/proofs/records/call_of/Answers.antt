@@ -17,31 +17,31 @@ high k h a b c = omega arith
 
 pub returns-in-0 : goal.returns-in-0
 unfolding call_of
-returns-in-0 c = simp (← c.byte_at-kind.ensures, c.in-0.keys1, c.params.ensures)
+returns-in-0 c = simp (← c.byte_at-kind.ensures, c.in-0.is, c.params.ensures)
 
 pub returns-in-1 : goal.returns-in-1
 unfolding call_of
-returns-in-1 c = simp (← c.byte_at-kind.ensures, c.in-1.keys2, c.note.ensures, c.float_at.ensures, c.float_at-in-1.ensures)
+returns-in-1 c = simp (← c.byte_at-kind.ensures, c.in-1.is, c.note.ensures, c.float_at.ensures, c.float_at-in-1.ensures)
 
 pub returns-in-2 : goal.returns-in-2
 unfolding call_of
-returns-in-2 c = simp (← c.byte_at-kind.ensures, c.in-2.keys3, c.note-in-2.ensures)
+returns-in-2 c = simp (← c.byte_at-kind.ensures, c.in-2.is, c.note-in-2.ensures)
 
 pub returns-in-3 : goal.returns-in-3
 unfolding call_of
-returns-in-3 c = simp (← c.byte_at-kind.ensures, c.in-3.keys4, c.note-in-3.ensures, c.float_at-in-3.ensures)
+returns-in-3 c = simp (← c.byte_at-kind.ensures, c.in-3.is, c.note-in-3.ensures, c.float_at-in-3.ensures)
 
 pub returns-in-4 : goal.returns-in-4
 unfolding call_of
-returns-in-4 c = simp (← c.byte_at-kind.ensures, c.in-4.keys5)
+returns-in-4 c = simp (← c.byte_at-kind.ensures, c.in-4.is)
 
 pub returns-in-5 : goal.returns-in-5
 unfolding call_of
-returns-in-5 c = simp (← c.byte_at-kind.ensures, c.in-5.keys6)
+returns-in-5 c = simp (← c.byte_at-kind.ensures, c.in-5.is)
 
 pub returns-in-6 : goal.returns-in-6
 unfolding call_of
-returns-in-6 c = simp (← c.byte_at-kind.ensures, c.in-6.keys7, c.frame_call.ensures)
+returns-in-6 c = simp (← c.byte_at-kind.ensures, c.in-6.is, c.frame_call.ensures)
 
 pub returns-in_default : goal.returns-in_default
 unfolding call_of

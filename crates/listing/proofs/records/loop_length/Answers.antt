@@ -8,23 +8,23 @@ use Rattle.listing.proofs.records.loop_length.Goals as goal
 
 pub returns-in-0 : goal.returns-in-0
 unfolding length_by_kind
-returns-in-0 c = rw c.in-0.keys1
+returns-in-0 c = rw c.in-0.is
 
 pub returns-in-1 : goal.returns-in-1
 unfolding length_by_kind
-returns-in-1 c = rw c.in-1.keys2
+returns-in-1 c = rw c.in-1.is
 
 pub returns-in-2 : goal.returns-in-2
 unfolding length_by_kind
-returns-in-2 c = rw c.in-2.keys3
+returns-in-2 c = rw c.in-2.is
 
 pub returns-in-3 : goal.returns-in-3
 unfolding length_by_kind
-returns-in-3 c = rw c.in-3.keys4
+returns-in-3 c = rw c.in-3.is
 
 pub returns-in-4 : goal.returns-in-4
 unfolding length_by_kind
-returns-in-4 c = rw c.in-4.keys5
+returns-in-4 c = rw c.in-4.is
 
 pub returns-in_default : goal.returns-in_default
 unfolding length_by_kind

@@ -5,8 +5,8 @@ use Rattle.recorder.proofs.Recorder.last_recorded_offset.Goals as goal
 
 pub returns-in-Triggered : goal.returns-in-Triggered
 unfolding last_recorded_offset_of
-returns-in-Triggered c = simp c.state-1.given.1
+returns-in-Triggered c = simp c.in-Triggered.is
 
 pub returns-in-Idle : goal.returns-in-Idle
 unfolding last_recorded_offset_of
-returns-in-Idle c = simp c.enum_told-1.given.1
+returns-in-Idle c = simp c.in-Idle.is

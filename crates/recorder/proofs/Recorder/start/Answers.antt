@@ -5,8 +5,8 @@ use Rattle.recorder.proofs.Recorder.start.Goals as goal
 
 pub returns-in-Idle : goal.returns-in-Idle
 unfolding start_of in_state
-returns-in-Idle c = simp c.enum_told-1.given.1
+returns-in-Idle c = simp c.in-Idle.is
 
 pub returns-in-Triggered : goal.returns-in-Triggered
 unfolding start_of
-returns-in-Triggered c = simp (c.enum_told-in-Triggered-1.given.1, c.misused.ensures)
+returns-in-Triggered c = simp (c.in-Triggered.is, c.misused.ensures)

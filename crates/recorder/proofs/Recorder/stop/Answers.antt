@@ -5,8 +5,8 @@ use Rattle.recorder.proofs.Recorder.stop.Goals as goal
 
 pub returns-in-Triggered : goal.returns-in-Triggered
 unfolding stop_of in_state
-returns-in-Triggered c = simp (c.state-1.given.1, c.smaller.ensures)
+returns-in-Triggered c = simp (c.in-Triggered.is, c.smaller.ensures)
 
 pub returns-in-Idle : goal.returns-in-Idle
 unfolding stop_of
-returns-in-Idle c = simp (c.enum_told-1.given.1, c.misused.ensures)
+returns-in-Idle c = simp (c.in-Idle.is, c.misused.ensures)

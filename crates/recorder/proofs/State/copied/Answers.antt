@@ -3,4 +3,4 @@ use borrow.Author.Rules.{rules}
 use Rattle.recorder.proofs.State.copied.Goals as goal
 
 pub returns-in-Triggered : goal.returns-in-Triggered
-returns-in-Triggered c = simp c.self-1.given.1
+returns-in-Triggered c = simp c.in-Triggered.is

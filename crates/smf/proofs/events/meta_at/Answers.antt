@@ -4,7 +4,6 @@ use native.Mathlib.Omega.{arith}
 use borrow.Author.Tests.{lt-ltb, le-ltb}
 use Rattle.smf.specs.Events.{meta_at}
 use Rattle.smf.proofs.Inside.{quantity_ends}
-use borrow.Author.Rules.{rules}
 use Rattle.smf.proofs.events.meta_at.Goals as goal
 
 pub returns-then-end-at : goal.returns-then-end-at
@@ -16,12 +15,12 @@ unfolding meta_at
 returns-then-kind-ge128 c = simp (lt-ltb _ _ c.if-end-at.false, ← c.byte_at-kind.ensures, le-ltb _ _ c.if-kind-ge128.true)
 
 pub meta_body-requires : goal.meta_body-requires
-meta_body-requires c = let h = quantity_ends _ _ _ _ _ (sym c.quantity_at.ensures ∙ c.value-1.given.1) in omega (arith, h)
+meta_body-requires c = let h = quantity_ends _ _ _ _ _ (sym c.quantity_at.ensures ∙ c.in-Is.is) in omega (arith, h)
 
 pub returns-in-Broken : goal.returns-in-Broken
 unfolding meta_at
-returns-in-Broken c = simp (lt-ltb _ _ c.if-end-at.false, ← c.byte_at-kind.ensures, lt-ltb _ _ c.if-kind-ge128.false, sym c.quantity_at.ensures ∙ c.fault-1.given.1)
+returns-in-Broken c = simp (lt-ltb _ _ c.if-end-at.false, ← c.byte_at-kind.ensures, lt-ltb _ _ c.if-kind-ge128.false, sym c.quantity_at.ensures ∙ c.in-Broken.is)
 
 pub returns-in-Is : goal.returns-in-Is
 unfolding meta_at
-returns-in-Is c = simp (lt-ltb _ _ c.if-end-at.false, ← c.byte_at-kind.ensures, lt-ltb _ _ c.if-kind-ge128.false, sym c.quantity_at.ensures ∙ c.value-1.given.1, c.meta_body.ensures)
+returns-in-Is c = simp (lt-ltb _ _ c.if-end-at.false, ← c.byte_at-kind.ensures, lt-ltb _ _ c.if-kind-ge128.false, sym c.quantity_at.ensures ∙ c.in-Is.is, c.meta_body.ensures)

@@ -2,7 +2,6 @@
 use mathlib.Core.Path.{sym, ◌∙◌}
 use borrow.Author.Tests.{lt-ltb, le-ltb}
 use Rattle.smf.specs.Events.{step_at}
-use borrow.Author.Rules.{rules}
 use Rattle.smf.proofs.events.step_at.Goals as goal
 
 pub returns-then-end-at : goal.returns-then-end-at
@@ -11,16 +10,16 @@ returns-then-end-at c = simp (le-ltb _ _ c.if-end-at.true)
 
 pub returns-in-Broken : goal.returns-in-Broken
 unfolding step_at
-returns-in-Broken c = simp (lt-ltb _ _ c.if-end-at.false, sym c.quantity_at.ensures ∙ c.fault-1.given.1)
+returns-in-Broken c = simp (lt-ltb _ _ c.if-end-at.false, sym c.quantity_at.ensures ∙ c.in-Broken.is)
 
 pub returns-in-Broken-event_at : goal.returns-in-Broken-event_at
 unfolding step_at
-returns-in-Broken-event_at c = simp (lt-ltb _ _ c.if-end-at.false, sym c.quantity_at.ensures ∙ c.value-1.given.1, sym c.event_at.ensures ∙ c.fault-in-Broken-event_at-1.given.1)
+returns-in-Broken-event_at c = simp (lt-ltb _ _ c.if-end-at.false, sym c.quantity_at.ensures ∙ c.in-Is.is, sym c.event_at.ensures ∙ c.in-Broken-event_at.is)
 
 pub returns-in-End : goal.returns-in-End
 unfolding step_at
-returns-in-End c = simp (lt-ltb _ _ c.if-end-at.false, sym c.quantity_at.ensures ∙ c.value-1.given.1, sym c.event_at.ensures ∙ c.behind-1.given.1)
+returns-in-End c = simp (lt-ltb _ _ c.if-end-at.false, sym c.quantity_at.ensures ∙ c.in-Is.is, sym c.event_at.ensures ∙ c.in-End.is)
 
 pub returns-in-Is-event_at : goal.returns-in-Is-event_at
 unfolding step_at
-returns-in-Is-event_at c = simp (lt-ltb _ _ c.if-end-at.false, sym c.quantity_at.ensures ∙ c.value-1.given.1, sym c.event_at.ensures ∙ c.event-1.given.1)
+returns-in-Is-event_at c = simp (lt-ltb _ _ c.if-end-at.false, sym c.quantity_at.ensures ∙ c.in-Is.is, sym c.event_at.ensures ∙ c.in-Is-event_at.is)

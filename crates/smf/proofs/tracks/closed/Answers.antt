@@ -1,12 +1,11 @@
 -- `closed` meets its contract. Assumes nothing.
 use Rattle.smf.specs.Cues.{count_closed}
-use borrow.Author.Rules.{rules}
 use Rattle.smf.proofs.tracks.closed.Goals as goal
 
 pub returns-in-Good : goal.returns-in-Good
 unfolding count_closed
-returns-in-Good c = simp c.enum_told-1.given.1
+returns-in-Good c = simp c.in-Good.is
 
 pub returns-in-Broken : goal.returns-in-Broken
 unfolding count_closed
-returns-in-Broken c = simp c.verdict-1.given.1
+returns-in-Broken c = simp c.in-Broken.is

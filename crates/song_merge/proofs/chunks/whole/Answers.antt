@@ -14,13 +14,13 @@ pub step_at-requires : goal.step_at-requires
 step_at-requires c = omega arith
 
 pub returns-in-Broken : goal.returns-in-Broken
-returns-in-Broken c = walks_broken _ _ _ _ _ c.loop-next.invariant _ (sym c.step_at.ensures ∙ c.enum_told-1.given.1)
+returns-in-Broken c = walks_broken _ _ _ _ _ c.loop-next.invariant _ (sym c.step_at.ensures ∙ c.in-Broken.is)
 
 pub returns-in-End : goal.returns-in-End
-returns-in-End c = walks_over _ _ _ _ _ c.loop-next.invariant _ (sym c.step_at.ensures ∙ c.next-1.given.1)
+returns-in-End c = walks_over _ _ _ _ _ c.loop-next.invariant _ (sym c.step_at.ensures ∙ c.in-End.is)
 
 pub loop-next-smaller : goal.loop-next-smaller
-loop-next-smaller c = let moves = step-ends _ _ _ _ _ (sym c.step_at.ensures ∙ c.status-1.given.1) in omega arith
+loop-next-smaller c = let moves = step-ends _ _ _ _ _ (sym c.step_at.ensures ∙ c.in-Is.is) in omega arith
 
 pub loop-next-preserved : goal.loop-next-preserved
-loop-next-preserved c = walks_on _ _ _ _ _ c.loop-next.invariant _ _ _ _ (sym c.step_at.ensures ∙ c.status-1.given.1)
+loop-next-preserved c = walks_on _ _ _ _ _ c.loop-next.invariant _ _ _ _ (sym c.step_at.ensures ∙ c.in-Is.is)

@@ -25,7 +25,7 @@ pub returns-in-Nothing : goal.returns-in-Nothing
 returns-in-Nothing c = let a = c.args in
     let l = c.loop-i in
     let octets : Octets a.file.now = (λ i. omega (arith, c.shared_slice_known-1.given i)) in
-    no_track a.file.now octets a.count a.at (length a.spare.now) _ _ l.place l.end l.i l.invariant.0 (omega arith) found.Nothing (sym c.track_at.ensures ∙ c.enum_told-1.given.1) (λ chunk k. let z : ◌≡◌ {A = ℕ} 0 1 = cc in omega arith)
+    no_track a.file.now octets a.count a.at (length a.spare.now) _ _ l.place l.end l.i l.invariant.0 (omega arith) found.Nothing (sym c.track_at.ensures ∙ c.in-Nothing.is) (λ chunk k. let z : ◌≡◌ {A = ℕ} 0 1 = cc in omega arith)
 
 pub shape_of-spare-in-Broken : goal.shape_of-spare-in-Broken
 shape_of-spare-in-Broken c = c.loop-i.invariant.1
@@ -37,13 +37,13 @@ pub returns-in-Broken : goal.returns-in-Broken
 returns-in-Broken c = let a = c.args in
     let l = c.loop-i in
     let octets : Octets a.file.now = (λ i. omega (arith, c.shared_slice_known-1.given i)) in
-    no_track a.file.now octets a.count a.at (length a.spare.now) _ _ l.place l.end l.i l.invariant.0 (omega arith) (found.Broken _) (sym c.track_at.ensures ∙ c.enum_told-in-Broken-1.given.1) (λ chunk k. let z : ◌≡◌ {A = ℕ} 0 1 = cc in omega arith)
+    no_track a.file.now octets a.count a.at (length a.spare.now) _ _ l.place l.end l.i l.invariant.0 (omega arith) (found.Broken _) (sym c.track_at.ensures ∙ c.in-Broken.is) (λ chunk k. let z : ◌≡◌ {A = ℕ} 0 1 = cc in omega arith)
 
 pub chunk_end-full-requires : goal.chunk_end-full-requires
 chunk_end-full-requires c = let a = c.args in
     let l = c.loop-i in
     let octets : Octets a.file.now = (λ i. omega (arith, c.shared_slice_known-1.given i)) in
-    let inside = found_inside a.file.now octets l.place c.chunk-1.given.0.0 l.invariant.0.room (sym c.track_at.ensures ∙ c.chunk-1.given.1) in
+    let inside = found_inside a.file.now octets l.place c.in-Track.chunk l.invariant.0.room (sym c.track_at.ensures ∙ c.in-Track.is) in
     omega arith
 
 pub shape_of-spare-then-full-eq0 : goal.shape_of-spare-then-full-eq0
@@ -57,13 +57,13 @@ returns-then-full-eq0 c = let a = c.args in
     let l = c.loop-i in
     let octets : Octets a.file.now = (λ i. omega (arith, c.shared_slice_known-1.given i)) in
     let none : c.chunk_end-full.result ≡ 0 = omega arith in
-    no_chunk a.file.now octets a.count a.at (length a.spare.now) _ _ l.place l.end l.i l.invariant.0 (omega arith) _ (sym c.track_at.ensures ∙ c.chunk-1.given.1) (subst (ChunkEnd a.file.now _) none c.chunk_end-full.ensures)
+    no_chunk a.file.now octets a.count a.at (length a.spare.now) _ _ l.place l.end l.i l.invariant.0 (omega arith) _ (sym c.track_at.ensures ∙ c.in-Track.is) (subst (ChunkEnd a.file.now _) none c.chunk_end-full.ensures)
 
 pub overflow_add-chunk : goal.overflow_add-chunk
 overflow_add-chunk c = let a = c.args in
     let l = c.loop-i in
     let octets : Octets a.file.now = (λ i. omega (arith, c.shared_slice_known-1.given i)) in
-    let inside = found_inside a.file.now octets l.place c.chunk-1.given.0.0 l.invariant.0.room (sym c.track_at.ensures ∙ c.chunk-1.given.1) in
+    let inside = found_inside a.file.now octets l.place c.in-Track.chunk l.invariant.0.room (sym c.track_at.ensures ∙ c.in-Track.is) in
     omega arith
 
 pub with_track-end-requires : goal.with_track-end-requires
@@ -84,10 +84,10 @@ loop-i-preserved c = let a = c.args in
     let l = c.loop-i in
     let octets : Octets a.file.now = (λ i. omega (arith, c.shared_slice_known-1.given i)) in
     let w = c.with_track-end in
-    let chunk = c.chunk-1.given.0.0 in
+    let chunk = c.in-Track.chunk in
     let full = c.chunk_end-full.result in
     let grown = subst (λ (n : ℕ). Grown l.out l.end a.file.now (chunk + 8) full n w.new.1.1.1.1.0 w.result) l.invariant.1 w.ensures in (
-      again a.file.now octets a.count a.at (length a.spare.now) _ _ l.place l.end l.i l.invariant.0 chunk full (sym c.track_at.ensures ∙ c.chunk-1.given.1) c.chunk_end-full.ensures (omega arith) _ _ grown w.auto.1.1.1.1.0 (omega arith),
+      again a.file.now octets a.count a.at (length a.spare.now) _ _ l.place l.end l.i l.invariant.0 chunk full (sym c.track_at.ensures ∙ c.in-Track.is) c.chunk_end-full.ensures (omega arith) _ _ grown w.auto.1.1.1.1.0 (omega arith),
       w.auto.1.1.1.0 ∙ l.invariant.1,
     )
 

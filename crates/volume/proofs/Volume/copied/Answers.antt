@@ -1,9 +1,8 @@
 -- `Volume::copied` meets its contract: each arm makes its case anew. Assumes nothing.
-use borrow.Author.Rules.{rules}
 use Rattle.volume.proofs.Volume.copied.Goals as goal
 
 pub returns-in-Static : goal.returns-in-Static
-returns-in-Static c = simp c.self-1.given.1
+returns-in-Static c = simp c.in-Static.is
 
 pub returns-in-Linear : goal.returns-in-Linear
-returns-in-Linear c = simp c.self-in-Linear-1.given.1
+returns-in-Linear c = simp c.in-Linear.is

@@ -1,8 +1,7 @@
 -- `Volume::is_static_and_mute` meets its contract: each arm is its case of the definition. Assumes nothing.
-use borrow.Author.Rules.{rules}
 use lib.Ieee.{of_bits}
 use Rattle.volume.proofs.Volume.is_static_and_mute.Goals as goal
 
 pub returns-in-Static : goal.returns-in-Static
 unfolding of_bits
-returns-in-Static c = simp c.self-1.given.1
+returns-in-Static c = simp c.in-Static.is

@@ -2,12 +2,11 @@
 -- the size that was read, and its pad byte
 use mathlib.Core.Path.{◌≡◌, refl, sym, ap, ◌∙◌}
 use mathlib.Core.List.{List}
-use Prim.Native.Nat.{ℕ, pred, ◌+◌, ◌-◌, ◌%◌, ◌≤◌}
+use Prim.Native.Nat.{ℕ, pred, ◌+◌, ◌%◌}
 use native.Mathlib.Omega.{arith}
 use lib.ListN.{length}
 use Rattle.wave.specs.Fields.{four_at}
-use Rattle.wave.specs.Reader.{padded_at, met_of, walk_from, walk_of}
-use borrow.Author.Rules.{rules}
+use Rattle.wave.specs.Reader.{padded_at, met_of, walk_of}
 use Rattle.wave.specs.declared.chunks.Places.{Places}
 use Rattle.wave.specs.declared.chunks.Met.{Met}
 use Rattle.wave.proofs.Walks.{walk_over, walk_short, walk_cut, walk-next}
@@ -53,7 +52,7 @@ pub four_at-requires : goal.four_at-requires
 four_at-requires c = omega arith
 
 pub returns-in-Refused : goal.returns-in-Refused
-returns-in-Refused c = let padded = padded_is _ _ c.four_at-size.ensures in sym (walk-next _ _ _ _ c.loop-at-test.true c.loop-at.invariant.1 c.if-all-at-lt8.false (omega arith) _ (meets _ _ _ c.four_at.ensures c.meet.ensures ∙ c.enum_told-1.given.1)) ∙ c.loop-at.invariant.2
+returns-in-Refused c = let padded = padded_is _ _ c.four_at-size.ensures in sym (walk-next _ _ _ _ c.loop-at-test.true c.loop-at.invariant.1 c.if-all-at-lt8.false (omega arith) _ (meets _ _ _ c.four_at.ensures c.meet.ensures ∙ c.in-Refused.is)) ∙ c.loop-at.invariant.2
 
 pub overflow_add-at-in-Is : goal.overflow_add-at-in-Is
 overflow_add-at-in-Is c = omega arith
@@ -68,7 +67,7 @@ pub loop-at-preserved : goal.loop-at-preserved
 loop-at-preserved c = let padded = padded_is _ _ c.four_at-size.ensures in (
   pred c.loop-at.invariant.0,
   omega arith,
-  rw padded (sym (walk-next _ _ _ _ c.loop-at-test.true c.loop-at.invariant.1 c.if-all-at-lt8.false (omega arith) _ (meets _ _ _ c.four_at.ensures c.meet.ensures ∙ c.next-1.given.1)) ∙ c.loop-at.invariant.2),
+  rw padded (sym (walk-next _ _ _ _ c.loop-at-test.true c.loop-at.invariant.1 c.if-all-at-lt8.false (omega arith) _ (meets _ _ _ c.four_at.ensures c.meet.ensures ∙ c.in-Is.is)) ∙ c.loop-at.invariant.2),
 )
 
 pub returns : goal.returns
