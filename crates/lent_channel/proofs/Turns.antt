@@ -130,6 +130,16 @@ module _ (s : Turning) (c : Channel) (g : Going) (up : g.kept ≤ g.place) (v w 
         low true f = first
         low false f = ltb-false k i f
 
+-- ---- the channel with the turn r: the voice is stored, or it is not
+module _ (c : Channel) (g : Going) (r : Turn) where
+  pub turned_stored : r.stays ≡ true → with_voices (set c.voices g.kept r.voice) c.count c ≡ turned_in g r c
+  unfolding turned_in
+  turned_stored e = sym (ap (λ (b : Bool). cond b (with_voices (set c.voices g.kept r.voice) c.count c) c) e)
+
+  pub turned_left : r.stays ≡ false → c ≡ turned_in g r c
+  unfolding turned_in
+  turned_left e = sym (ap (λ (b : Bool). cond b (with_voices (set c.voices g.kept r.voice) c.count c) c) e)
+
 -- ---- the turn of the next voice, which is of the tick's phrase
 module _ (t : Tick) (m : List ℕ) (n : ℕ) (c : Channel) (g : Going) (stands : Stands n g) (below : g.place < n) (all : length c.voices ≡ 32) (own : (next_voice g c).phrase ≡ t.phrase) where
   abbrev next : Voice
