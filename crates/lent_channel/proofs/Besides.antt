@@ -1,19 +1,15 @@
 -- What the loops over a channel's table work out, entry by entry: `good_at` and `good_table`, and `beside_of` those that aren't chosen. Assumes nothing.
 use mathlib.Core.Path.{◌≡◌, refl, sym, ◌∙◌, ap, subst}
 use Prim.Native.Nat.{ℕ, zero, suc, ◌+◌, ◌<◌, ◌^◌}
+use native.Mathlib.Omega.{arith}
 use native.Mathlib.Nat.{not-suc-le-zero, le_of_suc-le-suc, le_of_eq, max-zero}
-use mathlib.Core.Option.{some}
-use mathlib.Core.Bool.{Bool, true, false, not, ◌&&◌, cond}
+use mathlib.Core.Bool.{Bool, true, false, ◌&&◌, cond, true≢false}
 use mathlib.Core.List.{List, [], ◌∷◌}
-use lib.Dec.{T}
 use lib.ListN.{length, get_or, take, set, length-set}
 use lib.Seq.{take_all}
-use mir.Syntax.{w64}
 use borrow.Author.Tests.{eq-eqb, ne_eqb}
 use Rattle.walks.specs.Walks.{fold}
 use Rattle.walks.proofs.Tests.{one_more, joined, and-true, and_assoc}
-use Rattle.walks.proofs.Steps.Data.{word, truth}
-use Rattle.walks.proofs.Steps.Calls.{Callee}
 use Rattle.phrases.specs.declared.Phrase.{Phrase}
 use Rattle.phrases.specs.declared.Beside.{Beside}
 use Rattle.phrases.specs.Phrases.{no_phrase, no_samples, is_over_by, reach_of, apart_of, others_of, every_below, good_at, good_phrases, beside_of_nothing, beside_with, beside_of, is_in_order}
@@ -22,12 +18,11 @@ use Rattle.phrases.proofs.Order.{order_good}
 use Rattle.phrases.proofs.Table.{set_entry}
 use Rattle.phrases.proofs.Reaches.{beside_alone}
 use Rattle.channel.specs.declared.Head.{Head}
-use Rattle.channel.specs.declared.Channel.{Channel}
 use Rattle.channel.specs.Heads.{recording_in}
 use Rattle.channel.specs.Tables.{with_recording, good_table}
-use Rattle.lent_channel.specs.Turns.{looked_at, beside_next}
-use Rattle.lent_channel.proofs.Holding.{channel, headed, phrase}
-use Rattle.lent_channel.proofs.Views.{Viewer}
+use Rattle.channel.specs.declared.Channel.{Channel}
+use Rattle.channel.specs.Channels.{good_voices_of, good_channel}
+use Rattle.lent_channel.specs.Turns.{looked_at, beside_next, head_good_of}
 
 -- how many entries are looked at
 abbrev pub entries : Bool → ℕ
@@ -36,40 +31,6 @@ entries several = cond several 8 0
 pub few : (several : Bool) (k : ℕ) → k < entries several → k < 8
 few true k lt = lt
 few false k lt = absurd (not-suc-le-zero lt)
-
--- the functions of a channel's table as walks call them: `entries`, `looked_at`, `numbered`, `phrase_good`, `in_order`, and `good_pairs` and `good_phrases`
-abbrev pub counting : Callee
-counting = record { takes = truth ∷ []; gives = word w64; says = λ a. entries a.0 }
-
-abbrev pub looking : Callee
-looking = record { takes = phrase ∷ word w64 ∷ headed ∷ []; gives = phrase; says = λ a. looked_at a.0 a.1.0 a.1.1.0 }
-
-abbrev pub numbering : Viewer channel
-numbering = record {
-  takes = word w64 ∷ [];
-  gives = phrase;
-  asks = λ κs a. some (a.0 < 8);
-  says = λ κs a c. get_or (with_recording c.head c.table) a.0 no_phrase;
-}
-
-abbrev pub judging : Viewer channel
-judging = record {
-  takes = word w64 ∷ word w64 ∷ [];
-  gives = truth;
-  asks = λ κs a. some (a.0 < 8);
-  says = λ κs a c. good_at a.1.0 (with_recording c.head c.table) a.0;
-}
-
-abbrev pub in_order_in : ℕ → Channel → Bool
-in_order_in capacity c = is_in_order capacity (with_recording c.head c.table) (entries c.several)
-
-abbrev pub good_table_in : ℕ → Channel → Bool
-good_table_in capacity c = good_table capacity c.head c.several c.table
-
--- what a test that isn't denied says
-pub affirmed : (t : Bool) → T (not (not t)) → t ≡ true
-affirmed true y = refl
-affirmed false y = absurd y
 
 fold_next : {A S : Type 0} (f : S → A → S) (d : A) (s : S) (i : ℕ) (l : List A) → i < length l → f (fold f s (take i l)) (get_or l i d) ≡ fold f s (take (suc i) l)
 unfolding fold
@@ -153,7 +114,41 @@ module _ (h : Head) (table : List Phrase) where
         ∙ fold_next (beside_with h.start) no_phrase (beside_of_nothing capacity) k (set table h.chosen no_phrase) (subst (λ (n : ℕ). k < n) (sym (length-set table h.chosen no_phrase)) lt)
         ∙ ap beside_upto (sym (one_more k))
 
-    pub beside_all : (several : Bool) → length table ≡ 8 → beside_upto (entries several) ≡ beside_of h.start capacity (others_of several h.chosen table)
+    beside_all : (several : Bool) → (several ≡ true → length table ≡ 8) → beside_upto (entries several) ≡ beside_of h.start capacity (others_of several h.chosen table)
     unfolding beside_of others_of fold
-    beside_all true all = ap (fold (beside_with h.start) (beside_of_nothing capacity)) (take_all 8 (set table h.chosen no_phrase) (le_of_eq (length-set table h.chosen no_phrase ∙ all)))
+    beside_all true all = ap (fold (beside_with h.start) (beside_of_nothing capacity)) (take_all 8 (set table h.chosen no_phrase) (le_of_eq (length-set table h.chosen no_phrase ∙ all refl)))
     beside_all false all = sym (beside_alone h.start capacity h.chosen table)
+
+    -- how long the table is, is known once an entry of it has been looked at
+    pub beside_seen : (several : Bool) (k : ℕ) → k ≡ entries several → (0 < k → length table ≡ 8) → beside_upto k ≡ beside_of h.start capacity (others_of several h.chosen table)
+    beside_seen several k end long = ap beside_upto end ∙ beside_all several (all several end)
+      where
+        all : (b : Bool) → k ≡ entries b → b ≡ true → length table ≡ 8
+        all true e some = long (omega (arith, e))
+        all false e some = absurd (true≢false (sym some))
+
+-- ---- a channel is good where its head, its voices and its phrases are, judged in that order
+either_first : (a b : Bool) → (a && b) ≡ (b && a)
+either_first true b = and-true b
+either_first false true = refl
+either_first false false = refl
+
+module _ (capacity : ℕ) (c : Channel) where
+  abbrev head : Bool
+  head = head_good_of capacity c.head c.count
+
+  abbrev phrases : Bool
+  phrases = good_table capacity c.head c.several c.table
+
+  by_parts : (head && (good_voices_of c && phrases)) ≡ good_channel capacity c
+  unfolding good_channel head_good_of
+  by_parts = ap (λ (t : Bool). head && t) (either_first (good_voices_of c) phrases)
+
+  pub all_good : head ≡ true → good_voices_of c ≡ true → phrases ≡ good_channel capacity c
+  all_good e d = sym (ap (λ (t : Bool). t && (good_voices_of c && phrases)) e ∙ ap (λ (t : Bool). t && phrases) d) ∙ by_parts
+
+  pub no_voices_good : head ≡ true → good_voices_of c ≡ false → false ≡ good_channel capacity c
+  no_voices_good e d = sym (ap (λ (t : Bool). t && (good_voices_of c && phrases)) e ∙ ap (λ (t : Bool). t && phrases) d) ∙ by_parts
+
+  pub no_head_good : head ≡ false → false ≡ good_channel capacity c
+  no_head_good e = sym (ap (λ (t : Bool). t && (good_voices_of c && phrases)) e) ∙ by_parts

@@ -1,14 +1,4 @@
-pub mod Bytes
-pub mod Places
-pub mod Holding
-pub mod Sharing
-pub mod Views
-pub mod Viewing
-pub mod Showing
+pub mod Seen
 pub mod Besides
-pub mod Saying
-pub mod Branches
-pub mod Taking
-pub mod Parts
-pub mod Goings
 pub mod Turns
+pub mod Gliding
