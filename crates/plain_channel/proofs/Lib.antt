@@ -1,15 +1,8 @@
-pub mod Pairing
-pub mod Goings
-pub mod Easings
 pub mod Sides
 pub mod Hotting
-pub mod Altering
-pub mod Following
 pub mod Togethers
 pub mod Judging
-pub mod Resting
 pub mod Ends
-pub mod Playing
 pub mod Firsts
 pub mod Aheads
 pub mod Pourings
@@ -20,7 +13,5 @@ pub mod Frames
 pub mod Filling
 pub mod Summing
 pub mod Phrasing
-pub mod Poured
 pub mod Nexts
-pub mod Refilling
 pub mod Runs

@@ -1,5 +1,4 @@
 -- `length` meets its contract: a ratio is of the data length, and any other length is worked out. Assumes nothing.
-use borrow.Author.Rules.{rules}
 use Rattle.common_types.specs.Settings.{length_of}
 use Rattle.common_types.proofs.Worked.{worked_length}
 use Rattle.common_types.proofs.length.Goals as goal
@@ -14,5 +13,5 @@ returns-in_default c =
       c.time_length.ensures,
       c.whole.ensures,
       c.timed.ensures,
-      worked_length c.args.length c.args.transport c.args.data_len c.in_default.keys2,
+      worked_length c.args.length c.args.transport c.args.data_len c.in_default.not-Ratio,
     )

@@ -1,5 +1,5 @@
 -- `apart_from` meets its contract. The loop's invariant: the flag is the answer for those passed. Assumes nothing.
-use Rattle.std.proofs.Common.{◌≡◌, ℕ, ◌-◌, ◌≤◌, get_or, sym, refl, ap, ◌∙◌, arith, rules}
+use Rattle.std.proofs.Common.{◌≡◌, ℕ, get_or, sym, refl, ap, ◌∙◌, arith}
 use Rattle.phrases.specs.Phrases.{no_phrase, apart_of, every_below}
 use Rattle.phrases.proofs.Below.{below_next}
 use Rattle.phrases.proofs.apart_from.Goals as goal
@@ -27,4 +27,4 @@ pub returns : goal.returns
 returns c =
     let l = c.loop-j in
     let e : l.j ≡ c.args.i = omega arith in
-    l.invariant.1 ∙ ap (λ (n : ℕ). every_below n (λ (k : ℕ). apart_of c.args.p (get_or c.args.t1 k no_phrase))) e
+    l.invariant.1 ∙ ap (λ (n : ℕ). every_below n (λ (k : ℕ). apart_of c.args.p (get_or c.args.all k no_phrase))) e

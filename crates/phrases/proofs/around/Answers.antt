@@ -1,7 +1,7 @@
 -- `around` meets its contract, by the law of loops. Assumes nothing.
-use Rattle.std.proofs.Common.{◌≡◌, ◌-◌, length, ap, ◌∙◌, le_of_eq, arith, take_all, rules}
+use Rattle.std.proofs.Common.{◌≡◌, length, ap, ◌∙◌, le_of_eq, arith, take_all, rules}
 use Rattle.walks.specs.Walks.{fold}
-use Rattle.walks.proofs.Lists.Loops.{Walk, turns, ends}
+use Rattle.walks.proofs.Lists.Loops.{turns, ends}
 use Rattle.phrases.specs.Phrases.{no_phrase, beside_with, beside_of}
 use Rattle.phrases.proofs.around.Goals as goal
 
@@ -9,11 +9,11 @@ pub loop-i-init : goal.loop-i-init
 unfolding beside_of
 loop-i-init c =
     let a = c.args in
-    let eight : length a.t1 ≡ 8 = search rules in
+    let eight : length a.others ≡ 8 = search rules in
     record {
       upto = omega arith;
       within = omega arith;
-      same = ap (fold (beside_with a.place) c.none-b.result) (take_all 8 a.t1 (le_of_eq eight)) ∙ simp c.none-b.ensures;
+      same = ap (fold (beside_with a.place) c.none-b.result) (take_all 8 a.others (le_of_eq eight)) ∙ simp c.none-b.ensures;
     }
 
 pub loop-i-preserved : goal.loop-i-preserved

@@ -1,11 +1,13 @@
 -- `gather` meets its contract. The loop's invariant: the turns left, from what is gathered, give what all of them give. Assumes nothing.
-use Rattle.std.proofs.Common.{◌≡◌, ℕ, suc, ◌+◌, ◌-◌, ◌<◌, ◌≤◌, List, length, get_or, set, sym, refl, ap, ◌∙◌, subst, ⊎_elim, arith, rules, le-ltb, lt-ltb}
+use Rattle.std.proofs.Common.{◌≡◌, ℕ, suc, ◌+◌, ◌-◌, ◌<◌, ◌≤◌, List, length, get_or, set, sym, refl, ap, ◌∙◌, subst, arith, le-ltb, lt-ltb}
 use Rattle.phrases.specs.Phrases.{no_phrase, room_of}
 use Rattle.phrases.specs.Gathering.{Gathering, first_from, moved_down, gather_phrase, gather_next, gather_turns, gathering_of}
 use Rattle.phrases.specs.declared.Phrase.{Phrase}
 use Rattle.phrases.specs.declared.Room.{Room}
 use Rattle.phrases.proofs.Fits.{Fits, room_down, turn_length, turn-fits}
+use Rattle.phrases.proofs.gather.Invariants.{Going}
 use Rattle.phrases.proofs.gather.Goals as goal
+use Rattle.phrases.proofs.gather.Goals.{then-k-lt-PHRASES, else-k-lt-PHRASES}
 
 same : (g h : Gathering) → g.phrases ≡ h.phrases → g.memory ≡ h.memory → g.from ≡ h.from → g.to ≡ h.to → g ≡ h
 same g h ps m from to =
@@ -37,12 +39,6 @@ module _ (g : Gathering) (k : ℕ) (found : k ≡ first_from g.from g.phrases) w
   stays g' none ps m from to = same g' g ps m from to ∙ rw (← found, le-ltb k 8 none)
 
 -- ---- the turns left
-record Going (all : List Phrase) (m : List ℕ) (turn : ℕ) (g : Gathering) : Type 0 where
-  upto : turn ≤ 8
-  left : gather_turns (8 - turn) g ≡ gathering_of all m
-  fits : Fits g
-  size : length g.memory ≡ length m
-
 module _ {all : List Phrase} {m : List ℕ} {turn : ℕ} {g : Gathering} (go : Going all m turn g) where
   goes_on : turn < 8 → (g' : Gathering) → g' ≡ gather_next g → Going all m (turn + 1) g'
   unfolding gather_turns
@@ -79,8 +75,8 @@ move_down-requires c =
     let l = c.loop-turn in
     let room = c.room-room in
     let found = c.first_from-k in (
-      goes_down _ found.result found.ensures room.result room.ensures.0 c.if-k-lt-PHRASES.true l.invariant.fits,
-      omega (arith, room.ensures.1),
+      goes_down _ found.result found.ensures room.result room.ensures.value c.if-k-lt-PHRASES.true l.invariant.fits,
+      omega (arith, room.ensures.from_le_to),
     )
 
 pub offset_bounds-moved-k-then-k-lt-PHRASES : goal.offset_bounds-moved-k-then-k-lt-PHRASES
@@ -94,7 +90,7 @@ overflow_add-to c =
     let l = c.loop-turn in
     let room = c.room-room in
     let found = c.first_from-k in
-    omega (arith, room.ensures.1, goes_down _ found.result found.ensures room.result room.ensures.0 c.if-k-lt-PHRASES.true l.invariant.fits)
+    omega (arith, room.ensures.from_le_to, goes_down _ found.result found.ensures room.result room.ensures.value c.if-k-lt-PHRASES.true l.invariant.fits)
 
 pub overflow_add-turn : goal.overflow_add-turn
 overflow_add-turn c = omega arith
@@ -106,10 +102,11 @@ pub loop-turn-preserved : goal.loop-turn-preserved
 loop-turn-preserved c =
     let found = c.first_from-k in
     let on = goes_on c.loop-turn.invariant c.loop-turn-test.true _ in
-    ⊎_elim
-    (λ w. on (moved_on _ found.result found.ensures w.2.result w.2.ensures.0 w.0.taken _ w.9 (w.8 ∙ w.5.ensures) w.10 w.11))
-    (λ w. on (stays _ found.result found.ensures _ w.0.left w.2 w.1 w.3 w.4))
-    c.if-k-lt-PHRASES.branch
+    elim c.if-k-lt-PHRASES.branch [
+      | then-k-lt-PHRASES w ↦
+          on (moved_on _ found.result found.ensures w.room-room.result w.room-room.ensures.value w.if-k-lt-PHRASES.true _ w.moved-is (w.data-is ∙ w.move_down.ensures) w.from-is w.to-is)
+      | else-k-lt-PHRASES w ↦ on (stays _ found.result found.ensures _ w.if-k-lt-PHRASES.false w.moved-is w.data-is w.from-is w.to-is)
+    ]
 
 pub shape_of-data : goal.shape_of-data
 shape_of-data c = c.loop-turn.invariant.size
@@ -117,4 +114,4 @@ shape_of-data c = c.loop-turn.invariant.size
 pub returns : goal.returns
 returns c =
     let e = ends c.loop-turn.invariant c.loop-turn-test.false in
-    (ap (λ (g : Gathering). g.phrases) e, ap (λ (g : Gathering). g.memory) e)
+    record { value = ap (λ (g : Gathering). g.phrases) e; data_after = ap (λ (g : Gathering). g.memory) e }

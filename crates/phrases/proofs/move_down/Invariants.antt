@@ -1,11 +1,9 @@
-use Rattle.std.proofs.Common.{◌≡◌, ℕ, ◌-◌, ◌≤◌, length, drop, sym, refl, ap, ◌∙◌, arith, length-set, rules}
-use lib.Seq.{paste-zero}
+use Rattle.std.proofs.Common.{◌≡◌, ◌-◌, ◌≤◌, length}
 use Rattle.phrases.specs.Gathering.{moved_down}
-use Rattle.phrases.proofs.Gathered.Moved.{as_pasted, moved_next}
 use Rattle.phrases.proofs.move_down.Given as goal
 
 abbrev pub invariant-loop-i : goal.invariant-loop-i
-invariant-loop-i l = (l.i ≤ l.to) × (l.initial.i ≡ moved_down l.data l.from l.i l.initial.data) × (length l.initial.i ≡ length l.initial.data)
+invariant-loop-i l = (l.i ≤ l.n) × (l.data ≡ moved_down l.from l.to l.i l.initial.data) × (length l.data ≡ length l.initial.data)
 
 abbrev pub decreases-loop-i : goal.decreases-loop-i
-decreases-loop-i l = l.to - l.i
+decreases-loop-i l = l.n - l.i

@@ -27,9 +27,9 @@ returns-in-Static c =
     let a = c.args in
     let added = restated c.pour.ensures (leveled a.values.now a.volume a.time)
     (λ k low high. ap (term_at a.values.now c.in-Static.level) (at k) ∙ ap (λ (x : Float). term_at a.values.now x k) (steady_by a.volume _ (a.time + k) c.in-Static.is)) in
-    subst (λ (e : ℕ). Added (leveled a.values.now a.volume a.time) 0 e a.sums.now c.pour.new.1.1.1.0) (zero-add a.n) added
+    subst (λ (e : ℕ). Added (leveled a.values.now a.volume a.time) 0 e a.sums.now c.pour.new.sums) (zero-add a.n) added
 
 pub returns-after-time_start-time : goal.returns-after-time_start-time
 returns-after-time_start-time c =
     let a = c.args in
-    subst (λ (z : Volume). Added (leveled a.values.now z a.time) 0 a.n a.sums.now c.add_levels.new.1.1.1.0) (sym c.in-Linear.is) c.add_levels.ensures
+    subst (λ (z : Volume). Added (leveled a.values.now z a.time) 0 a.n a.sums.now c.add_levels.new.sums) (sym c.in-Linear.is) c.add_levels.ensures

@@ -2,7 +2,6 @@
 use mathlib.Core.Path.{refl, sym, ◌∙◌}
 use native.Mathlib.Omega.{arith}
 use mathlib.Core.Bool.{true≢false}
-use borrow.Author.Tests.{not-false}
 use Rattle.pours.proofs.Promised.{gathered}
 use borrow.Author.Rules.{rules}
 use Rattle.pours.proofs.gather.Goals as goal
@@ -19,4 +18,4 @@ returns c =
     let f = c.fetch-f in
     let o = c.places in
     let l = c.lasts in
-    (f.ensures.size ∙ o.ensures.0, λ told. gathered a.«data».now a.t a.n a.v _ _ f.result c.requires.0.some (l.ensures (not-false l.result c.if-not-lasts.false)) (o.ensures.1 (not-false o.result c.if-not-places.false)) f.ensures)
+    (f.ensures.size ∙ o.ensures.0, λ told. gathered a.«data».now a.t a.n a.v _ _ f.result c.requires.0.some (l.ensures c.if-not-lasts.false) (o.ensures.1 c.if-not-places.false) f.ensures)

@@ -7,7 +7,6 @@ use lib.Ieee.{le, of_bits}
 use lib.Ieee.Bits.{is_true}
 use lib.Ieee.Fits.{and_l, and_r}
 use lib.ListN.{length, length-set}
-use borrow.Author.Tests.{not-false}
 use borrow.Author.Rules.{rules}
 use Rattle.binary32.specs.Leaves.{zero32}
 use Rattle.binary32.proofs.Truth.{yes}
@@ -30,7 +29,7 @@ loop-k-preserved c =
     let place = c.wrapped-y in
     let spot = c.spot_at-p in
     let below : l.k < a.n = c.loop-k-test.true in
-    let told = yes (not-false (le zero32 place.result && spot.result.told) c.if-not-y-p.false) in
+    let told = yes c.if-not-y-p.false in
     let S = spot.ensures (is_true _ (and_r (le zero32 place.result) _ told)) in (
       omega (arith, below),
       length-set l.values l.k spot.result.index ∙ l.invariant.1,

@@ -16,7 +16,7 @@ use Rattle.pours.proofs.Placing.{told_next}
 use Rattle.pours.proofs.places_far.Given as goal
 
 abbrev pub invariant-loop-k : goal.invariant-loop-k
-invariant-loop-k l = (l.k ≤ l.values) × (length l.initial.k ≡ length l.initial.values) × Places l.c l.time l.k l.initial.k
+invariant-loop-k l = (l.k ≤ l.n) × (length l.values ≡ length l.initial.values) × Places l.c l.time l.k l.values
 
 abbrev pub decreases-loop-k : goal.decreases-loop-k
-decreases-loop-k l = l.values - l.k
+decreases-loop-k l = l.n - l.k

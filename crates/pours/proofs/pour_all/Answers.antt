@@ -22,39 +22,28 @@ pub smaller-m-requires : goal.smaller-m-requires
 smaller-m-requires c = search rules
 
 -- the part of a turn: not empty, and no longer than the loop, the data or the samples that are left
-record Part (c : tie.After-pour-arg invariant-loop decreases-loop) : Type 0 where
-  some : 1 ≤ c.smaller2.result
-  to : c.loop.f + c.smaller2.result ≤ c.args.n
-  in_loop : c.loop.at + c.smaller2.result ≤ c.args.round
-  in_data : c.rest.result + c.smaller2.result ≤ c.args.total
+record Part (f n at round from total m : ℕ) : Type 0 where
+  some : 1 ≤ m
+  to : f + m ≤ n
+  in_loop : at + m ≤ round
+  in_data : from + m ≤ total
 
-part : (c : tie.After-pour-arg invariant-loop decreases-loop) → Part c
-part c =
-    let s = c.before.before.before.before.before.before.before.before in
-    let l = c.before.before.before.before.before.loop in
-    let from = c.before.before.before.rest.result in
-    let below : from < s.args.total = omega (arith, c.before.before.before.rest.ensures, mod-lt (s.args.start + l.at) s.requires.3) in
-    let m : c.before.smaller2.result ≡ min (min (s.args.round - l.at) (s.args.total - from)) (s.args.n - l.f) = c.before.smaller2.ensures ∙ ap (λ (x : ℕ). min x (s.args.n - l.f)) c.before.before.smaller.ensures in
-    record {
-      some = omega (arith, m, below, l.invariant.1, c.before.before.before.before.loop-test.true);
-      to = omega (arith, m, l.invariant.0);
-      in_loop = omega (arith, m, l.invariant.1);
-      in_data = omega (arith, m, below);
-    }
+part : {f n at round from total m : ℕ} → f < n → at < round → from < total → m ≡ min (min (round - at) (total - from)) (n - f) → Part f n at round from total m
+part left inside below is = record { some = omega (arith, is); to = omega (arith, is); in_loop = omega (arith, is); in_data = omega (arith, is) }
 
 pub pour-requires : goal.pour-requires
 pour-requires c =
-    let f = part c in
+    let f = part c.loop-f-test.true c.loop-f.invariant.1 (subst (λ (x : ℕ). x < c.args.total) (sym c.rest-from.ensures) (mod-lt (c.args.start + c.loop-f.at) c.requires.3)) (c.smaller-m.ensures ∙ ap (λ (x : ℕ). min x (c.args.n - c.loop-f.f)) c.smaller.ensures) in
     (omega (arith, f.in_data, c.requires.4), omega (arith, f.to, c.requires.5, c.loop-f.invariant.3.size))
 
 pub loop-f-smaller : goal.loop-f-smaller
-loop-f-smaller c = let f = part c in omega (arith, f.some, f.to)
+loop-f-smaller c = let f = part c.loop-f-test.true c.loop-f.invariant.1 (subst (λ (x : ℕ). x < c.args.total) (sym c.rest-from.ensures) (mod-lt (c.args.start + c.loop-f.at) c.requires.3)) (c.smaller-m.ensures ∙ ap (λ (x : ℕ). min x (c.args.n - c.loop-f.f)) c.smaller.ensures) in omega (arith, f.some, f.to)
 
 pub loop-f-preserved : goal.loop-f-preserved
 loop-f-preserved c =
     let a = c.args in
     let l = c.loop-f in
-    let f = part c in
+    let f = part c.loop-f-test.true c.loop-f.invariant.1 (subst (λ (x : ℕ). x < c.args.total) (sym c.rest-from.ensures) (mod-lt (c.args.start + c.loop-f.at) c.requires.3)) (c.smaller-m.ensures ∙ ap (λ (x : ℕ). min x (c.args.n - c.loop-f.f)) c.smaller.ensures) in
     let m = c.smaller-m.result in (
       f.to,
       subst (λ (x : ℕ). x < a.round) (sym c.rest-at.ensures) (mod-lt (l.at + m) (omega (arith, c.requires.1))),

@@ -15,7 +15,7 @@ use borrow.Author.Rules.{rules}
 use Rattle.questions.proofs.active_count.Given as goal
 
 abbrev pub invariant-loop-i : goal.invariant-loop-i
-invariant-loop-i l = Walk (0 + length (notes_of (live l.c))) (λ (vs : List Voice). l.initial.i + length (notes_of vs)) l.c.voices l.n l.i × (l.initial.i ≤ l.i)
+invariant-loop-i l = Walk (0 + length (notes_of (live l.c))) (λ (vs : List Voice). l.k + length (notes_of vs)) l.c.voices l.n l.i × (l.k ≤ l.i)
 
 abbrev pub decreases-loop-i : goal.decreases-loop-i
 decreases-loop-i l = l.n - l.i

@@ -12,7 +12,7 @@ use borrow.Author.Rules.{rules}
 use Rattle.questions.proofs.largest.Given as goal
 
 abbrev pub invariant-loop-i : goal.invariant-loop-i
-invariant-loop-i l = Walk (largest_of l.values) (λ (xs : List Float). fold max_of l.initial.i xs) l.values l.n l.i × (l.n ≡ length l.values)
+invariant-loop-i l = Walk (largest_of l.values) (λ (xs : List Float). fold max_of l.most xs) l.values l.n l.i × (l.n ≡ length l.values)
 
 abbrev pub decreases-loop-i : goal.decreases-loop-i
 decreases-loop-i l = l.n - l.i

@@ -12,7 +12,7 @@ use borrow.Author.Rules.{rules}
 use Rattle.questions.proofs.squares.Given as goal
 
 abbrev pub invariant-loop-i : goal.invariant-loop-i
-invariant-loop-i l = Walk (squares_of (map float_of l.samples)) (λ (xs : List ℕ). fold with_square l.initial.i (map float_of xs)) l.samples l.n l.i × (l.n ≡ length l.samples)
+invariant-loop-i l = Walk (squares_of (map float_of l.samples)) (λ (xs : List ℕ). fold with_square l.total (map float_of xs)) l.samples l.n l.i × (l.n ≡ length l.samples)
 
 abbrev pub decreases-loop-i : goal.decreases-loop-i
 decreases-loop-i l = l.n - l.i

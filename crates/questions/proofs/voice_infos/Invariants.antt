@@ -11,7 +11,7 @@ use Rattle.questions.proofs.voice_infos.Given as goal
 abbrev pub invariant-loop-i : goal.invariant-loop-i
 invariant-loop-i l =
     let f = figures_of l.params l.first l.c in
-    Walk (filled f l.initial.answer 0 (live l.c)) (filled f l.initial.i l.i) l.c.voices l.n l.i
+    Walk (filled f l.initial.answer 0 (live l.c)) (filled f l.answer l.i) l.c.voices l.n l.i
 
 abbrev pub decreases-loop-i : goal.decreases-loop-i
 decreases-loop-i l = l.n - l.i

@@ -9,7 +9,7 @@ use borrow.Author.Rules.{rules}
 use Rattle.questions.proofs.write_columns.Given as goal
 
 abbrev pub invariant-loop-i : goal.invariant-loop-i
-invariant-loop-i l = Filling (sets l.initial.list 0 (columns_of l.columns l.recording)) l.columns l.recording l.list l.start l.initial.i l.i × (length l.start ≡ length l.initial.list)
+invariant-loop-i l = Filling (sets l.initial.list 0 (columns_of l.columns l.recording)) l.columns l.recording l.step l.list l.start l.i × (length l.list ≡ length l.initial.list)
 
 abbrev pub decreases-loop-i : goal.decreases-loop-i
 decreases-loop-i l = l.columns - l.i

@@ -13,7 +13,7 @@ use borrow.Author.Rules.{rules}
 use Rattle.questions.proofs.write_notes.Given as goal
 
 abbrev pub invariant-loop-i : goal.invariant-loop-i
-invariant-loop-i l = Walk (laid l.initial.notes 0 (live l.notes)) (laid l.k l.initial.i) l.notes.voices l.c l.i × (length l.k ≡ length l.initial.notes)
+invariant-loop-i l = Walk (laid l.initial.notes 0 (live l.c)) (laid l.notes l.k) l.c.voices l.n l.i × (length l.notes ≡ length l.initial.notes)
 
 abbrev pub decreases-loop-i : goal.decreases-loop-i
-decreases-loop-i l = l.c - l.i
+decreases-loop-i l = l.n - l.i

@@ -16,8 +16,8 @@ use Rattle.channel.proofs.Channel.play.Given as goal
 abbrev pub invariant-loop-i : goal.invariant-loop-i
 invariant-loop-i l =
     let s = turning_in l.params l.initial.self l.data in
-    Walk (rest_of s l.initial.self 0 l.n (live l.initial.self)) (rest_of s l.moved l.initial.i l.initial.k) l.moved.voices l.head l.i
-    × (l.initial.i ≤ l.i) × Walk (tidied_from s 0 0 0 (live l.initial.self)) (tidied_from s l.k l.initial.i l.i) l.moved.voices l.head l.i × (l.k ≤ l.i) × (l.head ≤ 32) × (l.moved ≡ with_voices l.moved.voices l.moved.count l.initial.self)
+    Walk (rest_of s l.initial.self 0 l.initial.output (live l.initial.self)) (rest_of s l.self l.k l.output) l.self.voices l.n l.i
+    × (l.k ≤ l.i) × Walk (tidied_from s 0 0 0 (live l.initial.self)) (tidied_from s l.moved l.k l.i) l.self.voices l.n l.i × (l.moved ≤ l.i) × (l.n ≤ 32) × (l.self ≡ with_voices l.self.voices l.self.count l.initial.self)
 
 abbrev pub decreases-loop-i : goal.decreases-loop-i
-decreases-loop-i l = l.head - l.i
+decreases-loop-i l = l.n - l.i

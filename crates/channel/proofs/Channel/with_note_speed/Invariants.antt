@@ -7,7 +7,7 @@ use borrow.Author.Rules.{rules}
 use Rattle.channel.proofs.Channel.with_note_speed.Given as goal
 
 abbrev pub invariant-loop-i : goal.invariant-loop-i
-invariant-loop-i l = Walk (map_from (sped_of l.note l.speed) l.initial.self 0 (live l.initial.self)) (map_from (sped_of l.note l.speed) l.initial.i l.i) l.initial.i.voices l.self l.i
+invariant-loop-i l = Walk (map_from (sped_of l.note l.speed) l.initial.self 0 (live l.initial.self)) (map_from (sped_of l.note l.speed) l.self l.i) l.self.voices l.n l.i
 
 abbrev pub decreases-loop-i : goal.decreases-loop-i
-decreases-loop-i l = l.self - l.i
+decreases-loop-i l = l.n - l.i

@@ -1,5 +1,5 @@
 -- `Phrase::room` meets its contract: it lies within the memory as the definition's does. Assumes nothing.
-use Rattle.std.proofs.Common.{◌≡◌, ◌+◌, ◌≤◌, sym, subst, rules}
+use Rattle.std.proofs.Common.{◌≡◌, ◌+◌, ◌≤◌, sym, subst}
 use Rattle.phrases.specs.Phrases.{room_of}
 use Rattle.phrases.specs.declared.Room.{Room}
 use Rattle.phrases.proofs.Rooms.{room_inside}
@@ -11,4 +11,4 @@ returns c =
     let a = c.args in
     let from = c.smaller-from.result in
     let is : ◌≡◌ {A = Room} (record { from = from; to = from + c.smaller.result }) (room_of a.self a.size) = simp (c.smaller.ensures, c.smaller-from.ensures) in
-    (is, subst (λ (r : Room). (r.from ≤ r.to) × (r.to ≤ a.size)) (sym is) (room_inside a.self a.size))
+    record { value = is; from_le_to = subst (λ (r : Room). (r.from ≤ r.to) × (r.to ≤ a.size)) (sym is) (room_inside a.self a.size) }

@@ -1,7 +1,6 @@
 -- `Hot::agrees` meets its contract: its tests are those of `agreed`. Assumes nothing.
 use Rattle.std.proofs.Common.{ℕ, ◌-◌, ◌^◌, ◌<◌, ◌≤◌, sym, true≢false, mul-le-mul, arith, rules}
 use lib.Ieee.{binary32, of_bits}
-use borrow.Author.Tests.{not-false}
 use Rattle.binary32.proofs.Halves.{castable}
 use Rattle.plain_voice.proofs.Hots.{agreed}
 use Rattle.plain_voice.proofs.Hot.agrees.Goals as goal
@@ -28,4 +27,4 @@ pub returns : goal.returns
 unfolding of_bits
 returns c =
     let a = c.args in
-    agreed a.self a.c a.t a.b a.speed a.last c.same_mode.result c.elapsed_at-elapsed.result c.same_mode.ensures c.elapsed_at-elapsed.ensures (not-false _ c.if-not-same.false) c.if-self-gt-LONGEST.false
+    agreed a.self a.c a.t a.b a.speed a.last c.same_mode.result c.elapsed_at-elapsed.result c.same_mode.ensures c.elapsed_at-elapsed.ensures c.if-not-same.false c.if-self-gt-LONGEST.false

@@ -10,7 +10,7 @@ use Rattle.sampler.proofs.Sampler.against.Given as goal
 
 abbrev pub invariant-loop-j : goal.invariant-loop-j
 invariant-loop-j l =
-    Walk (against_from l.capacity l.ask false false (present l.self)) (against_from l.capacity l.ask l.short l.initial.j) l.self.channels l.n l.j
+    Walk (against_from l.capacity l.ask false false (present l.self)) (against_from l.capacity l.ask l.blocked l.short) l.self.channels l.n l.j
 
 abbrev pub decreases-loop-j : goal.decreases-loop-j
 decreases-loop-j l = l.n - l.j

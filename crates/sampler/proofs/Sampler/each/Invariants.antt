@@ -8,7 +8,7 @@ use borrow.Author.Rules.{rules}
 use Rattle.sampler.proofs.Sampler.each.Given as goal
 
 abbrev pub invariant-loop-j : goal.invariant-loop-j
-invariant-loop-j l = Walk (each_from l.change l.initial.self 0 (present l.initial.self)) (each_from l.change l.initial.j l.j) l.initial.j.channels l.self l.j
+invariant-loop-j l = Walk (each_from l.change l.initial.self 0 (present l.initial.self)) (each_from l.change l.self l.j) l.self.channels l.n l.j
 
 abbrev pub decreases-loop-j : goal.decreases-loop-j
-decreases-loop-j l = l.self - l.j
+decreases-loop-j l = l.n - l.j

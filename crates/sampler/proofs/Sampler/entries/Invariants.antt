@@ -8,8 +8,8 @@ use Rattle.sampler.proofs.Sampler.entries.Given as goal
 
 abbrev pub invariant-loop-j : goal.invariant-loop-j
 invariant-loop-j l =
-    Framing (entries_of l.initial.frame (length l.self) 0 (framed l.initial.self l.self l.frame)) l.initial.frame (length l.self) (length l.frame) l.n l.initial.moved l.moved l.j
-    × Summing (entries_moved l.initial.frame (length l.self) 0 (framed l.initial.self l.self l.frame)) l.initial.frame (length l.self) l.n l.initial.moved l.moved l.j l.initial.j
+    Framing (entries_of l.params (length l.initial.frame) 0 (framed l.initial.self l.initial.frame l.initial.memory)) l.params (length l.initial.frame) (length l.initial.memory) l.self l.frame l.memory l.j
+    × Summing (entries_moved l.params (length l.initial.frame) 0 (framed l.initial.self l.initial.frame l.initial.memory)) l.params (length l.initial.frame) l.self l.frame l.memory l.j l.moved
 
 abbrev pub decreases-loop-j : goal.decreases-loop-j
-decreases-loop-j l = l.params - l.j
+decreases-loop-j l = l.n - l.j

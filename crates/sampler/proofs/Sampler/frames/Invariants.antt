@@ -8,7 +8,7 @@ use Rattle.sampler.proofs.Sampler.frames.Given as goal
 
 abbrev pub invariant-loop-i : goal.invariant-loop-i
 invariant-loop-i l =
-    Running (frames_of l.initial.run l.self (framed l.initial.self l.k l.run)) l.initial.run l.self (length l.k) (length l.run) l.params l.count l.initial.a l.a l.initial.i l.i
+    Running (frames_of l.params l.k (framed l.initial.self l.initial.run l.initial.memory)) l.params l.k (length l.initial.run) (length l.initial.memory) l.count l.self l.run l.memory l.a l.i
 
 abbrev pub decreases-loop-i : goal.decreases-loop-i
-decreases-loop-i l = l.self - l.i
+decreases-loop-i l = l.k - l.i

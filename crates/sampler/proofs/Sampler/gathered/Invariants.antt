@@ -13,7 +13,7 @@ use native.Mathlib.Omega.{arith}
 use Rattle.sampler.proofs.Sampler.gathered.Given as goal
 
 abbrev pub invariant-loop-j : goal.invariant-loop-j
-invariant-loop-j l = Gathering (gathered_all l.memory l.initial.memory) l.initial.self l.self (length l.initial.memory) l.initial.j l.n l.j
+invariant-loop-j l = Gathering (gathered_all l.initial.self l.initial.memory) l.capacity l.n (length l.initial.memory) l.self l.memory l.j
 
 abbrev pub decreases-loop-j : goal.decreases-loop-j
-decreases-loop-j l = l.self - l.j
+decreases-loop-j l = l.n - l.j

@@ -13,7 +13,7 @@ use Rattle.song_merge.proofs.merging.gather.Given as goal
 
 abbrev pub invariant-loop-i : goal.invariant-loop-i
 invariant-loop-i l =
-    Round l.file l.count l.at (length l.initial.spare) l.spare l.initial.end l.end l.initial.i l.i × (length l.place ≡ length l.initial.spare)
+    Round l.file l.count l.at (length l.initial.spare) l.initial.out l.out l.place l.end l.i × (length l.spare ≡ length l.initial.spare)
 
 abbrev pub decreases-loop-i : goal.decreases-loop-i
 decreases-loop-i l = l.count - l.i

@@ -7,7 +7,7 @@ use Rattle.song_merge.proofs.Joins.{Going, begins, left_of, first_true, left_sto
 use Rattle.song_merge.proofs.merging.join.Given as goal
 
 abbrev pub invariant-loop-x : goal.invariant-loop-x
-invariant-loop-x l = Going l.a l.a_end l.file l.at l.end l.initial.out l.initial.y l.y l.initial.w l.w
+invariant-loop-x l = Going l.a l.a_end l.file l.at l.end l.initial.out l.out l.x l.y l.w
 
 abbrev pub decreases-loop-x : goal.decreases-loop-x
-decreases-loop-x l = left_of l.a_end l.y + left_of l.end l.initial.w
+decreases-loop-x l = left_of l.a_end l.x + left_of l.end l.y

@@ -10,7 +10,7 @@ use Rattle.song_merge.proofs.Bytes.{copy_more, sets_long}
 use Rattle.song_merge.proofs.writing.copy.Given as goal
 
 abbrev pub invariant-loop-i : goal.invariant-loop-i
-invariant-loop-i l = (l.i ≤ l.size) × (l.initial.i ≡ sets l.initial.out l.out (bytes_at l.i l.list l.from))
+invariant-loop-i l = (l.i ≤ l.size) × (l.out ≡ sets l.initial.out l.at (bytes_at l.i l.list l.from))
 
 abbrev pub decreases-loop-i : goal.decreases-loop-i
 decreases-loop-i l = l.size - l.i
