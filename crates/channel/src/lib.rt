@@ -304,9 +304,8 @@ impl Head {
 
     // The head once the sample has been recorded.
     pub fn recorded(self, input: f32, data: &mut [u32]) -> Self
-        ensures { (result
-            ≡ with_recorded (recorded_of self.recorder self.data_len (length «data».entry.now)) self)
-            × («data».exit.now ≡ data_after self.recorder (bits_of input) «data».entry.now) }
+        ensures value { result ≡ with_recorded (recorded_of self.recorder self.data_len (length «data».old)) self }
+        ensures data_after { «data».new ≡ data_after self.recorder (bits_of input) «data».old }
     {
         let recorder = self.recorder;
         let sample = binary32::to_bits(input);
@@ -542,6 +541,14 @@ pub fn asks(change: Change) -> Ask
 }
 
 // What a channel of so many voices has against that; `used` says that one has the phrase that is asked for.
+#[tactic(
+    auto,
+    unfolding(
+        crate::specs::Tables::against_by,
+        crate::specs::Tables::blocked_by,
+        crate::specs::Tables::short_by,
+    )
+)]
 pub fn held_against(
     ask: Ask,
     head: Head,

@@ -1,6 +1,6 @@
 -- One update of a clip is the four in turn, refusals included, and a value that is equal skips its own part alone. Assumes nothing.
 use mathlib.Core.Path.{◌≡◌, refl, ap, sym, ◌∙◌}
-use Prim.Native.Nat.{ℕ, ◌≤◌}
+use Prim.Native.Nat.{ℕ}
 use mathlib.Core.Bool.{Bool, true, false, not, ◌&&◌, ◌||◌, cond}
 use lib.Dec.{T}
 use lib.Ieee.{Float, eq, ne, le}

@@ -1,5 +1,5 @@
 // A host, as small as it can be: it sets the engine up, records a frame, presses a key, plays a frame, lets the key go,
-// and asks what sounds. `rt check coupling` proves it, runs it, and holds what it prints to the file `stdout`.
+// and asks what sounds. `rt ci coupling` proves it, runs it, and holds what it prints to the file `stdout`.
 #![tactic(auto)]
 
 ghost use Rattle.std.specs.Prelude.{◌≡◌, length};
@@ -9,10 +9,10 @@ ghost use Rattle.coupling.specs.Coupling.{no_passthru, key, settings, frame_reco
 
 use channel::{Change, HeadChange};
 use common_types::{InitParams, Note, Params};
-use libc::STDOUT_FILENO;
 use own_sampler::FramePlayed;
 use questions::VoiceInfos;
 use sampler::{Answer, Sampler};
+use std::io;
 
 // The Rust's defaults, but that a key sounds at its level at once and the input isn't passed on.
 fn params() -> Params
@@ -82,20 +82,19 @@ fn told(s: Sampler) -> VoiceInfos
     questions::get_voice_info(s, 0, params(), 32)
 }
 
-fn print(output: f32) {
-    io::print_hex(STDOUT_FILENO, binary32::to_bits(output) as u64, 8);
-    io::write_all(STDOUT_FILENO, b"\n");
+fn print(rt: &impl Print, output: f32) -> io::Result<()> {
+    let bits = binary32::to_bits(output);
+    println!(rt; "{bits:08x}")
 }
 
-fn main() {
+fn main(rt: HostRuntime) -> io::Result<()> {
     let mut memory = [0u32; 8192];
     let mut input = [0.5, 0.25];
     let s = recorded(&mut input, &mut memory);
     let mut output = [0.0, 0.0];
     let s = sounded(pressed(s), &mut output, params(), &mut memory).sampler;
-    print(output[0]);
-    print(output[1]);
+    print(&rt, output[0])?;
+    print(&rt, output[1])?;
     let voices = told(s);
-    io::print_decimal(STDOUT_FILENO, voices.count as u64);
-    io::write_all(STDOUT_FILENO, b"\n");
+    rt.println(voices.count)
 }

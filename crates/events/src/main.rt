@@ -10,7 +10,7 @@ ghost use Rattle.std.specs.Prelude.{◌≡◌, ◌+◌, ◌-◌, ◌*◌, ◌≤
 ghost use Rattle.events.specs.Feeds.{FeedsPiece, blank};
 
 use feeds::{State, begun, feed, part};
-use libc::{STDIN_FILENO, STDOUT_FILENO};
+use std::io::Read;
 
 // How far the listing is, how many bytes wait in front of the input, and how long the text is that was handed out last.
 #[derive(Clone, Copy)]
@@ -21,14 +21,21 @@ struct Run {
 }
 
 // A feed of 4,095 bytes has at most 4,096 lines, of 64 bytes each.
-fn main() {
+fn main(rt: HostRuntime) {
     let mut memory = [0u32; 8192];
     let mut input = [0u8; 4095];
     let mut out = [0u8; 262144];
-    play(&mut memory, &mut input, &mut out);
+    let mut from = rt.stdin();
+    play(&rt, &mut from, &mut memory, &mut input, &mut out);
 }
 
-fn play(memory: &mut [u32], input: &mut [u8], out: &mut [u8])
+fn play(
+    rt: &(impl Print + Eprint),
+    from: &mut impl Read,
+    memory: &mut [u32],
+    input: &mut [u8],
+    out: &mut [u8],
+)
     requires memory_value { memory.old ≡ blank }
     requires input_in_bounds { 64 * (length input.old + 1) ≤ length out.old }
 {
@@ -41,24 +48,31 @@ fn play(memory: &mut [u32], input: &mut [u8], out: &mut [u8])
     // What a proved loop ends by: no input uses them up.
     let mut turns = u64::MAX;
     while turns > 0 && written & run.state.listing.on {
-        run = turn(run, memory, input, out);
-        written = write(out, run.size);
+        run = turn(rt, from, run, memory, input, out);
+        written = write(rt, out, run.size);
         turns -= 1;
     }
     if written {
-        told(run, input);
+        told(rt, run, input);
     }
 }
 
 // Reads a piece of the input behind what waits, and feeds. Where there is none, no more comes.
-fn turn(run: Run, memory: &mut [u32], input: &mut [u8], out: &mut [u8]) -> Run
+fn turn(
+    rt: &impl Eprint,
+    from: &mut impl Read,
+    run: Run,
+    memory: &mut [u32],
+    input: &mut [u8],
+    out: &mut [u8],
+) -> Run
     requires have_in_bounds { run.have ≤ length input.old }
     requires input_in_bounds { 64 * (length input.old + 1) ≤ length out.old }
     ensures { FeedsPiece run memory.old input.old result memory.new input.new
         out.new }
 {
     let before = run.have;
-    let got = read_some(input, before);
+    let got = read_some(rt, from, input, before);
     let have = before + got;
     let state = run.state;
     let fed = feed(state, &input[..have], got == 0, memory, out);
@@ -86,41 +100,42 @@ fn moved(input: &mut [u8], used: usize, have: usize) -> usize
     left
 }
 
-// Reads what there is, after the first `have` bytes: nothing at the end of the input.
-fn read_some(input: &mut [u8], have: usize) -> usize
+// Reads what there is, after the first `have` bytes: nothing at the end of the input, or where it can't be read.
+fn read_some(rt: &impl Eprint, from: &mut impl Read, input: &mut [u8], have: usize) -> usize
     requires { have ≤ length input.old }
     ensures result_in_bounds { have + result ≤ length input.old }
     ensures input_unchanged { take have input.new ≡ take have input.old }
 {
-    let part = &mut input[have..];
-    let got = libc::read(STDIN_FILENO, part);
-    if got < 0 {
-        words::unread();
+    match from.read(&mut input[have..]) {
+        Ok(got) => got,
+        Err(_) => {
+            words::unread(rt);
+            0
+        }
     }
-    io::count(got, part)
 }
 
 // Writes the text, and says so where it is lost.
-fn write(out: &[u8], size: usize) -> bool
+fn write(rt: &(impl Print + Eprint), out: &[u8], size: usize) -> bool
     requires { size ≤ length out.now }
 {
-    let done = io::write_all(STDOUT_FILENO, &out[..size]);
+    let done = rt.write_all(&out[..size]).is_ok();
     if !done {
-        words::lost();
+        words::lost(rt);
     }
     done
 }
 
 // Says why a listing ended before its input did: what ended it waits in front.
-fn told(run: Run, input: &[u8])
+fn told(rt: &impl Eprint, run: Run, input: &[u8])
     requires { run.have ≤ length input.now }
 {
     let have = run.have;
     let offset = run.state.listing.offset;
     let n = part(offset > 0, &input[..have]);
     if offset == 0 {
-        words::of_header(&input[..n]);
+        words::of_header(rt, &input[..n]);
     } else if have > 0 {
-        words::of_record(offset, run.state.listing.header, &input[..n]);
+        words::of_record(rt, offset, run.state.listing.header, &input[..n]);
     }
 }

@@ -8,7 +8,7 @@ use phrases::Phrase;
 use std::num::wrapping_add_usize;
 
 // For each channel in use a line for each of its phrases that has samples.
-pub fn recordings(run: Run, memory: &[u32], out: &mut [u8; 65536]) -> Run
+pub fn recordings(rt: &impl Print, run: Run, memory: &[u32], out: &mut [u8; 65536]) -> Run
     requires { run.at ≤ 65536 }
     ensures { result.at ≤ 65536 }
 {
@@ -18,31 +18,39 @@ pub fn recordings(run: Run, memory: &[u32], out: &mut [u8; 65536]) -> Run
         return r;
     }
     let left = s.channels[0];
-    let first = of_channel(left, memory, 0, out, r.at);
+    let first = of_channel(rt, left, memory, 0, out, r.at);
     r.at = first;
     if s.count == 1 {
         return r;
     }
     let right = s.channels[1];
-    r.at = of_channel(right, memory, s.capacity, out, first);
+    r.at = of_channel(rt, right, memory, s.capacity, out, first);
     r
 }
 
 // Those of a channel whose part of the memory begins at a place.
-fn of_channel(c: Channel, memory: &[u32], part: usize, out: &mut [u8; 65536], at: usize) -> usize
+fn of_channel(
+    rt: &impl Print,
+    c: Channel,
+    memory: &[u32],
+    part: usize,
+    out: &mut [u8; 65536],
+    at: usize,
+) -> usize
     requires { at ≤ 65536 }
     ensures { result ≤ 65536 }
 {
     let mut place = at;
     let mut k = 0u8;
     while k < 8 {
-        place = of_phrase(c.phrase_at(k), k, memory, part, out, place);
+        place = of_phrase(rt, c.phrase_at(k), k, memory, part, out, place);
         k += 1;
     }
     place
 }
 
 fn of_phrase(
+    rt: &impl Print,
     p: Phrase,
     k: u8,
     memory: &[u32],
@@ -57,6 +65,7 @@ fn of_phrase(
         return at;
     }
     recording(
+        rt,
         k,
         memory,
         wrapping_add_usize(part, p.start),
@@ -68,6 +77,7 @@ fn of_phrase(
 
 // The number k, and the n samples from `start` on.
 fn recording(
+    rt: &impl Print,
     k: u8,
     memory: &[u32],
     start: usize,
@@ -78,13 +88,13 @@ fn recording(
     requires { at ≤ 65536 }
     ensures { result ≤ 65536 }
 {
-    let from = room(out, at);
+    let from = room(rt, out, at);
     let first = tag(out, from, b'M');
     let mut place = put(out, first, 1, k as u64);
     let last = end_of(start, n, memory.len());
     let mut i = start;
     while i < last {
-        let from = room(out, place);
+        let from = room(rt, out, place);
         place = put_u32(out, from, memory[i]);
         i += 1;
     }

@@ -34,14 +34,14 @@ pub fn begun(memory: &[u32]) -> Run
 }
 
 // Writes the text once it takes half of the room, so that any answer fits after it.
-pub fn room(out: &[u8; 65536], at: usize) -> usize
+pub fn room(rt: &impl Print, out: &[u8; 65536], at: usize) -> usize
     requires { at ≤ 65536 }
     ensures { result ≤ 32768 }
 {
     if at <= 32768 {
         return at;
     }
-    write(out, at);
+    write(rt, out, at);
     0
 }
 

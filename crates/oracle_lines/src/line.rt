@@ -3,8 +3,6 @@
 // after it.
 ghost use Rattle.std.specs.Prelude.{◌≡◌, ◌+◌, ◌≤◌, ◌<◌};
 
-use libc::STDOUT_FILENO;
-
 // A letter as a word.
 pub fn tag(out: &mut [u8; 65536], at: usize, letter: u8) -> usize
     requires { at + 2 ≤ 65536 }
@@ -103,9 +101,9 @@ fn digit(d: u64) -> u8
 }
 
 // Writes the first `size` bytes of text to standard output.
-pub fn write(out: &[u8; 65536], size: usize) -> bool
+pub fn write(rt: &impl Print, out: &[u8; 65536], size: usize) -> bool
     requires { size ≤ 65536 }
 {
     let text = &out[..];
-    io::write_all(STDOUT_FILENO, &text[..size])
+    rt.write_all(&text[..size]).is_ok()
 }

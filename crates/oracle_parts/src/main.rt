@@ -5,8 +5,9 @@
 
 ghost use Rattle.std.specs.Prelude.{◌+◌, ◌*◌, ◌≤◌, ◌<◌, length};
 
-use libc::STDIN_FILENO;
+use oracle_lines::chunk::read_full;
 use oracle_lines::line::write;
+use std::io::Read;
 
 mod clips;
 mod defaults;
@@ -21,23 +22,24 @@ struct Answered {
     all: bool,
 }
 
-fn main() {
+fn main(rt: HostRuntime) {
+    let mut from = rt.stdin();
     let mut go = true;
     // What a proved loop ends by: no run uses them up.
     let mut turns = u64::MAX;
     while turns > 0 && go {
-        go = turn();
+        go = turn(&rt, &mut from);
         turns -= 1;
     }
 }
 
 // Reads and answers 128 records, or as many as are left. Whether more may follow.
-fn turn() -> bool {
+fn turn(rt: &impl Print, from: &mut impl Read) -> bool {
     let mut chunk = [0u8; 8192];
     let mut out = [0u8; 65536];
-    let got = io::read_full(STDIN_FILENO, &mut chunk);
+    let got = read_full(from, &mut chunk);
     let a = answers(&chunk[..got], &mut out);
-    let written = write(&out, a.size);
+    let written = write(rt, &out, a.size);
     written & a.all & (got == 8192)
 }
 

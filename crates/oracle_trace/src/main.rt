@@ -12,46 +12,56 @@
 
 ghost use Rattle.std.specs.Prelude.{◌≡◌, ◌+◌, ◌*◌, ◌≤◌, ◌<◌, length};
 
-use libc::STDIN_FILENO;
 use oracle_acts::recording::recordings;
 use oracle_acts::run::{Run, begun, room};
 use oracle_acts::{calls, puts, waves};
+use oracle_lines::chunk::read_full;
 use oracle_lines::field::u32_at;
 use oracle_lines::line::{end, tag, write};
 use oracle_lines::settings::params_of;
 use oracle_show::replies::{lent, query, waveform};
+use std::io::Read;
 
-fn main() {
+fn main(rt: HostRuntime) {
     let mut memory = [0u32; 65536];
     let mut file = [0u8; 1024];
-    play(&mut memory, &mut file);
+    let mut from = rt.stdin();
+    play(&rt, &mut from, &mut memory, &mut file);
 }
 
-fn play(memory: &mut [u32], file: &mut [u8]) {
+fn play(rt: &impl Print, from: &mut impl Read, memory: &mut [u32], file: &mut [u8]) {
     let mut out = [0u8; 65536];
     let mut run = begun(memory);
     // What a proved loop ends by: no run uses them up.
     let mut turns = u64::MAX;
     while turns > 0 && run.go {
-        run = turn(run, memory, file, &mut out);
+        run = turn(rt, from, run, memory, file, &mut out);
         turns -= 1;
     }
-    write(&out, run.at);
+    write(rt, &out, run.at);
 }
 
 // Reads and plays 128 records, or as many as are left.
-fn turn(run: Run, memory: &mut [u32], file: &mut [u8], out: &mut [u8; 65536]) -> Run
+fn turn(
+    rt: &impl Print,
+    from: &mut impl Read,
+    run: Run,
+    memory: &mut [u32],
+    file: &mut [u8],
+    out: &mut [u8; 65536],
+) -> Run
     requires { run.at ≤ 65536 }
     ensures { result.at ≤ 65536 }
 {
     let mut chunk = [0u8; 8192];
-    let got = io::read_full(STDIN_FILENO, &mut chunk);
-    let mut r = records(run, &chunk[..got], memory, file, out);
+    let got = read_full(from, &mut chunk);
+    let mut r = records(rt, run, &chunk[..got], memory, file, out);
     r.go = r.go & (got == 8192);
     r
 }
 
 fn records(
+    rt: &impl Print,
     run: Run,
     chunk: &[u8],
     memory: &mut [u32],
@@ -65,13 +75,13 @@ fn records(
     let mut r = run;
     let mut from = 0;
     while from + 64 <= chunk.len() && r.go {
-        r = record(r, &chunk[from..from + 64], memory, file, out);
+        r = record(rt, r, &chunk[from..from + 64], memory, file, out);
         from += 64;
     }
     if (from == chunk.len()) | !r.go {
         return r;
     }
-    let at = room(out, r.at);
+    let at = room(rt, out, r.at);
     bad(r, out, at)
 }
 
@@ -88,6 +98,7 @@ fn bad(run: Run, out: &mut [u8; 65536], at: usize) -> Run
 }
 
 fn record(
+    rt: &impl Print,
     run: Run,
     fields: &[u8],
     memory: &mut [u32],
@@ -98,13 +109,13 @@ fn record(
     requires in_bounds { 64 ≤ length fields.now }
     ensures { result.at ≤ 65536 }
 {
-    let at = room(out, run.at);
+    let at = room(rt, out, run.at);
     let kind = fields[0];
     match kind {
         0 => set_up(fields, memory, file, out, at),
         8 => run.heard(kind, calls::sample(run, fields, memory), out, at),
         9 => run.heard(kind, calls::frame(run, fields, memory), out, at),
-        11 => recordings(run.told(kind, out, at), memory, out),
+        11 => recordings(rt, run.told(kind, out, at), memory, out),
         19 => run.heard(kind, calls::frames(run, fields, memory), out, at),
         20 => run.on(run.sampler, waveform(run.sampler, fields, memory, out, at)),
         21 => ran(run, fields, memory, out, at),

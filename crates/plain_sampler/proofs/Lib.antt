@@ -1,15 +1,4 @@
-pub mod Sides
-pub mod Lends
-pub mod Loans
 pub mod Turns
 pub mod Flanked
 pub mod Togos
 pub mod Streams
-pub mod Sampling
-pub mod Alongs
-pub mod Rests
-pub mod Stepping
-pub mod Streaming
-pub mod Single
-pub mod Taking
-pub mod Named

@@ -562,9 +562,10 @@ impl Sampler {
     // A sample of channel j, on its part of the memory.
     fn step(mut self, j: usize, params: Params, input: f32, memory: &mut [u32]) -> Stepped
         requires { Ready self j (length memory.old) }
-        ensures sampler_value { (result.sampler ≡ channel_stepped_of self j params input memory.old)
-            × (result.output ≡ output_of self j params input memory.old)
-            × (result.moved ≡ moved_at self j params input memory.old) × (result.moved ≤ 32) }
+        ensures sampler_value { result.sampler ≡ channel_stepped_of self j params input memory.old }
+        ensures output_value { result.output ≡ output_of self j params input memory.old }
+        ensures moved_value { result.moved ≡ moved_at self j params input memory.old }
+        ensures moved_bound { result.moved ≤ 32 }
         ensures memory_after { memory.new ≡ memory_at self j input memory.old }
     {
         let c = self.channels[j];

@@ -1,14 +1,12 @@
 -- The answer of `read_song` and the list afterwards, case by case. Assumes nothing.
 use mathlib.Core.Path.{◌≡◌, refl, sym, ap, ◌∙◌}
-use mathlib.Core.Bool.{true}
 use mathlib.Core.List.{List, ◌++◌}
-use Prim.Native.Nat.{ℕ, ◌+◌, ◌*◌, ◌≤◌, ◌<◌}
+use Prim.Native.Nat.{ℕ, ◌*◌, ◌≤◌, ◌<◌}
 use native.Mathlib.Omega.{arith}
 use lib.ListN.{length, drop}
-use lib.Seq.{sets}
 use borrow.Author.Tests.{le-leb, lt-leb}
 use Rattle.walks.proofs.Lists.Runs.{run_front}
-use Rattle.smf.specs.Cues.{Entry, Song, song_of, count_closed, count_of, numbers_of, WrittenList, good_rate, room_judged, counted_judged, cues_after, list_of}
+use Rattle.smf.specs.Cues.{song_of, count_closed, count_of, numbers_of, WrittenList, room_judged, counted_judged, cues_after, list_of}
 use Rattle.smf.specs.declared.faults.Fault.{Fault}
 use Rattle.smf.specs.declared.chunks.Verdict.{Verdict}
 use Rattle.smf.specs.declared.chunks.Verdict.TheVariants.{Good, Broken}

@@ -1,18 +1,17 @@
 -- Frames counted in numbers of 64 bits: whole frames and what is over of the next, carried along, are those of the exact sum; and no number on the way
 -- is too large. Assumes nothing.
-use mathlib.Core.Path.{◌≡◌, refl, sym, ap, ◌∙◌, subst}
-use mathlib.Core.Bool.{Bool, true, false, cond}
+use mathlib.Core.Path.{◌≡◌, refl, sym, ap, ◌∙◌}
+use mathlib.Core.Bool.{Bool, true, false}
 use Prim.Native.Nat.{ℕ, suc, ◌+◌, ◌*◌, ◌/◌, ◌%◌, ◌^◌, ◌≤◌, ◌<◌}
-use native.Mathlib.Nat.{le_refl, le_trans, mul-zero, zero-div, zero-mod, le-add_right, mul_comm, mul_left_comm, mul_assoc, mul-add, add-mul, mul-le-mul, mod-lt, div-add-mod', div-le_self, div-lt_iff_lt-mul, le-div_iff_mul-le, mul-add-div_right, mul-add-mod_self_right}
+use native.Mathlib.Nat.{le_refl, le_trans, mul-zero, zero-div, zero-mod, le-add_right, mul_comm, mul_left_comm, mul_assoc, mul-add, add-mul, mul-le-mul, mod-lt, div-add-mod', div-lt_iff_lt-mul, le-div_iff_mul-le, mul-add-div_right, mul-add-mod_self_right}
 use native.Mathlib.Omega.{arith}
 use lib.Dec.{ltb, leb}
 use borrow.Author.Tests.{leb-true, leb-false, ltb-false, lt-ltb, le-leb, lt-leb}
-use Rattle.smf.specs.Times.{frame_at, last_frame, clock_at, unit_of}
-use Rattle.smf.specs.Cues.{Entry, event_entries, too_late}
+use Rattle.smf.specs.Times.{last_frame, clock_at}
+use Rattle.smf.specs.Cues.{event_entries, too_late}
 use Rattle.smf.specs.declared.clock.Clock.{Clock}
 use Rattle.smf.specs.declared.events.Event.{Event}
 use Rattle.smf.specs.declared.events.Event.TheVariants.{Note, Tempo, Other}
-use mathlib.Core.List.{List, []}
 
 abbrev pub ended : Clock
 ended = record { frames = last_frame + 1; rest = 0 }

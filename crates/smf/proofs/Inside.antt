@@ -1,5 +1,5 @@
 -- An event that is read ends behind its first byte and not past the end of its track. Assumes nothing.
-use mathlib.Core.Path.{◌≡◌, refl, sym, subst}
+use mathlib.Core.Path.{◌≡◌, refl, subst}
 use mathlib.Core.Bool.{Bool, true, false, cond, ◌||◌}
 use mathlib.Core.List.{List}
 use Prim.Native.Nat.{ℕ, ◌+◌, ◌-◌, ◌≤◌, ◌<◌}
@@ -7,13 +7,10 @@ use native.Mathlib.Omega.{arith}
 use lib.Dec.{ltb, leb, eqb}
 use borrow.Author.Tests.{ltb-true, leb-true}
 use Rattle.octets.specs.Octets.{byte_at}
-use Rattle.smf.specs.Faults.{fault_at}
-use Rattle.smf.specs.Fields.{quantity_at, three_at}
-use Rattle.smf.specs.Events.{data_at, is_one_byte, message_of, with_data, channel_event, past, with_quantity, sysex_at, tempo_of, meta_of, meta_at, status_of, event_at, step_timed, with_delta, step_at}
-use Rattle.smf.specs.declared.faults.Reason.TheVariants.{Missing, NoEndOfTrack, NoRunningStatus, SystemStatus, NoDataByte, NoMetaType, ShortTempo}
+use Rattle.smf.specs.Fields.{quantity_at}
+use Rattle.smf.specs.Events.{data_at, is_one_byte, with_data, channel_event, past, with_quantity, sysex_at, tempo_of, meta_of, meta_at, status_of, event_at, step_timed, with_delta, step_at}
 use Rattle.smf.specs.declared.fields.Quantity.{Quantity}
 use Rattle.smf.specs.declared.fields.Quantity.TheVariants as quantity
-use Rattle.smf.specs.declared.events.Event.TheVariants.{Tempo, Other}
 use Rattle.smf.specs.declared.events.Data.{Data}
 use Rattle.smf.specs.declared.events.Data.TheVariants as datum
 use Rattle.smf.specs.declared.events.Read.{Read}

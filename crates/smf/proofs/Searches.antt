@@ -1,12 +1,12 @@
 -- The chunks of a file, step by step: where a track chunk lies, which divisions a header has, and what may stand behind End of Track. Assumes nothing.
 use mathlib.Core.Path.{◌≡◌, refl, ap, subst}
-use mathlib.Core.Bool.{Bool, true, false, cond, not}
+use mathlib.Core.Bool.{not}
 use mathlib.Core.List.{List}
 use Prim.Native.Nat.{ℕ, zero, suc, pred, ◌+◌, ◌-◌, ◌^◌, ◌≤◌, ◌<◌, min}
 use native.Mathlib.Omega.{arith}
 use lib.Dec.{ltb, leb, eqb}
 use lib.ListN.{length}
-use borrow.Author.Tests.{ltb-true, ltb-false, leb-true, leb-false, eqb-true, eqb-false, lt-ltb, le-ltb, le-leb, lt-leb}
+use borrow.Author.Tests.{ltb-false, leb-false, eqb-false, lt-ltb, le-ltb, le-leb}
 use Rattle.smf.specs.Faults.{fault_at}
 use Rattle.smf.specs.Fields.{two_at, four_at}
 use Rattle.smf.specs.Files.{header_type, track_type, fields_of, header_of, chunk_at, track_from, track_at, rest_at, behind_track, chunk_events, track_of, events_in, events_of}

@@ -1,17 +1,17 @@
 -- A turn of the loop over a track's events: what is left of the song, put behind what was counted and written, is the whole song. Assumes nothing.
-use mathlib.Core.Path.{◌≡◌, refl, sym, ap, ◌∙◌, subst}
-use mathlib.Core.Bool.{Bool, true, false, cond}
+use mathlib.Core.Path.{◌≡◌, refl, sym, ap, ◌∙◌}
+use mathlib.Core.Bool.{true, false, cond}
 use mathlib.Core.List.{List, [], ◌∷◌, ◌++◌}
-use Prim.Native.Nat.{ℕ, zero, suc, pred, ◌+◌, ◌-◌, ◌*◌, ◌/◌, ◌≤◌, ◌<◌, min}
+use Prim.Native.Nat.{ℕ, zero, suc, pred, ◌+◌, ◌-◌, ◌*◌, ◌≤◌, ◌<◌, min}
 use native.Mathlib.Nat.{mul-add, add-zero}
 use native.Mathlib.Omega.{arith}
 use lib.ListN.{length, length-append}
-use lib.Seq.{sets, length-sets}
+use lib.Seq.{sets}
 use Rattle.walks.proofs.Lists.Runs.{run-append}
 use Rattle.smf.specs.Faults.{fault_at}
 use Rattle.smf.specs.Events.{step_at}
 use Rattle.smf.specs.Files.{Events, behind_track, events_on, events_from, chunk_events}
-use Rattle.smf.specs.Files.Events.{then, over}
+use Rattle.smf.specs.Files.Events.{over}
 use Rattle.smf.specs.Times.{first_tempo, frame_at, last_frame, unit_of, clock_at}
 use Rattle.smf.specs.Cues.{Entry, Song, event_entries, tempo_after, too_late, empty_with, entries_first, song_from, count_closed, count_of, numbers_of, WrittenList}
 use Rattle.smf.specs.declared.faults.Reason.TheVariants.{LateFrame}
@@ -23,7 +23,6 @@ use Rattle.smf.specs.declared.events.Step.{Step}
 use Rattle.smf.specs.declared.events.Step.TheVariants as step
 use Rattle.smf.specs.declared.chunks.Verdict.{Verdict}
 use Rattle.smf.specs.declared.chunks.Verdict.TheVariants.{Broken}
-use Rattle.smf.specs.declared.tracks.Count.{Count}
 use Rattle.smf.proofs.Frames.{clock_zero, clock_bounds, late_same, entries_same}
 
 -- ---- two numbers an entry

@@ -20,7 +20,6 @@ use Rattle.smf.specs.declared.faults.Reason.TheVariants.{
   NoEndOfTrack,
   BehindEndOfTrack,
 }
-use Rattle.smf.specs.declared.faults.Fault.{Fault}
 use Rattle.smf.specs.declared.events.Event.{Event}
 use Rattle.smf.specs.declared.events.Step.{Step}
 use Rattle.smf.specs.declared.events.Step.TheVariants as step

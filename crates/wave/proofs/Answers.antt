@@ -7,16 +7,15 @@ use Prim.Native.Nat.{ℕ, ◌+◌, ◌*◌, ◌/◌, ◌%◌, ◌^◌, ◌≤◌
 use native.Mathlib.Nat.{mul_assoc, mul_comm, div-add-mod', mul-mod_right, mul-div_right, le-mul_of_pos_right}
 use native.Mathlib.Omega.{arith}
 use lib.Dec.{eqb}
-use lib.ListN.{length, take, drop, length-append, length-drop}
-use lib.Seq.{take_at}
+use lib.ListN.{length, drop}
 use borrow.Author.Tests.{eqb-true, eqb-false, eq-eqb, ne_eqb, le-leb}
 use Rattle.walks.specs.Each.{Each}
 use Rattle.walks.proofs.Lists.Every.{both as and_both}
 use Rattle.octets.specs.Octets.{Bytes, little_bytes}
 use Rattle.octets.proofs.Orders.{length_little}
-use Rattle.wave.specs.Fields.{two_at, four_at, riff_id, wave_id, fact_id, word_bytes, listed}
+use Rattle.wave.specs.Fields.{four_at, fact_id, word_bytes, listed}
 use Rattle.wave.specs.Files.{format_of}
-use Rattle.wave.specs.Reader.{missing, nowhere, walk_of, good_riff, channels_at, good_format, good_fact, counted_judged, judged_at, judged_in, file_judged, words_in, read_in, read_of}
+use Rattle.wave.specs.Reader.{missing, walk_of, good_riff, channels_at, good_format, good_fact, counted_judged, judged_at, judged_in, file_judged, words_in, read_in, read_of}
 use Rattle.wave.specs.Reader.Reading.{is}
 use Rattle.wave.specs.Grammar.{Chunk, InChunks, IsWave}
 use Rattle.wave.specs.declared.chunks.Places.{Places}

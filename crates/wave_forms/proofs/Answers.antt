@@ -1,15 +1,14 @@
 -- A file is answered exactly where it is of a known form: `Grammar: IsForm`, in both directions. Assumes nothing.
 use mathlib.Core.Path.{◌≡◌, refl, sym, ap, ◌∙◌, subst}
 use mathlib.Core.Bool.{true}
-use mathlib.Core.List.{List, [], ◌∷◌, ◌++◌, map}
-use Prim.Native.Nat.{ℕ, zero, suc, ◌+◌, ◌*◌, ◌/◌, ◌%◌, ◌^◌, ◌≤◌, ◌<◌}
-use native.Mathlib.Nat.{mul_assoc, mul_comm, mul-mod_right, mul-div_right, div-add-mod', mul-pos, mul-le-mul}
+use mathlib.Core.List.{List, [], ◌∷◌, map}
+use Prim.Native.Nat.{ℕ, zero, suc, ◌+◌, ◌*◌, ◌/◌, ◌%◌, ◌^◌, ◌<◌}
+use native.Mathlib.Nat.{mul_assoc, mul_comm, mul-mod_right, mul-div_right, div-add-mod', mul-pos}
 use native.Mathlib.Omega.{arith}
-use lib.ListN.{length, drop}
-use Rattle.octets.specs.Octets.{Bytes, bytes_at, little_of}
+use lib.ListN.{length}
+use Rattle.octets.specs.Octets.{Bytes}
 use Rattle.wave.specs.Fields.{two_at, four_at, number_bytes, listed}
 use Rattle.wave.specs.Reader.{walk_of, good_riff}
-use Rattle.wave.specs.Grammar.{Chunk}
 use Rattle.wave.specs.declared.chunks.Places.{Places}
 use Rattle.wave.specs.declared.chunks.Met.TheVariants as met
 use Rattle.wave.proofs.Standing.{two_below, four_below, length-numbers, length-listed, number_on, numbers_stand, numbers_split, numbers_fit}
@@ -18,7 +17,7 @@ use Rattle.wave.proofs.Held.{Held}
 use Rattle.wave.proofs.Frames.{body_is, Found, found, walked}
 use Rattle.wave_forms.specs.Values.{number_word}
 use Rattle.wave_forms.specs.Reader.{tag_at, form_at, file_judged, number_at, numbers_in, words_in}
-use Rattle.wave_forms.specs.Grammar.{Kind, IsForm, Tail, words_of_file}
+use Rattle.wave_forms.specs.Grammar.{IsForm, Tail, words_of_file}
 use Rattle.wave_forms.specs.Grammar.Tail.{plain, empty, extensible}
 use Rattle.wave_forms.specs.declared.formats.Form.{Form}
 use Rattle.wave_forms.specs.declared.Source.{Source}
@@ -26,7 +25,7 @@ use Rattle.wave_forms.specs.declared.Judged.TheVariants.{Is}
 use Rattle.wave_forms.proofs.Widths.{bytes_few, kind_small, kind_some}
 use Rattle.wave_forms.proofs.Judgements.{FormIs, form_good, counted_is, judged_is, judged_riff}
 use Rattle.wave_forms.proofs.Sources.{Rests, judged_rests, count-is}
-use Rattle.wave_forms.proofs.Bodies.{length_body, Shaped, shaped, body_splits, Fields, body_fields, tail_tag}
+use Rattle.wave_forms.proofs.Bodies.{length_body, shaped, body_splits, body_fields, tail_tag}
 
 -- ---- the words of an answer are those of its numbers
 listed_map : (h g : ℕ → ℕ) (k n : ℕ) → listed (λ (i : ℕ). h (g i)) k n ≡ map h (listed g k n)

@@ -1,11 +1,11 @@
 -- What the tests of a form say where they hold, and the answers that they lead to. Assumes nothing.
-use mathlib.Core.Path.{◌≡◌, refl, sym, ap, ◌∙◌}
-use mathlib.Core.Bool.{Bool, true, false, ◌&&◌, ◌||◌}
+use mathlib.Core.Path.{◌≡◌}
+use mathlib.Core.Bool.{true, false, ◌&&◌}
 use mathlib.Core.List.{List}
 use Prim.Native.Nat.{ℕ, ◌+◌, ◌*◌, ◌/◌, ◌%◌, ◌^◌, ◌≤◌, ◌<◌}
 use native.Mathlib.Nat.{mul-le-mul}
 use native.Mathlib.Omega.{arith}
-use lib.Dec.{ltb, leb, eqb}
+use lib.Dec.{leb}
 use borrow.Author.Tests.{eqb-true, leb-true, eq-eqb, ne_eqb, le-leb, lt-ltb, le-ltb}
 use Rattle.walks.proofs.Lists.Every.{both as and_both}
 use Rattle.wave.specs.Fields.{four_at}
@@ -15,7 +15,6 @@ use Rattle.wave.specs.declared.chunks.Met.{Met}
 use Rattle.wave_forms.specs.Reader.{known_form, good_form, form_at, counted_judged, judged_at, judged_in, file_judged}
 use Rattle.wave_forms.specs.Grammar.{Kind}
 use Rattle.wave_forms.specs.declared.formats.Form.{Form}
-use Rattle.wave_forms.specs.declared.Judged.{Judged}
 use Rattle.wave_forms.specs.declared.Judged.TheVariants.{Is, Refused}
 use Rattle.wave_forms.proofs.Widths.{known_is, kind_of, bytes_few}
 

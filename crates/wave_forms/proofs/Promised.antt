@@ -1,19 +1,19 @@
 -- Files of other forms are turned as `specs/Promised.antt` says. Assumes nothing.
-use mathlib.Core.Path.{◌≡◌, refl, sym, ap, ◌∙◌, subst}
+use mathlib.Core.Path.{◌≡◌, refl, sym, ap, ◌∙◌}
 use mathlib.Core.Bool.{Bool, true, false, cond}
 use mathlib.Core.List.{List, [], ◌∷◌, ◌++◌, map}
 use mathlib.Core.Logic.{◌⊎◌, inl, inr}
 use Prim.Native.Nat.{ℕ, zero, suc, ◌+◌, ◌-◌, ◌*◌, ◌/◌, ◌^◌, ◌≤◌, ◌<◌}
-use native.Mathlib.Nat.{le_trans, le_of_eq, lt_of_lt_of_le, lt_of_le_of_lt, mul_assoc, mul_comm}
+use native.Mathlib.Nat.{lt_of_lt_of_le, lt_of_le_of_lt, mul_assoc, mul_comm}
 use native.Mathlib.Omega.{arith}
 use lib.Dec.{T, ltb, leb}
 use lib.ListN.{length, drop, get_or}
 use lib.Pow.{pow-add, pow_pos, pow-lt, pow_mono, shl_lt}
-use lib.Ieee.{Float, nan, inf, fin, binary32, binary64, up, down, of_bits, to_bits, fits}
+use lib.Ieee.{Float, nan, inf, fin, binary32, binary64, up, down, of_bits, fits}
 use lib.Ieee.Bits.{to_bits-lt}
 use lib.Ieee.Fits.{down_pos, nan-fits, inf-fits, round-fits}
 use lib.Ieee.Exact.{HasValue, round_exact}
-use borrow.Author.Tests.{leb-true, leb-false, ltb-true, lt-ltb, le-ltb}
+use borrow.Author.Tests.{leb-true, leb-false, lt-ltb, le-ltb}
 use Rattle.walks.specs.Each.{Each}
 use Rattle.binary32.proofs.Rounding.{round_held}
 use Rattle.octets.specs.Octets.{Bytes, little_bytes}
@@ -25,7 +25,7 @@ use Rattle.wave.proofs.Answers.{framed}
 use Rattle.wave.proofs.Calls.{length_file}
 use Rattle.wave.proofs.Promised as wave
 use Rattle.wave_forms.specs.Values.{negative, magnitude, whole_of, narrow_of, number_word}
-use Rattle.wave_forms.specs.Reader.{file_judged, numbers_in, words_in}
+use Rattle.wave_forms.specs.Reader.{file_judged, numbers_in}
 use Rattle.wave_forms.specs.Grammar.{Kind, IsForm, body_of, words_of_file}
 use Rattle.wave_forms.specs.Grammar.Kind.{whole16, whole24, whole32, float32, float64}
 use Rattle.wave_forms.specs.Grammar.Tail.{empty}
@@ -34,7 +34,6 @@ use Rattle.wave_forms.specs.Promised.{Formed, Promised}
 use Rattle.wave_forms.specs.declared.Source.{Source}
 use Rattle.wave_forms.specs.declared.Judged.{Judged}
 use Rattle.wave_forms.specs.declared.Judged.TheVariants.{Is, Refused}
-use Rattle.wave_forms.specs.declared.Turned.{Turned}
 use Rattle.wave_forms.proofs.Answers.{source, words_are as words_of, answer_good, known}
 
 -- ---- answers

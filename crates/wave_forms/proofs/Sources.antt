@@ -2,9 +2,8 @@
 use mathlib.Core.Path.{◌≡◌, refl, sym, ap, ◌∙◌, subst}
 use mathlib.Core.Bool.{true}
 use mathlib.Core.List.{List}
-use mathlib.Core.Logic.{⊎_elim}
 use Prim.Native.Nat.{ℕ, ◌+◌, ◌*◌, ◌/◌, ◌%◌, ◌^◌, ◌≤◌, ◌<◌}
-use native.Mathlib.Nat.{mul_assoc, mul_comm, mul-div_cancel, div-add-mod', add-zero}
+use native.Mathlib.Nat.{mul_assoc, mul_comm, mul-div_cancel, div-add-mod'}
 use native.Mathlib.Omega.{arith}
 use lib.Dec.{ltb, eqb}
 use lib.ListN.{length}
@@ -21,11 +20,9 @@ use Rattle.wave.proofs.Standing.{length-listed}
 use Rattle.wave.proofs.Calls.{file_put, head_made, head_done}
 use Rattle.wave_forms.specs.Reader.{form_at, good_form, counted_judged, judged_at, judged_in, file_judged, words_in}
 use Rattle.wave_forms.specs.Turns.{bytes_of, turn_answer, output_after}
-use Rattle.wave_forms.specs.declared.formats.Form.{Form}
 use Rattle.wave_forms.specs.declared.Source.{Source}
 use Rattle.wave_forms.specs.declared.Judged.{Judged}
 use Rattle.wave_forms.specs.declared.Judged.TheVariants.{Is, Refused}
-use Rattle.wave_forms.specs.declared.Turned.{Turned}
 use Rattle.wave_forms.proofs.Widths.{bytes_few}
 use Rattle.wave_forms.proofs.Judgements.{FormIs, form_true}
 

@@ -1,5 +1,5 @@
 -- `binary32::f32_to_u32` meets its contract: `narrow` from 64 bits to 32. Assumes nothing.
-use Rattle.std.proofs.Common.{arith, lit≤, rules}
+use Rattle.std.proofs.Common.{arith, lit≤}
 use Rattle.binary32.proofs.Casts.{narrow}
 use Rattle.binary32.proofs.f32_to_u32.Goals as goal
 

@@ -1,6 +1,6 @@
 -- `binary32::f32_to_usize` meets its contract: from 0 to below 2^23 by that of `low_whole`, and beyond each end of the range the laws of `Casts` hold.
 -- Assumes nothing.
-use Rattle.std.proofs.Common.{T, T_not, rules}
+use Rattle.std.proofs.Common.{T, T_not}
 use lib.Dec.{not_T}
 use lib.Ieee.{lt, le, of_bits}
 use lib.Ieee.Bits.{is_false}

@@ -1,5 +1,5 @@
 -- `binary32::from_bits` meets its contract: the test is that of a NaN pattern (`nan_bits_above`), and such a pattern reads as NaN. Assumes nothing.
-use Rattle.std.proofs.Common.{sym, ◌∙◌, rules, le-ltb, lt-ltb}
+use Rattle.std.proofs.Common.{sym, ◌∙◌, le-ltb, lt-ltb}
 use lib.Ieee.{binary32, of_bits}
 use lib.Ieee.Bits.{nan_bits_above, nan_bits_is}
 use Rattle.binary32.proofs.Truth.{no}

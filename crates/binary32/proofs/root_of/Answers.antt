@@ -1,5 +1,5 @@
 -- `binary32::root_of` meets its contract: the law `pattern_root`, with the exponent's field below 1 and above. Assumes nothing.
-use Rattle.std.proofs.Common.{◌≡◌, ℕ, ◌+◌, ◌-◌, ◌*◌, ◌/◌, ◌%◌, ◌^◌, sym, ap, ◌∙◌, arith, rules}
+use Rattle.std.proofs.Common.{◌≡◌, ℕ, ◌+◌, ◌-◌, ◌*◌, ◌/◌, ◌%◌, ◌^◌, sym, ap, ◌∙◌, arith}
 use Rattle.binary32.specs.Leaves.{float_of, root_of}
 use Rattle.binary32.proofs.RootCases.{pattern_root}
 use Rattle.binary32.proofs.root_of.Goals as goal

@@ -1,6 +1,6 @@
 -- `binary32::rounded` meets its contract: what `nearest` answers is at most 2 ^ 24, and the law `of_int_scaled` does the rest. Assumes nothing.
 -- 2 ^ d as a pattern
-use Rattle.std.proofs.Common.{◌≡◌, ℕ, ◌+◌, ◌*◌, ◌%◌, ◌^◌, ◌<◌, false, pos, ap, ◌∙◌, ap₂, le_trans, le_of_eq, mod-eq_of_lt, arith, rules}
+use Rattle.std.proofs.Common.{◌≡◌, ℕ, ◌+◌, ◌*◌, ◌%◌, ◌^◌, ◌<◌, false, pos, ap, ◌∙◌, ap₂, le_trans, le_of_eq, mod-eq_of_lt, arith}
 use lib.Ieee.{Float, fin, binary32, is_nan, mul, of_int, of_bits}
 use lib.Ieee.Bits.{nan_bits_is}
 use lib.Ieee.Nearest.{closest}

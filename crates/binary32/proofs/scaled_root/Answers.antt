@@ -1,6 +1,6 @@
 -- `binary32::scaled_root` meets its contract: the law `moved_root`, of the numbers that the code works with. Assumes nothing.
 -- what the contract asks of m and drop, and the count of zeros that it leaves
-use Rattle.std.proofs.Common.{◌≡◌, ℕ, ◌+◌, ◌-◌, ◌*◌, ◌/◌, ◌%◌, ◌^◌, ◌<◌, ◌≤◌, Bool, not, T, sym, ap, ◌∙◌, subst, le_trans, le_of_eq, lt_of_lt_of_le, lt_of_le_of_lt, mod-eq_of_lt, arith, lit≤, rules}
+use Rattle.std.proofs.Common.{◌≡◌, ℕ, ◌+◌, ◌-◌, ◌*◌, ◌/◌, ◌%◌, ◌^◌, ◌<◌, ◌≤◌, Bool, not, T, sym, ap, ◌∙◌, subst, le_trans, le_of_eq, lt_of_lt_of_le, lt_of_le_of_lt, mod-eq_of_lt, arith, lit≤}
 use lib.Count.{count_leading_zeros}
 use lib.Ieee.{binary32, is_nan, of_bits}
 use lib.Ieee.Bits.{nan_bits_is}

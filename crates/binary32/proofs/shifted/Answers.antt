@@ -1,5 +1,5 @@
 -- `binary32::shifted` meets its contract: from 64 digits on the unit is above n, and only the half of it is left to ask for. Assumes nothing.
-use Rattle.std.proofs.Common.{◌≡◌, ℕ, ◌+◌, ◌*◌, ◌/◌, ◌%◌, ◌^◌, ◌<◌, ◌≤◌, Bool, true, false, ◌&&◌, eqb, ltb, sym, refl, ap, ◌∙◌, inl, inr, true≢false, le_trans, lt_of_lt_of_le, mod-eq_of_lt, eq-or-lt_of_le, mul-one, arith, pow_pos, pow_mono, rules, ltb-false, ltb-true, eqb-true}
+use Rattle.std.proofs.Common.{◌≡◌, ℕ, ◌*◌, ◌/◌, ◌%◌, ◌^◌, ◌<◌, ◌≤◌, Bool, true, false, ◌&&◌, eqb, ltb, sym, refl, ap, ◌∙◌, inl, inr, true≢false, le_trans, lt_of_lt_of_le, mod-eq_of_lt, eq-or-lt_of_le, mul-one, arith, pow_pos, pow_mono, rules, ltb-false, ltb-true, eqb-true}
 use native.Mathlib.Nat.{div-eq_of_lt}
 use lib.Ieee.Nearest.{closest}
 use borrow.Author.Tests.{eqb-false}

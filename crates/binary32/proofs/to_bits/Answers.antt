@@ -1,5 +1,5 @@
 -- `binary32::to_bits` meets its contract: a NaN has the pattern that `to_bits` gives it, and any other value has one of its own. Assumes nothing.
-use Rattle.std.proofs.Common.{sym, ap, rules}
+use Rattle.std.proofs.Common.{sym, ap}
 use lib.Ieee.{binary32, to_bits}
 use Rattle.binary32.proofs.Truth.{no}
 use Rattle.binary32.proofs.Nans.{is_nan_lem, no_nan}

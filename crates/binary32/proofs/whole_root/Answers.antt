@@ -1,5 +1,5 @@
 -- `binary32::whole_root` meets its contract: each step leads to the root or above it, and the test that ends the loop says that it is not above. Assumes nothing.
-use Rattle.std.proofs.Common.{suc, ◌*◌, ◌^◌, ◌<◌, ◌≤◌, le_trans, le_of_lt, zero-lt-suc, mul-le-mul, div-le_self, arith, rules}
+use Rattle.std.proofs.Common.{◌*◌, ◌<◌, le_trans, le_of_lt, zero-lt-suc, mul-le-mul, div-le_self, arith}
 use Rattle.binary32.proofs.WholeRoots.{isqrt_is, newton_above, newton_down, square_pos}
 use Rattle.binary32.proofs.whole_root.Goals as goal
 

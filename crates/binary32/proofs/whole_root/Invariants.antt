@@ -1,5 +1,4 @@
-use Rattle.std.proofs.Common.{suc, ◌*◌, ◌^◌, ◌<◌, ◌≤◌, le_trans, le_of_lt, zero-lt-suc, mul-le-mul, div-le_self, arith, rules}
-use Rattle.binary32.proofs.WholeRoots.{isqrt_is, newton_above, newton_down, square_pos}
+use Rattle.std.proofs.Common.{suc, ◌*◌, ◌^◌, ◌<◌, ◌≤◌}
 use Rattle.binary32.proofs.whole_root.Given as goal
 
 abbrev pub invariant-loop-r : goal.invariant-loop-r

@@ -6,8 +6,8 @@ use Rattle.channel.proofs.good_table.Goals as goal
 
 pub returns-then-not-several : goal.returns-then-not-several
 unfolding good_table
-returns-then-not-several c = simp (not-true c.args.several c.if-not-several.true)
+returns-then-not-several c = simp (c.if-not-several.true)
 
 pub returns : goal.returns
 unfolding good_table
-returns c = simp (c.good.ensures, c.with.ensures, c.recording.ensures, not-false c.args.several c.if-not-several.false)
+returns c = simp (c.good.ensures, c.with.ensures, c.recording.ensures, c.if-not-several.false)

@@ -1,7 +1,6 @@
 -- `bounced` meets its contract, by those of `round_trip` and `folded`. Assumes nothing.
 use mathlib.Core.Path.{ap, ◌∙◌}
 use lib.Ieee.{Float}
-use borrow.Author.Rules.{rules}
 use Rattle.clip.specs.Positions.{folded_of, bounced_of}
 use Rattle.clip.proofs.bounced.Goals as goal
 

@@ -1,6 +1,5 @@
 -- `clamped` meets its contract, by that of `min`. Assumes nothing.
 use lib.Ieee.{of_bits}
-use borrow.Author.Rules.{rules}
 use Rattle.clip.proofs.clamped.Goals as goal
 
 pub returns : goal.returns

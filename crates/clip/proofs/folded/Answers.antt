@@ -1,7 +1,6 @@
 -- `folded` meets its contract, by those of `mirrored` and `max`. Assumes nothing.
 use mathlib.Core.Path.{◌∙◌}
 use lib.Ieee.{of_bits}
-use borrow.Author.Rules.{rules}
 use Rattle.clip.proofs.folded.Goals as goal
 
 pub returns-then-y-length : goal.returns-then-y-length

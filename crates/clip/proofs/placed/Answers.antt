@@ -1,7 +1,6 @@
 -- `placed` meets its contract, by those of `wrapped` and `clamped`. Assumes nothing.
 use mathlib.Core.Path.{ap, ◌∙◌}
 use lib.Ieee.{Float}
-use borrow.Author.Rules.{rules}
 use Rattle.clip.specs.Positions.{clamped_of, placed_of}
 use Rattle.clip.proofs.placed.Goals as goal
 

@@ -2,7 +2,6 @@
 use mathlib.Core.Path.{ap, ◌∙◌, subst}
 use lib.Dec.{T}
 use lib.Ieee.{Float, binary32, mul, rem, of_bits}
-use borrow.Author.Rules.{rules}
 use Rattle.binary32.proofs.Truth.{yes}
 use Rattle.clip.specs.Positions.{two32, folded_of, round_trip_of, bounced_of}
 use Rattle.clip.proofs.quick_bounced.Goals as goal

@@ -2,7 +2,6 @@
 use mathlib.Core.Path.{ap, ◌∙◌, subst}
 use lib.Dec.{T}
 use lib.Ieee.{Float, binary32, of_bits}
-use borrow.Author.Rules.{rules}
 use Rattle.binary32.proofs.Truth.{yes}
 use Rattle.binary32.proofs.Quotients.{rem_turned}
 use Rattle.clip.specs.Positions.{raised_of, looped_of}

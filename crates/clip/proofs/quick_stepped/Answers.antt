@@ -1,6 +1,5 @@
 -- `quick_stepped` meets its contract, by the mode. Assumes nothing.
 use mathlib.Core.Path.{◌∙◌}
-use borrow.Author.Rules.{rules}
 use Rattle.clip.specs.Positions.{wrapped_of}
 use Rattle.clip.proofs.quick_stepped.Goals as goal
 

@@ -1,7 +1,6 @@
 -- `quick_wrapped` meets its contract, by the modes. Assumes nothing.
 use mathlib.Core.Path.{◌∙◌}
 use lib.Ieee.{le, neg, of_bits}
-use borrow.Author.Rules.{rules}
 use Rattle.clip.specs.Positions.{wrapped_of}
 use Rattle.clip.proofs.quick_wrapped.Goals as goal
 

@@ -1,6 +1,5 @@
 -- `round_trip` meets its contract, by that of `abs`. Assumes nothing.
 use lib.Ieee.{of_bits}
-use borrow.Author.Rules.{rules}
 use Rattle.clip.specs.Positions.{round_trip_of}
 use Rattle.clip.proofs.round_trip.Goals as goal
 

@@ -1,5 +1,4 @@
 -- `whole_in` meets its contract: its tests are those of `is_whole_in`. Assumes nothing.
-use borrow.Author.Rules.{rules}
 use Rattle.binary32.specs.Wholes.{is_whole_in}
 use Rattle.clip.proofs.whole_in.Goals as goal
 

@@ -1,6 +1,5 @@
 -- `wrapped` meets its contract, by the mode. Assumes nothing.
 use mathlib.Core.Path.{◌∙◌}
-use borrow.Author.Rules.{rules}
 use Rattle.clip.specs.Positions.{wrapped_of}
 use Rattle.clip.proofs.wrapped.Goals as goal
 

@@ -1,5 +1,4 @@
 -- `index_from_f32` meets its contract, by those of the three leaves that it calls. Assumes nothing.
-use borrow.Author.Rules.{rules}
 use Rattle.common_types.specs.Modes.{index_from_f32_of}
 use Rattle.common_types.proofs.index_from_f32.Goals as goal
 

@@ -1,4 +1,3 @@
-use borrow.Author.Rules.{rules}
 use lib.Ieee.{of_bits, of_int}
 use Rattle.common_types.specs.Modes.{index_to_f32_of}
 use Rattle.common_types.proofs.index_to_f32.Goals as goal

@@ -1,5 +1,4 @@
 -- `length` meets its contract: a ratio is of the data length, and any other length is worked out. Assumes nothing.
-use borrow.Author.Rules.{rules}
 use Rattle.common_types.specs.Settings.{length_of}
 use Rattle.common_types.proofs.Worked.{worked_length}
 use Rattle.common_types.proofs.length.Goals as goal

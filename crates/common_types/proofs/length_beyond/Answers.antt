@@ -1,5 +1,4 @@
 -- `length_beyond` meets its contract: a ratio is held to 1, and any other length to 2 ^ 22. Assumes nothing.
-use borrow.Author.Rules.{rules}
 use lib.Ieee.{of_bits}
 use Rattle.common_types.specs.Settings.{length_beyond}
 use Rattle.common_types.proofs.Worked.{worked_beyond}

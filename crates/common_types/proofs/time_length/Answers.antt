@@ -1,5 +1,4 @@
 -- `time_length` meets its contract: each arm is its case of the definition. Assumes nothing.
-use borrow.Author.Rules.{rules}
 use lib.Ieee.{of_bits, of_int}
 use Rattle.common_types.specs.Times.{quarter_notes_per_bar_of, samples_per_bar_of, as_samples_of}
 use Rattle.common_types.specs.Settings.{time_length_of, worked_of}

@@ -1,5 +1,4 @@
 -- `timed` meets its contract: each arm is its case of the definition. Assumes nothing.
-use borrow.Author.Rules.{rules}
 use Rattle.common_types.proofs.timed.Goals as goal
 
 pub returns-in-Ratio : goal.returns-in-Ratio

@@ -1,6 +1,5 @@
 -- `little_four` meets its contract: it is `of_four` of the bytes turned round. Assumes nothing.
 use mathlib.Core.Path.{sym, ◌∙◌}
-use borrow.Author.Rules.{rules}
 use Rattle.octets.proofs.Orders.{turned}
 use Rattle.octets.proofs.little_four.Goals as goal
 

@@ -1,7 +1,6 @@
 -- `of_three` meets its contract. Assumes nothing.
 use native.Mathlib.Omega.{arith}
 use Rattle.octets.specs.Octets.{number_after, number_of}
-use borrow.Author.Rules.{rules}
 use Rattle.octets.proofs.of_three.Goals as goal
 
 pub returns : goal.returns

@@ -1,5 +1,5 @@
 -- `apart_from` meets its contract. The loop's invariant: the flag is the answer for those passed. Assumes nothing.
-use Rattle.std.proofs.Common.{◌≡◌, ℕ, ◌-◌, ◌≤◌, get_or, sym, refl, ap, ◌∙◌, arith, rules}
+use Rattle.std.proofs.Common.{◌≡◌, ℕ, get_or, sym, refl, ap, ◌∙◌, arith}
 use Rattle.phrases.specs.Phrases.{no_phrase, apart_of, every_below}
 use Rattle.phrases.proofs.Below.{below_next}
 use Rattle.phrases.proofs.apart_from.Goals as goal

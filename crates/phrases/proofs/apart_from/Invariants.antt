@@ -1,6 +1,5 @@
-use Rattle.std.proofs.Common.{◌≡◌, ℕ, ◌-◌, ◌≤◌, get_or, sym, refl, ap, ◌∙◌, arith, rules}
+use Rattle.std.proofs.Common.{◌≡◌, ℕ, ◌-◌, ◌≤◌, get_or}
 use Rattle.phrases.specs.Phrases.{no_phrase, apart_of, every_below}
-use Rattle.phrases.proofs.Below.{below_next}
 use Rattle.phrases.proofs.apart_from.Given as goal
 
 abbrev pub invariant-loop-j : goal.invariant-loop-j

@@ -1,7 +1,7 @@
 -- `around` meets its contract, by the law of loops. Assumes nothing.
-use Rattle.std.proofs.Common.{◌≡◌, ◌-◌, length, ap, ◌∙◌, le_of_eq, arith, take_all, rules}
+use Rattle.std.proofs.Common.{◌≡◌, length, ap, ◌∙◌, le_of_eq, arith, take_all, rules}
 use Rattle.walks.specs.Walks.{fold}
-use Rattle.walks.proofs.Lists.Loops.{Walk, turns, ends}
+use Rattle.walks.proofs.Lists.Loops.{turns, ends}
 use Rattle.phrases.specs.Phrases.{no_phrase, beside_with, beside_of}
 use Rattle.phrases.proofs.around.Goals as goal
 

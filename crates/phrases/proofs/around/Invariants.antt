@@ -1,7 +1,7 @@
-use Rattle.std.proofs.Common.{◌≡◌, ◌-◌, length, ap, ◌∙◌, le_of_eq, arith, take_all, rules}
+use Rattle.std.proofs.Common.{◌-◌}
 use Rattle.walks.specs.Walks.{fold}
-use Rattle.walks.proofs.Lists.Loops.{Walk, turns, ends}
-use Rattle.phrases.specs.Phrases.{no_phrase, beside_with, beside_of}
+use Rattle.walks.proofs.Lists.Loops.{Walk}
+use Rattle.phrases.specs.Phrases.{beside_with, beside_of}
 use Rattle.phrases.proofs.around.Given as goal
 
 abbrev pub invariant-loop-i : goal.invariant-loop-i

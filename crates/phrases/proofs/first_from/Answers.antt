@@ -1,5 +1,5 @@
 -- `first_from` meets its contract. The loop's invariant: it found the first of those passed, and has where it begins. Assumes nothing.
-use Rattle.std.proofs.Common.{◌≡◌, ℕ, ◌+◌, ◌-◌, ◌≤◌, Bool, true, false, cond, not, ◌&&◌, ◌||◌, eqb, ltb, leb, List, get_or, sym, refl, ap, ◌∙◌, ⊎_elim, add-one, arith, rules}
+use Rattle.std.proofs.Common.{◌≡◌, ℕ, ◌+◌, Bool, true, false, cond, not, ◌&&◌, ◌||◌, eqb, ltb, leb, List, get_or, sym, refl, ap, ◌∙◌, add-one, arith}
 use borrow.Author.Tests.{eqb-false}
 use Rattle.phrases.specs.Phrases.{no_phrase, no_samples}
 use Rattle.phrases.specs.Gathering.{first_below}
@@ -46,9 +46,9 @@ loop-i-preserved c =
     let e = c.is_empty.ensures in
     let begins : ℕ → ℕ = λ k. (get_or a.all k no_phrase).start in
     elim c.if-is_empty-place.branch [
-      then-is_empty-place w ↦ (omega arith, w.found-is ∙ sym (n true e w.if-is_empty-place.true), λ h. w.start-is ∙ ap begins (sym w.found-is))
-    | else-is_empty-place w ↦
-        (omega arith, w.found-is ∙ sym (n false e w.if-is_empty-place.false), λ h. w.start-is ∙ l.invariant.2 (λ z. h (w.found-is ∙ z)) ∙ ap begins (sym w.found-is))
+      | then-is_empty-place w ↦ (omega arith, w.found-is ∙ sym (n true e w.if-is_empty-place.true), λ h. w.start-is ∙ ap begins (sym w.found-is))
+      | else-is_empty-place w ↦
+          (omega arith, w.found-is ∙ sym (n false e w.if-is_empty-place.false), λ h. w.start-is ∙ l.invariant.2 (λ z. h (w.found-is ∙ z)) ∙ ap begins (sym w.found-is))
     ]
 
 pub returns : goal.returns

@@ -1,6 +1,5 @@
-use Rattle.std.proofs.Common.{◌≡◌, ℕ, ◌+◌, ◌-◌, ◌≤◌, Bool, true, false, cond, not, ◌&&◌, ◌||◌, eqb, ltb, leb, List, get_or, sym, refl, ap, ◌∙◌, ⊎_elim, add-one, arith, rules}
-use borrow.Author.Tests.{eqb-false}
-use Rattle.phrases.specs.Phrases.{no_phrase, no_samples}
+use Rattle.std.proofs.Common.{◌≡◌, ℕ, ◌-◌, ◌≤◌, List, get_or}
+use Rattle.phrases.specs.Phrases.{no_phrase}
 use Rattle.phrases.specs.Gathering.{first_below}
 use Rattle.phrases.specs.declared.Phrase.{Phrase}
 use Rattle.phrases.proofs.first_from.Given as goal

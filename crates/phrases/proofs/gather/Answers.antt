@@ -1,5 +1,5 @@
 -- `gather` meets its contract. The loop's invariant: the turns left, from what is gathered, give what all of them give. Assumes nothing.
-use Rattle.std.proofs.Common.{◌≡◌, ℕ, suc, ◌+◌, ◌-◌, ◌<◌, ◌≤◌, List, length, get_or, set, sym, refl, ap, ◌∙◌, subst, ⊎_elim, arith, rules, le-ltb, lt-ltb}
+use Rattle.std.proofs.Common.{◌≡◌, ℕ, suc, ◌+◌, ◌-◌, ◌<◌, ◌≤◌, List, length, get_or, set, sym, refl, ap, ◌∙◌, subst, arith, le-ltb, lt-ltb}
 use Rattle.phrases.specs.Phrases.{no_phrase, room_of}
 use Rattle.phrases.specs.Gathering.{Gathering, first_from, moved_down, gather_phrase, gather_next, gather_turns, gathering_of}
 use Rattle.phrases.specs.declared.Phrase.{Phrase}
@@ -103,9 +103,9 @@ loop-turn-preserved c =
     let found = c.first_from-k in
     let on = goes_on c.loop-turn.invariant c.loop-turn-test.true _ in
     elim c.if-k-lt-PHRASES.branch [
-      then-k-lt-PHRASES w ↦
-        on (moved_on _ found.result found.ensures w.room-room.result w.room-room.ensures.value w.if-k-lt-PHRASES.true _ w.moved-is (w.data-is ∙ w.move_down.ensures) w.from-is w.to-is)
-    | else-k-lt-PHRASES w ↦ on (stays _ found.result found.ensures _ w.if-k-lt-PHRASES.false w.moved-is w.data-is w.from-is w.to-is)
+      | then-k-lt-PHRASES w ↦
+          on (moved_on _ found.result found.ensures w.room-room.result w.room-room.ensures.value w.if-k-lt-PHRASES.true _ w.moved-is (w.data-is ∙ w.move_down.ensures) w.from-is w.to-is)
+      | else-k-lt-PHRASES w ↦ on (stays _ found.result found.ensures _ w.if-k-lt-PHRASES.false w.moved-is w.data-is w.from-is w.to-is)
     ]
 
 pub shape_of-data : goal.shape_of-data

@@ -1,9 +1,7 @@
-use Rattle.std.proofs.Common.{◌≡◌, ℕ, suc, ◌+◌, ◌-◌, ◌<◌, ◌≤◌, List, length, get_or, set, sym, refl, ap, ◌∙◌, subst, ⊎_elim, arith, rules, le-ltb, lt-ltb}
-use Rattle.phrases.specs.Phrases.{no_phrase, room_of}
-use Rattle.phrases.specs.Gathering.{Gathering, first_from, moved_down, gather_phrase, gather_next, gather_turns, gathering_of}
+use Rattle.std.proofs.Common.{◌≡◌, ℕ, ◌-◌, ◌≤◌, List, length}
+use Rattle.phrases.specs.Gathering.{Gathering, gather_turns, gathering_of}
 use Rattle.phrases.specs.declared.Phrase.{Phrase}
-use Rattle.phrases.specs.declared.Room.{Room}
-use Rattle.phrases.proofs.Fits.{Fits, room_down, turn_length, turn-fits}
+use Rattle.phrases.proofs.Fits.{Fits}
 use Rattle.phrases.proofs.gather.Given as goal
 
 -- the turns left

@@ -1,5 +1,5 @@
 -- `good` meets its contract. The loop's invariant: the flag is the answer for those passed. Assumes nothing.
-use Rattle.std.proofs.Common.{◌≡◌, ℕ, ◌-◌, ◌≤◌, sym, refl, ap, ◌∙◌, arith, rules}
+use Rattle.std.proofs.Common.{◌≡◌, ℕ, sym, refl, ap, ◌∙◌, arith}
 use Rattle.phrases.specs.Phrases.{every_below, good_at, good_phrases}
 use Rattle.phrases.proofs.Below.{below_next}
 use Rattle.phrases.proofs.good.Goals as goal

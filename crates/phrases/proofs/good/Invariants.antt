@@ -1,6 +1,5 @@
-use Rattle.std.proofs.Common.{◌≡◌, ℕ, ◌-◌, ◌≤◌, sym, refl, ap, ◌∙◌, arith, rules}
-use Rattle.phrases.specs.Phrases.{every_below, good_at, good_phrases}
-use Rattle.phrases.proofs.Below.{below_next}
+use Rattle.std.proofs.Common.{◌≡◌, ◌-◌, ◌≤◌}
+use Rattle.phrases.specs.Phrases.{every_below, good_at}
 use Rattle.phrases.proofs.good.Given as goal
 
 abbrev pub invariant-loop-i : goal.invariant-loop-i

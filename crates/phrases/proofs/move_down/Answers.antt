@@ -1,5 +1,5 @@
 -- `move_down` meets its contract. The loop's invariant: the words passed are moved. Assumes nothing.
-use Rattle.std.proofs.Common.{◌≡◌, ℕ, ◌-◌, ◌≤◌, length, drop, sym, refl, ap, ◌∙◌, arith, length-set, rules}
+use Rattle.std.proofs.Common.{◌≡◌, ℕ, drop, sym, refl, ap, ◌∙◌, arith, length-set}
 use lib.Seq.{paste-zero}
 use Rattle.phrases.specs.Gathering.{moved_down}
 use Rattle.phrases.proofs.Gathered.Moved.{as_pasted, moved_next}

@@ -1,7 +1,5 @@
-use Rattle.std.proofs.Common.{◌≡◌, ℕ, ◌-◌, ◌≤◌, length, drop, sym, refl, ap, ◌∙◌, arith, length-set, rules}
-use lib.Seq.{paste-zero}
+use Rattle.std.proofs.Common.{◌≡◌, ◌-◌, ◌≤◌, length}
 use Rattle.phrases.specs.Gathering.{moved_down}
-use Rattle.phrases.proofs.Gathered.Moved.{as_pasted, moved_next}
 use Rattle.phrases.proofs.move_down.Given as goal
 
 abbrev pub invariant-loop-i : goal.invariant-loop-i

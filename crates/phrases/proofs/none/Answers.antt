@@ -1,5 +1,5 @@
 -- `none` meets its contract. Assumes nothing.
-use Rattle.std.proofs.Common.{replicate, ap, rules}
+use Rattle.std.proofs.Common.{replicate, ap}
 use Rattle.phrases.specs.declared.Phrase.{Phrase}
 use Rattle.phrases.proofs.none.Goals as goal
 

@@ -1,5 +1,4 @@
 -- `others` meets its contract. Assumes nothing.
-use Rattle.std.proofs.Common.{rules}
 use Rattle.phrases.specs.Phrases.{others_of}
 use Rattle.phrases.proofs.others.Goals as goal
 

@@ -11,8 +11,8 @@ use Rattle.questions.proofs.channel_at.Goals as goal
 
 pub returns-then-channel-lt2 : goal.returns-then-channel-lt2
 returns-then-channel-lt2 c =
-    get_d_any c.args.t1.channels c.args.channel none (channel_of (record { auto_passthru = false })) (omega (arith, long _ c.args.t1.channels 2 c.well_formed.0.1.1.0.1.0.1))
+    get_d_any c.args.s.channels c.args.channel none (channel_of (record { auto_passthru = false })) (omega (arith, c.well_formed.0.1.1.0.1.0.1))
 
 pub returns : goal.returns
 returns c =
-    c.new.ensures ∙ sym (get_or-eq_default c.args.t1.channels (channel_of (record { auto_passthru = false })) (omega (arith, long _ c.args.t1.channels 2 c.well_formed.0.1.1.0.1.0.1)))
+    c.new.ensures ∙ sym (get_or-eq_default c.args.s.channels (channel_of (record { auto_passthru = false })) (omega (arith, c.well_formed.0.1.1.0.1.0.1)))

@@ -2,21 +2,25 @@
 use mathlib.Core.Path.{sym, ◌∙◌}
 use mathlib.Core.Bool.{not}
 use lib.Dec.{ltb}
+use Rattle.questions.specs.Sights.{head_in}
 use Rattle.questions.proofs.Answers.{text_refused, text_written, text_short}
 use borrow.Author.Rules.{rules}
 use Rattle.questions.proofs.error_in.Goals as goal
 
 pub returns-then-number-ne0 : goal.returns-then-number-ne0
-returns-then-number-ne0 c = let at = c.args in text_refused (not at.t.good) (not (ltb at.channel at.t.count)) _ _ _ c.number_in-number.ensures c.if-number-ne0.true
+returns-then-number-ne0 c =
+    let at = c.args in
+    let is = text_refused (not at.t.good) (not (ltb at.channel at.t.count)) (head_in at.t at.channel).recorder at.text.now _ c.number_in-number.ensures c.if-number-ne0.true in
+    record { value = is.0; text_after = is.1 }
 
 pub returns-in-Written : goal.returns-in-Written
 returns-in-Written c =
     let at = c.args in
-    let is = text_written (not at.t.good) (not (ltb at.channel at.t.count)) c.recorder_in.result _ _ c.number_in-number.ensures c.if-number-ne0.false _ (sym c.print_error_info-written.ensures.0 ∙ c.in-Written.is) in
-    rw (← c.recorder_in.ensures) (is.0, c.print_error_info-written.ensures.1 ∙ is.1)
+    let is = text_written (not at.t.good) (not (ltb at.channel at.t.count)) c.recorder_in.result _ _ c.number_in-number.ensures c.if-number-ne0.false _ (sym c.print_error_info-written.ensures.value ∙ c.in-Written.is) in
+    rw (← c.recorder_in.ensures) (record { value = is.0; text_after = c.print_error_info-written.ensures.text_after ∙ is.1 })
 
 pub returns-in-Short : goal.returns-in-Short
 returns-in-Short c =
     let at = c.args in
-    let is = text_short (not at.t.good) (not (ltb at.channel at.t.count)) c.recorder_in.result _ _ c.number_in-number.ensures c.if-number-ne0.false (sym c.print_error_info-written.ensures.0 ∙ c.in-Short.is) in
-    rw (← c.recorder_in.ensures) (is.0, c.print_error_info-written.ensures.1 ∙ is.1)
+    let is = text_short (not at.t.good) (not (ltb at.channel at.t.count)) c.recorder_in.result _ _ c.number_in-number.ensures c.if-number-ne0.false (sym c.print_error_info-written.ensures.value ∙ c.in-Short.is) in
+    rw (← c.recorder_in.ensures) (record { value = is.0; text_after = c.print_error_info-written.ensures.text_after ∙ is.1 })

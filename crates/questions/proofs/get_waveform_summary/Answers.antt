@@ -5,4 +5,7 @@ use Rattle.questions.proofs.get_waveform_summary.Goals as goal
 
 pub returns : goal.returns
 returns c =
-    (simp (c.waveform_in.ensures.0, c.look.ensures) (waveform_seen _ _ _ _), simp (c.waveform_in.ensures.1, c.look.ensures) (list_seen _ _ _ _))
+    record {
+      value = simp (c.waveform_in.ensures.value, c.look.ensures) (waveform_seen _ _ _ _);
+      list_after = simp (c.waveform_in.ensures.list_after, c.look.ensures) (list_seen _ _ _ _);
+    }

@@ -13,7 +13,8 @@ returns-then-number-ne0 c =
     let notes = c.args.notes.now in
     let answer = notes_of (live c.channel_at-c.result) in
     let is = list_asked _ _ answer notes _ _ _ c.active_count-count.ensures c.first_of.ensures c.asked-number.ensures in
-    rw (← c.channel_at-c.ensures) (list_refused _ _ answer notes _ is c.if-number-ne0.true)
+    let refused = list_refused _ _ answer notes _ is c.if-number-ne0.true in
+    rw (← c.channel_at-c.ensures) (record { value = refused.0; notes_after = refused.1 })
 
 pub write_notes-requires : goal.write_notes-requires
 write_notes-requires c =
@@ -28,4 +29,7 @@ returns c =
     let answer = notes_of (live c.channel_at-c.result) in
     let is = list_asked _ _ answer notes _ _ _ c.active_count-count.ensures c.first_of.ensures c.asked-number.ensures ∙ c.if-number-ne0.false in
     let done = list_done _ _ answer notes is in
-    rw (← c.channel_at-c.ensures) (ap Done c.active_count-count.ensures ∙ done.0, c.write_notes.ensures ∙ run_front notes answer (list_fits _ _ answer notes is) ∙ done.1)
+    rw (← c.channel_at-c.ensures) (record {
+      value = ap Done c.active_count-count.ensures ∙ done.0;
+      notes_after = c.write_notes.ensures ∙ run_front notes answer (list_fits _ _ answer notes is) ∙ done.1;
+    })

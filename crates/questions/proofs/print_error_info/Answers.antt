@@ -5,4 +5,7 @@ use Rattle.questions.proofs.print_error_info.Goals as goal
 
 pub returns : goal.returns
 returns c =
-    (simp (c.error_in.ensures.0, c.look.ensures) (error_seen _ _ _), simp (c.error_in.ensures.1, c.look.ensures) (text_seen _ _ _))
+    record {
+      value = simp (c.error_in.ensures.value, c.look.ensures) (error_seen _ _ _);
+      text_after = simp (c.error_in.ensures.text_after, c.look.ensures) (text_seen _ _ _);
+    }

@@ -11,7 +11,7 @@ use Rattle.questions.proofs.voice_infos.Goals as goal
 
 pub loop-i-init : goal.loop-i-init
 loop-i-init c =
-    begins (filled _ c.no_infos-answer.result 0) c.args.t1.voices c.args.t1.count _ 32 (long _ c.args.t1.voices 32 c.well_formed.0.1.1.0.1.0.1) c.places-n.ensures
+    begins (filled _ c.no_infos-answer.result 0) c.args.c.voices c.args.c.count _ 32 (search rules) c.places-n.ensures
 
 pub loop-i-preserved : goal.loop-i-preserved
 loop-i-preserved c =
@@ -25,4 +25,4 @@ unfolding voice_infos_of
 returns c =
     ends c.loop-i.invariant c.loop-i-test.false
     ∙ simp c.no_infos-answer.ensures
-    (filled_front _ c.args.t1 (long _ c.args.t1.voices 32 c.well_formed.0.1.1.0.1.0.1))
+    (filled_front _ c.args.c (search rules))

@@ -7,7 +7,10 @@ use Rattle.questions.proofs.waveform_in.Goals as goal
 
 pub returns-then-number-ne0 : goal.returns-then-number-ne0
 unfolding of_bits
-returns-then-number-ne0 c = waveform_refused _ _ _ _ _ c.waveform_number-number.ensures c.if-number-ne0.true
+returns-then-number-ne0 c =
+    let a = c.args in
+    let is = waveform_refused a.t a.columns a.list.now a.memory.now _ c.waveform_number-number.ensures c.if-number-ne0.true in
+    record { value = is.0; list_after = is.1 }
 
 pub overflow_add-end : goal.overflow_add-end
 overflow_add-end c =
@@ -39,10 +42,11 @@ slice_bounds-largest-end c =
 pub slice_bounds-largest-end-2 : goal.slice_bounds-largest-end-2
 slice_bounds-largest-end-2 c =
     let a = c.args in
-    taken_count a.t a.columns a.list.now a.memory.now (sym c.waveform_number.ensures ∙ c.if1.false) _ c.write_columns.ensures
+    taken_count a.t a.columns a.list.now a.memory.now (sym c.waveform_number-number.ensures ∙ c.if-number-ne0.false) _ c.write_columns.ensures
 
 pub returns : goal.returns
 unfolding of_bits
 returns c =
     let a = c.args in
-    summary_done a.t a.columns a.list.now a.memory.now (sym c.waveform_number.ensures ∙ c.if1.false) _ c.write_columns.ensures _ c.largest.ensures
+    let is = summary_done a.t a.columns a.list.now a.memory.now (sym c.waveform_number-number.ensures ∙ c.if-number-ne0.false) _ c.write_columns.ensures _ c.largest.ensures in
+    record { value = is.0; list_after = is.1 }

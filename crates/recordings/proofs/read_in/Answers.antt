@@ -6,9 +6,11 @@ use Rattle.recordings.proofs.read_in.Goals as goal
 pub returns-then-number-ne0 : goal.returns-then-number-ne0
 returns-then-number-ne0 c =
     let a = c.args in
-    loading_refused a.t a.file.now a.memory.now _ c.judge-judged.ensures _ c.held-w.ensures _ c.number_in-number.ensures c.if-number-ne0.true
+    let is = loading_refused a.t a.file.now a.memory.now _ c.judge-judged.ensures _ c.held-w.ensures _ c.number_in-number.ensures c.if-number-ne0.true in
+    record { value = is.0; memory_after = is.1 }
 
 pub returns : goal.returns
 returns c =
     let a = c.args in
-    loading_done a.t a.file.now a.memory.now _ c.judge-judged.ensures _ c.held-w.ensures _ c.number_in-number.ensures c.if-number-ne0.false _ c.beginnings_in.ensures _ c.load.ensures.1
+    let is = loading_done a.t a.file.now a.memory.now _ c.judge-judged.ensures _ c.held-w.ensures _ c.number_in-number.ensures c.if-number-ne0.false _ c.beginnings_in.ensures _ c.load.ensures.memory_after in
+    record { value = is.0; memory_after = is.1 }

@@ -10,9 +10,9 @@ use Rattle.recordings.proofs.second_begins.Goals as goal
 
 pub overflow_add-result : goal.overflow_add-result
 overflow_add-result c =
-    let s = c.args.t1 in
+    let s = c.args.s in
     let two = c.if-s-eq2.true in
-    let seats = long _ s.channels 2 c.well_formed.0.1.1.0.1.0.1 in
+    let seats = c.well_formed.0.1.1.0.1.0.1 in
     let held = element _ _ s.channels _ 1 none (omega (arith, seats)) c.well_formed.0.1.1.0.1.1 in
     let past : Channel = channel_of (record { auto_passthru = false }) in
     let eight = ap (λ (d : Channel). length d.table) (get_d_any s.channels 1 past none (omega (arith, seats))) ∙ long _ (get_or s.channels 1 none).table 8 held.1.1.1.1.0.1.0.1 in
@@ -21,8 +21,8 @@ overflow_add-result c =
 
 pub returns-then-s-eq2 : goal.returns-then-s-eq2
 returns-then-s-eq2 c =
-    let s = c.args.t1 in
-    ap (λ (n : ℕ). s.capacity + n) c.begins.ensures ∙ second_begins_there s c.if-s-eq2.true (long _ s.channels 2 c.well_formed.0.1.1.0.1.0.1) none
+    let s = c.args.s in
+    ap (λ (n : ℕ). s.capacity + n) c.begins.ensures ∙ second_begins_there s c.if-s-eq2.true (search rules) none
 
 pub returns : goal.returns
 returns c = rw (ne_eqb _ 2 c.if-s-eq2.false) refl

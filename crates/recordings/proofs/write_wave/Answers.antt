@@ -6,5 +6,8 @@ use Rattle.recordings.proofs.write_wave.Goals as goal
 
 pub returns : goal.returns
 returns c =
-    let two = long _ c.args.s.channels 2 c.well_formed.0.1.1.0.1.0.1 in
-    (simp (c.write_in.ensures.0, c.look.ensures) (write_seen_lem _ two _ _), simp (c.write_in.ensures.1, c.look.ensures) (wave_seen _ two _ _ _))
+    let two = c.well_formed.0.1.1.0.1.0.1 in
+    record {
+      value = simp (c.write_in.ensures.value, c.look.ensures) (write_seen_lem _ two _ _);
+      out_after = simp (c.write_in.ensures.out_after, c.look.ensures) (wave_seen _ two _ _ _);
+    }

@@ -1,5 +1,4 @@
 -- `good_ramp` meets its contract: its tests are those of `good_ramp`, in their order. Assumes nothing.
-use borrow.Author.Rules.{rules}
 use borrow.Author.Tests.{lt-ltb, le-ltb, lt-leb, le-leb}
 use Rattle.volume.specs.Levels.{good_ramp}
 use Rattle.volume.proofs.good_ramp.Goals as goal

@@ -1,5 +1,4 @@
 -- `progress` meets its contract, by those of what it calls. Assumes nothing.
-use borrow.Author.Rules.{rules}
 use lib.Ieee.{of_bits}
 use Rattle.volume.specs.Levels.{progress_of}
 use Rattle.volume.proofs.progress.Goals as goal

@@ -7,7 +7,6 @@ use mathlib.Core.List.{List}
 use Prim.Native.Nat.{ℕ, ◌+◌}
 use lib.Dec.{eqb}
 use Rattle.wave.specs.Fields.{four_at}
-use borrow.Author.Rules.{rules}
 use Rattle.wave.proofs.good_fact.Goals as goal
 
 fact_last : (f : List ℕ) (at samples : ℕ) → (at ≡ 0 → ⊥) → four_at f (at + 4) ≡ 4 → good_fact f at samples ≡ eqb (four_at f (at + 8)) samples

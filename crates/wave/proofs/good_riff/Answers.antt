@@ -1,7 +1,6 @@
 -- `good_riff` meets its contract. Assumes nothing.
 use Rattle.wave.specs.Reader.{good_riff}
 use borrow.Author.Tests.{le-leb, lt-leb, eq-eqb, ne_eqb}
-use borrow.Author.Rules.{rules}
 use Rattle.wave.proofs.good_riff.Goals as goal
 
 pub returns-then-all-lt12 : goal.returns-then-all-lt12

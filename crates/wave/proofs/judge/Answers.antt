@@ -2,7 +2,6 @@
 use mathlib.Core.Path.{sym, ◌∙◌}
 use native.Mathlib.Omega.{arith}
 use Rattle.wave.proofs.Judgements.{places_below, judged_riff, judged_no_riff}
-use borrow.Author.Rules.{rules}
 use Rattle.wave.proofs.judge.Goals as goal
 
 pub judged_at-requires : goal.judged_at-requires

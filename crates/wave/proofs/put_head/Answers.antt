@@ -1,7 +1,6 @@
 -- `put_head` meets its contract. Assumes nothing.
 use mathlib.Core.Path.{sym, ◌∙◌}
 use Rattle.wave.proofs.Calls.{head_true, head_done, head_left}
-use borrow.Author.Rules.{rules}
 use Rattle.wave.proofs.put_head.Goals as goal
 
 pub put_header-requires : goal.put_header-requires

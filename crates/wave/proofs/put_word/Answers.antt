@@ -2,7 +2,6 @@
 use mathlib.Core.Path.{sym, ◌∙◌}
 use borrow.Author.Tests.{leb-true}
 use Rattle.wave.proofs.Calls.{word_done, word_left}
-use borrow.Author.Rules.{rules}
 use Rattle.wave.proofs.put_word.Goals as goal
 
 pub put_four-requires : goal.put_four-requires

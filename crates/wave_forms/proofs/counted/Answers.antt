@@ -2,7 +2,6 @@
 use mathlib.Core.Path.{sym}
 use native.Mathlib.Omega.{arith}
 use Rattle.wave_forms.proofs.Judgements.{counted_uneven, counted_many, counted_is}
-use borrow.Author.Rules.{rules}
 use Rattle.wave_forms.proofs.counted.Goals as goal
 
 pub returns-then-size-o-ne0 : goal.returns-then-size-o-ne0

@@ -4,7 +4,6 @@ use Prim.Native.Nat.{◌^◌}
 use native.Mathlib.Omega.{arith}
 use Rattle.wave.proofs.Judgements.{places_below}
 use Rattle.wave_forms.proofs.Judgements.{judged_riff, judged_no_riff}
-use borrow.Author.Rules.{rules}
 use Rattle.wave_forms.proofs.judge.Goals as goal
 
 pub judged_at-requires : goal.judged_at-requires

@@ -1,12 +1,10 @@
 -- `judged_at` meets its contract: a good form has blocks of some bytes. Assumes nothing.
 -- by what was read
 use mathlib.Core.Path.{◌≡◌, sym, ap, ◌∙◌}
-use mathlib.Core.Bool.{Bool}
 use Prim.Native.Nat.{ℕ}
 use Rattle.wave_forms.specs.Reader.{good_form, counted_judged}
 use Rattle.wave_forms.specs.declared.formats.Form.{Form}
 use Rattle.wave_forms.proofs.Judgements.{form_true, block_some, judged_none, judged_other, judged_is}
-use borrow.Author.Rules.{rules}
 use Rattle.wave_forms.proofs.judged_at.Goals as goal
 
 counted_of : (first : ℕ) {o p : Form} {size n : ℕ} → o ≡ p → size ≡ n → counted_judged o first size ≡ counted_judged p first n

@@ -4,7 +4,6 @@ use Prim.Native.Nat.{◌^◌}
 use native.Mathlib.Omega.{arith}
 use Rattle.wave_forms.proofs.Widths.{known_is}
 use Rattle.wave_forms.proofs.Sources.{sourced, first_below, turn_refused, turn_short, turn_done}
-use borrow.Author.Rules.{rules}
 use Rattle.wave_forms.proofs.turn.Goals as goal
 
 pub overflow_mul-length : goal.overflow_mul-length
@@ -14,16 +13,13 @@ pub overflow_add-length : goal.overflow_add-length
 overflow_add-length c = let s = sourced _ _ (sym c.judge.ensures ∙ c.in-Is.is) in omega arith
 
 pub returns-then-out-length : goal.returns-then-out-length
-returns-then-out-length c = turn_short _ _ _ (sym c.judge.ensures ∙ c.in-Is.is) c.if-out-length.true
-
-pub put_head-requires : goal.put_head-requires
-put_head-requires c = tt
+returns-then-out-length c = let both = turn_short _ _ _ (sym c.judge.ensures ∙ c.in-Is.is) c.if-out-length.true in record { value = both.0; out_after = both.1 }
 
 pub put_words-requires : goal.put_words-requires
-put_words-requires c = let s = sourced _ _ (sym c.judge.ensures ∙ c.in-Is.is) in (known_is s.form.kind, (first_below _ _ (2 ^ 63) (sym c.judge.ensures ∙ c.in-Is.is) (omega arith), omega arith, omega (arith, c.put_head.auto.0)))
+put_words-requires c = let s = sourced _ _ (sym c.judge.ensures ∙ c.in-Is.is) in record { bits_value = known_is s.form.kind; first_bound = (first_below _ _ (2 ^ 63) (sym c.judge.ensures ∙ c.in-Is.is) (omega arith), omega arith, omega (arith, c.put_head.auto.out)) }
 
 pub returns-in-Refused : goal.returns-in-Refused
-returns-in-Refused c = turn_refused _ _ (sym c.judge.ensures ∙ c.in-Refused.is)
+returns-in-Refused c = let both = turn_refused _ _ (sym c.judge.ensures ∙ c.in-Refused.is) in record { value = both.0; out_after = both.1 }
 
 pub returns-else-out-length : goal.returns-else-out-length
-returns-else-out-length c = turn_done _ _ _ (sym c.judge.ensures ∙ c.in-Is.is) (omega arith) c.put_head.ensures c.put_words.ensures
+returns-else-out-length c = let both = turn_done _ _ _ (sym c.judge.ensures ∙ c.in-Is.is) (omega arith) c.put_head.ensures c.put_words.ensures in record { value = both.0; out_after = both.1 }

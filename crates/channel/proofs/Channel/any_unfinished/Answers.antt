@@ -8,7 +8,7 @@ use borrow.Author.Rules.{rules}
 use Rattle.channel.proofs.Channel.any_unfinished.Goals as goal
 
 pub loop-i-init : goal.loop-i-init
-loop-i-init c = begins (any unfinished_of) c.args.t1.voices c.args.t1.count _ 32 (long _ c.args.t1.voices 32 c.well_formed.0.1.1.0.1.0.1) c.places-n.ensures
+loop-i-init c = begins (any unfinished_of) c.args.self.voices c.args.self.count _ 32 (search rules) c.places-n.ensures
 
 pub returns-then-not-self-i : goal.returns-then-not-self-i
 unfolding any_unfinished_of any

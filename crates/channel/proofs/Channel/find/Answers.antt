@@ -10,13 +10,11 @@ use Rattle.channel.specs.declared.Found.{Found}
 use Rattle.channel.specs.declared.Found.TheVariants.{At, Nothing}
 use Rattle.channel.proofs.Slots.{none}
 use borrow.Author.Rules.{rules}
+use Rattle.channel.proofs.Channel.find.Invariants.{from}
 use Rattle.channel.proofs.Channel.find.Goals as goal
 
-abbrev from : Note → ℕ → List Voice → Found
-from note i = seek At Nothing (wanted_of note) i
-
 pub loop-i-init : goal.loop-i-init
-loop-i-init c = begins (from c.args.note 0) c.args.t1.voices c.args.t1.count _ 32 (long _ c.args.t1.voices 32 c.well_formed.0.1.1.0.1.0.1) c.places-n.ensures
+loop-i-init c = begins (from c.args.note 0) c.args.self.voices c.args.self.count _ 32 (search rules) c.places-n.ensures
 
 pub loop-i-preserved : goal.loop-i-preserved
 unfolding seek

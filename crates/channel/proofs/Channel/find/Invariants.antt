@@ -11,6 +11,9 @@ use Rattle.channel.proofs.Slots.{none}
 use borrow.Author.Rules.{rules}
 use Rattle.channel.proofs.Channel.find.Given as goal
 
+abbrev pub from : Note → ℕ → List Voice → Found
+from note i = seek At Nothing (wanted_of note) i
+
 abbrev pub invariant-loop-i : goal.invariant-loop-i
 invariant-loop-i l = Walk (from l.note 0 (live l.self)) (from l.note l.i) l.self.voices l.n l.i
 

@@ -18,4 +18,4 @@ returns-then-i-ge32 c = simp (c.in-At.is, le-ltb _ _ c.if-i-ge32.true)
 
 pub returns : goal.returns
 unfolding finished_at_of
-returns c = simp (c.handle_passthru.ensures, c.finish.ensures, c.in-At.is, lt-ltb _ _ c.if-i-ge32.false, get_d_any c.args.t1.voices c.in-At.i none blank_voice (omega (arith, long _ c.args.t1.voices 32 c.well_formed.0.1.1.0.1.0.1)))
+returns c = simp (c.handle_passthru.ensures, c.finish.ensures, c.in-At.is, lt-ltb _ _ c.if-i-ge32.false, get_d_any c.args.self.voices c.in-At.i none blank_voice (omega (arith, c.well_formed.0.1.1.0.1.0.1)))

@@ -10,18 +10,18 @@ returns-then-self-gt32 c = simp (lt-leb _ _ c.if-self-gt32.true)
 
 pub returns-then-not-good : goal.returns-then-not-good
 unfolding good_channel
-returns-then-not-good c = simp (le-leb _ _ c.if-self-gt32.false, ← c.good.ensures, not-true c.good.result c.if-not-good.true)
+returns-then-not-good c = simp (le-leb _ _ c.if-self-gt32.false, ← c.good.ensures, c.if-not-good.true)
 
 pub returns-then-not-good_phrases : goal.returns-then-not-good_phrases
 unfolding good_channel
 returns-then-not-good_phrases c =
     let head = c.good in
     let table = c.good_phrases in
-    simp (le-leb _ _ c.if-self-gt32.false, ← head.ensures, not-false head.result c.if-not-good.false, ← table.ensures, not-true table.result c.if-not-good_phrases.true)
+    simp (le-leb _ _ c.if-self-gt32.false, ← head.ensures, c.if-not-good.false, ← table.ensures, c.if-not-good_phrases.true)
 
 pub returns : goal.returns
 unfolding good_channel
 returns c =
     let head = c.good in
     let table = c.good_phrases in
-    simp (le-leb _ _ c.if-self-gt32.false, ← head.ensures, not-false head.result c.if-not-good.false, ← table.ensures, not-false table.result c.if-not-good_phrases.false, c.good_voices.ensures)
+    simp (le-leb _ _ c.if-self-gt32.false, ← head.ensures, c.if-not-good.false, ← table.ensures, c.if-not-good_phrases.false, c.good_voices.ensures)

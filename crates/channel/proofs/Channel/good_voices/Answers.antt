@@ -10,15 +10,15 @@ use borrow.Author.Rules.{rules}
 use Rattle.channel.proofs.Channel.good_voices.Goals as goal
 
 pub loop-i-init : goal.loop-i-init
-loop-i-init c = begins (every (good_voice c.args.t1.head.now)) c.args.t1.voices c.args.t1.count _ 32 (long _ c.args.t1.voices 32 c.well_formed.0.1.1.0.1.0.1) c.places-n.ensures
+loop-i-init c = begins (every (good_voice c.args.self.head.now)) c.args.self.voices c.args.self.count _ 32 (search rules) c.places-n.ensures
 
 pub returns-then-not-good : goal.returns-then-not-good
 unfolding good_voices_of every
-returns-then-not-good c = stops none c.loop-i.invariant (search rules) (λ xs. simp (← c.good.ensures, not-true c.good.result c.if-not-good.true))
+returns-then-not-good c = stops none c.loop-i.invariant (search rules) (λ xs. simp (← c.good.ensures, c.if-not-good.true))
 
 pub loop-i-preserved : goal.loop-i-preserved
 unfolding every
-loop-i-preserved c = turns none c.loop-i.invariant (search rules) (λ xs. simp (← c.good.ensures, not-false c.good.result c.if-not-good.false))
+loop-i-preserved c = turns none c.loop-i.invariant (search rules) (λ xs. simp (← c.good.ensures, c.if-not-good.false))
 
 pub returns : goal.returns
 unfolding good_voices_of every

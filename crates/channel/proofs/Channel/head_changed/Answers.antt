@@ -6,6 +6,7 @@ use Prim.Native.Nat.{◌<◌}
 use native.Mathlib.Omega.{arith}
 use lib.ListN.{length, get_or, set}
 use Rattle.walks.proofs.Lists.Loops.{long}
+use Rattle.phrases.specs.declared.Phrase.{Phrase}
 use Rattle.phrases.specs.Phrases.{no_phrase, no_phrases}
 use Rattle.channel.specs.Heads.{head_changed_of}
 use Rattle.channel.specs.Tables.{place_of, head_names, found_by, head_entry, stored_by}
@@ -17,23 +18,21 @@ use Rattle.channel.specs.declared.HeadChange.{HeadChange}
 use Rattle.channel.proofs.Entries.{head_entry_below, head_stored, head_several}
 use borrow.Author.Rules.{rules}
 use Rattle.channel.proofs.Channel.head_changed.Goals as goal
+use Rattle.channel.proofs.Channel.head_changed.Goals.{then-e, else-e}
 
 -- what is stored has a place below eight
-placed : (c : tie.Joined1) → c.before.head_entry.result.place < 8
-placed c = subst (λ (e : Entry). e.place < 8) (sym c.before.head_entry.ensures) (head_entry_below _ _ _ _)
+placed : (d : HeadChange) (h : Head) (several : Bool) (entry : Phrase) (e : Entry) → e ≡ head_entry d h several entry → e.place < 8
+placed d h several entry e is = subst (λ (e : Entry). e.place < 8) (sym is) (head_entry_below _ _ _ _)
 
 pub offset_bounds-self-place : goal.offset_bounds-self-place
-offset_bounds-self-place c = let below = placed c in omega (arith, below)
+offset_bounds-self-place c = let below = placed _ _ _ _ _ c.head_entry-e.ensures in omega arith
 
 pub bounds-self-place : goal.bounds-self-place
-bounds-self-place c = placed c
+bounds-self-place c = placed _ _ _ _ _ c.head_entry-e.ensures
 
 -- the channel with its table emptied or not
 abbrev emptied : Bool → Channel → Channel
 emptied clears c = record { voices = c.voices; table = cond clears no_phrases c.table; count = c.count; head = c.head; several = c.several }
-
-cleared : (c : tie.Joined1) → c.if1.self ≡ emptied c.before.head_entry.result.clears c.before.before.before.before.before.before.before.before.args.t1
-cleared c = ⊎_elim (λ w. w.2 ∙ simp (w.1.ensures, w.0.taken)) (λ w. w.1 ∙ simp w.0.left) c.if1.branch
 
 put : (d : HeadChange) (c s : Channel) (e : Entry) (h : Head) → length c.table ≡ 8 → s ≡ emptied e.clears c
     → e ≡ head_entry d c.head c.several (get_or c.table (place_of (head_names d)) no_phrase)
@@ -48,8 +47,9 @@ put d c s e h eight is stores changes =
 pub returns : goal.returns
 returns c =
     let e = c.head_entry-e in
-    let place = c.place_of.ensures.0 in
+    let place = c.place_of.ensures.value in
     let names = c.head_names.ensures in
-    let eight = long _ c.args.t1.table 8 c.well_formed.0.1.1.1.0.1.0.1 in
-    put c.args.change c.args.t1 c.if-e.self e.result c.changed-self.result eight (cleared c) (simp (e.ensures, place, names))
+    let eight = c.well_formed.0.1.1.1.0.1.0.1 in
+    let cleared : c.if-e.self ≡ emptied e.result.clears c.args.self = elim c.if-e.branch [ then-e w ↦ w.self-is ∙ simp (w.none-self.ensures, w.if-e.true) | else-e w ↦ w.self-is ∙ simp w.if-e.false ] in
+    put c.args.change c.args.self c.if-e.self e.result c.changed-self.result eight cleared (simp (e.ensures, place, names))
     (simp (c.changed-self.ensures, c.finds-found.ensures, c.beside.ensures, place, names))

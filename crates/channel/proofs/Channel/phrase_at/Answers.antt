@@ -3,4 +3,4 @@ use borrow.Author.Rules.{rules}
 use Rattle.channel.proofs.Channel.phrase_at.Goals as goal
 
 pub returns : goal.returns
-returns c = simp (c.phrase_by.ensures, c.place_of.ensures.0)
+returns c = simp (c.phrase_by.ensures, c.place_of.ensures.value)

@@ -13,15 +13,16 @@ use Rattle.channel.proofs.Turns.{turned_there, rest_of, rest_start, rest_end, re
 use borrow.Author.Rules.{rules}
 use native.Mathlib.Omega.{arith}
 use Rattle.channel.proofs.Channel.play.Goals as goal
+use Rattle.channel.proofs.Channel.play.Goals.{then-r, else-r}
 
 pub loop-i-init : goal.loop-i-init
 unfolding of_bits
 loop-i-init c =
-    let s = turning_in c.args.params c.args.t1 c.args.«data».now in
-    let all = long _ c.args.t1.voices 32 c.well_formed.0.1.1.0.1.0.1 in (
-      begins (rest_of s c.args.t1 0 _) c.args.t1.voices c.args.t1.count _ 32 all c.places-n.ensures,
+    let s = turning_in c.args.params c.args.self c.args.«data».now in
+    let all = c.well_formed.0.1.1.0.1.0.1 in (
+      begins (rest_of s c.args.self 0 _) c.args.self.voices c.args.self.count _ 32 all c.places-n.ensures,
       search rules,
-      begins (tidied_from s 0 0 0) c.args.t1.voices c.args.t1.count _ 32 all c.places-n.ensures,
+      begins (tidied_from s 0 0 0) c.args.self.voices c.args.self.count _ 32 all c.places-n.ensures,
       search rules,
       omega (arith, c.places-n.ensures),
       refl,
@@ -31,44 +32,47 @@ pub loop-i-preserved : goal.loop-i-preserved
 loop-i-preserved c =
     let h = c.loop-i in
     let a = c.args in
-    let s = turning_in a.params a.t1 a.«data».now in
+    let s = turning_in a.params a.self a.«data».now in
     let below = c.loop-i-test.true in
     let v = get_or h.self.voices h.i none in
     let phrase = c.phrase_at-phrase in
     let room = c.room-room in
     let moment = c.moment_on-at in
     let r = c.take_turn-r.result in
-    let same = turned_there a.params a.t1 a.«data».now v phrase.result (phrase.ensures ∙ ap (λ (d : Channel). phrase_at d v.phrase) h.invariant.5) h.output room.result moment.result r room.ensures.0 moment.ensures c.take_turn-r.ensures in
+    let same = turned_there a.params a.self a.«data».now v phrase.result (phrase.ensures ∙ ap (λ (d : Channel). phrase_at d v.phrase) h.invariant.5) h.output room.result moment.result r room.ensures.value moment.ensures c.take_turn-r.ensures in
     let turned = ap (λ (x : Turned). x.voice) same in
     let sounds = ap (λ (x : Turned). x.output) same in
     let stays = ap (λ (x : Turned). x.stays) same in
     let is = ap s.leaves (sym turned) in
-    ⊎_elim
-    (λ w. rw (w.3, w.4, w.5) (
-      stores none h.k _ h.invariant.0 below h.invariant.1 (λ vs. rest_keep s h.self _ _ _ _ _ _ turned sounds is vs (sym stays ∙ w.0.taken)),
+    elim c.if-r.branch [
+      then-r w ↦ rw (w.self-is, w.moved-is, w.k-is) (
+      stores none h.k _ h.invariant.0 below h.invariant.1 (λ vs. rest_keep s h.self _ _ _ _ _ _ turned sounds is vs (sym stays ∙ w.if-r.true)),
       omega arith,
       stores none h.k _ h.invariant.2 below h.invariant.1
-          (λ vs. tidied_keep s h.self h.k _ _ _ _ _ turned sounds is vs h.moved h.i h.invariant.1 _ w.1.ensures (sym stays ∙ w.0.taken)),
-      step_up h.moved h.k h.i _ h.invariant.3 w.1.ensures,
+          (λ vs. tidied_keep s h.self h.k _ _ _ _ _ turned sounds is vs h.moved h.i h.invariant.1 _ w.moved_up-moved.ensures (sym stays ∙ w.if-r.true)),
+      step_up h.moved h.k h.i _ h.invariant.3 w.moved_up-moved.ensures,
       h.invariant.4,
       ap (with_voices _ _) h.invariant.5,
-    ))
-    (λ w. rw (w.1, w.2, w.3) (
-      turns none h.invariant.0 below (λ vs. rest_gone s h.self _ _ _ _ _ _ turned sounds is vs (sym stays ∙ w.0.left)),
+      )
+    | else-r w ↦ rw (w.self-is, w.moved-is, w.k-is) (
+      turns none h.invariant.0 below (λ vs. rest_gone s h.self _ _ _ _ _ _ turned sounds is vs (sym stays ∙ w.if-r.false)),
       omega arith,
-      turns none h.invariant.2 below (λ vs. tidied_gone s h.self h.k _ _ _ _ _ turned sounds is vs h.moved h.i h.invariant.1 (sym stays ∙ w.0.left)),
+      turns none h.invariant.2 below (λ vs. tidied_gone s h.self h.k _ _ _ _ _ turned sounds is vs h.moved h.i h.invariant.1 (sym stays ∙ w.if-r.false)),
       omega arith,
       h.invariant.4,
       h.invariant.5,
-    ))
-    c.if-r.branch
+      )
+    ]
 
 pub returns : goal.returns
 unfolding of_bits
 returns c =
     let l = c.loop-i in
     let b = c.args in
-    let s = turning_in b.params b.t1 b.«data».now in
-    let sounds = sym (rest_end s l.self _ _) ∙ ends l.invariant.0 c.loop-i-test.false ∙ rest_start s b.t1 in
-    let counts = sym (tidied_end s _ l.k l.i) ∙ ends l.invariant.2 c.loop-i-test.false ∙ tidied_start s b.t1 in
-    (λ i. record { channel = (sounds i).channel; output = (sounds i).output; moved = counts i }, omega (arith, l.invariant.0.upto, l.invariant.3, l.invariant.4))
+    let s = turning_in b.params b.self b.«data».now in
+    let sounds = sym (rest_end s l.self _ _) ∙ ends l.invariant.0 c.loop-i-test.false ∙ rest_start s b.self in
+    let counts = sym (tidied_end s _ l.k l.i) ∙ ends l.invariant.2 c.loop-i-test.false ∙ tidied_start s b.self in
+    record {
+      value = λ i. record { channel = (sounds i).channel; output = (sounds i).output; moved = counts i };
+      moved_bound = omega (arith, l.invariant.0.upto, l.invariant.3, l.invariant.4);
+    }

@@ -13,7 +13,7 @@ returns c =
     let room = c.room-room in
     let recorded = c.recorded-self in
     let m = a.«data».now in
-    let is = room.ensures.0 ∙ ap (λ (b : Beside). written_in b.behind a.self.head (length m)) c.beside-b.ensures in (
-      taken_there a.self m room.result is recorded.result recorded.ensures.0,
-      memory_there a.self m room.result is a.input _ recorded.ensures.1,
-    )
+    let is = room.ensures.value ∙ ap (λ (b : Beside). written_in b.behind a.self.head (length m)) c.beside-b.ensures in record {
+      value = taken_there a.self m room.result is recorded.result recorded.ensures.value;
+      data_after = memory_there a.self m room.result is a.input _ recorded.ensures.data_after;
+    }

@@ -9,13 +9,11 @@ use Rattle.voice.specs.declared.Voice.{Voice}
 use Rattle.channel.specs.Channels.{live, uses_of}
 use Rattle.channel.proofs.Slots.{none}
 use borrow.Author.Rules.{rules}
+use Rattle.channel.proofs.Channel.uses.Invariants.{has}
 use Rattle.channel.proofs.Channel.uses.Goals as goal
 
-abbrev has : ℕ → Voice → Bool
-has k v = eqb v.phrase k
-
 pub loop-i-init : goal.loop-i-init
-loop-i-init c = begins (any (has c.args.k)) c.args.t1.voices c.args.t1.count _ 32 (long _ c.args.t1.voices 32 c.well_formed.0.1.1.0.1.0.1) c.places-n.ensures
+loop-i-init c = begins (any (has c.args.k)) c.args.self.voices c.args.self.count _ 32 (search rules) c.places-n.ensures
 
 pub returns-then-self-i : goal.returns-then-self-i
 unfolding uses_of any

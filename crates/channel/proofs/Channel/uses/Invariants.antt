@@ -10,6 +10,9 @@ use Rattle.channel.proofs.Slots.{none}
 use borrow.Author.Rules.{rules}
 use Rattle.channel.proofs.Channel.uses.Given as goal
 
+abbrev pub has : ℕ → Voice → Bool
+has k v = eqb v.phrase k
+
 abbrev pub invariant-loop-i : goal.invariant-loop-i
 invariant-loop-i l = Walk (any (has l.k) (live l.self)) (any (has l.k)) l.self.voices l.n l.i
 

@@ -8,7 +8,7 @@ use borrow.Author.Rules.{rules}
 use Rattle.channel.proofs.Channel.with_note_speed.Goals as goal
 
 pub loop-i-init : goal.loop-i-init
-loop-i-init c = begins (map_from (sped_of c.args.note c.args.speed) c.args.t1 0) c.args.t1.voices c.args.t1.count _ 32 (long _ c.args.t1.voices 32 c.well_formed.0.1.1.0.1.0.1) c.places-n.ensures
+loop-i-init c = begins (map_from (sped_of c.args.note c.args.speed) c.args.self 0) c.args.self.voices c.args.self.count _ 32 (search rules) c.places-n.ensures
 
 pub loop-i-preserved : goal.loop-i-preserved
 loop-i-preserved c = stores none c.loop-i.i _ c.loop-i.invariant (search rules) (le_refl _) (λ xs. map_on _ c.loop-i.self c.loop-i.i _ _ xs c.sped.ensures)

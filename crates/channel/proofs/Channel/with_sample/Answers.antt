@@ -6,6 +6,10 @@ use Rattle.channel.proofs.Channel.with_sample.Goals as goal
 pub returns : goal.returns
 unfolding process_sample_of
 returns c =
-    let e = c.«record».ensures.1 in
-    let plays = rw e at c.play-played.ensures.0 in
-    (simp (c.closed-channel.ensures, c.any_unfinished-unfinished.ensures, c.mixed-output.ensures, plays, c.«record».ensures.0), (e, c.play-played.ensures.1))
+    let e = c.record-recorded.ensures.data_after in
+    let plays = rw e at c.play-played.ensures.value in
+    record {
+      value = simp (c.closed-channel.ensures, c.any_unfinished-unfinished.ensures, c.mixed-output.ensures, plays, c.record-recorded.ensures.value);
+      data_after = e;
+      moved_bound = c.play-played.ensures.moved_bound;
+    }

@@ -49,7 +49,7 @@ returns-then-not-good c =
     let q = c.recording-recording in
     let ends = c.ends_by in
     let first = not-false (within a.capacity a.self) (sym (outside a.capacity a.self q.result ends.result q.ensures ends.ensures) ∙ c.if-self-ends_by.false) in
-    simp (first, ← c.good.ensures, not-true c.good.result c.if-not-good.true)
+    simp (first, ← c.good.ensures, c.if-not-good.true)
 
 pub returns : goal.returns
 unfolding good_head
@@ -58,4 +58,4 @@ returns c =
     let q = c.recording-recording in
     let ends = c.ends_by in
     let first = not-false (within a.capacity a.self) (sym (outside a.capacity a.self q.result ends.result q.ensures ends.ensures) ∙ c.if-self-ends_by.false) in
-    simp (first, ← c.good.ensures, not-false c.good.result c.if-not-good.false, c.good.ensures)
+    simp (first, ← c.good.ensures, c.if-not-good.false, c.good-2.ensures)

@@ -3,4 +3,7 @@ use borrow.Author.Rules.{rules}
 use Rattle.channel.proofs.Head.recorded.Goals as goal
 
 pub returns : goal.returns
-returns c = (simp (c.with_recorded.ensures, c.with_sample.ensures.0), simp (c.with_sample.ensures.1, c.to_bits-sample.ensures))
+returns c = record {
+  value = simp (c.with_recorded.ensures, c.with_sample.ensures.value);
+  data_after = simp (c.with_sample.ensures.data_after, c.to_bits-sample.ensures);
+}

@@ -9,8 +9,14 @@ pub returns-then-behind-self : goal.returns-then-behind-self
 unfolding written_in
 returns-then-behind-self c =
     let a = c.args in
-    (simp (c.smaller.ensures, le-leb _ _ c.if-behind-self.true), (rw c.smaller.ensures (min-le_right a.self.start a.size), le_refl a.size))
+    record {
+      value = simp (c.smaller.ensures, le-leb _ _ c.if-behind-self.true);
+      from_le_to = (rw c.smaller.ensures (min-le_right a.self.start a.size), le_refl a.size);
+    }
 
 pub returns : goal.returns
 unfolding written_in
-returns c = (simp (c.room.ensures.0, c.recording-recording.ensures, lt-leb _ _ c.if-behind-self.false), c.room.ensures.1)
+returns c = record {
+  value = simp (c.room.ensures.value, c.recording-recording.ensures, lt-leb _ _ c.if-behind-self.false);
+  from_le_to = c.room.ensures.from_le_to;
+}

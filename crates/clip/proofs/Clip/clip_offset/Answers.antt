@@ -1,5 +1,4 @@
 -- `Clip::clip_offset` meets its contract: `refused_at` is the test of `clip_offset_of`. Assumes nothing.
-use borrow.Author.Rules.{rules}
 use Rattle.clip.specs.Refusals.{clip_offset_of}
 use Rattle.clip.proofs.Clip.clip_offset.Goals as goal
 

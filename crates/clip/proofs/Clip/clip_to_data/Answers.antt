@@ -1,6 +1,5 @@
 -- `Clip::clip_to_data` meets its contract, by that of `quick_rem` where it answers. Assumes nothing.
 use lib.Ieee.{of_bits}
-use borrow.Author.Rules.{rules}
 use mathlib.Core.Path.{refl}
 use Rattle.binary32.proofs.Truth.{yes}
 use Rattle.clip.specs.Positions.{clip_to_data_of}

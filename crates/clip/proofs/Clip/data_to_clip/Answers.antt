@@ -1,6 +1,5 @@
 -- `Clip::data_to_clip` meets its contract: its tests are those of `data_to_clip_of`. Assumes nothing.
 use lib.Ieee.{of_bits}
-use borrow.Author.Rules.{rules}
 use Rattle.clip.specs.Refusals.{data_to_clip_of}
 use Rattle.clip.proofs.Clip.data_to_clip.Goals as goal
 

@@ -1,5 +1,4 @@
 -- `Clip::elapsed` meets its contract: `refused_at` is the test of `elapsed_of`. Assumes nothing.
-use borrow.Author.Rules.{rules}
 use Rattle.clip.specs.Refusals.{elapsed_of}
 use Rattle.clip.proofs.Clip.elapsed.Goals as goal
 

@@ -1,5 +1,4 @@
 -- `Clip::found_at` meets its contract: its test is that of `found_at`. Assumes nothing.
-use borrow.Author.Rules.{rules}
 use Rattle.clip.specs.Updates.{found_at}
 use Rattle.clip.proofs.Clip.found_at.Goals as goal
 

@@ -1,6 +1,5 @@
 -- `Clip::good` meets its contract: its three tests are together those of `good_clip`. Assumes nothing.
 use lib.Ieee.{of_bits}
-use borrow.Author.Rules.{rules}
 use Rattle.clip.proofs.Goods.{three_tests}
 use Rattle.clip.proofs.Clip.good.Goals as goal
 

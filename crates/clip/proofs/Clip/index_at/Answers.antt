@@ -2,7 +2,6 @@
 use mathlib.Core.Path.{ap}
 use Rattle.clip.specs.Positions.{position_of, index_at}
 use Rattle.clip.specs.declared.Position.{Position}
-use borrow.Author.Rules.{rules}
 use Rattle.clip.proofs.Clip.index_at.Goals as goal
 
 pub returns : goal.returns

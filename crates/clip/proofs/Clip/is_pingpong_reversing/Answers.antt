@@ -1,5 +1,4 @@
 -- `Clip::is_pingpong_reversing` meets its contract: `refused_at` is the test of `is_pingpong_reversing_of`. Assumes nothing.
-use borrow.Author.Rules.{rules}
 use Rattle.clip.specs.Refusals.{is_pingpong_reversing_of}
 use Rattle.clip.proofs.Clip.is_pingpong_reversing.Goals as goal
 

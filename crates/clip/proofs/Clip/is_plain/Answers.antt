@@ -1,6 +1,5 @@
 -- `Clip::is_plain` meets its contract: its tests are those of `is_plain`. Assumes nothing.
 use lib.Ieee.{of_bits}
-use borrow.Author.Rules.{rules}
 use Rattle.clip.specs.Plain.{is_plain}
 use Rattle.clip.proofs.Clip.is_plain.Goals as goal
 

@@ -6,7 +6,6 @@ use Rattle.clip.specs.declared.Clip.{Clip}
 use Rattle.clip.specs.declared.Standing.{Standing}
 use Rattle.clip.proofs.Standings.{standing_stands}
 use Rattle.clip.proofs.AtOnce.{skips_all}
-use borrow.Author.Rules.{rules}
 use Rattle.clip.proofs.Clip.moved_at.Goals as goal
 
 pub returns-then-same_all : goal.returns-then-same_all

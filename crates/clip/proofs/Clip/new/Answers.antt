@@ -1,5 +1,4 @@
 -- `Clip::new` meets its contract: `refused_at` is the test of `new_clip_of`. Assumes nothing.
-use borrow.Author.Rules.{rules}
 use Rattle.clip.specs.Refusals.{new_clip_of}
 use Rattle.clip.proofs.Clip.new.Goals as goal
 

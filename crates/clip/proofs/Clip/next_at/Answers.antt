@@ -3,7 +3,6 @@ use mathlib.Core.Path.{ap, ◌∙◌}
 use Rattle.clip.specs.Positions.{next_at, standing_of}
 use Rattle.clip.specs.declared.Standing.{Standing}
 use Rattle.clip.proofs.Standings.{standing_stands}
-use borrow.Author.Rules.{rules}
 use Rattle.clip.proofs.Clip.next_at.Goals as goal
 
 pub next-requires : goal.next-requires

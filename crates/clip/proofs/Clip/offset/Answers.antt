@@ -1,5 +1,4 @@
 -- `Clip::offset` meets its contract: `refused_at` is the test of `offset_of`. Assumes nothing.
-use borrow.Author.Rules.{rules}
 use Rattle.clip.specs.Refusals.{offset_of}
 use Rattle.clip.proofs.Clip.offset.Goals as goal
 

@@ -2,7 +2,6 @@
 use mathlib.Core.Path.{ap, ◌∙◌}
 use Prim.Native.Nat.{ℕ}
 use lib.Ieee.{Float, binary32, add, mul}
-use borrow.Author.Rules.{rules}
 use Rattle.binary32.specs.Leaves.{as_float}
 use Rattle.clip.specs.Positions.{lead_of, travel_at}
 use Rattle.clip.proofs.Clip.quick_travel.Goals as goal

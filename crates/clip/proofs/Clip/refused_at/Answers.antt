@@ -1,5 +1,4 @@
 -- `Clip::refused_at` meets its contract: its tests are those of `clip_refused_at`. Assumes nothing.
-use borrow.Author.Rules.{rules}
 use Rattle.clip.specs.Refusals.{clip_refused_at}
 use Rattle.clip.proofs.Clip.refused_at.Goals as goal
 

@@ -4,7 +4,6 @@ use Rattle.clip.specs.Positions.{standing_of}
 use Rattle.clip.specs.Updates.{reversing_at}
 use Rattle.clip.specs.declared.Standing.{Standing}
 use Rattle.clip.proofs.Standings.{standing_stands}
-use borrow.Author.Rules.{rules}
 use Rattle.clip.proofs.Clip.reversing_at.Goals as goal
 
 pub reversing-requires : goal.reversing-requires

@@ -1,7 +1,6 @@
 -- `Clip::same_all` meets its contract, by those of `same_values` and `same_mode`. Assumes nothing.
 use mathlib.Core.Path.{sym, ◌∙◌}
 use Rattle.clip.specs.Updates.{same_all}
-use borrow.Author.Rules.{rules}
 use Rattle.clip.proofs.Clip.same_all.Goals as goal
 
 pub returns-then-same_values : goal.returns-then-same_values

@@ -2,7 +2,6 @@
 use Rattle.clip.specs.Positions.{standing_of, sounding_of}
 use Rattle.clip.proofs.Indices.{position_index}
 use Rattle.clip.proofs.Standings.{standing_stands}
-use borrow.Author.Rules.{rules}
 use Rattle.clip.proofs.Clip.sounding.Goals as goal
 
 pub position-position-requires : goal.position-position-requires

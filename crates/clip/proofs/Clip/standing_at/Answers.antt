@@ -1,6 +1,5 @@
 -- `Clip::standing_at` meets its contract, by those of what it calls. Assumes nothing.
 use Rattle.clip.specs.Positions.{standing_of}
-use borrow.Author.Rules.{rules}
 use Rattle.clip.proofs.Clip.standing_at.Goals as goal
 
 pub returns : goal.returns

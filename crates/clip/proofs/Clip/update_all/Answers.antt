@@ -1,6 +1,5 @@
 -- `Clip::update_all` meets its contract: `refused_at` and `good_length` are the tests of `update_all_of`. Assumes nothing.
 use Rattle.clip.specs.Refusals.{update_all_of}
-use borrow.Author.Rules.{rules}
 use Rattle.clip.proofs.Clip.update_all.Goals as goal
 
 pub returns-then-refused_at-good_length : goal.returns-then-refused_at-good_length

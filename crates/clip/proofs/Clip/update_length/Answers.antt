@@ -1,5 +1,4 @@
 -- `Clip::update_length` meets its contract: `refused_at` and `good_length` are the tests of `update_length_of`. Assumes nothing.
-use borrow.Author.Rules.{rules}
 use Rattle.clip.specs.Refusals.{update_length_of}
 use Rattle.clip.proofs.Clip.update_length.Goals as goal
 

@@ -1,5 +1,4 @@
 -- `Clip::update_mode` meets its contract: `refused_at` is the test of `update_mode_of`. Assumes nothing.
-use borrow.Author.Rules.{rules}
 use Rattle.clip.specs.Refusals.{update_mode_of}
 use Rattle.clip.proofs.Clip.update_mode.Goals as goal
 

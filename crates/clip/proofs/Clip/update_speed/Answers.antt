@@ -1,5 +1,4 @@
 -- `Clip::update_speed` meets its contract: `refused_at` is the test of `update_speed_of`. Assumes nothing.
-use borrow.Author.Rules.{rules}
 use Rattle.clip.specs.Refusals.{update_speed_of}
 use Rattle.clip.proofs.Clip.update_speed.Goals as goal
 

@@ -2,7 +2,6 @@
 use mathlib.Core.Path.{ap}
 use Rattle.clip.specs.Positions.{standing_of}
 use Rattle.clip.specs.declared.Standing.{Standing}
-use borrow.Author.Rules.{rules}
 use Rattle.clip.proofs.Clip.with_all.Goals as goal
 
 pub returns : goal.returns

@@ -4,7 +4,6 @@ use Rattle.clip.specs.Positions.{standing_of}
 use Rattle.clip.specs.Updates.{with_data_length}
 use Rattle.clip.specs.declared.Standing.{Standing}
 use Rattle.clip.proofs.Standings.{standing_stands}
-use borrow.Author.Rules.{rules}
 use Rattle.clip.proofs.Clip.with_data_length.Goals as goal
 
 pub cut-requires : goal.cut-requires

@@ -4,7 +4,6 @@ use Rattle.clip.specs.Positions.{standing_of}
 use Rattle.clip.specs.Updates.{with_mode}
 use Rattle.clip.specs.declared.Standing.{Standing}
 use Rattle.clip.proofs.Standings.{standing_stands}
-use borrow.Author.Rules.{rules}
 use Rattle.clip.proofs.Clip.with_mode.Goals as goal
 
 pub turned-requires : goal.turned-requires

@@ -1,6 +1,5 @@
 -- `Position::sum` meets its contract. Assumes nothing.
 use Rattle.clip.specs.Positions.{sum_of}
-use borrow.Author.Rules.{rules}
 use Rattle.clip.proofs.Position.sum.Goals as goal
 
 pub returns : goal.returns

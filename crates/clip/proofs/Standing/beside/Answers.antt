@@ -1,5 +1,4 @@
 -- `Standing::beside` meets its contract. Assumes nothing.
-use borrow.Author.Rules.{rules}
 use Rattle.clip.proofs.Standing.beside.Goals as goal
 
 pub returns-then-smooth : goal.returns-then-smooth

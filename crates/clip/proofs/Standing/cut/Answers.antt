@@ -7,7 +7,6 @@ use Rattle.clip.specs.Updates.{at_data_length, resumed, with_data_length}
 use Rattle.clip.specs.declared.Clip.{Clip}
 use Rattle.clip.proofs.Standings.{standing_is, resumed_stands}
 use Rattle.clip.proofs.AtOnce.{data_length_skipped}
-use borrow.Author.Rules.{rules}
 use Rattle.clip.proofs.Standing.cut.Goals as goal
 
 pub returns-then-data_length-clip : goal.returns-then-data_length-clip

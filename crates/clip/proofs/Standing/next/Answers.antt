@@ -4,7 +4,6 @@ use lib.Ieee.{to_unsigned}
 use Rattle.clip.specs.Positions.{next_at}
 use Rattle.binary32.proofs.Floors.{floor_cast}
 use Rattle.clip.proofs.Offsets.{data_fits}
-use borrow.Author.Rules.{rules}
 use Rattle.clip.proofs.Standing.next.Goals as goal
 
 pub returns : goal.returns

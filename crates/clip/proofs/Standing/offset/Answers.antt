@@ -1,6 +1,5 @@
 -- `Standing::offset` meets its contract, by those of `clip_to_data` and `place`. Assumes nothing.
 use Rattle.clip.specs.Positions.{offset_at}
-use borrow.Author.Rules.{rules}
 use Rattle.clip.proofs.Standing.offset.Goals as goal
 
 pub returns : goal.returns

@@ -5,7 +5,6 @@ use Rattle.clip.specs.Updates.{with_speed}
 use Rattle.clip.specs.declared.Clip.{Clip}
 use Rattle.clip.proofs.Standings.{standing_is}
 use Rattle.clip.proofs.AtOnce.{speed_skipped}
-use borrow.Author.Rules.{rules}
 use Rattle.clip.proofs.Standing.paced.Goals as goal
 
 pub returns-then-speed-clip : goal.returns-then-speed-clip

@@ -1,6 +1,5 @@
 -- `Standing::place` meets its contract, by those of `placed` and `travel`. Assumes nothing.
 use Rattle.clip.specs.Positions.{clip_offset_at}
-use borrow.Author.Rules.{rules}
 use Rattle.clip.proofs.Standing.place.Goals as goal
 
 pub returns : goal.returns

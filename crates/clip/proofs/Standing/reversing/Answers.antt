@@ -1,6 +1,5 @@
 -- `Standing::reversing` meets its contract, by the mode. Assumes nothing.
 use Rattle.clip.specs.Updates.{reversing_at}
-use borrow.Author.Rules.{rules}
 use Rattle.clip.proofs.Standing.reversing.Goals as goal
 
 pub returns-in-Loop : goal.returns-in-Loop

@@ -5,7 +5,6 @@ use Rattle.clip.specs.Positions.{standing_of}
 use Rattle.clip.specs.Updates.{resumed, shift_for, settled_of}
 use Rattle.clip.specs.declared.Found.{Found}
 use Rattle.clip.proofs.Standings.{resumed_stands}
-use borrow.Author.Rules.{rules}
 use Rattle.clip.proofs.Standing.settled.Goals as goal
 
 pub returns : goal.returns

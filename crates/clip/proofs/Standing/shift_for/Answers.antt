@@ -2,7 +2,6 @@
 use mathlib.Core.Path.{◌∙◌}
 use lib.Ieee.{of_bits}
 use Rattle.clip.specs.Updates.{shift_for}
-use borrow.Author.Rules.{rules}
 use Rattle.clip.proofs.Standing.shift_for.Goals as goal
 
 pub returns-then-reversing : goal.returns-then-reversing

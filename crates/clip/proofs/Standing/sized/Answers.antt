@@ -5,7 +5,6 @@ use Rattle.clip.specs.Updates.{with_length}
 use Rattle.clip.specs.declared.Clip.{Clip}
 use Rattle.clip.proofs.Standings.{standing_is}
 use Rattle.clip.proofs.AtOnce.{length_skipped}
-use borrow.Author.Rules.{rules}
 use Rattle.clip.proofs.Standing.sized.Goals as goal
 
 pub returns-then-length-clip : goal.returns-then-length-clip

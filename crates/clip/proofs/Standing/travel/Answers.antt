@@ -1,6 +1,5 @@
 -- `Standing::travel` meets its contract: the float that it carries is that of the samples since the last change. Assumes nothing.
 use Rattle.clip.specs.Positions.{travel_at}
-use borrow.Author.Rules.{rules}
 use Rattle.clip.proofs.Standing.travel.Goals as goal
 
 pub returns : goal.returns

@@ -5,7 +5,6 @@ use Rattle.clip.specs.Updates.{with_mode}
 use Rattle.clip.specs.declared.Clip.{Clip}
 use Rattle.clip.proofs.Standings.{standing_is}
 use Rattle.clip.proofs.AtOnce.{mode_skipped}
-use borrow.Author.Rules.{rules}
 use Rattle.clip.proofs.Standing.turned.Goals as goal
 
 pub returns-then-same_mode : goal.returns-then-same_mode

@@ -1,5 +1,4 @@
 -- `LoopMode::from_f32` meets its contract: that of `from_index`, at the index that `index_from_f32` gives. Assumes nothing.
-use borrow.Author.Rules.{rules}
 use Rattle.common_types.proofs.LoopMode.from_f32.Goals as goal
 
 pub returns : goal.returns

@@ -1,5 +1,4 @@
 -- `Measure::length` meets its contract. Assumes nothing.
-use borrow.Author.Rules.{rules}
 use Rattle.common_types.specs.Settings.{measured_of}
 use Rattle.common_types.proofs.Measure.length.Goals as goal
 

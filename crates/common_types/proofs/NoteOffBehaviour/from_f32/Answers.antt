@@ -1,5 +1,4 @@
 -- `NoteOffBehaviour::from_f32` meets its contract: that of `from_index`, at the index that `index_from_f32` gives. Assumes nothing.
-use borrow.Author.Rules.{rules}
 use Rattle.common_types.proofs.NoteOffBehaviour.from_f32.Goals as goal
 
 pub returns : goal.returns

@@ -1,5 +1,4 @@
 -- `NoteOffBehaviour::to_f32` meets its contract: that of `index_to_f32`, at the index. Assumes nothing.
-use borrow.Author.Rules.{rules}
 use Rattle.common_types.proofs.NoteOffBehaviour.to_f32.Goals as goal
 
 pub returns : goal.returns

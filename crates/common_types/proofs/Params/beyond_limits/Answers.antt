@@ -1,5 +1,4 @@
 -- `Params::beyond_limits` meets its contract: its tests are those of `beyond_limits`, in their order. Assumes nothing.
-use borrow.Author.Rules.{rules}
 use borrow.Author.Tests.{lt-ltb, le-ltb}
 use Rattle.common_types.specs.Settings.{beyond_limits}
 use Rattle.common_types.proofs.Params.beyond_limits.Goals as goal

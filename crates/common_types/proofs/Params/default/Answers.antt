@@ -1,5 +1,4 @@
 -- `Params::default` meets its contract: its literals are the floats that the definition names. Assumes nothing.
-use borrow.Author.Rules.{rules}
 use lib.Ieee.{of_bits, of_int}
 use Rattle.common_types.proofs.Params.default.Goals as goal
 

@@ -1,5 +1,4 @@
 -- `Params::loop_length` meets its contract, by those of `length` and `at_least_one`. Assumes nothing.
-use borrow.Author.Rules.{rules}
 use Rattle.common_types.specs.Settings.{loop_length_of}
 use Rattle.common_types.proofs.Params.loop_length.Goals as goal
 

@@ -1,5 +1,4 @@
 -- `Params::measure` meets its contract. Assumes nothing.
-use borrow.Author.Rules.{rules}
 use Rattle.common_types.specs.Settings.{measure_of}
 use Rattle.common_types.proofs.Params.measure.Goals as goal
 

@@ -1,5 +1,4 @@
 -- `calc_quarter_notes_per_bar` meets its contract. Assumes nothing.
-use borrow.Author.Rules.{rules}
 use lib.Ieee.{of_bits, of_int}
 use Rattle.common_types.specs.Times.{quarter_notes_per_bar_of}
 use Rattle.common_types.proofs.time_value.calc_quarter_notes_per_bar.Goals as goal

@@ -1,5 +1,4 @@
 -- `calc_samples_per_bar` meets its contract. Assumes nothing.
-use borrow.Author.Rules.{rules}
 use Rattle.common_types.specs.Times.{samples_per_bar_of}
 use Rattle.common_types.proofs.time_value.calc_samples_per_bar.Goals as goal
 

@@ -3,20 +3,13 @@ use mathlib.Core.Path.{sym, ◌∙◌}
 use Prim.Native.Nat.{◌+◌}
 use native.Mathlib.Omega.{arith}
 use borrow.Author.Tests.{leb-true, leb-false}
-use lib.ListN.{length}
-use Rattle.walks.proofs.Lists.Loops.{long}
 use Rattle.decimal.specs.Decimal.{decimal}
 use Rattle.decimal.proofs.Lines.{with_more, with_none}
-use borrow.Author.Rules.{rules}
 use Rattle.decimal.proofs.Line.with_decimal.Goals as goal
-
-pub write_decimal-length-requires : goal.write_decimal-length-requires
-write_decimal-length-requires c = let room = leb-true (c.args.self.length + c.decimal_length.result) 64 (sym c.has_room.ensures ∙ c.if-has_room.true) in
-    omega (arith, c.decimal_length.ensures, long _ c.args.self.bytes 64 c.well_formed.0.1.1.0.1.0.1)
 
 pub returns-then-has_room : goal.returns-then-has_room
 returns-then-has_room c = let room = leb-true (c.args.self.length + c.decimal_length.result) 64 (sym c.has_room.ensures ∙ c.if-has_room.true) in
-    simp (c.write_decimal-length.ensures.1, c.write_decimal-length.ensures.0)
+    simp (c.write_decimal-length.ensures.text_after, c.write_decimal-length.ensures.value)
     (sym (with_more c.args.self (decimal c.args.n) (omega (arith, c.decimal_length.ensures))))
 
 pub returns-else-has_room : goal.returns-else-has_room

@@ -1,11 +1,10 @@
--- `write_decimal` meets its contract. The invariant: the digits of the rest, stored now, give the whole number. Assumes nothing.
-use mathlib.Core.Path.{◌≡◌, refl, sym, ap, ◌∙◌}
+-- `write_decimal` meets its contract: each turn stores the last digit of the rest, and what is left stores the others. Assumes nothing.
+use mathlib.Core.Path.{◌≡◌, sym, ap, ◌∙◌}
 use mathlib.Core.List.{List}
 use Prim.Native.Nat.{ℕ, ◌+◌, ◌-◌, ◌/◌, ◌%◌, ◌≤◌, ◌<◌}
 use native.Mathlib.Omega.{arith}
-use lib.ListN.{length, set}
+use lib.ListN.{length, set, length-set}
 use lib.Seq.{sets}
-use borrow.Author.Rules.{rules}
 use Rattle.decimal.specs.Decimal.{digit, decimal}
 use Rattle.decimal.proofs.Decimals.{decimal_one, decimal_more, decimal_length, decimal_some}
 use Rattle.walks.proofs.Lists.Runs.{run_last}
@@ -22,9 +21,6 @@ first l at n b h is =
     let same : b ≡ digit n = omega arith in
     rw (decimal_one n h, same)
 
-pub loop-rest-init : goal.loop-rest-init
-loop-rest-init c = (search rules, search rules, refl, refl)
-
 pub overflow_sub-place : goal.overflow_sub-place
 overflow_sub-place c = omega (arith, decimal_some c.loop-rest.rest)
 
@@ -34,15 +30,15 @@ bounds-text-place c = omega (arith, decimal_some c.loop-rest.rest)
 pub loop-rest-preserved : goal.loop-rest-preserved
 loop-rest-preserved c =
     let h = c.loop-rest in
-    let more = c.loop-rest-test.true in (
-      omega (arith, decimal_length h.rest more),
-      search rules,
-      search rules,
-      sym (turn _ _ _ _ _ more h.invariant.0 c.last_digit.ensures) ∙ h.invariant.3,
-    )
+    let more = c.loop-rest-test.true in record {
+      reached = omega (arith, decimal_length h.rest more);
+      within = omega arith;
+      same_length = length-set _ _ _ ∙ h.invariant.same_length;
+      is_whole = sym (turn _ _ _ _ _ more h.invariant.reached c.last_digit.ensures) ∙ h.invariant.is_whole;
+    }
 
 pub bounds-text-at : goal.bounds-text-at
 bounds-text-at c = omega (arith, decimal_some c.loop-rest.rest)
 
-pub returns : goal.returns
-returns c = (search rules, first _ _ _ _ c.loop-rest-test.false c.last_digit-2.ensures ∙ c.loop-rest.invariant.3)
+pub returns-clause-text_after : goal.returns-clause-text_after
+returns-clause-text_after c = first _ _ _ _ c.loop-rest-test.false c.last_digit-2.ensures ∙ c.loop-rest.invariant.is_whole

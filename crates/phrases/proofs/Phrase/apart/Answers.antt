@@ -1,5 +1,5 @@
 -- `Phrase::apart` meets its contract: of two with samples, the one that begins first isn't behind the other. Assumes nothing.
-use Rattle.std.proofs.Common.{◌≡◌, ℕ, ◌+◌, ◌<◌, ◌≤◌, Bool, true, false, ◌||◌, sym, refl, ◌∙◌, le_of_lt, arith, rules}
+use Rattle.std.proofs.Common.{◌≡◌, ◌+◌, ◌<◌, ◌≤◌, Bool, true, false, ◌||◌, refl, ◌∙◌, le_of_lt, arith}
 use borrow.Author.Tests.{lt-leb}
 use Rattle.walks.proofs.Tests.{neither}
 use Rattle.phrases.specs.Phrases.{no_samples, is_over_by, apart_of}

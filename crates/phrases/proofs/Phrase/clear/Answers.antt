@@ -1,5 +1,4 @@
 -- `Phrase::clear` meets its contract: its tests are those of `clear_of`. Assumes nothing.
-use Rattle.std.proofs.Common.{rules}
 use Rattle.phrases.specs.Phrases.{clear_of}
 use Rattle.phrases.proofs.Phrase.clear.Goals as goal
 

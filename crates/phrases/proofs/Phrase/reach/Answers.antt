@@ -1,5 +1,5 @@
 -- `Phrase::reach` meets its contract. Assumes nothing.
-use Rattle.std.proofs.Common.{rules, eq-eqb, ne_eqb}
+use Rattle.std.proofs.Common.{eq-eqb, ne_eqb}
 use Rattle.phrases.specs.Phrases.{reach_of, no_samples}
 use Rattle.phrases.proofs.Phrase.reach.Goals as goal
 

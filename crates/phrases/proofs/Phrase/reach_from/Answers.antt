@@ -1,5 +1,4 @@
 -- `Phrase::reach_from` meets its contract. Assumes nothing.
-use Rattle.std.proofs.Common.{rules}
 use Rattle.phrases.specs.Phrases.{reach_from}
 use Rattle.phrases.proofs.Phrase.reach_from.Goals as goal
 

@@ -1,5 +1,5 @@
 -- `Phrase::room` meets its contract: it lies within the memory as the definition's does. Assumes nothing.
-use Rattle.std.proofs.Common.{◌≡◌, ◌+◌, ◌≤◌, sym, subst, rules}
+use Rattle.std.proofs.Common.{◌≡◌, ◌+◌, ◌≤◌, sym, subst}
 use Rattle.phrases.specs.Phrases.{room_of}
 use Rattle.phrases.specs.declared.Room.{Room}
 use Rattle.phrases.proofs.Rooms.{room_inside}

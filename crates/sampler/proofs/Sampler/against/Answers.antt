@@ -10,12 +10,12 @@ use borrow.Author.Rules.{rules}
 use Rattle.sampler.proofs.Sampler.against.Goals as goal
 
 pub loop-j-init : goal.loop-j-init
-loop-j-init c = begins (against_from c.args.t1.capacity c.args.ask false false) c.args.t1.channels c.args.t1.count _ 2 (long _ c.args.t1.channels 2 c.well_formed.0.1.1.0.1.0.1) c.places-n.ensures
+loop-j-init c = begins (against_from c.args.self.capacity c.args.ask false false) c.args.self.channels c.args.self.count _ 2 (search rules) c.places-n.ensures
 
 pub loop-j-preserved : goal.loop-j-preserved
 loop-j-preserved c =
-    turns none c.loop-j.invariant (search rules) (λ xs. against_on c.args.t1.capacity c.args.ask c.loop-j.blocked c.loop-j.short _ _ xs c.against-a.ensures)
+    turns none c.loop-j.invariant (search rules) (λ xs. against_on c.args.self.capacity c.args.ask c.loop-j.blocked c.loop-j.short _ _ xs c.against-a.ensures)
 
 pub returns : goal.returns
 unfolding against_any
-returns c = against_ends c.args.t1.capacity c.args.ask c.loop-j.blocked c.loop-j.short ∙ ends c.loop-j.invariant c.loop-j-test.false
+returns c = against_ends c.args.self.capacity c.args.ask c.loop-j.blocked c.loop-j.short ∙ ends c.loop-j.invariant c.loop-j-test.false

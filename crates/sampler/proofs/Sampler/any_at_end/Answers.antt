@@ -10,7 +10,7 @@ use borrow.Author.Rules.{rules}
 use Rattle.sampler.proofs.Sampler.any_at_end.Goals as goal
 
 pub loop-j-init : goal.loop-j-init
-loop-j-init c = begins (any at_end) c.args.t1.channels c.args.n _ 2 (long _ c.args.t1.channels 2 c.well_formed.0.1.1.0.1.0.1) c.places-m.ensures
+loop-j-init c = begins (any at_end) c.args.self.channels c.args.n _ 2 (search rules) c.places-m.ensures
 
 pub returns-then-self-j-ge-LAST_TIME : goal.returns-then-self-j-ge-LAST_TIME
 unfolding any

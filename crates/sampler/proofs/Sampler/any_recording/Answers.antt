@@ -8,7 +8,7 @@ use borrow.Author.Rules.{rules}
 use Rattle.sampler.proofs.Sampler.any_recording.Goals as goal
 
 pub loop-j-init : goal.loop-j-init
-loop-j-init c = begins (any records) c.args.t1.channels c.args.t1.count _ 2 (long _ c.args.t1.channels 2 c.well_formed.0.1.1.0.1.0.1) c.places-n.ensures
+loop-j-init c = begins (any records) c.args.self.channels c.args.self.count _ 2 (search rules) c.places-n.ensures
 
 pub returns-then-is_recording : goal.returns-then-is_recording
 unfolding any

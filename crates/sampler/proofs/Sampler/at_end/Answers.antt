@@ -12,8 +12,8 @@ use native.Mathlib.Omega.{arith}
 use Rattle.sampler.proofs.Sampler.at_end.Goals as goal
 
 pub returns-then-channel-lt2 : goal.returns-then-channel-lt2
-returns-then-channel-lt2 c = ap at_end (get_d_any c.args.t1.channels c.args.channel none (channel_of (record { auto_passthru = false })) (omega (arith, long _ c.args.t1.channels 2 c.well_formed.0.1.1.0.1.0.1)))
+returns-then-channel-lt2 c = ap at_end (get_d_any c.args.self.channels c.args.channel none (channel_of (record { auto_passthru = false })) (omega (arith, c.well_formed.0.1.1.0.1.0.1)))
 
 pub returns-else-channel-lt2 : goal.returns-else-channel-lt2
 unfolding channel_of head_of
-returns-else-channel-lt2 c = sym (ap at_end (get_or-eq_default c.args.t1.channels (channel_of (record { auto_passthru = false })) (omega (arith, long _ c.args.t1.channels 2 c.well_formed.0.1.1.0.1.0.1))))
+returns-else-channel-lt2 c = sym (ap at_end (get_or-eq_default c.args.self.channels (channel_of (record { auto_passthru = false })) (omega (arith, c.well_formed.0.1.1.0.1.0.1))))

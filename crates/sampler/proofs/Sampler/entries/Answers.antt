@@ -26,7 +26,7 @@ pub overflow_add-moved : goal.overflow_add-moved
 overflow_add-moved c =
     let h = c.loop-j.invariant in
     let t = c.loop-j-test.true in
-    record { fits = omega (arith, h.1.few, h.0.steps.below, t, c.step-stepped.ensures.0.3) }
+    record { fits = omega (arith, h.1.few, h.0.steps.below, t, c.step-stepped.ensures.moved_bound) }
 
 pub loop-j-preserved : goal.loop-j-preserved
 loop-j-preserved c =
@@ -34,8 +34,8 @@ loop-j-preserved c =
     let t = c.loop-j-test.true in
     let r = c.step-stepped in
     let e = r.ensures in (
-      framing_on h.0 t _ _ _ e.0.0 e.0.1 e.1 r.auto.1.1.1.1.0,
-      summing_on h.0 t _ _ _ e.0.0 e.0.1 e.1 r.auto.1.1.1.1.0 _ _ _ h.1 e.0.2 e.0.3,
+      framing_on h.0 t _ _ _ e.sampler_value e.output_value e.memory_after r.auto.memory,
+      summing_on h.0 t _ _ _ e.sampler_value e.output_value e.memory_after r.auto.memory _ _ _ h.1 e.moved_value e.moved_bound,
     )
 
 pub shape_of-frame : goal.shape_of-frame
@@ -45,4 +45,7 @@ pub shape_of-memory : goal.shape_of-memory
 shape_of-memory c = c.loop-j.invariant.0.whole
 
 pub returns : goal.returns
-returns c = (framing_ends c.loop-j.invariant.0 c.loop-j-test.false, summing_ends c.loop-j.invariant.1 c.loop-j-test.false)
+returns c = record {
+  frames = framing_ends c.loop-j.invariant.0 c.loop-j-test.false;
+  moved_value = summing_ends c.loop-j.invariant.1 c.loop-j-test.false;
+}

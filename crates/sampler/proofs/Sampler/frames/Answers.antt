@@ -30,7 +30,7 @@ pub loop-i-preserved : goal.loop-i-preserved
 loop-i-preserved c =
     let r = c.entries-entered in
     running_on c.loop-i.invariant c.loop-i-test.true
-    r.result.sampler r.new.1.0 r.new.1.1.1.0 r.ensures.0 r.auto.1.0 r.auto.1.1.1.0
+    r.result.sampler r.new.frame r.new.memory r.ensures.frames r.auto.frame r.auto.memory
 
 pub shape_of-run : goal.shape_of-run
 shape_of-run c = c.loop-i.invariant.entries

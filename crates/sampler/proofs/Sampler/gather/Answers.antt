@@ -8,7 +8,10 @@ use Rattle.sampler.proofs.Sampler.gather.Goals as goal
 
 pub returns-then-number-ne0 : goal.returns-then-number-ne0
 unfolding gather_of gather_memory
-returns-then-number-ne0 c = (simp (← c.gather_number-number.ensures, ne_eqb _ _ c.if-number-ne0.true), simp (← c.gather_number-number.ensures, ne_eqb _ _ c.if-number-ne0.true))
+returns-then-number-ne0 c = record {
+  value = simp (← c.gather_number-number.ensures, ne_eqb _ _ c.if-number-ne0.true);
+  memory_after = simp (← c.gather_number-number.ensures, ne_eqb _ _ c.if-number-ne0.true);
+}
 
 pub gathered-sampler-requires : goal.gathered-sampler-requires
 gathered-sampler-requires c = gather_steps _ _ (sym c.gather_number-number.ensures ∙ c.if-number-ne0.false)
@@ -17,4 +20,5 @@ pub returns : goal.returns
 unfolding gather_of gather_memory
 returns c =
     let e = sym c.gather_number-number.ensures ∙ c.if-number-ne0.false in
-    (simp (c.gathered-sampler.ensures.0, e), simp (c.gathered-sampler.ensures.1, e))
+    let gathered = c.gathered-sampler.ensures in
+    record { value = simp (gathered.value, e); memory_after = simp (gathered.memory_after, e) }

@@ -14,7 +14,7 @@ use native.Mathlib.Omega.{arith}
 use Rattle.sampler.proofs.Sampler.gathered.Goals as goal
 
 pub loop-j-init : goal.loop-j-init
-loop-j-init c = gathering_starts c.args.t1 c.args.memory.now (long _ c.args.t1.channels 2 c.well_formed.0.1.1.0.1.0.1) c.requires
+loop-j-init c = gathering_starts c.args.self c.args.memory.now (search rules) c.requires
 
 pub offset_bounds-self-j : goal.offset_bounds-self-j
 offset_bounds-self-j c = let low = gathering_low c.loop-j.invariant c.loop-j-test.true in search rules
@@ -55,7 +55,7 @@ loop-j-preserved c =
     let f = c.loop-j.invariant in
     let r = c.gathered in
     let is = get_d_any c.loop-j.self.channels c.loop-j.j none (channel_of (record { auto_passthru = false })) (omega (arith, gathering_low f h, f.seats)) in
-    gathering_on f h _ (starts_at _ _ _ (gathering_low f h) c.part_start-start.ensures) _ r.new.1.0 _ is r.ensures.0 r.ensures.1 r.auto.1.0
+    gathering_on f h _ (starts_at _ _ _ (gathering_low f h) c.part_start-start.ensures) _ r.new.data _ is r.ensures.value r.ensures.data_after r.auto.data
 
 pub shape_of-memory : goal.shape_of-memory
 shape_of-memory c = c.loop-j.invariant.whole
@@ -63,4 +63,4 @@ shape_of-memory c = c.loop-j.invariant.whole
 pub returns : goal.returns
 returns c =
     let e = gathering_ends c.loop-j.invariant c.loop-j-test.false in
-    (ap (λ (g : Gathered). g.sampler) e, ap (λ (g : Gathered). g.memory) e)
+    record { value = ap (λ (g : Gathered). g.sampler) e; memory_after = ap (λ (g : Gathered). g.memory) e }

@@ -10,15 +10,15 @@ use borrow.Author.Rules.{rules}
 use Rattle.sampler.proofs.Sampler.good_channels.Goals as goal
 
 pub loop-j-init : goal.loop-j-init
-loop-j-init c = begins (every (good_channel c.args.t1.capacity)) c.args.t1.channels c.args.t1.count _ 2 (long _ c.args.t1.channels 2 c.well_formed.0.1.1.0.1.0.1) c.places-n.ensures
+loop-j-init c = begins (every (good_channel c.args.self.capacity)) c.args.self.channels c.args.self.count _ 2 (search rules) c.places-n.ensures
 
 pub returns-then-not-good : goal.returns-then-not-good
 unfolding every
-returns-then-not-good c = stops none c.loop-j.invariant (search rules) (λ xs. simp (← c.good.ensures, not-true c.good.result c.if-not-good.true))
+returns-then-not-good c = stops none c.loop-j.invariant (search rules) (λ xs. simp (← c.good.ensures, c.if-not-good.true))
 
 pub loop-j-preserved : goal.loop-j-preserved
 unfolding every
-loop-j-preserved c = turns none c.loop-j.invariant (search rules) (λ xs. simp (← c.good.ensures, not-false c.good.result c.if-not-good.false))
+loop-j-preserved c = turns none c.loop-j.invariant (search rules) (λ xs. simp (← c.good.ensures, c.if-not-good.false))
 
 pub returns : goal.returns
 unfolding every

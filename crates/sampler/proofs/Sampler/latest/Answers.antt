@@ -9,7 +9,7 @@ use Rattle.sampler.proofs.Sampler.latest.Goals as goal
 
 pub loop-j-init : goal.loop-j-init
 unfolding latest_of
-loop-j-init c = begins (fold later_of 0) c.args.t1.channels c.args.t1.count _ 2 (long _ c.args.t1.channels 2 c.well_formed.0.1.1.0.1.0.1) c.places-n.ensures
+loop-j-init c = begins (fold later_of 0) c.args.self.channels c.args.self.count _ 2 (search rules) c.places-n.ensures
 
 pub loop-j-preserved : goal.loop-j-preserved
 unfolding fold

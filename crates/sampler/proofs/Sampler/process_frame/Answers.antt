@@ -11,7 +11,11 @@ pub returns-then-number-ne0 : goal.returns-then-number-ne0
 returns-then-number-ne0 c =
     let is = frame_asked _ _ _ _ _ _ c.frame_rows-number.ensures c.frame_asked-asked.ensures in
     let no : frame_number c.args.self (length c.args.frame.now) c.args.params (length c.args.memory.now) ≡ 0 → ⊥ = λ e. c.if-number-ne0.true (is ∙ e) in
-    (is, (frame_refused c.args.self c.args.frame.now c.args.params c.args.memory.now no, sym (moved_refused c.args.self c.args.frame.now c.args.params c.args.memory.now no)))
+    record {
+      number_value = is;
+      frames = frame_refused c.args.self c.args.frame.now c.args.params c.args.memory.now no;
+      moved_value = sym (moved_refused c.args.self c.args.frame.now c.args.params c.args.memory.now no);
+    }
 
 pub entries-entered-requires : goal.entries-entered-requires
 entries-entered-requires c = frame_steps _ _ _ _ (sym (frame_asked _ _ _ _ _ _ c.frame_rows-number.ensures c.frame_asked-asked.ensures) ∙ c.if-number-ne0.false)
@@ -20,4 +24,8 @@ pub returns : goal.returns
 returns c =
     let e = sym (frame_asked _ _ _ _ _ _ c.frame_rows-number.ensures c.frame_asked-asked.ensures) ∙ c.if-number-ne0.false in
     let r = c.entries-entered.ensures in
-    (sym e, (frame_done c.args.self c.args.frame.now c.args.params c.args.memory.now e r.0, r.1 ∙ sym (moved_done c.args.self c.args.frame.now c.args.params c.args.memory.now e)))
+    record {
+      number_value = sym e;
+      frames = frame_done c.args.self c.args.frame.now c.args.params c.args.memory.now e r.frames;
+      moved_value = r.moved_value ∙ sym (moved_done c.args.self c.args.frame.now c.args.params c.args.memory.now e);
+    }

@@ -22,4 +22,7 @@ returns c =
     let b = c.args in
     let e = run_asked b.self (length b.run.now) b.params (length b.memory.now) _ _ c.run_done-ran.ensures c.run_asked.ensures in
     let r = c.frames-sampler in
-    (e, subst (λ (q : Ran). Frames (frames_of b.params q.frames (framed b.self b.run.now b.memory.now)) r.result r.new.1.1.0 r.new.1.1.1.1.0) e r.ensures)
+    record {
+      ran_value = e;
+      frames = subst (λ (q : Ran). Frames (frames_of b.params q.frames (framed b.self b.run.now b.memory.now)) r.result r.new.run r.new.memory) e r.ensures;
+    }

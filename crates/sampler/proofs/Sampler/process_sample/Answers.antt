@@ -9,7 +9,10 @@ use Rattle.sampler.proofs.Sampler.process_sample.Goals as goal
 
 pub returns-then-number-ne0 : goal.returns-then-number-ne0
 unfolding process_sample_of sample_memory of_bits
-returns-then-number-ne0 c = (simp (← c.sample_number-number.ensures, ne_eqb _ _ c.if-number-ne0.true), simp (← c.sample_number-number.ensures, ne_eqb _ _ c.if-number-ne0.true))
+returns-then-number-ne0 c = record {
+  value = simp (← c.sample_number-number.ensures, ne_eqb _ _ c.if-number-ne0.true);
+  memory_after = simp (← c.sample_number-number.ensures, ne_eqb _ _ c.if-number-ne0.true);
+}
 
 pub step-stepped-requires : goal.step-stepped-requires
 step-stepped-requires c = sample_ready _ _ _ _ (sym c.sample_number-number.ensures ∙ c.if-number-ne0.false)
@@ -18,4 +21,5 @@ pub returns : goal.returns
 unfolding process_sample_of sample_memory
 returns c =
     let e = sym c.sample_number-number.ensures ∙ c.if-number-ne0.false in
-    (simp (c.step-stepped.ensures.0.0, c.step-stepped.ensures.0.1, c.step-stepped.ensures.0.2, e), simp (c.step-stepped.ensures.1, e))
+    let step = c.step-stepped.ensures in
+    record { value = simp (step.sampler_value, step.output_value, step.moved_value, e); memory_after = simp (step.memory_after, e) }

@@ -20,16 +20,14 @@ slice_bounds-with_sample-end c = let starts = starts_at _ _ _ c.requires.below c
 
 pub returns : goal.returns
 returns c =
-    let s = c.args.t1 in
+    let s = c.args.self in
     let j = c.args.j in
-    let is = get_d_any s.channels j none (channel_of (record { auto_passthru = false })) (omega (arith, c.requires.below, long _ c.args.t1.channels 2 c.well_formed.0.1.1.0.1.0.1)) in
+    let is = get_d_any s.channels j none (channel_of (record { auto_passthru = false })) (omega (arith, c.requires.below, c.well_formed.0.1.1.0.1.0.1)) in
     let r = c.with_sample-played.ensures in
-    let a = starts_at j s.capacity _ c.requires.below c.part_start-start.ensures in (
-      (
-        stepped_is s j _ _ c.args.memory.now a refl c.args.params c.args.input _ is _ r.0,
-        output-is s j _ _ c.args.memory.now a refl c.args.params c.args.input _ is _ r.0,
-        moved_is s j _ _ c.args.memory.now a refl c.args.params c.args.input _ is _ r.0,
-        r.1.1,
-      ),
-      memory_is s j _ _ c.args.memory.now a refl c.args.input _ _ is r.1.0,
-    )
+    let a = starts_at j s.capacity _ c.requires.below c.part_start-start.ensures in record {
+      sampler_value = stepped_is s j _ _ c.args.memory.now a refl c.args.params c.args.input _ is _ r.value;
+      output_value = output-is s j _ _ c.args.memory.now a refl c.args.params c.args.input _ is _ r.value;
+      moved_value = moved_is s j _ _ c.args.memory.now a refl c.args.params c.args.input _ is _ r.value;
+      moved_bound = r.moved_bound;
+      memory_after = memory_is s j _ _ c.args.memory.now a refl c.args.input _ _ is r.data_after;
+    }

@@ -1,6 +1,5 @@
 -- `Counted::number` meets its contract. Assumes nothing.
 use Rattle.smf.specs.Cues.{cues_number}
-use borrow.Author.Rules.{rules}
 use Rattle.smf.proofs.Counted.number.Goals as goal
 
 pub returns-in-Done : goal.returns-in-Done

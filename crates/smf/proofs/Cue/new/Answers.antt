@@ -1,7 +1,6 @@
 -- `Cue::new` meets its contract. Assumes nothing.
 use lib.Ieee.{of_bits, of_int}
 use Rattle.smf.specs.Cues.{cue_of}
-use borrow.Author.Rules.{rules}
 use Rattle.smf.proofs.Cue.new.Goals as goal
 
 pub returns : goal.returns

@@ -2,7 +2,6 @@
 use mathlib.Core.Path.{sym, ◌∙◌}
 use native.Mathlib.Omega.{arith}
 use Rattle.smf.proofs.Searches.{behind_early, behind_cut, behind_whole}
-use borrow.Author.Rules.{rules}
 use Rattle.smf.proofs.chunks.behind.Goals as goal
 
 pub returns-then-at-all : goal.returns-then-at-all

@@ -1,7 +1,6 @@
 -- `header` meets its contract: each return is its rule. Assumes nothing.
 use borrow.Author.Tests.{lt-ltb, le-ltb, eq-eqb, ne_eqb}
 use Rattle.smf.specs.Files.{header_of}
-use borrow.Author.Rules.{rules}
 use Rattle.smf.proofs.chunks.header.Goals as goal
 
 pub returns-then-all-lt4 : goal.returns-then-all-lt4

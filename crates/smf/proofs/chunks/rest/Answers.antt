@@ -3,7 +3,6 @@ use mathlib.Core.Path.{sym, ◌∙◌}
 use native.Mathlib.Omega.{arith}
 use Rattle.smf.specs.Files.{rest_at}
 use Rattle.smf.proofs.Searches.{track_placed}
-use borrow.Author.Rules.{rules}
 use Rattle.smf.proofs.chunks.rest.Goals as goal
 
 pub overflow_add-result : goal.overflow_add-result

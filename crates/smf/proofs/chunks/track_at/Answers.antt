@@ -1,15 +1,13 @@
 -- `track_at` meets its contract. The invariant: the search from here on, with a step for each byte that is left, finds what the whole search does. Assumes nothing.
 -- what is left, and the end of what is due
-use borrow.Author.Rules.{rules}
 use mathlib.Core.Path.{◌≡◌, refl, sym, ◌∙◌}
 use mathlib.Core.Bool.{true, false}
-use mathlib.Core.List.{List}
 use Prim.Native.Nat.{ℕ, pred, ◌+◌, ◌-◌, ◌≤◌, ◌<◌}
 use native.Mathlib.Omega.{arith}
 use lib.Dec.{ltb}
 use lib.ListN.{length}
 use borrow.Author.Tests.{lt-ltb, le-ltb, lt-leb, eq-eqb, ne_eqb}
-use Rattle.smf.specs.Files.{chunk_at, track_from, track_at}
+use Rattle.smf.specs.Files.{chunk_at, track_at}
 use Rattle.smf.proofs.Searches.{track_on, track_over}
 use Rattle.smf.proofs.chunks.track_at.Goals as goal
 
@@ -29,18 +27,9 @@ pub loop-place-init : goal.loop-place-init
 unfolding track_at
 loop-place-init c = (length c.args.file.now, omega arith, refl)
 
-pub overflow_sub-all : goal.overflow_sub-all
-overflow_sub-all c = omega arith
-
 pub returns-then-all-place-lt4 : goal.returns-then-all-place-lt4
 unfolding chunk_at
 returns-then-all-place-lt4 c = (simp (lt-leb _ _ c.loop-place-test.true, short _ _ 4 c.loop-place-test.true c.if-all-place-lt4.true)) ∙ sym (track_on _ _ _ c.loop-place-test.true c.loop-place.invariant.1) ∙ c.loop-place.invariant.2
-
-pub four_at-kind-requires : goal.four_at-kind-requires
-four_at-kind-requires c = omega arith
-
-pub overflow_add-result : goal.overflow_add-result
-overflow_add-result c = omega arith
 
 pub returns-then-kind-eq-HEADER_TYPE : goal.returns-then-kind-eq-HEADER_TYPE
 unfolding chunk_at
@@ -50,37 +39,13 @@ pub returns-then-kind-eq-TRACK_TYPE : goal.returns-then-kind-eq-TRACK_TYPE
 unfolding chunk_at
 returns-then-kind-eq-TRACK_TYPE c = (simp (lt-leb _ _ c.loop-place-test.true, room _ _ 4 c.loop-place-test.true c.if-all-place-lt4.false, ← c.four_at-kind.ensures, ne_eqb _ _ c.if-kind-eq-HEADER_TYPE.false, eq-eqb _ _ c.if-kind-eq-TRACK_TYPE.true)) ∙ sym (track_on _ _ _ c.loop-place-test.true c.loop-place.invariant.1) ∙ c.loop-place.invariant.2
 
-pub overflow_sub-all-in-loop-place : goal.overflow_sub-all-in-loop-place
-overflow_sub-all-in-loop-place c = omega arith
-
 pub returns-then-all-place-lt8 : goal.returns-then-all-place-lt8
 unfolding chunk_at
 returns-then-all-place-lt8 c = (simp (lt-leb _ _ c.loop-place-test.true, room _ _ 4 c.loop-place-test.true c.if-all-place-lt4.false, ← c.four_at-kind.ensures, ne_eqb _ _ c.if-kind-eq-HEADER_TYPE.false, ne_eqb _ _ c.if-kind-eq-TRACK_TYPE.false, short _ _ 8 c.loop-place-test.true c.if-all-place-lt8.true)) ∙ sym (track_on _ _ _ c.loop-place-test.true c.loop-place.invariant.1) ∙ c.loop-place.invariant.2
 
-pub overflow_add-place : goal.overflow_add-place
-overflow_add-place c = omega arith
-
-pub four_at-size-requires : goal.four_at-size-requires
-four_at-size-requires c = omega arith
-
-pub overflow_sub-all-in-loop-place-2 : goal.overflow_sub-all-in-loop-place-2
-overflow_sub-all-in-loop-place-2 c = omega arith
-
-pub overflow_sub-all-in-loop-place-3 : goal.overflow_sub-all-in-loop-place-3
-overflow_sub-all-in-loop-place-3 c = omega arith
-
 pub returns-then-all-place : goal.returns-then-all-place
 unfolding chunk_at
 returns-then-all-place c = (simp (lt-leb _ _ c.loop-place-test.true, room _ _ 4 c.loop-place-test.true c.if-all-place-lt4.false, ← c.four_at-kind.ensures, ne_eqb _ _ c.if-kind-eq-HEADER_TYPE.false, ne_eqb _ _ c.if-kind-eq-TRACK_TYPE.false, room _ _ 8 c.loop-place-test.true c.if-all-place-lt8.false, ← c.four_at-size.ensures, short_rest _ _ _ c.if-all-place-lt8.false c.if-all-place.true)) ∙ sym (track_on _ _ _ c.loop-place-test.true c.loop-place.invariant.1) ∙ c.loop-place.invariant.2
-
-pub overflow_add-place-in-loop-place : goal.overflow_add-place-in-loop-place
-overflow_add-place-in-loop-place c = omega arith
-
-pub overflow_add-place-in-loop-place-2 : goal.overflow_add-place-in-loop-place-2
-overflow_add-place-in-loop-place-2 c = omega arith
-
-pub loop-place-smaller : goal.loop-place-smaller
-loop-place-smaller c = omega arith
 
 pub loop-place-preserved : goal.loop-place-preserved
 unfolding chunk_at

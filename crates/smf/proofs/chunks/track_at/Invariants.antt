@@ -1,14 +1,8 @@
-use borrow.Author.Rules.{rules}
-use mathlib.Core.Path.{◌≡◌, refl, sym, ◌∙◌}
-use mathlib.Core.Bool.{true, false}
-use mathlib.Core.List.{List}
-use Prim.Native.Nat.{ℕ, pred, ◌+◌, ◌-◌, ◌≤◌, ◌<◌}
-use native.Mathlib.Omega.{arith}
-use lib.Dec.{ltb}
+-- The search from here on, with a step for each byte that is left, finds what the whole search does.
+use mathlib.Core.Path.{◌≡◌}
+use Prim.Native.Nat.{ℕ, ◌-◌, ◌≤◌}
 use lib.ListN.{length}
-use borrow.Author.Tests.{lt-ltb, le-ltb, lt-leb, eq-eqb, ne_eqb}
-use Rattle.smf.specs.Files.{chunk_at, track_from, track_at}
-use Rattle.smf.proofs.Searches.{track_on, track_over}
+use Rattle.smf.specs.Files.{track_from, track_at}
 use Rattle.smf.proofs.chunks.track_at.Given as goal
 
 abbrev pub invariant-loop-place : goal.invariant-loop-place

@@ -7,7 +7,6 @@ use Prim.Native.Nat.{◌+◌, ◌*◌, ◌%◌}
 use native.Mathlib.Nat.{div-le_self}
 use native.Mathlib.Omega.{arith}
 use Rattle.smf.proofs.Frames.{stands, carries_late, carries, product, part_small, frames_small}
-use borrow.Author.Rules.{rules}
 use Rattle.smf.proofs.clock.later.Goals as goal
 
 pub returns-then-clock-gt-LAST_FRAME : goal.returns-then-clock-gt-LAST_FRAME

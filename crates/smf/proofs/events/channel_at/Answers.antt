@@ -3,7 +3,6 @@ use mathlib.Core.Path.{sym, ◌∙◌}
 use native.Mathlib.Omega.{arith}
 use Rattle.smf.specs.Events.{channel_event}
 use Rattle.smf.proofs.Inside.{seen}
-use borrow.Author.Rules.{rules}
 use Rattle.smf.proofs.events.channel_at.Goals as goal
 
 pub overflow_add-result : goal.overflow_add-result

@@ -1,7 +1,6 @@
 -- `data_at` meets its contract. Assumes nothing.
 use borrow.Author.Tests.{lt-ltb, le-ltb}
 use Rattle.smf.specs.Events.{data_at}
-use borrow.Author.Rules.{rules}
 use Rattle.smf.proofs.events.data_at.Goals as goal
 
 pub returns-then-end-at : goal.returns-then-end-at

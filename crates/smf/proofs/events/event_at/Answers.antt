@@ -1,7 +1,6 @@
 -- `event_at` meets its contract. Assumes nothing.
 use borrow.Author.Tests.{lt-ltb, le-ltb, le-leb, lt-leb, eq-eqb, ne_eqb}
 use Rattle.smf.specs.Events.{event_at}
-use borrow.Author.Rules.{rules}
 use Rattle.smf.proofs.events.event_at.Goals as goal
 
 pub returns-then-end-at : goal.returns-then-end-at

@@ -2,7 +2,6 @@
 use native.Mathlib.Nat.{zero-mul, add-zero}
 use borrow.Author.Tests.{lt-ltb, le-ltb}
 use Rattle.smf.specs.Events.{message_of}
-use borrow.Author.Rules.{rules}
 use Rattle.smf.proofs.events.message.Goals as goal
 
 pub returns-then-status-lt144 : goal.returns-then-status-lt144

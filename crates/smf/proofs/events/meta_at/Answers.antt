@@ -4,7 +4,6 @@ use native.Mathlib.Omega.{arith}
 use borrow.Author.Tests.{lt-ltb, le-ltb}
 use Rattle.smf.specs.Events.{meta_at}
 use Rattle.smf.proofs.Inside.{quantity_ends}
-use borrow.Author.Rules.{rules}
 use Rattle.smf.proofs.events.meta_at.Goals as goal
 
 pub returns-then-end-at : goal.returns-then-end-at

@@ -1,7 +1,6 @@
 -- `meta_body` meets its contract. Assumes nothing.
 use borrow.Author.Tests.{eq-eqb, ne_eqb, le-leb, lt-leb}
 use Rattle.smf.specs.Events.{meta_of}
-use borrow.Author.Rules.{rules}
 use Rattle.smf.proofs.events.meta_body.Goals as goal
 
 pub returns-then-kind-eq81 : goal.returns-then-kind-eq81

@@ -1,7 +1,6 @@
 -- `status_event` meets its contract. Assumes nothing.
 use borrow.Author.Tests.{lt-ltb, le-ltb, eq-eqb, ne_eqb}
 use Rattle.smf.specs.Events.{status_of}
-use borrow.Author.Rules.{rules}
 use Rattle.smf.proofs.events.status_event.Goals as goal
 
 pub returns-then-status-lt240 : goal.returns-then-status-lt240

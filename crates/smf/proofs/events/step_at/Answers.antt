@@ -2,7 +2,6 @@
 use mathlib.Core.Path.{sym, ◌∙◌}
 use borrow.Author.Tests.{lt-ltb, le-ltb}
 use Rattle.smf.specs.Events.{step_at}
-use borrow.Author.Rules.{rules}
 use Rattle.smf.proofs.events.step_at.Goals as goal
 
 pub returns-then-end-at : goal.returns-then-end-at

@@ -4,7 +4,6 @@ use native.Mathlib.Omega.{arith}
 use borrow.Author.Tests.{le-leb, lt-leb}
 use Rattle.smf.specs.Events.{sysex_at}
 use Rattle.smf.proofs.Inside.{quantity_ends}
-use borrow.Author.Rules.{rules}
 use Rattle.smf.proofs.events.sysex_at.Goals as goal
 
 pub overflow_sub-end : goal.overflow_sub-end

@@ -1,7 +1,6 @@
 -- `tempo_body` meets its contract. Assumes nothing.
 use borrow.Author.Tests.{lt-ltb, le-ltb, le-leb, lt-leb}
 use Rattle.smf.specs.Events.{tempo_of}
-use borrow.Author.Rules.{rules}
 use Rattle.smf.proofs.events.tempo_body.Goals as goal
 
 pub returns-then-size-lt3 : goal.returns-then-size-lt3

@@ -1,41 +1,32 @@
 -- `refusal` meets its contract: the three that are named, and all others. Assumes nothing.
--- the variants that no arm names
 use mathlib.Core.Path.{◌≡◌, refl}
-use mathlib.Core.List.{List, [], ◌∷◌}
-use Prim.Native.Nat.{ℕ}
-use types.Run.{OneOf, miss}
-use denote.Enum.Declared.{tag_of}
 use Rattle.smf.specs.Faults.{refusal_of}
 use Rattle.smf.specs.declared.faults.Reason.{Reason}
 use Rattle.smf.specs.declared.faults.Reason.TheVariants.{Missing, NoHeader, ShortHeader, OtherFormat, OtherTrackCount, SmpteDivision, NoDivision, SecondHeader, SecondTrack, NoTrack, NoEndOfTrack, BehindEndOfTrack, LongQuantity, NoRunningStatus, SystemStatus, NoDataByte, NoMetaType, ShortTempo, LateFrame}
-use Rattle.smf.specs.contracts.faults.Reason.{the_type}
-use borrow.Author.Rules.{rules}
 use Rattle.smf.proofs.faults.refusal.Goals as goal
 
-abbrev others : List ℕ
-others = 0 ∷ 1 ∷ 2 ∷ 4 ∷ 6 ∷ 7 ∷ 8 ∷ 9 ∷ 10 ∷ 11 ∷ 12 ∷ 13 ∷ 14 ∷ 15 ∷ 16 ∷ 17 ∷ []
-
-other : (r : Reason) → OneOf others (tag_of the_type r) → 12 ≡ refusal_of r
+-- the variants that no arm names
+other : (r : Reason) → (r ≡ OtherFormat → ⊥) → (r ≡ SmpteDivision → ⊥) → (r ≡ LateFrame → ⊥) → 12 ≡ refusal_of r
 unfolding refusal_of
-other Missing h = refl
-other NoHeader h = refl
-other ShortHeader h = refl
-other OtherFormat h = absurd (miss others 3 tt h)
-other OtherTrackCount h = refl
-other SmpteDivision h = absurd (miss others 5 tt h)
-other NoDivision h = refl
-other SecondHeader h = refl
-other SecondTrack h = refl
-other NoTrack h = refl
-other NoEndOfTrack h = refl
-other BehindEndOfTrack h = refl
-other LongQuantity h = refl
-other NoRunningStatus h = refl
-other SystemStatus h = refl
-other NoDataByte h = refl
-other NoMetaType h = refl
-other ShortTempo h = refl
-other LateFrame h = absurd (miss others 18 tt h)
+other Missing f g h = refl
+other NoHeader f g h = refl
+other ShortHeader f g h = refl
+other OtherFormat f g h = absurd (f refl)
+other OtherTrackCount f g h = refl
+other SmpteDivision f g h = absurd (g refl)
+other NoDivision f g h = refl
+other SecondHeader f g h = refl
+other SecondTrack f g h = refl
+other NoTrack f g h = refl
+other NoEndOfTrack f g h = refl
+other BehindEndOfTrack f g h = refl
+other LongQuantity f g h = refl
+other NoRunningStatus f g h = refl
+other SystemStatus f g h = refl
+other NoDataByte f g h = refl
+other NoMetaType f g h = refl
+other ShortTempo f g h = refl
+other LateFrame f g h = absurd (h refl)
 
 pub returns-in-OtherFormat : goal.returns-in-OtherFormat
 unfolding refusal_of
@@ -50,4 +41,4 @@ unfolding refusal_of
 returns-in-LateFrame c = simp c.in-LateFrame.is
 
 pub returns-in_default : goal.returns-in_default
-returns-in_default c = other c.args.reason c.in_default.keys4
+returns-in_default c = let d = c.in_default in other c.args.reason d.not-OtherFormat d.not-SmpteDivision d.not-LateFrame

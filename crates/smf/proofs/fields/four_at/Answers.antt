@@ -1,6 +1,5 @@
 -- `four_at` meets its contract. Assumes nothing.
 use Rattle.smf.specs.Fields.{four_at}
-use borrow.Author.Rules.{rules}
 use Rattle.smf.proofs.fields.four_at.Goals as goal
 
 pub returns : goal.returns

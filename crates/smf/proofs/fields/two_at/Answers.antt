@@ -1,8 +1,7 @@
 -- `two_at` meets its contract. Assumes nothing.
 use Rattle.smf.specs.Fields.{two_at}
-use borrow.Author.Rules.{rules}
 use Rattle.smf.proofs.fields.two_at.Goals as goal
 
-pub returns : goal.returns
+pub returns-clause-value : goal.returns-clause-value
 unfolding two_at
-returns c = (simp (c.of_two.ensures.0, c.byte_at-2.ensures, c.byte_at.ensures), c.of_two.ensures.1)
+returns-clause-value c = simp (c.of_two.ensures.value, c.byte_at-2.ensures, c.byte_at.ensures)

@@ -1,6 +1,5 @@
 -- `closed` meets its contract. Assumes nothing.
 use Rattle.smf.specs.Cues.{count_closed}
-use borrow.Author.Rules.{rules}
 use Rattle.smf.proofs.tracks.closed.Goals as goal
 
 pub returns-in-Good : goal.returns-in-Good

@@ -1,6 +1,5 @@
 -- `late` meets its contract. Assumes nothing.
 use Rattle.smf.specs.Cues.{too_late}
-use borrow.Author.Rules.{rules}
 use Rattle.smf.proofs.tracks.late.Goals as goal
 
 pub returns-in-Note : goal.returns-in-Note

@@ -1,9 +1,8 @@
 -- `song` meets its contract. Assumes nothing.
-use mathlib.Core.Path.{◌≡◌, refl, sym, ap, ◌∙◌}
+use mathlib.Core.Path.{refl, sym, ap, ◌∙◌}
 use native.Mathlib.Omega.{arith}
 use Rattle.smf.specs.Cues.{count_closed, numbers_of, song_in, song_of}
 use Rattle.smf.proofs.Searches.{header_divided}
-use borrow.Author.Rules.{rules}
 use Rattle.smf.proofs.tracks.song.Goals as goal
 
 pub tracks-requires : goal.tracks-requires
@@ -11,7 +10,7 @@ tracks-requires c = let h = header_divided _ _ _ (sym c.header.ensures ∙ c.in-
 
 pub returns-in-Broken : goal.returns-in-Broken
 unfolding count_closed numbers_of song_of
-returns-in-Broken c = let e = ap (song_in c.args.rate c.args.file.now) (sym c.header.ensures ∙ c.in-Broken.is) in rw e (refl, λ _. refl)
+returns-in-Broken c = let e = ap (song_in c.args.rate c.args.file.now) (sym c.header.ensures ∙ c.in-Broken.is) in rw e (record { value = refl; written_list = λ _. refl })
 
 pub returns-in-Is : goal.returns-in-Is
 unfolding song_of

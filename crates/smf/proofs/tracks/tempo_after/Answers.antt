@@ -1,6 +1,5 @@
 -- `tempo_after` meets its contract. Assumes nothing.
 use Rattle.smf.specs.Cues.{tempo_after}
-use borrow.Author.Rules.{rules}
 use Rattle.smf.proofs.tracks.tempo_after.Goals as goal
 
 pub returns-in-Note : goal.returns-in-Note

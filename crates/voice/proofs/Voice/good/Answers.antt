@@ -18,8 +18,8 @@ returns-then-now-self c = simp (lt-ltb _ _ c.if-self-ge8.false, le-leb _ _ c.if-
 
 pub returns-then-not-good : goal.returns-then-not-good
 unfolding good_voice
-returns-then-not-good c = simp (lt-ltb _ _ c.if-self-ge8.false, le-leb _ _ c.if-now-clip2.false, le-leb _ _ c.if-now-self.false, ← c.good.ensures, not-true c.good.result c.if-not-good.true)
+returns-then-not-good c = simp (lt-ltb _ _ c.if-self-ge8.false, le-leb _ _ c.if-now-clip2.false, le-leb _ _ c.if-now-self.false, ← c.good.ensures, c.if-not-good.true)
 
 pub returns : goal.returns
 unfolding good_voice
-returns c = simp (lt-ltb _ _ c.if-self-ge8.false, le-leb _ _ c.if-now-clip2.false, le-leb _ _ c.if-now-self.false, ← c.good.ensures, not-false c.good.result c.if-not-good.false, c.good.ensures)
+returns c = simp (lt-ltb _ _ c.if-self-ge8.false, le-leb _ _ c.if-now-clip2.false, le-leb _ _ c.if-now-self.false, ← c.good.ensures, c.if-not-good.false, c.good-2.ensures)

@@ -29,4 +29,4 @@ returns c =
     let valued = c.near_valued in
     answered a.t a.«data».now a.self found.result beside.result valued.result found.ensures beside.ensures valued.ensures c.if-index-ge-NONE.false c.if-next-ge-NONE.false
     c.quick_at.result keeps.result (c.quick_at.ensures ∙ ap (λ (level : Float). quick_at a.t a.self found.result.index (mul binary32 valued.result level)) c.level-level.ensures) keeps.ensures c.if-self-t.false
-    (not-false keeps.result c.if-not-keeps.false)
+    (c.if-not-keeps.false)

@@ -1,5 +1,4 @@
 -- `Volume::copied` meets its contract: each arm makes its case anew. Assumes nothing.
-use borrow.Author.Rules.{rules}
 use Rattle.volume.proofs.Volume.copied.Goals as goal
 
 pub returns-in-Static : goal.returns-in-Static

@@ -1,5 +1,4 @@
 -- `Volume::good` meets its contract: each arm is its case of the definition. Assumes nothing.
-use borrow.Author.Rules.{rules}
 use Rattle.volume.specs.Levels.{good_volume}
 use Rattle.volume.proofs.Volume.good.Goals as goal
 

@@ -1,5 +1,4 @@
 -- `Volume::held` meets its contract: each arm is its case of both definitions. Assumes nothing.
-use borrow.Author.Rules.{rules}
 use Rattle.volume.specs.Levels.{level_of, keeps_of}
 use Rattle.volume.proofs.Volume.held.Goals as goal
 

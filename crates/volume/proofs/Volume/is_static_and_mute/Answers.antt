@@ -1,5 +1,4 @@
 -- `Volume::is_static_and_mute` meets its contract: each arm is its case of the definition. Assumes nothing.
-use borrow.Author.Rules.{rules}
 use lib.Ieee.{of_bits}
 use Rattle.volume.proofs.Volume.is_static_and_mute.Goals as goal
 

@@ -1,5 +1,4 @@
 -- `Volume::keeps` meets its contract: each arm is its case of the definition. Assumes nothing.
-use borrow.Author.Rules.{rules}
 use Rattle.volume.specs.Levels.{keeps_of}
 use Rattle.volume.proofs.Volume.keeps.Goals as goal
 

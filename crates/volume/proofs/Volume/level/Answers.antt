@@ -1,5 +1,4 @@
 -- `Volume::level` meets its contract: each arm is its case of the definition. Assumes nothing.
-use borrow.Author.Rules.{rules}
 use Rattle.volume.specs.Levels.{level_of}
 use Rattle.volume.proofs.Volume.level.Goals as goal
 

@@ -1,5 +1,4 @@
 -- `Volume::refused_at` meets its contract: its tests are those of `level_refused_at`, in their order. Assumes nothing.
-use borrow.Author.Rules.{rules}
 use borrow.Author.Tests.{lt-ltb, le-ltb}
 use Rattle.volume.specs.Levels.{level_refused_at}
 use Rattle.volume.proofs.Volume.refused_at.Goals as goal

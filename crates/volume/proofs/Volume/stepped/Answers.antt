@@ -1,5 +1,4 @@
 -- `Volume::stepped` meets its contract: each arm is its case of the definition. Assumes nothing.
-use borrow.Author.Rules.{rules}
 use borrow.Author.Tests.{le-leb, lt-leb}
 use Rattle.volume.specs.Levels.{stepped_of}
 use Rattle.volume.proofs.Volume.stepped.Goals as goal

@@ -1,5 +1,4 @@
 -- `Volume::to` meets its contract: `refused_at` and the duration say which of the two answers it is. Assumes nothing.
-use borrow.Author.Rules.{rules}
 use borrow.Author.Tests.{lt-ltb, le-ltb}
 use Rattle.volume.specs.Levels.{to_of}
 use Rattle.volume.proofs.Volume.to.Goals as goal

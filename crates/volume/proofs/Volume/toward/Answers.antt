@@ -1,5 +1,4 @@
 -- `Volume::toward` meets its contract, by those of `later` and `level`. Assumes nothing.
-use borrow.Author.Rules.{rules}
 use borrow.Author.Tests.{eq-eqb, ne_eqb}
 use Rattle.volume.specs.Levels.{toward_of}
 use Rattle.volume.proofs.Volume.toward.Goals as goal

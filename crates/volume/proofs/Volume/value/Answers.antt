@@ -1,5 +1,4 @@
 -- `Volume::value` meets its contract: `refused_at` says which of the two answers it is. Assumes nothing.
-use borrow.Author.Rules.{rules}
 use Rattle.volume.specs.Levels.{value_answer}
 use Rattle.volume.proofs.Volume.value.Goals as goal
 

@@ -1,6 +1,5 @@
 -- `Judged::number` meets its contract. Assumes nothing.
 use Rattle.wave.specs.Reader.{judged_number}
-use borrow.Author.Rules.{rules}
 use Rattle.wave.proofs.Judged.number.Goals as goal
 
 pub returns-in-Is : goal.returns-in-Is

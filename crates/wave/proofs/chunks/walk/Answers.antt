@@ -2,12 +2,11 @@
 -- the size that was read, and its pad byte
 use mathlib.Core.Path.{◌≡◌, refl, sym, ap, ◌∙◌}
 use mathlib.Core.List.{List}
-use Prim.Native.Nat.{ℕ, pred, ◌+◌, ◌-◌, ◌%◌, ◌≤◌}
+use Prim.Native.Nat.{ℕ, pred, ◌+◌, ◌%◌}
 use native.Mathlib.Omega.{arith}
 use lib.ListN.{length}
 use Rattle.wave.specs.Fields.{four_at}
-use Rattle.wave.specs.Reader.{padded_at, met_of, walk_from, walk_of}
-use borrow.Author.Rules.{rules}
+use Rattle.wave.specs.Reader.{padded_at, met_of, walk_of}
 use Rattle.wave.specs.declared.chunks.Places.{Places}
 use Rattle.wave.specs.declared.chunks.Met.{Met}
 use Rattle.wave.proofs.Walks.{walk_over, walk_short, walk_cut, walk-next}

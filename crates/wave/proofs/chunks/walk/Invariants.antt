@@ -1,14 +1,8 @@
-use mathlib.Core.Path.{◌≡◌, refl, sym, ap, ◌∙◌}
-use mathlib.Core.List.{List}
-use Prim.Native.Nat.{ℕ, pred, ◌+◌, ◌-◌, ◌%◌, ◌≤◌}
-use native.Mathlib.Omega.{arith}
+-- The walk from here on, with a step for each byte that is left, meets what the whole walk does.
+use mathlib.Core.Path.{◌≡◌}
+use Prim.Native.Nat.{ℕ, ◌-◌, ◌≤◌}
 use lib.ListN.{length}
-use Rattle.wave.specs.Fields.{four_at}
-use Rattle.wave.specs.Reader.{padded_at, met_of, walk_from, walk_of}
-use borrow.Author.Rules.{rules}
-use Rattle.wave.specs.declared.chunks.Places.{Places}
-use Rattle.wave.specs.declared.chunks.Met.{Met}
-use Rattle.wave.proofs.Walks.{walk_over, walk_short, walk_cut, walk-next}
+use Rattle.wave.specs.Reader.{walk_from, walk_of}
 use Rattle.wave.proofs.chunks.walk.Given as goal
 
 abbrev pub invariant-loop-at : goal.invariant-loop-at

@@ -2,7 +2,6 @@
 use mathlib.Core.Path.{sym}
 use native.Mathlib.Omega.{arith}
 use lib.ListN.{get_or-eq_default}
-use borrow.Author.Rules.{rules}
 use Rattle.wave.proofs.fields.byte_behind.Goals as goal
 
 pub returns-else-at-lt9223372036854775808 : goal.returns-else-at-lt9223372036854775808

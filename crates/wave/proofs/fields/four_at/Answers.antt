@@ -1,6 +1,5 @@
 -- `four_at` meets its contract. Assumes nothing.
 use Rattle.wave.proofs.FieldBytes.{four_is}
-use borrow.Author.Rules.{rules}
 use Rattle.wave.proofs.fields.four_at.Goals as goal
 
 pub returns : goal.returns

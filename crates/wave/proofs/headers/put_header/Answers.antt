@@ -1,6 +1,5 @@
 -- `put_header` meets its contract. Assumes nothing.
 use Rattle.wave.proofs.Rows.{header_put}
-use borrow.Author.Rules.{rules}
 use Rattle.wave.proofs.headers.put_header.Goals as goal
 
 pub returns : goal.returns

@@ -1,6 +1,5 @@
 -- `put_riff` meets its contract. Assumes nothing.
 use Rattle.wave.proofs.Rows.{riff_put}
-use borrow.Author.Rules.{rules}
 use Rattle.wave.proofs.headers.put_riff.Goals as goal
 
 pub returns : goal.returns

@@ -1,6 +1,5 @@
 -- `put_sizes` meets its contract. Assumes nothing.
 use Rattle.wave.proofs.Rows.{sizes_put}
-use borrow.Author.Rules.{rules}
 use Rattle.wave.proofs.headers.put_sizes.Goals as goal
 
 pub returns : goal.returns

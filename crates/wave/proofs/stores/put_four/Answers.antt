@@ -2,7 +2,6 @@
 use native.Mathlib.Omega.{arith}
 use lib.ListN.{length-set}
 use Rattle.wave.proofs.FieldBytes.{four_stored}
-use borrow.Author.Rules.{rules}
 use Rattle.wave.proofs.stores.put_four.Goals as goal
 
 pub bounds-out-at-2 : goal.bounds-out-at-2

@@ -2,7 +2,6 @@
 use native.Mathlib.Omega.{arith}
 use lib.ListN.{length-set}
 use Rattle.wave.proofs.FieldBytes.{two_stored}
-use borrow.Author.Rules.{rules}
 use Rattle.wave.proofs.stores.put_two.Goals as goal
 
 pub bounds-out-at-2 : goal.bounds-out-at-2

@@ -1,7 +1,6 @@
 -- `fits_memory` meets its contract. Assumes nothing.
 use mathlib.Core.Path.{sym, ◌∙◌}
 use Rattle.wave.proofs.Layouts.{fits_one, fits_two, fits_none}
-use borrow.Author.Rules.{rules}
 use Rattle.wave.proofs.words.fits_memory.Goals as goal
 
 pub returns-then-l-eq1 : goal.returns-then-l-eq1

@@ -1,16 +1,15 @@
 -- `put_words` meets its contract. The invariant: the frames up to here are written (`Copies: written_to`). Assumes nothing.
-use mathlib.Core.Path.{◌≡◌, ap, ◌∙◌}
-use Prim.Native.Nat.{◌-◌, ◌≤◌}
+use mathlib.Core.Path.{ap, ◌∙◌}
 use native.Mathlib.Omega.{arith}
 use lib.ListN.{length}
-use Rattle.wave.proofs.Copies.{written_to, length_written, written_none, written_next, written_all}
+use Rattle.wave.proofs.Copies.{length_written, written_none, written_next, written_all}
 use Rattle.wave.proofs.words.put_words.Goals as goal
 
 pub loop-i-init : goal.loop-i-init
-loop-i-init c = (omega arith, written_none _ _ _)
+loop-i-init c = record { within = omega arith; is_written = written_none _ _ _ }
 
 pub put_frame-requires : goal.put_frame-requires
-put_frame-requires c = let kept = ap length c.loop-i.invariant.1 ∙ length_written _ _ _ _ in (c.requires.0, (omega arith, c.loop-i-test.true))
+put_frame-requires c = let kept = ap length c.loop-i.invariant.is_written ∙ length_written _ _ _ _ in record { memory_value = c.requires.memory_value; samples_in_bounds = omega arith; i_lt_samples = c.loop-i-test.true }
 
 pub overflow_add-i : goal.overflow_add-i
 overflow_add-i c = omega arith
@@ -19,10 +18,7 @@ pub loop-i-smaller : goal.loop-i-smaller
 loop-i-smaller c = omega arith
 
 pub loop-i-preserved : goal.loop-i-preserved
-loop-i-preserved c = (omega arith, c.put_frame.ensures ∙ written_next _ _ _ _ _ c.loop-i.invariant.1)
-
-pub shape_of-out : goal.shape_of-out
-shape_of-out c = ap length c.loop-i.invariant.1 ∙ length_written _ _ _ _
+loop-i-preserved c = record { within = omega arith; is_written = c.put_frame.ensures ∙ written_next _ _ _ _ _ c.loop-i.invariant.is_written }
 
 pub returns : goal.returns
-returns c = c.loop-i.invariant.1 ∙ written_all _ _ _ _ (omega arith)
+returns c = c.loop-i.invariant.is_written ∙ written_all _ _ _ _ (omega arith)

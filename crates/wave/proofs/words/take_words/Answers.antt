@@ -8,17 +8,16 @@ use Rattle.wave.specs.Reader.{words_in}
 use Rattle.wave.specs.Memory.{channel_words, layout_of}
 use Rattle.wave.proofs.Layouts.{fits_true}
 use Rattle.wave.proofs.Copies.{stored_one, stored_two}
-use borrow.Author.Rules.{rules}
 use Rattle.wave.proofs.words.take_words.Goals as goal
 
 pub take_channel-requires : goal.take_channel-requires
-take_channel-requires c = let fits = fits_true _ _ c.requires.1 in (c.requires.0, (fits.some, fits.first_fits))
+take_channel-requires c = let fits = fits_true _ _ c.requires.memory_value in record { samples_in_bounds = c.requires.samples_in_bounds; j_lt_channels = (fits.some, fits.first_fits) }
 
 pub take_channel-requires-then-w-eq2 : goal.take_channel-requires-then-w-eq2
-take_channel-requires-then-w-eq2 c κs =
+take_channel-requires-then-w-eq2 c =
     let two = c.if-w-eq2.true in
-    let ends = (fits_true _ _ c.requires.1).second_fits two in
-    (c.requires.0, (omega arith, omega (arith, c.take_channel.auto.1.1.1.1.0)))
+    let ends = (fits_true _ _ c.requires.memory_value).second_fits two in
+    record { samples_in_bounds = c.requires.samples_in_bounds; j_lt_channels = (omega arith, omega (arith, c.take_channel.auto.memory)) }
 
 pub returns-then-w-eq2 : goal.returns-then-w-eq2
 returns-then-w-eq2 c =

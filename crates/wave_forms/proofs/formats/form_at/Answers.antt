@@ -1,8 +1,7 @@
 -- `formats::form_at` meets its contract. Assumes nothing.
 use Rattle.wave_forms.specs.Reader.{form_at}
-use borrow.Author.Rules.{rules}
 use Rattle.wave_forms.proofs.formats.form_at.Goals as goal
 
 pub returns : goal.returns
 unfolding form_at
-returns c = simp (c.tag_at.ensures, c.two_at.ensures.0, c.four_at.ensures, c.two_at-2.ensures.0, c.two_at-3.ensures.0)
+returns c = simp (c.tag_at.ensures, c.two_at.ensures.value, c.four_at.ensures, c.two_at-2.ensures.value, c.two_at-3.ensures.value)

@@ -3,7 +3,6 @@ use Prim.Native.Nat.{ℕ, ◌-◌, ◌*◌, ◌/◌, ◌^◌, ◌<◌}
 use native.Mathlib.Nat.{lt_of_le_of_lt, mul-le-mul}
 use native.Mathlib.Omega.{arith}
 use Rattle.wave_forms.specs.Reader.{good_form}
-use borrow.Author.Rules.{rules}
 use Rattle.wave_forms.proofs.formats.good_form.Goals as goal
 
 product : (a b : ℕ) → a < 2 ^ 32 → b < 2 ^ 32 → a * b < 2 ^ 64

@@ -1,8 +1,7 @@
 -- `formats::sub_format_at` meets its contract. Assumes nothing.
 use Rattle.wave_forms.specs.Reader.{sub_format_at}
-use borrow.Author.Rules.{rules}
 use Rattle.wave_forms.proofs.formats.sub_format_at.Goals as goal
 
 pub returns : goal.returns
 unfolding sub_format_at
-returns c = simp (c.four_at.ensures, c.four_at-2.ensures, c.four_at-3.ensures, c.two_at.ensures.0)
+returns c = simp (c.four_at.ensures, c.four_at-2.ensures, c.four_at-3.ensures, c.two_at.ensures.value)

@@ -1,14 +1,10 @@
 -- `numbers::number_at` meets its contract. The invariant: the bytes from here on are read (`Copies: Read`). Assumes nothing.
 use native.Mathlib.Omega.{arith}
-use borrow.Author.Rules.{rules}
-use Rattle.wave_forms.proofs.Copies.{Read, read_none, read_all, read_next, next_fits}
+use Rattle.wave_forms.proofs.Copies.{read_none, read_all, read_next, next_fits}
 use Rattle.wave_forms.proofs.numbers.number_at.Goals as goal
 
 pub loop-i-init : goal.loop-i-init
 loop-i-init c = read_none _ _ _
-
-pub overflow_sub-i : goal.overflow_sub-i
-overflow_sub-i c = omega arith
 
 pub overflow_mul-n : goal.overflow_mul-n
 overflow_mul-n c = let room = next_fits _ _ _ _ _ c.loop-i.invariant (omega arith) 0 (omega arith) c.requires.1 in omega arith
@@ -16,17 +12,11 @@ overflow_mul-n c = let room = next_fits _ _ _ _ _ c.loop-i.invariant (omega arit
 pub overflow_add-at : goal.overflow_add-at
 overflow_add-at c = let r = c.loop-i.invariant in omega (arith, r.inside)
 
-pub byte_at-requires : goal.byte_at-requires
-byte_at-requires c = tt
-
 pub overflow_add-n : goal.overflow_add-n
 overflow_add-n c = record { fits = next_fits _ _ _ _ _ c.loop-i.invariant (omega arith) _ (omega arith) c.requires.1 }
-
-pub loop-i-smaller : goal.loop-i-smaller
-loop-i-smaller c = omega arith
 
 pub loop-i-preserved : goal.loop-i-preserved
 loop-i-preserved c = read_next _ _ _ _ _ c.loop-i.invariant (omega arith) _ c.byte_at.ensures (omega arith)
 
 pub returns : goal.returns
-returns c = read_all _ _ _ _ _ c.loop-i.invariant (omega arith)
+returns c = let both = read_all _ _ _ _ _ c.loop-i.invariant (omega arith) in record { value = both.0; upper_bound = both.1 }

@@ -1,6 +1,5 @@
-use native.Mathlib.Omega.{arith}
-use borrow.Author.Rules.{rules}
-use Rattle.wave_forms.proofs.Copies.{Read, read_none, read_all, read_next, next_fits}
+-- The bytes from here on are read (`Copies: Read`).
+use Rattle.wave_forms.proofs.Copies.{Read}
 use Rattle.wave_forms.proofs.numbers.number_at.Given as goal
 
 abbrev pub invariant-loop-i : goal.invariant-loop-i

@@ -12,7 +12,7 @@ zero_is : (m x : ℕ) → m ≡ 0 → 0 ≡ to_bits binary32 (round binary32 fal
 zero_is m x e = zero_bits x ∙ ap (λ (n : ℕ). to_bits binary32 (round binary32 false (n * 2 ^ x) (2 ^ 1074))) (sym e)
 
 pub returns-then-m-eq0 : goal.returns-then-m-eq0
-returns-then-m-eq0 c = (zero_is _ _ c.if-m-eq0.true, omega arith)
+returns-then-m-eq0 c = record { value = zero_is _ _ c.if-m-eq0.true; upper_bound = omega arith }
 
 pub overflow_sub-end : goal.overflow_sub-end
 overflow_sub-end c = let z = zeros_of c.args.m (omega arith) (search rules) in omega arith
@@ -27,7 +27,7 @@ pub overflow_add-pattern : goal.overflow_add-pattern
 overflow_add-pattern c = let few = digits_few c.args.m c.args.x _ _ c.if-m-eq0.false (search rules) c.less-exponent.ensures c.shifted-digits.ensures in omega arith
 
 pub returns-then-pattern-lt2139095040 : goal.returns-then-pattern-lt2139095040
-returns-then-pattern-lt2139095040 c = (narrowed_below c.args.m c.args.x _ _ c.if-m-eq0.false (search rules) c.less-exponent.ensures c.shifted-digits.ensures c.if-pattern-lt2139095040.true, omega arith)
+returns-then-pattern-lt2139095040 c = record { value = narrowed_below c.args.m c.args.x _ _ c.if-m-eq0.false (search rules) c.less-exponent.ensures c.shifted-digits.ensures c.if-pattern-lt2139095040.true; upper_bound = omega arith }
 
 pub returns-else-pattern-lt2139095040 : goal.returns-else-pattern-lt2139095040
-returns-else-pattern-lt2139095040 c = (narrowed_over c.args.m c.args.x _ _ c.if-m-eq0.false (search rules) c.less-exponent.ensures c.shifted-digits.ensures c.if-pattern-lt2139095040.false, omega arith)
+returns-else-pattern-lt2139095040 c = record { value = narrowed_over c.args.m c.args.x _ _ c.if-m-eq0.false (search rules) c.less-exponent.ensures c.shifted-digits.ensures c.if-pattern-lt2139095040.false; upper_bound = omega arith }

@@ -1,5 +1,4 @@
 -- `TimeValue::as_samples` meets its contract: each arm is its case of the definition. Assumes nothing.
-use borrow.Author.Rules.{rules}
 use Rattle.common_types.specs.Times.{as_samples_of}
 use Rattle.common_types.proofs.time_value.TimeValue.as_samples.Goals as goal
 

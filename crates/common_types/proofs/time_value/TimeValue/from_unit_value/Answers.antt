@@ -1,5 +1,4 @@
 -- `TimeValue::from_unit_value` meets its contract: each arm is its case of the definition. Assumes nothing.
-use borrow.Author.Rules.{rules}
 use lib.Ieee.{of_bits, of_int}
 use Rattle.common_types.specs.Times.{from_unit_value_of}
 use Rattle.common_types.proofs.time_value.TimeValue.from_unit_value.Goals as goal

@@ -1,0 +1,12 @@
+-- `played` meets its contract. Assumes nothing.
+use mathlib.Core.Path.{refl}
+use borrow.Author.Rules.{rules}
+use Rattle.events.proofs.feeds.played.Goals as goal
+
+pub returns : goal.returns
+returns c = record {
+  state = refl;
+  used = c.past.ensures;
+  size = c.put.ensures.0;
+  text = c.put.ensures.1;
+}

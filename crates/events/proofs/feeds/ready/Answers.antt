@@ -1,0 +1,6 @@
+-- `ready` meets its contract. Assumes nothing.
+use borrow.Author.Rules.{rules}
+use Rattle.events.proofs.feeds.ready.Goals as goal
+
+pub returns : goal.returns
+returns c = simp c.size_of.ensures

@@ -1,8 +1,0 @@
--- `is_known` meets its contract. Assumes nothing.
-use mathlib.Core.Path.{refl}
-use Rattle.host.specs.Crossing.{known}
-use Rattle.host.proofs.settings.is_known.Goals as goal
-
-pub returns : goal.returns
-unfolding known
-returns c = refl
