@@ -17,7 +17,9 @@ use Rattle.plain_voice.specs.declared.Hot.{Hot}
 use Rattle.channel.specs.declared.Channel.{Channel}
 use Rattle.channel.specs.declared.Played.{Played}
 use Rattle.channel.specs.Channels.{memory_of, process_sample_of}
+use Rattle.lent_channel.specs.declared.Heard.{Heard}
 use Rattle.lent_channel.specs.Turns.{heard_of}
+use Rattle.plain_channel.specs.declared.Pour.{Pour}
 use Rattle.plain_channel.specs.declared.Side.{Side}
 use Rattle.plain_channel.specs.Sides.{no_pour, with_hots, side_after}
 use Rattle.plain_channel.specs.Ahead.{on_by, ahead_of, hots_on, behind_of, hots_behind, side_behind, may_ease, stretch_of, left_of, Ahead, AheadBy, Easing, EasedBy, Refilled, Underway, Along}
