@@ -17,7 +17,7 @@ returns c =
     let n = c.requires.0 in
     -- where none glides, channel and side are what they were
     let same : (c.if-g.c ≡ a.c.now) × (c.if-g.side ≡ a.side.now) = elim c.if-g.branch [
-      then-g+then-p+else-g-h w ↦ let h = w.hot_glide-h.ensures in let e = h.none (omega (arith, h.further, w.if-g-h.false)) in (w.c-is ∙ e.0, w.side-is ∙ e.1)
+      | then-g+then-p+else-g-h w ↦ let h = w.hot_glide-h.ensures in let e = h.none (omega (arith, h.further, w.if-g-h.false)) in (w.c-is ∙ e.0, w.side-is ∙ e.1)
       | then-g+else-p+else-g-h-2 w ↦ let h = w.cool_glide-h.ensures in let e = h.none (omega (arith, h.further, w.if-g-h-2.false)) in (w.c-is ∙ e.0, w.side-is ∙ e.1)
       | else-g w ↦ (w.c-is, w.side-is)
     ] in
