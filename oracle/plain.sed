@@ -2,7 +2,7 @@
 s/^\(\/\/ libraries:.*\) lent_sampler /\1 lent_sampler plain_sampler /
 s/^use oracle_lines::settings::params_of;/&\nuse plain_sampler::Backing;/
 s/^    let mut s = run.sampler;/&\n    let mut k = Backing::new();/
-s/record(&mut s, /&\&mut k, /
+s/record(&rt, &mut s, /&\&mut k, /
 s/^    s: &mut Sampler,$/&\n    k: \&mut Backing,/
 s/^fn \(change\|sample\|frame\|frames\|ran\)(s: &mut Sampler, /&k: \&mut Backing, /
 s/ \(change\|sample\|frame\|frames\|ran\)(s, /&k, /g

@@ -14,23 +14,23 @@ ghost use Rattle.promises.specs.Runs.{
   get_voice_info,
   get_waveform_summary,
   write_wave,
-  change as changeCall,
+  change as change_call,
   start,
   stop,
-  speed as speedCall,
+  speed as speed_call,
   start_recording,
   stop_recording,
   set_interpolation,
   choose_phrase,
   delete_phrase,
-  reset as resetCall,
+  reset as reset_call,
   sample,
-  frame as frameCall,
+  frame as frame_call,
   read_wave,
-  gather as gatherCall,
+  gather as gather_call,
   asks,
 };
-ghost use Rattle.promises.specs.Outcomes.{new as setUpCall, on, along, reads, plays, Allows};
+ghost use Rattle.promises.specs.Outcomes.{new as set_up_call, on, along, reads, plays, Allows};
 
 use channel::Change;
 use common_types::{InitParams, Note, Params};
@@ -40,13 +40,13 @@ use sampler::{Answer, FrameAnswer, RunAnswer, SampleAnswer, Sampler};
 use songs::Playing;
 
 pub fn new(count: usize, params: InitParams, memory: &[u32]) -> Answer
-    ensures { Allows (setUpCall count params memory.now) result }
+    ensures { Allows (set_up_call count params memory.now) result }
 {
     Sampler::new(count, params, memory)
 }
 
 pub fn changed(s: Sampler, change: Change) -> Answer
-    ensures { (m : List ℕ) → Allows (on (record { sampler = s; memory = m }) (changeCall change)) result }
+    ensures { (m : List ℕ) → Allows (on (record { sampler = s; memory = m }) (change_call change)) result }
 {
     s.changed(change)
 }
@@ -65,7 +65,7 @@ pub fn stop_playing(s: Sampler, note: Note, params: Params) -> Answer
 }
 
 pub fn set_note_speed(s: Sampler, note: Note, speed: f32) -> Answer
-    ensures { (m : List ℕ) → Allows (on (record { sampler = s; memory = m }) (speedCall note speed)) result }
+    ensures { (m : List ℕ) → Allows (on (record { sampler = s; memory = m }) (speed_call note speed)) result }
 {
     s.set_note_speed(note, speed)
 }
@@ -101,13 +101,13 @@ pub fn delete_phrase(s: Sampler, phrase: u8) -> Answer
 }
 
 pub fn reset(s: Sampler) -> Answer
-    ensures { (m : List ℕ) → Allows (on (record { sampler = s; memory = m }) resetCall) result }
+    ensures { (m : List ℕ) → Allows (on (record { sampler = s; memory = m }) reset_call) result }
 {
     s.reset()
 }
 
 pub fn gather(s: Sampler, memory: &mut [u32]) -> Answer
-    ensures { Allows (on (record { sampler = s; memory = memory.old }) gatherCall)
+    ensures { Allows (on (record { sampler = s; memory = memory.old }) gather_call)
         (record { answer = result; memory = memory.new }) }
 {
     s.gather(memory)
@@ -133,7 +133,7 @@ pub fn process_frame(
     memory: &mut [u32],
 ) -> FrameAnswer
     ensures { Allows
-        (on (record { sampler = s; memory = memory.old }) (frameCall frame.old params))
+        (on (record { sampler = s; memory = memory.old }) (frame_call frame.old params))
         (record { answer = result; frame = frame.new; memory = memory.new }) }
 {
     s.process_frame(frame, params, memory)

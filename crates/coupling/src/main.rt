@@ -1,5 +1,5 @@
 // A host, as small as it can be: it sets the engine up, records a frame, presses a key, plays a frame, lets the key go,
-// and asks what sounds. `rt check coupling` proves it, runs it, and holds what it prints to the file `stdout`.
+// and asks what sounds. `rt ci coupling` proves it, runs it, and holds what it prints to the file `stdout`.
 #![tactic(auto)]
 
 ghost use Rattle.std.specs.Prelude.{◌≡◌, length};

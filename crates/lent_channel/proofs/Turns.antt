@@ -1,37 +1,47 @@
 -- What turns of voices leave to those behind them: where they begin, how one turn goes on, one that glides and one that a voice doesn't take, and what they have come to where they end; and a channel without voices. Assumes nothing.
 use mathlib.Core.Path.{◌≡◌, refl, sym, ◌∙◌, ap, subst}
-use Prim.Native.Nat.{ℕ, ◌+◌, ◌-◌, ◌≤◌, ◌<◌, min, zero-le}
+use Prim.Native.Nat.{ℕ, zero, suc, ◌+◌, ◌-◌, ◌≤◌, ◌<◌, min, zero-le}
 use native.Mathlib.Nat.{le_refl, add-zero}
 use native.Mathlib.Omega.{arith}
 use mathlib.Core.Bool.{Bool, true, false, not, cond, true≢false}
 use mathlib.Core.List.{List, [], ◌∷◌}
 use lib.Dec.{ltb, eqb}
-use lib.ListN.{length, get_or, set}
+use lib.ListN.{length, get_or, set, take, drop}
 use lib.Seq.{slice, slice_empty}
 use lib.Ieee.{Float, binary32, add}
-use borrow.Author.Tests.{lt-ltb, le-ltb, ltb-true, ltb-false}
+use borrow.Author.Tests.{eq-eqb, ne_eqb, lt-ltb, le-ltb, ltb-true, ltb-false}
 use Rattle.walks.specs.Walks.{any, without, behind, fold}
-use Rattle.walks.proofs.Lists.Loops.{Walk, turns, stores, take_most}
+use Rattle.walks.proofs.Lists.Loops.{Walk, turns, stores, get_d_any}
 use Rattle.common_types.specs.declared.Params.{Params}
 use Rattle.binary32.specs.Leaves.{zero32}
-use Rattle.phrases.specs.Phrases.{stored_in}
+use Rattle.common_types.specs.declared.Measure.{Measure}
+use Rattle.common_types.specs.Settings.{measure_of}
+use Rattle.phrases.specs.declared.Phrase.{Phrase}
+use Rattle.phrases.specs.declared.Room.{Room}
+use Rattle.phrases.specs.Phrases.{stored_in, room_of}
+use Rattle.phrases.proofs.Rooms.{room_stored}
+use Rattle.voice.specs.declared.Moment.{Moment}
 use Rattle.voice.specs.declared.Voice.{Voice}
 use Rattle.voice.specs.declared.Tick.{Tick}
 use Rattle.voice.specs.declared.Quick.{Quick}
-use Rattle.voice.specs.Voices.{tick_of, turn_of, should_remove_of, blank_voice}
+use Rattle.voice.specs.Voices.{span_by, tick_with, tick_of, turn_of, should_remove_of, blank_voice}
 use Rattle.voice.specs.Gliding.{Quickly}
 use Rattle.voice.proofs.Gliding.{glides}
+use Rattle.voice.proofs.Measured.{tick_measured}
 use Rattle.voice.proofs.PhraseKept.{turn_phrase, tick_phrase}
 use Rattle.channel.specs.declared.Head.{Head}
 use Rattle.channel.specs.declared.Channel.{Channel}
 use Rattle.channel.specs.declared.Played.{Played}
-use Rattle.channel.specs.Heads.{mixed_of, closed_of}
-use Rattle.channel.specs.Channels.{with_head, with_voices, any_unfinished_of, Turning, kept_of, tidied_of, added_of, heard_sum, played_of, turning_by, phrase_at, moment_for, turning_in}
+use Rattle.channel.specs.Heads.{moment_on, mixed_of, closed_of}
+use Rattle.channel.specs.Channels.{with_head, with_voices, any_unfinished_of, Turning, kept_of, tidied_of, added_of, heard_sum, played_of, turning_by, phrase_at, moment_for, turning_in, taken_of, memory_of, process_sample_of}
 use Rattle.channel.proofs.Samples.{played_head}
+use Rattle.channel.proofs.Slots.{none}
 use Rattle.channel.proofs.Turns as T
 use Rattle.lent_channel.specs.declared.Going.{Going}
+use Rattle.lent_channel.specs.declared.Heard.{Heard}
 use Rattle.lent_channel.specs.declared.Turn.{Turn}
-use Rattle.lent_channel.specs.Turns.{silent, begun, glided_to, next_voice, next_turn, turned_in, rested_of, rested_in, moved_by, Stands, rest_by, rest_of, Onward, Follows, Goes, heard_of}
+use Rattle.lent_channel.proofs.Seen.{take_seen}
+use Rattle.lent_channel.specs.Turns.{silent, begun, glided_to, next_voice, next_turn, turned_in, rested_of, rested_in, moved_by, Stands, Next, rest_by, rest_of, Onward, Follows, Goes, heard_of, mixed_with}
 
 -- what a walk leaves and what is heard of it, with how many have moved up
 abbrev counting : T.Walked → ℕ → Played
@@ -237,6 +247,34 @@ follows_own p c m k full =
     (T.turning_turns p c m v (subst (λ (j : ℕ). eqb (phrase_at c j).length 0 ≡ false) (sym (e ∙ tick_phrase p (moment_for c k))) full)) in
     record { turns = λ v e. (to v e).turns; leaves = λ v e. (to v e).leaves; adds = λ out v e. (to v e).adds out }
 
+-- the next voice, whose phrase is ph: it rests, or takes its turn at its phrase's tick
+module _ (p : Params) (c : Channel) (g : Going) (n : ℕ) (m : List ℕ) (stands : Stands n g) (below : g.place < n) (all : length c.voices ≡ 32) (ph : Phrase) (is : ph ≡ phrase_at c (get_or c.voices g.place none).phrase) where
+  abbrev v : Voice
+  v = get_or c.voices g.place none
+
+  same_voice : next_voice g c ≡ v
+  same_voice = get_d_any c.voices g.place blank_voice none (omega (arith, below, stands.few, all))
+
+  pub next_rests : ph.length ≡ 0 → (r : Going) (d : Channel) → r ≡ rested_of g → d ≡ rested_in g c → (g.place < r.place) × Onward (turning_in p c m) n c g d r
+  next_rests none_there r d e f =
+      let empty : eqb (phrase_at c v.phrase).length 0 ≡ true = ap (λ (q : Phrase). eqb q.length 0) (sym is) ∙ eq-eqb ph.length 0 none_there in
+      rest_goes (turning_in p c m) n c g stands below all (subst (T.Rests (turning_in p c m)) (sym same_voice) (T.turning_rests p c m v empty)) r d (e, f)
+
+  module _ (ms : Measure) (measured : ms ≡ measure_of p) (at : Moment) (then : at ≡ moment_on c.head v.phrase ph.length) (t : Tick) (ticks : t ≡ tick_with (span_by ms at.data_len) p at) where
+    tick_is : t ≡ tick_of p (moment_for c v.phrase)
+    tick_is = ticks ∙ tick_measured p ms measured at ∙ ap (tick_of p) (then ∙ ap (λ (q : Phrase). moment_on c.head v.phrase q.length) is)
+
+    pub next_ticks : Next n c t g
+    next_ticks = record { stands = stands; below = below; phrase = ap (λ (u : Voice). u.phrase) same_voice ∙ sym (tick_phrase p (moment_for c v.phrase)) ∙ sym (ap (λ (u : Tick). u.phrase) tick_is) }
+
+    pub next_follows : (ph.length ≡ 0 → ⊥) → (room : Room) → room ≡ room_of ph (length m) → Follows (turning_in p c m) t (take (room.to - room.from) (drop room.from m))
+    next_follows some room there =
+        let full : eqb (phrase_at c v.phrase).length 0 ≡ false = ap (λ (q : Phrase). eqb q.length 0) (sym is) ∙ ne_eqb ph.length 0 some in
+        let stored : take (room.to - room.from) (drop room.from m) ≡ stored_in (phrase_at c v.phrase) m =
+        ap (λ (r : Room). take (r.to - r.from) (drop r.from m)) there ∙ room_stored ph m ∙ ap (λ (q : Phrase). stored_in q m) is in
+        subst (λ (u : Tick). Follows (turning_in p c m) u (take (room.to - room.from) (drop room.from m))) (sym tick_is)
+        (subst (Follows (turning_in p c m) (tick_of p (moment_for c v.phrase))) (sym stored) (follows_own p c m v.phrase full))
+
 -- turns leave all but the voices, and by that the voices go
 pub onward_else : {s : Turning} {n : ℕ} {c d : Channel} {g h : Going} → Onward s n c g d h → with_voices [] 0 d ≡ with_voices [] 0 c
 unfolding rest_by
@@ -246,20 +284,41 @@ pub same_turning : (p : Params) (m : List ℕ) (c d : Channel) → with_voices [
 unfolding turning_in
 same_turning p m c d e = ap (λ (x : Channel). turning_in p x m) e
 
--- ---- from the first turn to the last
-module _ (s : Turning) (c : Channel) (all : length c.voices ≡ 32) where
+-- ---- from the first turn to the last. How many places a channel has, is known once a turn has been taken
+module _ (s : Turning) (c : Channel) where
   pub begins : Stands (min c.count 32) begun
   unfolding begun
   begins = record { few = omega arith; inside = zero-le; up = zero-le; first = zero-le; all = λ e. refl }
 
-  rest_start : rest_of s (min c.count 32) c begun ≡ played_of s c
+  rest_start : (0 < min c.count 32 → length c.voices ≡ 32) → rest_of s (min c.count 32) c begun ≡ played_of s c
   unfolding begun rest_by played_of heard_sum
-  rest_start =
-      ap (λ (vs : List Voice). counting (T.rest_of s c 0 zero32 vs) (tidied_of s vs)) (take_most c.voices c.count 32 all)
+  rest_start all =
+      ap (λ (vs : List Voice). counting (T.rest_of s c 0 zero32 vs) (tidied_of s vs)) (take_seen c.voices c.count 32 (min c.count 32) (omega arith) refl all)
       ∙ with_count (T.rest_start s c) refl
 
+  -- where a turn begins, on channel d
+  pub record PlayedTo (d : Channel) (g : Going) : Type 0 where
+    pub on : Onward s (min c.count 32) c begun d g
+    pub same : g.place ≡ 0 → d ≡ c
+    pub all : 0 < g.place → length c.voices ≡ 32
+
+  pub played_first : PlayedTo c begun
+  unfolding begun
+  played_first = record { on = record { stands = begins; same = refl }; same = λ e. refl; all = λ h. absurd (omega (arith, h)) }
+
+  pub played_next : (d e : Channel) (g h : Going) → PlayedTo d g → g.place < h.place → length d.voices ≡ 32 → Onward s (min c.count 32) d g e h → PlayedTo e h
+  played_next d e g h x further all on = record {
+    on = onward x.on on;
+    same = λ z. absurd (omega (arith, further, z));
+    all = λ _. long g.place refl;
+  }
+    where
+      long : (i : ℕ) → g.place ≡ i → length c.voices ≡ 32
+      long zero z = ap (λ (f : Channel). length f.voices) (sym (x.same z)) ∙ all
+      long (suc i) z = x.all (omega (arith, z))
+
   -- where none is left
-  module _ (d : Channel) (g : Going) (on : Onward s (min c.count 32) c begun d g) (end : g.place ≡ min c.count 32) where
+  module _ (d : Channel) (g : Going) (x : PlayedTo d g) (end : min c.count 32 ≤ g.place) where
     abbrev left : Played
     left = record { channel = with_voices d.voices g.kept d; output = g.output; moved = moved_by g }
 
@@ -268,7 +327,10 @@ module _ (s : Turning) (c : Channel) (all : length c.voices ≡ 32) where
     rest_none = with_count (T.rest_end s d g.kept g.output) (ap (λ (n : ℕ). cond (ltb g.kept g.place) (n - g.first) 0) (add-zero g.kept))
 
     ended : left ≡ played_of s c
-    ended = sym rest_none ∙ ap (rest_by s d g) (sym (ap (λ (j : ℕ). slice j (min c.count 32) d.voices) end ∙ slice_empty (min c.count 32) d.voices)) ∙ on.same ∙ rest_start
+    ended =
+        let level : g.place ≡ min c.count 32 = omega (arith, end, x.on.stands.inside) in
+        sym rest_none ∙ ap (rest_by s d g) (sym (ap (λ (j : ℕ). slice j (min c.count 32) d.voices) level ∙ slice_empty (min c.count 32) d.voices)) ∙ x.on.same
+        ∙ rest_start (λ h. x.all (omega (arith, h, level)))
 
     pub ended_heard : record { output = g.output; moved = moved_by g } ≡ heard_of (played_of s c)
     ended_heard = ap heard_of ended
@@ -282,6 +344,27 @@ closing p x t r = record { channel = with_head (closed_of p (any_unfinished_of r
 
 pub sample_by : (p : Params) (x : Float) (s : Turning) (c : Channel) → closing p x (played_of s c).channel.head (played_of s c) ≡ closing p x c.head (played_of s c)
 sample_by p x s c = ap (λ (t : Head). closing p x t (played_of s c)) (played_head s c)
+
+-- the whole sample
+module _ (p : Params) (x : Float) (c : Channel) (m : List ℕ) where
+  abbrev recorded : Channel
+  recorded = taken_of m c
+
+  abbrev heard_by : Turning
+  heard_by = turning_in p recorded (memory_of x c m)
+
+  abbrev played : Played
+  played = played_of heard_by recorded
+
+  pub sample_done : (h : Heard) (unfinished : Bool) (f : Channel) → h ≡ heard_of played → unfinished ≡ any_unfinished_of f → f ≡ played.channel
+      → (mixed_with f.head x h ≡ heard_of (process_sample_of p x c m)) × (with_head (closed_of p unfinished f.head) f ≡ (process_sample_of p x c m).channel)
+  unfolding process_sample_of
+  sample_done h unfinished f eh eu ef =
+      let u : unfinished ≡ any_unfinished_of played.channel = eu ∙ ap any_unfinished_of ef in (
+        ap (λ (y : Heard). mixed_with f.head x y) eh ∙ ap (λ (g : Channel). mixed_with g.head x (heard_of played)) ef ∙ ap heard_of (sample_by p x heard_by recorded),
+        ap (λ (b : Bool). with_head (closed_of p b f.head) f) u ∙ ap (λ (g : Channel). with_head (closed_of p (any_unfinished_of played.channel) g.head) g) ef
+            ∙ ap (λ (r : Played). r.channel) (sample_by p x heard_by recorded),
+      )
 
 -- ---- a channel without voices: nothing is heard of it, it stays as it is, and no voice is unfinished
 module _ (s : Turning) (c : Channel) (none : c.count ≡ 0) where

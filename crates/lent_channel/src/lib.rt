@@ -3,7 +3,7 @@
 // are proved by hand.
 #![tactic(auto)]
 
-ghost use Rattle.std.specs.Prelude.{◌≡◌, ◌≤◌, ◌<◌, ◌&&◌, cond, get_or};
+ghost use Rattle.std.specs.Prelude.{◌≡◌, ◌≤◌, ◌<◌, ◌&&◌, cond, get_or, length};
 ghost use Rattle.std.specs.Float.{binary32};
 ghost use Rattle.std.specs.Float.Ieee.{add};
 ghost use Rattle.common_types.specs.Settings.{measure_of};
@@ -407,8 +407,9 @@ pub fn moved_of(g: Going) -> u8
 // The next voice takes its turn. One that stays moves up where one before it has left.
 pub fn turn_next(c: &mut Channel, t: Tick, g: Going, data: &[u32]) -> Going
     requires { (g.place < 32) × (g.kept ≤ g.place) }
-    ensures { (result ≡ (next_turn t «data».now g (next_voice g c.old)).next)
-        × (c.new ≡ turned_in g (next_turn t «data».now g (next_voice g c.old)) c.old) }
+    ensures next { result ≡ (next_turn t «data».now g (next_voice g c.old)).next }
+    ensures channel { c.new ≡ turned_in g (next_turn t «data».now g (next_voice g c.old)) c.old }
+    ensures all { length c.old.voices ≡ 32 }
 {
     let r = turned(g, c.voices[g.place], t, data);
     if r.stays {
@@ -435,7 +436,9 @@ fn stretch(c: &mut Channel, t: Tick, g: Going, n: usize, data: &[u32]) -> Going
 // The next voice takes no turn, and stays.
 pub fn rest_next(c: &mut Channel, g: Going) -> Going
     requires { (g.place < 32) × (g.kept ≤ g.place) }
-    ensures { (result ≡ rested_of g) × (c.new ≡ rested_in g c.old) }
+    ensures next { result ≡ rested_of g }
+    ensures channel { c.new ≡ rested_in g c.old }
+    ensures all { length c.old.voices ≡ 32 }
 {
     c.voices[g.kept] = c.voices[g.place];
     Going {
@@ -451,8 +454,9 @@ pub fn rest_next(c: &mut Channel, g: Going) -> Going
 // stretch of them, by the measure of the parameters' loop length.
 fn go_on(c: &mut Channel, g: Going, n: usize, params: Params, m: Measure, data: &[u32]) -> Going
     requires { Stands n g × (g.place < n) × (m ≡ measure_of params) }
-    ensures { (g.place < result.place)
-        × Onward (turning_in params c.old «data».now) n c.old g c.new result }
+    ensures further { g.place < result.place }
+    ensures onward { Onward (turning_in params c.old «data».now) n c.old g c.new result }
+    ensures all { length c.old.voices ≡ 32 }
 {
     let k = c.voices[g.place].phrase;
     let phrase = c

@@ -1,11 +1,12 @@
 -- The lists of a lent record: which channel and voice is read, how many voices are listed, what a turn adds to the list, and that all of it is what the question answers. Assumes nothing.
-use Rattle.std.proofs.Common.{◌≡◌, ℕ, zero, suc, ◌+◌, ◌%◌, ◌^◌, ◌<◌, ◌≤◌, Bool, true, false, cond, not, ◌||◌, eqb, ltb, List, [], ◌∷◌, ◌++◌, map, length, get_or, take, drop, set, sym, refl, ap, ◌∙◌, ap₂, true≢false, mod-eq_of_lt, arith, length-append, length-drop, length-take, get_or-take, ltb-false, ltb-true}
+use Rattle.std.proofs.Common.{◌≡◌, ℕ, zero, suc, ◌+◌, ◌%◌, ◌^◌, ◌<◌, ◌≤◌, min, Bool, true, false, cond, not, ◌||◌, eqb, ltb, List, [], ◌∷◌, ◌++◌, map, length, get_or, take, drop, set, sym, refl, ap, ◌∙◌, ap₂, true≢false, mod-eq_of_lt, arith, length-append, length-drop, length-take, get_or-take, ltb-false, ltb-true}
 use lib.ListN.{length-map, get_or-map}
 use lib.Seq.{take-length, take-append_seam}
 use Rattle.binary32.specs.Leaves.{as_float}
 use Rattle.walks.specs.Walks.{without}
 use Rattle.walks.proofs.Tests.{one_more}
 use Rattle.walks.proofs.Lists.Each.{fewer}
+use Rattle.walks.proofs.Lists.Loops.{get_d_any}
 use Rattle.walks.proofs.Lists.Stored.{fronted, fronted_next, fronted_length}
 use Rattle.common_types.specs.Notes.{into_u64_of}
 use Rattle.common_types.specs.declared.Params.{Params}
@@ -13,10 +14,11 @@ use Rattle.common_types.specs.Settings.{beyond_limits, loop_length_of}
 use Rattle.voice.specs.declared.Voice.{Voice}
 use Rattle.voice.specs.Voices.{blank_voice}
 use Rattle.channel.specs.declared.Channel.{Channel}
-use Rattle.channel.specs.Channels.{live}
+use Rattle.channel.specs.Channels.{channel_of, live}
 use Rattle.sampler.specs.declared.Sampler.{Sampler}
 use Rattle.sampler.specs.Refusals.{channel_at, row, good_sampler}
 use Rattle.sampler.proofs.Rows.{good_sizes_lem, sizes_count}
+use Rattle.sampler.proofs.Seats.{none}
 use Rattle.sampler.proofs.Channels.{few_voices}
 use Rattle.questions.specs.Questions.{answered, in_front, notes_of, list_number_by, list_counted_by, list_after_by, list_number, list_counted, list_after, iter_active_notes_of, active_notes_after, no_infos, infos_with, voice_info_of, figures_of, voice_infos_of, info_number, get_voice_info_of}
 use Rattle.questions.specs.Lists.{infos_counted, listed_of, voice_info_counted, voice_info_after}
@@ -40,6 +42,12 @@ unfolding seat_of
 seat_is zero h = refl
 seat_is (suc zero) h = refl
 seat_is (suc (suc j)) h = absurd (omega arith)
+
+-- the channel that is read is the asked one
+pub seated_there : (s : Sampler) (j k : ℕ) → length s.channels ≡ 2 → k ≡ seat_of j → get_or s.channels k none ≡ seated s j
+seated_there s j k two e =
+    ap (λ (n : ℕ). get_or s.channels n none) e
+    ∙ get_d_any s.channels (seat_of j) none (channel_of (record { auto_passthru = false })) (omega (arith, two, seat_two j))
 
 module _ (i : ℕ) where
   pub spot_within : voice_place i < 32
@@ -65,6 +73,10 @@ module _ (i : ℕ) where
 pub finished_so : (b : Bool) → not b ≡ false → b ≡ true
 finished_so true h = refl
 finished_so false h = absurd (true≢false h)
+
+pub unfinished_so : (b : Bool) → not b ≡ true → b ≡ false
+unfinished_so true h = absurd (true≢false (sym h))
+unfinished_so false h = refl
 
 pub is_listed : (all f : Bool) → (all || not f) ≡ true → cond all false f ≡ false
 is_listed true f h = refl
@@ -146,6 +158,11 @@ pub count_all : (l : List Voice) → listed_count true l ≡ length l
 unfolding listed_count without
 count_all [] = refl
 count_all (x ∷ l) = ap suc (count_all l)
+
+-- as many voices as there are in use, up to all, are looked at
+pub whole_seen : (l : List Voice) (count i : ℕ) → i ≡ min count 32 → (0 < i → length l ≡ 32) → length (take count l) ≡ min count 32
+whole_seen l count zero e long = let none : count ≡ 0 = omega (arith, e) in omega (arith, length-take count l, none)
+whole_seen l count (suc i) e long = let all : length l ≡ 32 = long (omega arith) in omega (arith, length-take count l, all)
 
 -- ---- the notes
 module _ (d : Voice) (i : ℕ) (l : List Voice) (lt : i < length l) where
@@ -234,6 +251,17 @@ notes_fit true true c room i h = go (ltb room (count_in false c)) refl h
         let low : i < length (live c) = omega (arith, k, count_all (live c)) in
         let rises : listed_count false (take (i + 1) c.voices) ≤ count_in false c = count_rises false (i + 1) c.count c.voices (omega (arith, low, length-take c.count c.voices)) in
         (omega (arith, low, length-take c.count c.voices), omega (arith, rises, ltb-false room (count_in false c) e))
+
+-- how many voices are looked at, each of them in use
+abbrev pub note_turns : Sampler → ℕ → ℕ → ℕ
+note_turns s j room = cond (eqb (note_rows (good_sampler s) (ltb j s.count) (seated s j) room) 0) (count_in true (seated s j)) 0
+
+taken : (b : Bool) (n i : ℕ) → i < cond b n 0 → i < n
+taken true n i h = h
+taken false n i h = absurd (omega (arith, h))
+
+pub few_looked : (b : Bool) (c : Channel) (i : ℕ) → length (live c) ≡ min c.count 32 → i < cond b (count_in true c) 0 → i < 32
+few_looked b c i whole h = omega (arith, taken b (count_in true c) i h, count_all (live c), whole)
 
 -- so the list stays as long as it is
 pub notes_long : (good there : Bool) (c : Channel) (lent : List ℕ)
@@ -346,7 +374,11 @@ module _ (p : Params) (a : Channel) where
         go true e = ap₂ (λ (r : Counted) (ys : List VoiceInfo). (r, ys)) (ap counted.Done (count_all (live c) ∙ full)) front_so
         go false e = ap (λ (r : Counted). (r, lent)) (sym (ap (λ (b : Bool). cond b (counted.Done 0) (counted.Refused m)) e))
 
-module _ (s : Sampler) (j : ℕ) (p : Params) (lent : List VoiceInfo) (all : length (seated s j).voices ≡ 32) where
+-- how many voices are looked at
+abbrev pub info_turns : Sampler → ℕ → Params → ℕ → ℕ
+info_turns s j p room = cond (eqb (info_rows p (channel_at s 0) (good_sampler s) (ltb j s.count) (seated s j) room) 0) (count_in true (seated s j)) 0
+
+module _ (s : Sampler) (j : ℕ) (p : Params) (lent : List VoiceInfo) (all : length (live (seated s j)) ≡ min (seated s j).count 32) where
   abbrev first : Channel
   first = channel_at s 0
 
@@ -364,8 +396,8 @@ module _ (s : Sampler) (j : ℕ) (p : Params) (lent : List VoiceInfo) (all : len
           let low : j < s.count = ltb-true j s.count e in
           let is : seat_of j ≡ j = seat_is j (omega (arith, low, sizes_count _ _ (good_sizes_lem s g))) in
           let same : seated s j ≡ channel_at s j = ap (channel_at s) is in
-          let long : length (channel_at s j).voices ≡ 32 = ap (λ (c : Channel). length c.voices) (sym same) ∙ all in
-          let full : length (live (channel_at s j)) ≡ (channel_at s j).count = omega (arith, length-take (channel_at s j).count (channel_at s j).voices, long, few_voices s j g low) in
+          let long : length (live (channel_at s j)) ≡ min (channel_at s j).count 32 = sym (ap (λ (c : Channel). length (live c)) same) ∙ all ∙ ap (λ (c : Channel). min c.count 32) same in
+          let full : length (live (channel_at s j)) ≡ (channel_at s j).count = omega (arith, long, few_voices s j g low) in
           let rows : ℕ → ℕ = λ n. row (beyond_limits p) 4 (row (ltb (length lent) n) 8 0) in
           ap (λ (c : Channel). written p first lent (rows (count_in true c)) c) same
           ∙ ap (λ (n : ℕ). written p first lent (rows n) (channel_at s j)) (count_all (live (channel_at s j)) ∙ full)

@@ -3,11 +3,13 @@ use Rattle.std.proofs.Common.{◌≡◌, ℕ, zero, suc, ◌-◌, ◌*◌, ◌/�
 use native.Mathlib.Nat.{min-le_left}
 use lib.Seq.{take-nil}
 use Rattle.walks.proofs.Tests.{and-true, or-false}
+use Rattle.walks.proofs.Lists.Loops.{get_d_any}
 use Rattle.walks.specs.Walks.{any, every, fold}
 use Rattle.recorder.specs.Recording.{is_recording_of}
 use Rattle.common_types.specs.declared.Params.{Params}
 use Rattle.common_types.specs.Settings.{beyond_limits}
 use Rattle.channel.specs.declared.Change.{Change}
+use Rattle.channel.specs.declared.Against.{Against}
 use Rattle.channel.specs.declared.Channel.{Channel}
 use Rattle.channel.specs.Tables.{asks_of}
 use Rattle.channel.specs.Channels.{channel_of, against_of, good_channel}
@@ -18,10 +20,11 @@ use Rattle.sampler.specs.declared.Ran.{Ran}
 use Rattle.sampler.specs.Refusals.{row, channel_at, good_sizes, good_sampler, good_with, records, any_recording, against_any, at_end, change_rows, change_number, gather_number, sample_number, frame_rows, frame_number, latest_of, frames_left, run_rows, run_done}
 use Rattle.sampler.specs.Samplers.{run_answer}
 use Rattle.sampler.proofs.Rows.{fitting}
+use Rattle.sampler.proofs.Seats.{none}
 use Rattle.sampler.proofs.RunRows.{run_asked}
 use Rattle.questions.specs.Sights.{seen_of}
 use Rattle.lent_sampler.specs.declared.Readings.{Readings}
-use Rattle.lent_sampler.specs.Numbers.{all_of, any_of, readings_in, good_by, good_with_by, asked_by, gather_rows, clock_in, sample_rows, frame_asked_by, latest_time, room_left, run_asked_by}
+use Rattle.lent_sampler.specs.Numbers.{all_of, any_of, readings_of, readings_in, good_by, seen_by, good_with_by, asked_by, gather_rows, clock_in, sample_rows, frame_asked_by, latest_time, room_left, run_asked_by}
 
 -- ---- of two, the first n
 pub all_first : (a b : Bool) → a ≡ all_of 1 (a ∷ b ∷ [])
@@ -150,6 +153,37 @@ module _ (s : Sampler) (two : length s.channels ≡ 2) where
   room_is = ap (λ (latest : ℕ). last_time - latest)
       (fold_first (λ (c : Channel). c.head.now) s.count 0 (channel_at s 0 ∷ channel_at s 1 ∷ []) ∙ ap (λ (l : List Channel). fold (λ (u : ℕ) (c : Channel). max u c.head.now) 0 (take s.count l)) are_two)
 
+  -- a channel that is read is the record's
+  pub there : (j : ℕ) → j < 2 → get_or s.channels j none ≡ channel_at s j
+  there j lt = get_d_any s.channels j none (channel_of (record { auto_passthru = false })) (omega (arith, two, lt))
+
+  abbrev one : Channel
+  one = get_or s.channels 0 none
+
+  abbrev other : Channel
+  other = get_or s.channels 1 none
+
+  one_is : one ≡ channel_at s 0
+  one_is = there 0 (omega arith)
+
+  other_is : other ≡ channel_at s 1
+  other_is = there 1 (omega arith)
+
+  -- what is read of the two channels is what is read of the record, and what is seen of them what is seen of it
+  module _ (first second : Bool) (e : first ≡ good_channel s.capacity one) (f : second ≡ good_channel s.capacity other) where
+    pub read_is : readings_of s.count s.capacity first second one.head.now other.head.now ≡ readings_in s
+    read_is =
+        let g : first ≡ good_channel s.capacity (channel_at s 0) = e ∙ ap (good_channel s.capacity) one_is in
+        let h : second ≡ good_channel s.capacity (channel_at s 1) = f ∙ ap (good_channel s.capacity) other_is in
+        λ i. readings_of s.count s.capacity (g i) (h i) (one_is i).head.now (other_is i).head.now
+
+    pub look_is : seen_by s.count s.capacity first second one.head other.head ≡ seen_of s
+    look_is =
+        let g : first ≡ good_channel s.capacity (channel_at s 0) = e ∙ ap (good_channel s.capacity) one_is in
+        let h : second ≡ good_channel s.capacity (channel_at s 1) = f ∙ ap (good_channel s.capacity) other_is in
+        (λ i. seen_by s.count s.capacity (g i) (h i) (one_is i).head (other_is i).head)
+        ∙ (λ i. record { good = good_is i; count = s.count; capacity = s.capacity; first = (channel_at s 0).head; second = (channel_at s 1).head })
+
   pub change-is : (x : Change)
       → change_rows (asked_by (good_by s.count s.capacity t.first t.second) s.count (against_of s.capacity (asks_of x) (channel_at s 0)) (against_of s.capacity (asks_of x) (channel_at s 1))) x
       ≡ change_number s x
@@ -158,6 +192,19 @@ module _ (s : Sampler) (two : length s.channels ≡ 2) where
       let blocked = any_is (λ (c : Channel). (against_of s.capacity (asks_of x) c).blocked) s.count in
       let short = any_is (λ (c : Channel). (against_of s.capacity (asks_of x) c).short) s.count in
       λ i. change_rows (record { good = good_is i; against = record { blocked = blocked i; short = short i } }) x
+
+  -- the number of a change, by what is read of the two channels
+  pub change_so : (x : Change) (first second good : Bool) (a b : Against)
+      → first ≡ good_channel s.capacity one → second ≡ good_channel s.capacity other → good ≡ good_by s.count s.capacity first second
+      → a ≡ against_of s.capacity (asks_of x) one → b ≡ against_of s.capacity (asks_of x) other
+      → change_rows (asked_by good s.count a b) x ≡ change_number s x
+  change_so x first second good a b e f g k l =
+      let is_first : first ≡ t.first = e ∙ ap (good_channel s.capacity) one_is in
+      let is_second : second ≡ t.second = f ∙ ap (good_channel s.capacity) other_is in
+      let is_good : good ≡ good_by s.count s.capacity t.first t.second = g ∙ (λ i. good_by s.count s.capacity (is_first i) (is_second i)) in
+      let is_a : a ≡ against_of s.capacity (asks_of x) (channel_at s 0) = k ∙ ap (against_of s.capacity (asks_of x)) one_is in
+      let is_b : b ≡ against_of s.capacity (asks_of x) (channel_at s 1) = l ∙ ap (against_of s.capacity (asks_of x)) other_is in
+      (λ i. change_rows (asked_by (is_good i) s.count (is_a i) (is_b i)) x) ∙ change-is x
 
   time_is : (j : ℕ) → clock_in t j ≡ (channel_at s j).head.now
   unfolding channel_of head_of

@@ -1,12 +1,13 @@
 -- The loop of a run on a lent record: what stands after i entries, by the laws of the call by value. A refused run has no entry to play. Assumes nothing.
-use Rattle.std.proofs.Common.{◌≡◌, ℕ, zero, suc, ◌+◌, ◌-◌, ◌*◌, ◌/◌, ◌<◌, ◌≤◌, min, Bool, true, false, cond, List, ◌++◌, length, get_or, take, drop, set, sym, refl, ap, ◌∙◌, subst, le_trans, le_of_eq, mul-le-mul_right, suc-mul, zero-mul, arith, length-set}
+use Rattle.std.proofs.Common.{add-one, ◌≡◌, ℕ, zero, suc, ◌+◌, ◌-◌, ◌*◌, ◌/◌, ◌<◌, ◌≤◌, min, Bool, true, false, cond, List, ◌++◌, length, get_or, take, drop, set, sym, refl, ap, ◌∙◌, subst, le_trans, le_of_eq, mul-le-mul_right, suc-mul, zero-mul, arith, length-set}
 use native.Mathlib.Nat.{sub-zero}
 use lib.Ieee.{Float, nan, binary32, mul}
 use Rattle.binary32.specs.Leaves.{zero32}
 use Rattle.walks.proofs.Lists.Loops.{get_d_any}
 use Rattle.common_types.specs.declared.Params.{Params}
 use Rattle.channel.specs.declared.Played.{Played}
-use Rattle.channel.specs.Channels.{memory_of}
+use Rattle.channel.specs.declared.Channel.{Channel}
+use Rattle.channel.specs.Channels.{channel_of, memory_of}
 use Rattle.channel.specs.Channels.{process_sample_of as channel_sample_of}
 use Rattle.sampler.specs.declared.Sampler.{Sampler}
 use Rattle.sampler.specs.Refusals.{channel_at, frames_left, run_number, done_of}
@@ -15,6 +16,10 @@ use Rattle.sampler.proofs.Rows.{Fitting, fitting}
 use Rattle.sampler.proofs.RunRows.{working, run_begins, done_turns}
 use Rattle.sampler.proofs.Parts.{stepped_is, output-is, memory_is}
 use Rattle.sampler.proofs.Entries.{memory_at_length}
+use Rattle.sampler.proofs.Seats.{none}
+use Rattle.lent_channel.specs.declared.Heard.{Heard}
+use Rattle.lent_channel.specs.Turns.{heard_of}
+use Rattle.lent_sampler.specs.Hearing.{at_volume}
 use Rattle.lent_sampler.specs.Numbers.{run_seat}
 use Rattle.lent_sampler.proofs.RunTurns.{turn_of, turns_of, all_turns, seat_low}
 
@@ -22,7 +27,7 @@ module _ (s : Sampler) (l : List Float) (p : Params) (m : List ℕ) where
   abbrev frames : ℕ
   frames = (run_answer s (length l) p (length m)).frames
 
-  abbrev steps : ℕ
+  abbrev pub steps : ℕ
   steps = frames * s.count
 
   abbrev seat : ℕ → ℕ
@@ -33,16 +38,14 @@ module _ (s : Sampler) (l : List Float) (p : Params) (m : List ℕ) where
 
   -- the record, the run and the memory after i entries
   pub record Turned (i : ℕ) (t : Sampler) (io : List Float) (k : List ℕ) : Type 0 where
-    pub two : length t.channels ≡ 2
     pub count : t.count ≡ s.count
     pub capacity : t.capacity ≡ s.capacity
     pub entries : length io ≡ length l
     pub size : length k ≡ length m
     pub same : turns_of p seat (steps - i) i (framed t io k) ≡ goal
 
-  pub turned_starts : length s.channels ≡ 2 → Turned 0 s l m
-  turned_starts two = record {
-    two = two;
+  pub turned_starts : Turned 0 s l m
+  turned_starts = record {
     count = refl;
     capacity = refl;
     entries = refl;
@@ -138,10 +141,33 @@ module _ (s : Sampler) (l : List Float) (p : Params) (m : List ℕ) where
       pub turned_on : Turned (suc i) t' (set io i y) k'
       unfolding turns_of
       turned_on = record {
-        two = length-set t.channels j played.channel ∙ z.two;
         count = z.count;
         capacity = z.capacity;
         entries = length-set io i y ∙ z.entries;
         size = long ∙ z.size;
         same = sym (ap (turns_of p seat (steps - suc i) (suc i)) turned_one) ∙ sym (ap (λ (n : ℕ). turns_of p seat n i (framed t io k)) one_less) ∙ z.same;
       }
+
+      -- the same as the code has it, which reads the channel where it stands
+      module _ (two : length t.channels ≡ 2) (n : ℕ) (is_j : n ≡ run_seat i t.count) (d : Channel) (r : Heard) (k'' : List ℕ) where
+        abbrev c : Channel
+        c = get_or t.channels n none
+
+        abbrev part : List ℕ
+        part = take (e - a) (drop a k)
+
+        c_is : c ≡ channel_at t j
+        c_is = ap (λ (q : ℕ). get_or t.channels q none) is_j ∙ get_d_any t.channels j none (channel_of (record { auto_passthru = false })) (omega (arith, two, (turned_low h).0))
+
+        pub turned_next : r ≡ at_volume p (heard_of (channel_sample_of p x c part)) → d ≡ (channel_sample_of p x c part).channel
+            → k'' ≡ take a k ++ (memory_of x c part ++ drop (e - a) (drop a k))
+            → Turned (i + 1) (with_channels (set t.channels n d) t) (set io i r.output) k''
+        turned_next gives becomes leaves =
+            let is_r : r ≡ at_volume p (heard_of played) = gives ∙ ap (λ (b : Channel). at_volume p (heard_of (channel_sample_of p x b part))) c_is in
+            let is_d : d ≡ played.channel = becomes ∙ ap (λ (b : Channel). (channel_sample_of p x b part).channel) c_is in
+            let is_k : k'' ≡ k' = leaves ∙ ap (λ (b : Channel). take a k ++ (memory_of x b part ++ drop (e - a) (drop a k))) c_is in
+            let is_t : with_channels (set t.channels n d) t ≡ t' = λ q. with_channels (set t.channels (is_j q) (is_d q)) t in
+            subst (λ (q : ℕ). Turned q (with_channels (set t.channels n d) t) (set io i r.output) k'') (sym (add-one i))
+            (subst (λ (b : Sampler). Turned (suc i) b (set io i r.output) k'') (sym is_t)
+            (subst (λ (b : Heard). Turned (suc i) t' (set io i b.output) k'') (sym is_r)
+            (subst (λ (b : List ℕ). Turned (suc i) t' (set io i y) b) (sym is_k) turned_on)))

@@ -1,30 +1,27 @@
--- What `Single.antt`'s walk takes of a sample, by the laws of `sampler`. Assumes nothing.
---     is_refused, is_played    what the call leaves, refused or not
---     single                   what the calls ensure, and what they come to
-use Rattle.std.proofs.Common.{◌≡◌, ℕ, ◌+◌, ◌-◌, ◌*◌, Bool, cond, List, ◌++◌, length, take, drop, set, sym, refl, ap, ◌∙◌, eq-eqb, ne_eqb}
+-- What a sample of one channel of a lent record leaves, refused or not, by the laws of `sampler`. Assumes nothing.
+use Rattle.std.proofs.Common.{◌≡◌, ℕ, ◌+◌, ◌-◌, ◌*◌, ◌<◌, ◌≤◌, Bool, false, cond, List, ◌++◌, length, get_or, take, drop, set, sym, refl, ap, ◌∙◌, subst, arith, eq-eqb, ne_eqb}
 use lib.Ieee.{Float, binary32, mul}
 use Rattle.binary32.specs.Leaves.{zero32}
+use Rattle.walks.proofs.Lists.Loops.{get_d_any}
 use Rattle.common_types.specs.declared.Params.{Params}
 use Rattle.channel.specs.declared.Played.{Played}
-use Rattle.channel.specs.Channels.{memory_of}
+use Rattle.channel.specs.declared.Channel.{Channel}
+use Rattle.channel.specs.Channels.{channel_of, memory_of}
 use Rattle.channel.specs.Channels.{process_sample_of as channel_sample_of}
-use Rattle.channel.proofs.Samples.{memory_kept}
 use Rattle.sampler.specs.declared.Sampler.{Sampler}
 use Rattle.sampler.specs.declared.SampleAnswer.{SampleAnswer}
 use Rattle.sampler.specs.Refusals.{channel_at, sample_number}
 use Rattle.sampler.specs.Samplers.{with_channels, channel_stepped_of, output_of, moved_at, memory_at, process_sample_of, sample_memory}
 use Rattle.sampler.proofs.Rows.{sample_ready}
+use Rattle.sampler.proofs.Seats.{none}
 use Rattle.sampler.proofs.Parts.{stepped_is, output-is, moved_is, memory_is}
+use Rattle.lent_channel.specs.declared.Heard.{Heard}
 use Rattle.lent_channel.specs.Turns.{heard_of}
-use Rattle.lent_channel.proofs.Holding.{channel}
 use Rattle.lent_sampler.specs.declared.Sampled.{Sampled}
 use Rattle.lent_sampler.specs.Hearing.{at_volume}
-use Rattle.lent_sampler.proofs.Lent.{sampler, params, sampled, sounded}
-use Rattle.lent_sampler.proofs.Seats.{seats}
-use Rattle.lent_sampler.proofs.Single.{Single}
 
 -- what the call leaves
-abbrev Leaves : Sampler → ℕ → Float → Params → List ℕ → Sampled → Sampler → List ℕ → Type 0
+abbrev pub Leaves : Sampler → ℕ → Float → Params → List ℕ → Sampled → Sampler → List ℕ → Type 0
 Leaves s j x p m r t k = (record { sampler = t; output = r.output; number = r.number; moved = r.moved } ≡ process_sample_of s j x p m) × (k ≡ sample_memory s j x p m)
 
 module _ (s : Sampler) (j : ℕ) (x : Float) (p : Params) (m : List ℕ) where
@@ -61,17 +58,25 @@ module _ (s : Sampler) (j : ℕ) (x : Float) (p : Params) (m : List ℕ) where
         let moved = moved_is s j a e m starts refl p x (channel_at s j) refl played refl in
         ((λ i. record { sampler = stepped i; output = output i; number = sym accepted i; moved = moved i }) ∙ sym (ap answer is), memory_is s j a e m starts refl x (channel_at s j) _ refl refl ∙ sym (ap (λ (b : Bool). cond b (memory_at s j x m) m) is))
 
-abbrev pub single : Single sampler channel params sampled sounded seats
-single = record {
-  number_of = sample_number;
-  sounds = λ p x c k. at_volume p (heard_of (channel_sample_of p x c k));
-  plays = λ p x c k. (channel_sample_of p x c k).channel;
-  records = memory_of;
-  refuses = λ number. record { output = zero32; number = number; moved = 0 };
-  answers = λ y. record { output = y.output; number = 0; moved = y.moved };
-  Leaves = Leaves;
-  keeps = memory_kept;
-  ready = λ s j p m two e. ((sample_ready s j p (length m) e).below, (sample_ready s j p (length m) e).part);
-  refused = is_refused;
-  played = is_played;
-}
+    -- the channel is one of the two, and its part is there
+    pub sample_low : (j < 2) × (a + s.capacity ≤ length m)
+    sample_low =
+        let r = sample_ready s j p (length m) accepted in
+        (r.below, subst (λ (n : ℕ). n + s.capacity ≤ length m) (sym starts) r.part)
+
+    -- the same as the code has it, which reads the channel where it stands
+    module _ (two : length s.channels ≡ 2) (d : Channel) (r : Heard) (k : List ℕ) where
+      abbrev c : Channel
+      c = get_or s.channels j none
+
+      c_is : c ≡ channel_at s j
+      c_is = get_d_any s.channels j none (channel_of (record { auto_passthru = false })) (omega (arith, two, sample_low.0))
+
+      pub sample_so : r ≡ at_volume p (heard_of (channel_sample_of p x c part)) → d ≡ (channel_sample_of p x c part).channel
+          → k ≡ take a m ++ (memory_of x c part ++ drop (e - a) (drop a m))
+          → Leaves s j x p m (record { output = r.output; number = 0; moved = r.moved }) (with_channels (set s.channels j d) s) k
+      sample_so gives becomes leaves =
+          let is_r : r ≡ at_volume p (heard_of played) = gives ∙ ap (λ (b : Channel). at_volume p (heard_of (channel_sample_of p x b part))) c_is in
+          let is_d : d ≡ played.channel = becomes ∙ ap (λ (b : Channel). (channel_sample_of p x b part).channel) c_is in
+          let is_k = leaves ∙ ap (λ (b : Channel). take a m ++ (memory_of x b part ++ drop (e - a) (drop a m))) c_is in
+          ((λ q. record { sampler = with_channels (set s.channels j (is_d q)) s; output = (is_r q).output; number = 0; moved = (is_r q).moved }) ∙ is_played.0, is_k ∙ is_played.1)

@@ -1,49 +1,29 @@
--- What a read asks of a sampler and what it answers, as the data of `walks`; and that what it leaves is `read_wave_of`: it makes a change that is accepted where the read is, and one that is refused where it isn't.
-use Rattle.std.proofs.Common.{◌≡◌, ℕ, Bool, true, false, cond, not, eqb, leb, List, [], ◌∷◌, length, refl, ap, ◌∙◌, arith, eqb-true}
-use denote.Laws.{Is}
-use denote.Struct.Laws as LL
-use Rattle.walks.proofs.Lists.Loops.{long}
-use Rattle.walks.proofs.Steps.Data.{Datum, struct}
+-- What a read leaves is `read_wave_of`: it makes a change that is accepted where the read is, and one that is refused where it isn't. Assumes nothing.
+use Rattle.std.proofs.Common.{◌≡◌, ℕ, zero, suc, ◌<◌, Bool, true, false, cond, not, eqb, List, [], ◌∷◌, length, get_or, refl, ap, ◌∙◌, arith, eqb-true}
+use base.Fml.{Fml}
+use mir.Val.{Val}
+use denote.Shadow.{shadow}
+use denote.Array.{each}
 use Rattle.wave.specs.Reader.{file_judged}
-use Rattle.phrases.specs.contracts.Beside as B
-use Rattle.phrases.proofs.Beside.TheLaws as B'
 use Rattle.channel.specs.declared.Change.TheVariants.{Head}
 use Rattle.channel.specs.declared.HeadChange.TheVariants.{Load, Choose}
-use Rattle.channel.specs.Channels.{channel_of}
 use Rattle.sampler.specs.declared.Sampler.{Sampler}
 use Rattle.sampler.specs.Refusals.{channel_at, good_sampler, change_number}
 use Rattle.sampler.specs.Samplers.{each_of, answer_of, change_of}
-use Rattle.sampler.specs.contracts.Sampler as T
-use Rattle.sampler.proofs.Sampler.TheLaws as T'
 use Rattle.recordings.specs.declared.Loading.{Loading}
 use Rattle.recordings.specs.Waves.{held_in, read_number, read_wave_of}
 use Rattle.recordings.specs.Sights.{survey_of, loading_seen}
-use Rattle.recordings.proofs.Element.{element}
 use Rattle.recordings.proofs.Numbers.{read_says, loads_change}
 use Rattle.recordings.proofs.Sights.{read_number_seen_lem, read_seen}
-use Rattle.recordings.specs.contracts.Surveyed as S
-use Rattle.recordings.proofs.Surveyed.TheLaws as S'
-use Rattle.recordings.specs.contracts.Loading as L
-use Rattle.recordings.proofs.Loading.TheLaws as L'
 use Rattle.lent_sampler.specs.Loads.{load_of}
-use Rattle.lent_sampler.proofs.Lent.{changes}
-use Rattle.lent_sampler.proofs.Seats.{sv, seats_are}
 
-abbrev pub beside : Datum
-beside = struct B.the_type B'.the_laws B'.the_plain
-
-abbrev pub survey : Datum
-survey = struct S.the_type S'.the_laws S'.the_plain
-
-abbrev pub loading : Datum
-loading = struct L.the_type L'.the_laws L'.the_plain
-
--- a second channel has eight phrases
-pub eight_there : (h : Sampler) → Is T.the_row h (sv h ∷ []) → length (channel_at h 1).table ≡ 8
-eight_there h g =
-    let new = channel_of (record { auto_passthru = false }) in
-    let held = element _ _ h.channels _ 1 new (omega (arith, seats_are h g)) (LL.owed T.the_type T'.the_laws h _ g).0.1.1 in
-    long _ (channel_at h 1).table 8 held.1.1.1.1.0.1.0.1
+-- an element of an array that a record holds is what its type says
+module _ {A : Type 0} (own : A → List Val → Fml) where
+  pub element : (xs : List A) (us : List Val) (i : ℕ) (d : A) → i < length xs → shadow (each A own xs us) → (u : Val) × shadow (own (get_or xs i d) (u ∷ []))
+  element [] us i d h p = absurd (omega arith)
+  element (x ∷ xs) [] i d h p = absurd p
+  element (x ∷ xs) (u ∷ us) zero d h p = (u, p.0)
+  element (x ∷ xs) (u ∷ us) (suc i) d h p = element xs us i d (omega arith) p.1
 
 module _ (s : Sampler) (two : length s.channels ≡ 2) (f : List ℕ) (size : ℕ) where
   abbrev number : ℕ
@@ -69,7 +49,7 @@ module _ (s : Sampler) (two : length s.channels ≡ 2) (f : List ℕ) (size : �
       go true e = ap (λ (n : ℕ). cond (eqb n 0) (each_of (Head (Load samples)) s) s) (loads_change s (file_judged f) size (read_says s (file_judged f) size (eqb-true number 0 e)))
       go false e = refused
 
-  pub read_so : (r : Loading) → r ≡ loading_seen (survey_of s) f size → (n : ℕ) (s' : Sampler) → changes s (load_of r) n s' → record { sampler = s'; read = r.read } ≡ read_wave_of s f size
+  pub read_so : (r : Loading) → r ≡ loading_seen (survey_of s) f size → (n : ℕ) (s' : Sampler) → record { sampler = s'; number = n } ≡ change_of s (load_of r) → record { sampler = s'; read = r.read } ≡ read_wave_of s f size
   unfolding read_wave_of
   read_so r e n s' c =
       let left : s' ≡ (read_wave_of s f size).sampler = ap (λ a. a.sampler) c ∙ ap (λ (l : Loading). (change_of s (load_of l)).sampler) e ∙ sampler_read in

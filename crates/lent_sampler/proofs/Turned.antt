@@ -1,9 +1,10 @@
 -- The loop of a frame on a lent record: what stands after i entries, and what is gathered of them, by the laws of the call by value. A refused frame has no entry to step. Assumes nothing.
 use Rattle.std.proofs.Common.{◌≡◌, ℕ, suc, ◌+◌, ◌-◌, ◌*◌, ◌%◌, ◌^◌, ◌<◌, ◌≤◌, Bool, true, false, cond, eqb, List, ◌++◌, length, get_or, take, drop, set, sym, refl, ap, ◌∙◌, subst, true≢false, le_refl, mod-eq_of_lt, add-one, arith, length-set, get_or-set_other, eq-eqb, eqb-true}
 use lib.Ieee.{Float, nan, binary32, mul}
+use Rattle.walks.proofs.Lists.Loops.{get_d_any}
 use Rattle.common_types.specs.declared.Params.{Params}
 use Rattle.channel.specs.declared.Played.{Played}
-use Rattle.channel.specs.Channels.{live, memory_of}
+use Rattle.channel.specs.Channels.{channel_of, live, memory_of}
 use Rattle.channel.specs.declared.Channel.{Channel}
 use Rattle.channel.proofs.Samples.{moved_few}
 use Rattle.channel.specs.Channels.{process_sample_of as channel_sample_of}
@@ -11,8 +12,12 @@ use Rattle.sampler.specs.declared.Sampler.{Sampler}
 use Rattle.sampler.specs.Refusals.{channel_at, frame_number}
 use Rattle.sampler.specs.Samplers.{with_channels, memory_at, Ready, Frames, framed, entries_of, entries_moved, framed_of, frame_moved}
 use Rattle.sampler.proofs.Rows.{frame_steps, frame_few}
+use Rattle.sampler.proofs.Seats.{none}
 use Rattle.sampler.proofs.Parts.{stepped_is, output-is, moved_is, memory_is}
 use Rattle.sampler.proofs.Entries.{memory_at_length}
+use Rattle.lent_channel.specs.declared.Heard.{Heard}
+use Rattle.lent_channel.specs.Turns.{heard_of}
+use Rattle.lent_sampler.specs.Hearing.{at_volume}
 use Rattle.sampler.proofs.Framing.{Framing, framing_starts, framing_ready, framing_on, framing_ends, Summing, summing_starts, summing_on, summing_ends, frame_refused, frame_done, moved_refused, moved_done}
 
 -- how many entries are stepped
@@ -23,13 +28,11 @@ module _ (s : Sampler) (l : List Float) (p : Params) (m : List ℕ) where
   abbrev number : ℕ
   number = frame_number s (length l) p (length m)
 
-  abbrev steps : ℕ
+  abbrev pub steps : ℕ
   steps = steps_of number (length l)
 
   -- the record, the frame and the memory after i entries, u gathered
   pub record Turned (i u : ℕ) (t : Sampler) (io : List Float) (k : List ℕ) : Type 0 where
-    pub given : length s.channels ≡ 2
-    pub two : length t.channels ≡ 2
     pub capacity : t.capacity ≡ s.capacity
     pub entries : length io ≡ length l
     pub size : length k ≡ length m
@@ -38,10 +41,8 @@ module _ (s : Sampler) (l : List Float) (p : Params) (m : List ℕ) where
     pub ahead : (j : ℕ) → i ≤ j → channel_at t j ≡ channel_at s j
     pub kept : i ≡ 0 → (t ≡ s) × (io ≡ l) × (k ≡ m) × (u ≡ 0)
 
-  pub turned_starts : length s.channels ≡ 2 → Turned 0 0 s l m
-  turned_starts two = record {
-    given = two;
-    two = two;
+  pub turned_starts : Turned 0 0 s l m
+  turned_starts = record {
     capacity = refl;
     entries = refl;
     size = refl;
@@ -130,8 +131,6 @@ module _ (s : Sampler) (l : List Float) (p : Params) (m : List ℕ) where
 
       pub turned_on : Turned (suc i) ((u + played.moved) % 2 ^ 8) t' (set io i y) k'
       turned_on = record {
-        given = z.given;
-        two = length-set t.channels i played.channel ∙ z.two;
         capacity = z.capacity;
         entries = length-set io i y ∙ z.entries;
         size = long ∙ z.size;
@@ -144,3 +143,29 @@ module _ (s : Sampler) (l : List Float) (p : Params) (m : List ℕ) where
         ahead = λ j q. get_or-set_other t.channels i j played.channel _ (λ same. omega (arith, q, same)) ∙ z.ahead j (omega (arith, q));
         kept = λ q. absurd (omega (arith, q));
       }
+
+      -- the same as the code has it, which reads the channel where it stands
+      module _ (two : length t.channels ≡ 2) (j : ℕ) (is_i : j ≡ i) (d : Channel) (r : Heard) (k'' : List ℕ) (v : ℕ) where
+        abbrev c : Channel
+        c = get_or t.channels j none
+
+        abbrev part : List ℕ
+        part = take (e - a) (drop a k)
+
+        c_is : c ≡ channel_at t i
+        c_is = ap (λ (n : ℕ). get_or t.channels n none) is_i ∙ get_d_any t.channels i none (channel_of (record { auto_passthru = false })) (omega (arith, two, (turned_low h).0))
+
+        pub turned_next : r ≡ at_volume p (heard_of (channel_sample_of p x c part)) → d ≡ (channel_sample_of p x c part).channel
+            → k'' ≡ take a k ++ (memory_of x c part ++ drop (e - a) (drop a k)) → v ≡ (u + r.moved) % 2 ^ 8
+            → Turned (i + 1) v (with_channels (set t.channels j d) t) (set io i r.output) k''
+        turned_next gives becomes leaves moves =
+            let is_r : r ≡ at_volume p (heard_of played) = gives ∙ ap (λ (b : Channel). at_volume p (heard_of (channel_sample_of p x b part))) c_is in
+            let is_d : d ≡ played.channel = becomes ∙ ap (λ (b : Channel). (channel_sample_of p x b part).channel) c_is in
+            let is_k : k'' ≡ k' = leaves ∙ ap (λ (b : Channel). take a k ++ (memory_of x b part ++ drop (e - a) (drop a k))) c_is in
+            let is_t : with_channels (set t.channels j d) t ≡ t' = λ q. with_channels (set t.channels (is_i q) (is_d q)) t in
+            let is_v : v ≡ (u + played.moved) % 2 ^ 8 = moves ∙ ap (λ (b : Heard). (u + b.moved) % 2 ^ 8) is_r in
+            subst (λ (n : ℕ). Turned n v (with_channels (set t.channels j d) t) (set io i r.output) k'') (sym (add-one i))
+            (subst (λ (n : ℕ). Turned (suc i) n (with_channels (set t.channels j d) t) (set io i r.output) k'') (sym is_v)
+            (subst (λ (b : Sampler). Turned (suc i) ((u + played.moved) % 2 ^ 8) b (set io i r.output) k'') (sym is_t)
+            (subst (λ (b : Heard). Turned (suc i) ((u + played.moved) % 2 ^ 8) t' (set io i b.output) k'') (sym is_r)
+            (subst (λ (b : List ℕ). Turned (suc i) ((u + played.moved) % 2 ^ 8) t' (set io i y) b) (sym is_k) turned_on))))

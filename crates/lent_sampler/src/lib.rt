@@ -3,7 +3,7 @@
 // question answered, and no channel is copied. What takes a record, a channel or a list of records lent is proved by hand.
 #![tactic(auto)]
 
-ghost use Rattle.std.specs.Prelude.{◌≡◌, ◌+◌, ◌-◌, ◌*◌, ◌%◌, ◌^◌, ◌<◌, ◌≤◌, true, [], ◌∷◌, ◌++◌, length, take, drop, if◌then◌else◌, nat_eq, slice_range};
+ghost use Rattle.std.specs.Prelude.{◌≡◌, ◌+◌, ◌-◌, ◌*◌, ◌%◌, ◌^◌, ◌<◌, ◌≤◌, true, [], ◌∷◌, ◌++◌, length, take, drop, if◌then◌else◌, nat_eq, min, slice_range};
 ghost use Rattle.sampler.specs.Samplers.{
   start_playing_of,
   stop_playing_of,
@@ -26,6 +26,7 @@ ghost use Rattle.sampler.specs.Samplers.{
 };
 ghost use Rattle.sampler.specs.Samplers.{process_sample_of as sample_of};
 ghost use Rattle.sampler.specs.Refusals.{
+  channel_at,
   change_rows,
   change_number,
   gather_number,
@@ -34,7 +35,7 @@ ghost use Rattle.sampler.specs.Refusals.{
   frame_number,
   run_done,
 };
-ghost use Rattle.channel.specs.Channels.{process_sample_of, memory_of};
+ghost use Rattle.channel.specs.Channels.{live, process_sample_of, memory_of};
 ghost use Rattle.binary32.specs.Leaves.{zero32};
 ghost use Rattle.binary32.specs.Leaves.{as_float};
 ghost use Rattle.common_types.specs.Notes.{into_u64_of};
@@ -178,7 +179,8 @@ fn seen_of(count: usize, capacity: usize, first: bool, second: bool, one: Head, 
 
 // What is read of a record before a call, with no channel copied.
 fn look(s: &Sampler) -> Seen
-    ensures { result ≡ seen_of s.now }
+    ensures seen { result ≡ seen_of s.now }
+    ensures two { length s.now.channels ≡ 2 }
 {
     let capacity = s.capacity;
     let first = lent_channel::good(&s.channels[0], capacity);
@@ -473,7 +475,8 @@ fn listed_next(n: usize, v: Voice, all: bool) -> usize
 
 // How many voices are listed: all, or those that aren't finished.
 fn count_of(c: &Channel, all: bool) -> usize
-    ensures { result ≡ count_in all c.now }
+    ensures counted { result ≡ count_in all c.now }
+    ensures whole { length (live c.now) ≡ min c.now.count 32 }
 {
     let n = channel::places(c.count);
     let mut k: usize = 0;
@@ -486,7 +489,8 @@ fn count_of(c: &Channel, all: bool) -> usize
 }
 
 fn count_at(s: &Sampler, channel: usize, all: bool) -> usize
-    ensures { result ≡ count_in all (seated s.now channel) }
+    ensures counted { result ≡ count_in all (seated s.now channel) }
+    ensures whole { length (live (seated s.now channel)) ≡ min (seated s.now channel).count 32 }
 {
     let j = seat(channel);
     count_of(&s.channels[j], all)
@@ -523,8 +527,9 @@ fn listing_of(
 
 // What is asked of a list of voices, or of those that aren't finished, with no channel copied.
 fn list_asked(s: &Sampler, channel: usize, beyond: bool, all: bool, room: usize) -> Listing
-    ensures { result ≡ listing_by (seen_of s.now) channel beyond
+    ensures asked { result ≡ listing_by (seen_of s.now) channel beyond
         (count_in true (seated s.now channel)) (count_in all (seated s.now channel)) room }
+    ensures whole { length (live (seated s.now channel)) ≡ min (seated s.now channel).count 32 }
 {
     let t = look(s);
     let turns = count_at(s, channel, true);
@@ -658,7 +663,9 @@ fn surveyed(seen: Seen, first: Beside, second: Beside) -> Surveyed
 
 // What a read asks of a record, with no channel copied.
 fn survey(s: &Sampler) -> Surveyed
-    ensures { result ≡ survey_of s.now }
+    ensures surveyed { result ≡ survey_of s.now }
+    ensures two { length s.now.channels ≡ 2 }
+    ensures eight { length (channel_at s.now 1).table ≡ 8 }
 {
     let seen = look(s);
     let capacity = s.capacity;

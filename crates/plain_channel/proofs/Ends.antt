@@ -1,5 +1,5 @@
--- Turns behind some voices: where they begin, what they have come to where none is left, and a channel whose voices are all ahead, which stays as it is. Assumes nothing.
-use mathlib.Core.Path.{◌≡◌, refl, sym, ◌∙◌, ap}
+-- Turns behind some voices: where they begin (`together_first`, with the positions), what they have come to where none is left, and a channel whose voices are all ahead, which stays as it is. Assumes nothing.
+use mathlib.Core.Path.{◌≡◌, refl, sym, ◌∙◌, ap, ap₂, subst}
 use Prim.Native.Nat.{ℕ, ◌+◌, ◌-◌, ◌≤◌, min, zero-le}
 use native.Mathlib.Nat.{le_refl, add-zero}
 use native.Mathlib.Omega.{arith}
@@ -13,12 +13,15 @@ use Rattle.walks.specs.Walks.{without, behind}
 use Rattle.plain_voice.specs.declared.Hot.{Hot}
 use Rattle.channel.specs.declared.Channel.{Channel}
 use Rattle.channel.specs.declared.Played.{Played}
-use Rattle.channel.specs.Channels.{with_voices, Turning, kept_of, tidied_of, taken_of}
+use Rattle.common_types.specs.declared.Params.{Params}
+use Rattle.channel.specs.Channels.{with_voices, Turning, turning_in, kept_of, tidied_of, taken_of}
 use Rattle.channel.proofs.Turns as T
 use Rattle.lent_channel.specs.declared.Going.{Going}
 use Rattle.lent_channel.specs.Turns.{glided_to, moved_by, Stands, rest_by, rest_of, heard_of}
+use Rattle.plain_channel.specs.declared.Pour.{Pour}
 use Rattle.plain_channel.specs.declared.Side.{Side}
-use Rattle.plain_channel.specs.Sides.{with_hots, rest_hots}
+use Rattle.plain_channel.specs.Sides.{with_hots, rest_hots, Together}
+use Rattle.plain_channel.specs.Ahead.{PlaysFrom}
 use Rattle.plain_channel.proofs.Sides.{hots_end}
 
 -- turns may begin behind any of the voices
@@ -67,3 +70,25 @@ module _ (s : Turning) (c : Channel) (e : ℕ) (first : Float) (inside : e ≤ m
 pub taken_some : (m : List ℕ) (e : ℕ) (c : Channel) → e ≤ min c.count 32 → e ≤ min (taken_of m c).count 32
 unfolding taken_of
 taken_some m e c some = some
+
+-- ---- turns that have gone on together till none is left give what `play` promises
+pub played_from : (p : Params) (m : List ℕ) (e : ℕ) (first : Float) (c : Channel) (k : Side) (n : ℕ) (d : Channel) (l : Side) (g : Going) (moved : ℕ)
+    → n ≡ min c.count 32 → Together (turning_in p c m) n c k (glided_to e first) d l g → n ≤ g.place → moved ≡ moved_by g
+    → PlaysFrom p m e first c k (record { output = g.output; moved = moved }) (with_voices d.voices g.kept d) l
+played_from p m e first c k n d l g moved all on none is_moved =
+    let s : Turning = turning_in p c m in
+    let end : g.place ≡ n = omega (arith, on.onward.stands.inside, none) in
+    let ended : record { channel = with_voices d.voices g.kept d; output = g.output; moved = moved_by g } ≡ rest_of s (min c.count 32) c (glided_to e first) =
+    sym (rest_end s n d g end) ∙ on.onward.same ∙ ap (λ (j : ℕ). rest_of s j c (glided_to e first)) all in
+    record {
+      heard = ap (λ (j : ℕ). record { output = g.output; moved = j }) is_moved ∙ ap heard_of ended;
+      channel = ap (λ (r : Played). r.channel) ended;
+      side = ap₂ (λ (hs : List Hot) (u : Pour). record { hots = hs; pour = u }) (sym (hots_end s n d l g end) ∙ on.same ∙ ap (λ (j : ℕ). rest_hots s j c k (glided_to e first)) all) on.pour;
+    }
+
+-- and where they begin
+pub together_first : (p : Params) (m : List ℕ) (e : ℕ) (first : Float) (c : Channel) (k : Side) (n : ℕ) (g : Going) → n ≡ min c.count 32 → e ≤ min c.count 32 → g ≡ glided_to e first
+    → Together (turning_in p c m) n c k (glided_to e first) c k g
+together_first p m e first c k n g all inside is =
+    subst (Together (turning_in p c m) n c k (glided_to e first) c k) (sym is)
+    (record { onward = record { stands = from_there n e first (omega (arith, all)) (omega (arith, all, inside)); same = refl }; same = refl; pour = refl })

@@ -1,6 +1,7 @@
 pub mod Sides
 pub mod Hotting
 pub mod Togethers
+pub mod Gliding
 pub mod Judging
 pub mod Ends
 pub mod Firsts

@@ -176,6 +176,7 @@ fn stretch(c: &mut Channel, side: &mut Side, t: Tick, g: Going, n: usize, data: 
     ensures { (g.place < result.place)
         × GoTogether t «data».now n c.old side.old g c.new side.new result }
 {
+    prove!(c.voices[g.place].phrase == t.phrase);
     if g.glides {
         let p = side.hots[g.place];
         if p.plain {

@@ -27,7 +27,7 @@ use Rattle.smf.specs.declared.chunks.Found.TheVariants as found
 use Rattle.smf.specs.declared.chunks.Verdict.TheVariants.{Good, Broken}
 use Rattle.smf.proofs.Inside.{both}
 use Rattle.smf.proofs.Promised.{promised}
-use Rattle.song_grammar.specs.Grammar.{Track, Chunk, MTrk, Header, Aliens, File}
+use Rattle.song_grammar.specs.Grammar.{Chunk, MTrk, Header, Aliens, File}
 use Rattle.song_grammar.specs.Grammar.Aliens.{none}
 use Rattle.song_grammar.specs.Grammar.File.{file}
 use Rattle.song_grammar.specs.First.{OpenedSong, Due, FirstFault}

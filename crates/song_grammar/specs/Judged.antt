@@ -1,6 +1,6 @@
 -- What is proved of the reader's verdicts by the grammar: `proofs/Judged: judged` proves the record `Judged`.
 -- Definitions only.
-use Rattle.std.specs.Prelude.{◌≡◌, true, List, [], ◌↔◌, ℕ, ◌+◌, ◌*◌, ◌≤◌, ◌<◌, length, take}
+use Rattle.std.specs.Prelude.{◌≡◌, true, List, [], ◌↔◌, ℕ, ◌+◌, ◌*◌, ◌≤◌, length, take}
 use Rattle.octets.specs.Octets.{Bytes}
 use Rattle.smf.specs.Faults.{refusal_of}
 use Rattle.smf.specs.Cues.{song_of, good_rate, counted_judged, cues_number}

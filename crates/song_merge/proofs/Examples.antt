@@ -2,14 +2,13 @@
 -- same bytes. Assumes nothing.
 use mathlib.Core.Path.{◌≡◌, refl}
 use mathlib.Core.List.{List, [], ◌∷◌, ◌++◌, map}
-use Prim.Native.Nat.{ℕ}
 use Prim.Native.String.{String}
 use lib.ListN.{length}
 use Rattle.octets.proofs.Hex.{from_hex}
 use Rattle.smf.specs.Files.{track_of}
 use Rattle.smf.specs.Promised.{Timed, timed_of}
 use Rattle.smf.proofs.Examples.{computing}
-use Rattle.song_merge.specs.Merges.{among, merged_of, merged_with, merged_all, Ticked, ticks_of}
+use Rattle.song_merge.specs.Merges.{among, merged_of, merged_with, merged_all}
 use Rattle.song_merge.specs.Written.{delta_bytes}
 
 abbrev events : String → List Timed

@@ -16,7 +16,7 @@ use Rattle.smf.specs.declared.fields.Quantity.TheVariants as quantity
 use Rattle.smf.specs.declared.events.Read.{Read}
 use Rattle.smf.specs.declared.events.Read.TheVariants.{Is, End, Broken}
 use Rattle.smf.proofs.Inside.{both, Inside, event_inside, quantity_ends}
-use Rattle.song_grammar.specs.Grammar.{Quantity, OneEvent}
+use Rattle.song_grammar.specs.Grammar.{OneEvent}
 use Rattle.song_grammar.proofs.Segments.{From, from_length, split}
 use Rattle.song_grammar.proofs.Shown.{Counts, counts}
 use Rattle.song_grammar.proofs.Taken.{some_bytes, digits_taken, event_taken, end_event}

@@ -1,7 +1,7 @@
 -- Which of two tracks goes on, and what is then left of both. Assumes nothing.
 use mathlib.Core.Path.{◌≡◌, refl, ap}
 use mathlib.Core.List.{List, [], ◌∷◌}
-use Prim.Native.Nat.{ℕ, ◌-◌, ◌≤◌, ◌<◌}
+use Prim.Native.Nat.{ℕ, ◌≤◌, ◌<◌}
 use borrow.Author.Tests.{le-leb, lt-leb}
 use Rattle.smf.specs.Promised.{Timed}
 use Rattle.song_merge.specs.Merges.{sooner, among, merged_of}

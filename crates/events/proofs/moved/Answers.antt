@@ -12,8 +12,7 @@ loop-i-init c = (search rules, refl, refl, refl)
 
 pub loop-i-preserved : goal.loop-i-preserved
 loop-i-preserved c =
-    let l = c.loop-i in
-    (
+    let l = c.loop-i in (
       search rules,
       search rules,
       moved_front l.input c.args.input.now c.args.used l.i (omega arith) l.invariant.1 l.invariant.2 l.invariant.3,

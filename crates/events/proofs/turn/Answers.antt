@@ -17,8 +17,7 @@ feed-fed-requires c =
 
 pub moved-requires : goal.moved-requires
 moved-requires c =
-    let read = c.read_Some in
-    (
+    let read = c.read_Some in (
       omega (arith, c.feed-fed.ensures.used, length-take (c.args.run.have + read.result) read.new.0),
       omega (arith, read.ensures.0, read.auto.0),
     )

@@ -13,4 +13,8 @@ unfolding rested_of rested_in
 returns c =
     let all : length c.args.c.now.voices ≡ 32 = search rules in
     let inside : c.args.g.place < length c.args.c.now.voices = let few = c.requires.0 in omega (arith, all, few) in
-    (refl, ap (λ (v : Voice). with_voices (set c.args.c.now.voices c.args.g.kept v) c.args.c.now.count c.args.c.now) (get_d_any c.args.c.now.voices c.args.g.place none blank_voice inside))
+    record {
+      next = refl;
+      channel = ap (λ (v : Voice). with_voices (set c.args.c.now.voices c.args.g.kept v) c.args.c.now.count c.args.c.now) (get_d_any c.args.c.now.voices c.args.g.place none blank_voice inside);
+      all = all;
+    }

@@ -1,7 +1,8 @@
 -- `second_begins` meets its contract: of two channels the second is a good one. Assumes nothing.
-use Rattle.std.proofs.Common.{ℕ, ◌+◌, false, length, get_or, refl, ap, ◌∙◌, le_trans, le_of_eq, arith, rules, ne_eqb}
+use Rattle.std.proofs.Common.{◌≡◌, ℕ, ◌+◌, false, length, get_or, refl, ap, ◌∙◌, le_trans, le_of_eq, arith, rules, ne_eqb}
 use Rattle.walks.proofs.Lists.Loops.{long, get_d_any}
 use Rattle.channel.specs.declared.Channel.{Channel}
+use Rattle.channel.specs.contracts.Channel as C
 use Rattle.channel.specs.Channels.{channel_of}
 use Rattle.sampler.proofs.Seats.{none}
 use Rattle.recordings.proofs.Element.{element}
@@ -13,9 +14,10 @@ overflow_add-result c =
     let s = c.args.s in
     let two = c.if-s-eq2.true in
     let seats = c.well_formed.0.1.1.0.1.0.1 in
-    let held = element _ _ s.channels _ 1 none (omega (arith, seats)) c.well_formed.0.1.1.0.1.1 in
+    let table : length (get_or s.channels 1 none).table ≡ 8 =
+    (element (C.the_row).own_val s.channels c.well_formed.0.1.1.0.0 1 none (omega (arith, seats)) c.well_formed.0.1.1.0.1.1).1.1.1.1.0.1.0.1 in
     let past : Channel = channel_of (record { auto_passthru = false }) in
-    let eight = ap (λ (d : Channel). length d.table) (get_d_any s.channels 1 past none (omega (arith, seats))) ∙ long _ (get_or s.channels 1 none).table 8 held.1.1.1.1.0.1.0.1 in
+    let eight = ap (λ (d : Channel). length d.table) (get_d_any s.channels 1 past none (omega (arith, seats))) ∙ table in
     let small = le_trans (le_of_eq (ap (λ (n : ℕ). s.capacity + n) c.begins.ensures ∙ second_begins_there s two seats none)) (second_begins_small s two c.requires eight) in
     search rules
 

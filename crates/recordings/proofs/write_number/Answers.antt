@@ -1,7 +1,6 @@
 -- `write_number` meets its contract: the request's rows in their order. Assumes nothing.
 use Rattle.std.proofs.Common.{◌≡◌, ℕ, ◌*◌, ◌^◌, ◌≤◌, true, sym, ap, ◌∙◌, le_trans, le_of_eq, arith, rules}
 use Rattle.wave.specs.declared.Layout.{Layout}
-use Rattle.sampler.proofs.Rows.{is_true}
 use Rattle.questions.specs.declared.Seen.{Seen}
 use Rattle.questions.specs.Sights.{good_in}
 use Rattle.questions.proofs.Seats.{seated}
@@ -16,16 +15,16 @@ pub returns-then-not-good_in : goal.returns-then-not-good_in
 returns-then-not-good_in c = simp (← c.good_in.ensures, c.if-not-good_in.true)
 
 pub layout-l-requires : goal.layout-l-requires
-layout-l-requires c = (seated _ _ (sym c.good_in.ensures ∙ is_true _ c.if-not-good_in.false)).sound
+layout-l-requires c = (seated _ _ (sym c.good_in.ensures ∙ c.if-not-good_in.false)).sound
 
 pub overflow_mul-l : goal.overflow_mul-l
-overflow_mul-l c = omega (arith, few _ _ (sym c.good_in.ensures ∙ is_true _ c.if-not-good_in.false) _ c.layout-l.ensures)
+overflow_mul-l c = omega (arith, few _ _ (sym c.good_in.ensures ∙ c.if-not-good_in.false) _ c.layout-l.ensures)
 
 pub overflow_mul-l-2 : goal.overflow_mul-l-2
-overflow_mul-l-2 c = omega (arith, few _ _ (sym c.good_in.ensures ∙ is_true _ c.if-not-good_in.false) _ c.layout-l.ensures)
+overflow_mul-l-2 c = omega (arith, few _ _ (sym c.good_in.ensures ∙ c.if-not-good_in.false) _ c.layout-l.ensures)
 
 pub overflow_add-l : goal.overflow_add-l
-overflow_add-l c = omega (arith, few _ _ (sym c.good_in.ensures ∙ is_true _ c.if-not-good_in.false) _ c.layout-l.ensures)
+overflow_add-l c = omega (arith, few _ _ (sym c.good_in.ensures ∙ c.if-not-good_in.false) _ c.layout-l.ensures)
 
 pub returns : goal.returns
 returns c =

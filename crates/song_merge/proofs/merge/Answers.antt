@@ -8,51 +8,50 @@ use Rattle.song_grammar.proofs.Wholes.{Octets}
 use Rattle.song_merge.specs.Gathers.{GathersTracks}
 use Rattle.song_merge.specs.Answers.{Answers}
 use Rattle.song_merge.proofs.Answered.{refused_heading, in_file, small, refused_tracks, no_room, fits, done}
-use borrow.Author.Rules.{rules}
 use Rattle.song_merge.proofs.merge.Goals as goal
 
 pub gather-requires : goal.gather-requires
 gather-requires c = let a = c.args in
-    let octets : Octets a.file.now = (λ i. omega (arith, c.shared_slice_known-1.given i)) in
+    let octets : Octets a.file.now = (λ i. omega (arith, c.type_inv.file i)) in
     in_file a.file.now octets 0 [] _ _ _ (sym c.opening.ensures ∙ c.in-Is.is)
 
 pub overflow_sub-end : goal.overflow_sub-end
 overflow_sub-end c = let a = c.args in
-    let octets : Octets a.file.now = (λ i. omega (arith, c.shared_slice_known-1.given i)) in
-    let fit = fits a.file.now octets (length a.spare.now) c.gather.new.1.1.1.1.0 _ _ _ (sym c.opening.ensures ∙ c.in-Is.is) _ (subst (GathersTracks a.file.now _ _ (length a.spare.now) c.gather.new.1.1.1.1.0) c.in-To.is c.gather.ensures) in
+    let octets : Octets a.file.now = (λ i. omega (arith, c.type_inv.file i)) in
+    let fit = fits a.file.now octets (length a.spare.now) c.gather.new.out _ _ _ (sym c.opening.ensures ∙ c.in-Is.is) _ (subst (GathersTracks a.file.now _ _ (length a.spare.now) c.gather.new.out) c.in-To.is c.gather.ensures) in
     omega arith
 
 pub overflow_cast-end : goal.overflow_cast-end
 overflow_cast-end c = let a = c.args in
-    let octets : Octets a.file.now = (λ i. omega (arith, c.shared_slice_known-1.given i)) in
-    let fit = fits a.file.now octets (length a.spare.now) c.gather.new.1.1.1.1.0 _ _ _ (sym c.opening.ensures ∙ c.in-Is.is) _ (subst (GathersTracks a.file.now _ _ (length a.spare.now) c.gather.new.1.1.1.1.0) c.in-To.is c.gather.ensures) in
+    let octets : Octets a.file.now = (λ i. omega (arith, c.type_inv.file i)) in
+    let fit = fits a.file.now octets (length a.spare.now) c.gather.new.out _ _ _ (sym c.opening.ensures ∙ c.in-Is.is) _ (subst (GathersTracks a.file.now _ _ (length a.spare.now) c.gather.new.out) c.in-To.is c.gather.ensures) in
     omega arith
 
 pub put_heading-requires : goal.put_heading-requires
 put_heading-requires c = let a = c.args in
-    let octets : Octets a.file.now = (λ i. omega (arith, c.shared_slice_known-1.given i)) in
-    let fit = fits a.file.now octets (length a.spare.now) c.gather.new.1.1.1.1.0 _ _ _ (sym c.opening.ensures ∙ c.in-Is.is) _ (subst (GathersTracks a.file.now _ _ (length a.spare.now) c.gather.new.1.1.1.1.0) c.in-To.is c.gather.ensures) in
-    let few = small a.file.now octets (length a.spare.now) c.gather.new.1.1.1.1.0 _ _ _ (sym c.opening.ensures ∙ c.in-Is.is) in
+    let octets : Octets a.file.now = (λ i. omega (arith, c.type_inv.file i)) in
+    let fit = fits a.file.now octets (length a.spare.now) c.gather.new.out _ _ _ (sym c.opening.ensures ∙ c.in-Is.is) _ (subst (GathersTracks a.file.now _ _ (length a.spare.now) c.gather.new.out) c.in-To.is c.gather.ensures) in
+    let few = small a.file.now octets (length a.spare.now) c.gather.new.out _ _ _ (sym c.opening.ensures ∙ c.in-Is.is) in
     (omega arith, omega arith)
 
 pub returns-in-Broken : goal.returns-in-Broken
 returns-in-Broken c = let a = c.args in
-    let octets : Octets a.file.now = (λ i. omega (arith, c.shared_slice_known-1.given i)) in
+    let octets : Octets a.file.now = (λ i. omega (arith, c.type_inv.file i)) in
     subst (Answers a.file.now (length a.spare.now) a.out.now) (sym (c.refused.ensures ∙ ap (λ (n : ℕ). record { length = 0; number = n }) c.refusal.ensures))
     (refused_heading a.file.now octets (length a.spare.now) a.out.now _ (sym c.opening.ensures ∙ c.in-Broken.is))
 
 pub returns-in-Broken-gather : goal.returns-in-Broken-gather
 returns-in-Broken-gather c = let a = c.args in
-    let octets : Octets a.file.now = (λ i. omega (arith, c.shared_slice_known-1.given i)) in
+    let octets : Octets a.file.now = (λ i. omega (arith, c.type_inv.file i)) in
     subst (Answers a.file.now (length a.spare.now) _) (sym c.refused-in-Broken-gather.ensures)
-    (refused_tracks a.file.now octets (length a.spare.now) c.gather.new.1.1.1.1.0 _ _ _ (sym c.opening.ensures ∙ c.in-Is.is) (subst (GathersTracks a.file.now _ _ (length a.spare.now) c.gather.new.1.1.1.1.0) c.in-Broken-gather.is c.gather.ensures))
+    (refused_tracks a.file.now octets (length a.spare.now) c.gather.new.out _ _ _ (sym c.opening.ensures ∙ c.in-Is.is) (subst (GathersTracks a.file.now _ _ (length a.spare.now) c.gather.new.out) c.in-Broken-gather.is c.gather.ensures))
 
 pub returns-in-Short : goal.returns-in-Short
 returns-in-Short c = let a = c.args in
-    let octets : Octets a.file.now = (λ i. omega (arith, c.shared_slice_known-1.given i)) in
-    no_room a.file.now octets (length a.spare.now) c.gather.new.1.1.1.1.0 _ _ _ (sym c.opening.ensures ∙ c.in-Is.is) (subst (GathersTracks a.file.now _ _ (length a.spare.now) c.gather.new.1.1.1.1.0) c.in-Short.is c.gather.ensures)
+    let octets : Octets a.file.now = (λ i. omega (arith, c.type_inv.file i)) in
+    no_room a.file.now octets (length a.spare.now) c.gather.new.out _ _ _ (sym c.opening.ensures ∙ c.in-Is.is) (subst (GathersTracks a.file.now _ _ (length a.spare.now) c.gather.new.out) c.in-Short.is c.gather.ensures)
 
 pub returns-in-To : goal.returns-in-To
 returns-in-To c = let a = c.args in
-    let octets : Octets a.file.now = (λ i. omega (arith, c.shared_slice_known-1.given i)) in
-    done a.file.now octets (length a.spare.now) c.gather.new.1.1.1.1.0 _ _ _ (sym c.opening.ensures ∙ c.in-Is.is) _ (subst (GathersTracks a.file.now _ _ (length a.spare.now) c.gather.new.1.1.1.1.0) c.in-To.is c.gather.ensures) _ c.put_heading.ensures
+    let octets : Octets a.file.now = (λ i. omega (arith, c.type_inv.file i)) in
+    done a.file.now octets (length a.spare.now) c.gather.new.out _ _ _ (sym c.opening.ensures ∙ c.in-Is.is) _ (subst (GathersTracks a.file.now _ _ (length a.spare.now) c.gather.new.out) c.in-To.is c.gather.ensures) _ c.put_heading.ensures

@@ -27,8 +27,7 @@ loop-turns-smaller c = omega (arith, c.loop-turns-test.true)
 
 pub loop-turns-preserved : goal.loop-turns-preserved
 loop-turns-preserved c =
-    let one = c.one-fed in
-    (
+    let one = c.one-fed in (
       search rules,
       search rules,
       goes_next c.loop-turns.invariant.2 c.loop-turns-test.true (sym c.goes_on.ensures ∙ c.if-goes_on.true) one.ensures (search rules),

@@ -14,9 +14,9 @@ pub returns-then-print : goal.returns-then-print
 unfolding print_error_info_of text_after line_of
 returns-then-print c = let text = text_is c.args.self _ c.error_text-line.ensures (omega arith) (omega arith) in
     let size = ap (λ (l : Line). l.length) c.error_text-line.ensures ∙ ap length (sym text) in
-    (simp (← text, ← c.print.ensures.0, c.if-print.true) (ap Written size), c.print.ensures.1 ∙ rw text)
+    record { value = simp (← text, ← c.print.ensures.value, c.if-print.true) (ap Written size); text_after = c.print.ensures.lent_after ∙ rw text }
 
 pub returns-else-print : goal.returns-else-print
 unfolding print_error_info_of text_after
 returns-else-print c = let text = text_is c.args.self _ c.error_text-line.ensures (omega arith) (omega arith) in
-    (simp (← text, ← c.print.ensures.0, c.if-print.false), c.print.ensures.1 ∙ rw text)
+    record { value = simp (← text, ← c.print.ensures.value, c.if-print.false); text_after = c.print.ensures.lent_after ∙ rw text }

@@ -6,16 +6,16 @@ use Rattle.recorder.proofs.Recorder.with_sample.Goals as goal
 
 pub returns-in_default : goal.returns-in_default
 unfolding recorded_of data_after
-returns-in_default c = (simp (c.in_default.is, c.copied.ensures), simp c.in_default.is)
+returns-in_default c = record { value = simp (c.in_default.is, c.copied.ensures); data_after = simp c.in_default.is }
 
 pub returns-then-data-write : goal.returns-then-data-write
 unfolding recorded_of data_after skipped_of
 returns-then-data-write c =
     let is = c.in-Triggered.is in
-    (simp (is, le-ltb _ _ c.if-data-write.true, c.raised_count.ensures), simp (is, le-ltb _ _ c.if-data-write.true))
+    record { value = simp (is, le-ltb _ _ c.if-data-write.true, c.raised_count.ensures); data_after = simp (is, le-ltb _ _ c.if-data-write.true) }
 
 pub returns : goal.returns
 unfolding recorded_of data_after in_state
 returns c =
     let is = c.in-Triggered.is in
-    (simp (is, lt-ltb _ _ c.if-data-write.false, c.larger.ensures), simp (is, lt-ltb _ _ c.if-data-write.false))
+    record { value = simp (is, lt-ltb _ _ c.if-data-write.false, c.larger.ensures); data_after = simp (is, lt-ltb _ _ c.if-data-write.false) }

@@ -1,7 +1,6 @@
 -- `chunk_end` meets its contract. Assumes nothing.
 use native.Mathlib.Omega.{arith}
 use Rattle.song_merge.proofs.Tracks.{no_chunk, a_chunk, a_broken}
-use borrow.Author.Rules.{rules}
 use Rattle.song_merge.proofs.chunks.chunk_end.Goals as goal
 
 pub returns-then-all-at-lt8 : goal.returns-then-all-at-lt8

@@ -1,7 +1,6 @@
 -- `opening` meets its contract: each return is its rule. Assumes nothing.
 use borrow.Author.Tests.{lt-ltb, le-ltb, eq-eqb, ne_eqb}
 use Rattle.song_merge.specs.Headings.{opening_of}
-use borrow.Author.Rules.{rules}
 use Rattle.song_merge.proofs.chunks.opening.Goals as goal
 
 pub returns-then-all-lt4 : goal.returns-then-all-lt4

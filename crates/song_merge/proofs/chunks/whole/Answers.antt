@@ -1,17 +1,12 @@
 -- `whole` meets its contract. The invariant: what is left makes a track of the whole, and the whole leaves a track (`Tracks: Walks`). Assumes nothing.
 use mathlib.Core.Path.{sym, ◌∙◌}
-use Prim.Native.Nat.{◌-◌}
 use native.Mathlib.Omega.{arith}
-use borrow.Author.Rules.{rules}
 use Rattle.smf.proofs.Inside.{step-ends}
-use Rattle.song_merge.proofs.Tracks.{Walks, walks, walks_on, walks_over, walks_broken}
+use Rattle.song_merge.proofs.Tracks.{walks, walks_on, walks_over, walks_broken}
 use Rattle.song_merge.proofs.chunks.whole.Goals as goal
 
 pub loop-next-init : goal.loop-next-init
 loop-next-init c = walks c.args.file.now c.args.end c.args.at (omega arith)
-
-pub step_at-requires : goal.step_at-requires
-step_at-requires c = omega arith
 
 pub returns-in-Broken : goal.returns-in-Broken
 returns-in-Broken c = walks_broken _ _ _ _ _ c.loop-next.invariant _ (sym c.step_at.ensures ∙ c.in-Broken.is)

@@ -1,9 +1,5 @@
-use mathlib.Core.Path.{sym, ◌∙◌}
 use Prim.Native.Nat.{◌-◌}
-use native.Mathlib.Omega.{arith}
-use borrow.Author.Rules.{rules}
-use Rattle.smf.proofs.Inside.{step-ends}
-use Rattle.song_merge.proofs.Tracks.{Walks, walks, walks_on, walks_over, walks_broken}
+use Rattle.song_merge.proofs.Tracks.{Walks}
 use Rattle.song_merge.proofs.chunks.whole.Given as goal
 
 abbrev pub invariant-loop-next : goal.invariant-loop-next

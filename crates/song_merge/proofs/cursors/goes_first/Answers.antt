@@ -1,7 +1,6 @@
 -- `goes_first` meets its contract. Assumes nothing.
 use mathlib.Core.Path.{◌≡◌}
 use mathlib.Core.Bool.{false}
-use borrow.Author.Rules.{rules}
 use Rattle.song_merge.proofs.cursors.goes_first.Goals as goal
 
 pub returns : goal.returns

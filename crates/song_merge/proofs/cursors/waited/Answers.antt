@@ -2,7 +2,6 @@
 use mathlib.Core.Path.{◌≡◌}
 use Prim.Native.Nat.{◌-◌}
 use native.Mathlib.Omega.{arith}
-use borrow.Author.Rules.{rules}
 use Rattle.song_merge.proofs.cursors.waited.Goals as goal
 
 pub returns-else-ticks-c : goal.returns-else-ticks-c

@@ -1,7 +1,6 @@
 -- `closed` meets its contract. Assumes nothing.
 use borrow.Author.Tests.{lt-ltb, le-ltb, eq-eqb, ne_eqb}
 use Rattle.song_merge.specs.Gathers.{gathered_to}
-use borrow.Author.Rules.{rules}
 use Rattle.song_merge.proofs.merging.closed.Goals as goal
 
 pub returns-then-end-eq0 : goal.returns-then-end-eq0

@@ -1,20 +1,12 @@
 -- `join` meets its contract. Assumes nothing.
-use borrow.Author.Rules.{rules}
 use mathlib.Core.Path.{sym, ◌∙◌}
 use mathlib.Core.List.{[]}
-use Prim.Native.Nat.{◌+◌, ◌-◌}
 use native.Mathlib.Omega.{arith}
-use Rattle.song_merge.proofs.Joins.{Going, begins, left_of, first_true, left_stops, right_stops, over_stops, over_ends, left_again, right_again, left_less, right_less}
+use Rattle.song_merge.proofs.Joins.{begins, first_true, left_stops, right_stops, over_stops, over_ends, left_again, right_again, left_less, right_less}
 use Rattle.song_merge.proofs.merging.join.Goals as goal
 
-pub look-x-requires : goal.look-x-requires
-look-x-requires c = omega arith
-
-pub look-y-requires : goal.look-y-requires
-look-y-requires c = omega arith
-
 pub loop-x-init : goal.loop-x-init
-loop-x-init c = begins _ _ _ _ _ _ _ _ c.look-x.ensures c.look-y.ensures
+loop-x-init c = begins _ _ _ _ _ _ _ _ (c.look-x.ensures.cursor_placed, c.look-x.ensures.views) (c.look-y.ensures.cursor_placed, c.look-y.ensures.views)
 
 pub overflow_sub-room : goal.overflow_sub-room
 overflow_sub-room c = let g = c.loop-x.invariant in
@@ -32,9 +24,6 @@ overflow_add-x c = let a = c.args in
     let up = l.invariant.left.going first.0 in
     omega (arith, c.requires.0)
 
-pub shape_of-out-then-room-w : goal.shape_of-out-then-room-w
-shape_of-out-then-room-w c = c.loop-x.invariant.kept
-
 pub returns-then-room-w : goal.returns-then-room-w
 returns-then-room-w c = let a = c.args in
     let l = c.loop-x in
@@ -48,28 +37,25 @@ put_event-w-requires c = let a = c.args in
     (l.invariant.left.small, l.invariant.left.up, omega arith)
 
 pub look-x-requires-then-goes_first : goal.look-x-requires-then-goes_first
-look-x-requires-then-goes_first c κs = omega (arith, c.requires.0)
+look-x-requires-then-goes_first c = omega (arith, c.requires.0)
 
 pub loop-x-smaller-then-goes_first : goal.loop-x-smaller-then-goes_first
 loop-x-smaller-then-goes_first c = let a = c.args in
     let l = c.loop-x in
-    left_less a.a.now a.a_end a.file.now a.at a.end a.out.now l.out l.x l.y l.w l.invariant c.look-x-then-goes_first.result c.waited-y.result 0 [] (sym c.goes_first.ensures ∙ c.if-goes_first.true) c.waited-y.ensures c.look-x-then-goes_first.ensures.0
+    left_less a.a.now a.a_end a.file.now a.at a.end a.out.now l.out l.x l.y l.w l.invariant c.look-x-then-goes_first.result c.waited-y.result 0 [] (sym c.goes_first.ensures ∙ c.if-goes_first.true) c.waited-y.ensures c.look-x-then-goes_first.ensures.cursor_placed
 
 pub loop-x-preserved-then-goes_first : goal.loop-x-preserved-then-goes_first
 loop-x-preserved-then-goes_first c = let a = c.args in
     let l = c.loop-x in
     let within = l.invariant.within in
     let kept = l.invariant.kept in
-    left_again a.a.now a.a_end a.file.now a.at a.end a.out.now l.out l.x l.y l.w l.invariant c.look-x-then-goes_first.result c.waited-y.result _ _ (sym c.goes_first.ensures ∙ c.if-goes_first.true) (omega arith) c.put_event-w.ensures.0 c.put_event-w.ensures.1 c.waited-y.ensures c.look-x-then-goes_first.ensures
+    left_again a.a.now a.a_end a.file.now a.at a.end a.out.now l.out l.x l.y l.w l.invariant c.look-x-then-goes_first.result c.waited-y.result _ _ (sym c.goes_first.ensures ∙ c.if-goes_first.true) (omega arith) c.put_event-w.ensures.value c.put_event-w.ensures.out_after c.waited-y.ensures (c.look-x-then-goes_first.ensures.cursor_placed, c.look-x-then-goes_first.ensures.views)
 
 pub overflow_sub-room-then-y : goal.overflow_sub-room-then-y
 overflow_sub-room-then-y c = let g = c.loop-x.invariant in
     let within = g.within in
     let kept = g.kept in
     omega arith
-
-pub shape_of-out-then-room-w-lt7 : goal.shape_of-out-then-room-w-lt7
-shape_of-out-then-room-w-lt7 c = c.loop-x.invariant.kept
 
 pub returns-then-room-w-lt7 : goal.returns-then-room-w-lt7
 returns-then-room-w-lt7 c = let a = c.args in
@@ -85,15 +71,12 @@ put_end-requires c = let a = c.args in
     let y_small = l.invariant.right.small in
     (omega (arith, c.larger.ensures), omega arith)
 
-pub shape_of-out-then-y : goal.shape_of-out-then-y
-shape_of-out-then-y c = c.put_end.auto.0 ∙ c.loop-x.invariant.kept
-
 pub returns-then-y : goal.returns-then-y
 returns-then-y c = let a = c.args in
     let l = c.loop-x in
     let within = l.invariant.within in
     let kept = l.invariant.kept in
-    over_ends a.a.now a.a_end a.file.now a.at a.end a.out.now l.out l.x l.y l.w l.invariant (sym c.goes_first.ensures ∙ c.if-goes_first.false) c.if-y.true (omega arith) _ c.larger.ensures _ _ c.put_end.ensures.0 c.put_end.ensures.1
+    over_ends a.a.now a.a_end a.file.now a.at a.end a.out.now l.out l.x l.y l.w l.invariant (sym c.goes_first.ensures ∙ c.if-goes_first.false) c.if-y.true (omega arith) _ c.larger.ensures _ _ c.put_end.ensures.value c.put_end.ensures.out_after
 
 pub overflow_sub-room-else-y : goal.overflow_sub-room-else-y
 overflow_sub-room-else-y c = let g = c.loop-x.invariant in
@@ -110,32 +93,29 @@ overflow_add-y c = let a = c.args in
     let up = l.invariant.right.going c.if-y.false in
     omega (arith, c.requires.1)
 
-pub shape_of-out-then-room-w-2 : goal.shape_of-out-then-room-w-2
-shape_of-out-then-room-w-2 c = c.loop-x.invariant.kept
-
 pub returns-then-room-w-2 : goal.returns-then-room-w-2
 returns-then-room-w-2 c = let a = c.args in
     let l = c.loop-x in
     right_stops a.a.now a.a_end a.file.now a.at a.end a.out.now l.out l.x l.y l.w l.invariant c.if-y.false (omega arith)
 
 pub put_event-w-requires-else-y : goal.put_event-w-requires-else-y
-put_event-w-requires-else-y c κs = let a = c.args in
+put_event-w-requires-else-y c = let a = c.args in
     let l = c.loop-x in
     let within = l.invariant.within in
     let kept = l.invariant.kept in
     (l.invariant.right.small, l.invariant.right.up, omega arith)
 
 pub look-y-requires-else-y : goal.look-y-requires-else-y
-look-y-requires-else-y c κs = omega (arith, c.requires.1)
+look-y-requires-else-y c = omega (arith, c.requires.1)
 
 pub loop-x-smaller : goal.loop-x-smaller
 loop-x-smaller c = let a = c.args in
     let l = c.loop-x in
-    right_less a.a.now a.a_end a.file.now a.at a.end a.out.now l.out l.x l.y l.w l.invariant c.waited-x.result c.look-y-else-y.result 0 [] c.if-y.false c.waited-x.ensures c.look-y-else-y.ensures.0
+    right_less a.a.now a.a_end a.file.now a.at a.end a.out.now l.out l.x l.y l.w l.invariant c.waited-x.result c.look-y-else-y.result 0 [] c.if-y.false c.waited-x.ensures c.look-y-else-y.ensures.cursor_placed
 
 pub loop-x-preserved : goal.loop-x-preserved
 loop-x-preserved c = let a = c.args in
     let l = c.loop-x in
     let within = l.invariant.within in
     let kept = l.invariant.kept in
-    right_again a.a.now a.a_end a.file.now a.at a.end a.out.now l.out l.x l.y l.w l.invariant c.waited-x.result c.look-y-else-y.result _ _ (sym c.goes_first.ensures ∙ c.if-goes_first.false) c.if-y.false (omega arith) c.put_event-w-else-y.ensures.0 c.put_event-w-else-y.ensures.1 c.waited-x.ensures c.look-y-else-y.ensures
+    right_again a.a.now a.a_end a.file.now a.at a.end a.out.now l.out l.x l.y l.w l.invariant c.waited-x.result c.look-y-else-y.result _ _ (sym c.goes_first.ensures ∙ c.if-goes_first.false) c.if-y.false (omega arith) c.put_event-w-else-y.ensures.value c.put_event-w-else-y.ensures.out_after c.waited-x.ensures (c.look-y-else-y.ensures.cursor_placed, c.look-y-else-y.ensures.views)

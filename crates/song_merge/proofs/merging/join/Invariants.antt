@@ -1,9 +1,5 @@
-use borrow.Author.Rules.{rules}
-use mathlib.Core.Path.{sym, ◌∙◌}
-use mathlib.Core.List.{[]}
-use Prim.Native.Nat.{◌+◌, ◌-◌}
-use native.Mathlib.Omega.{arith}
-use Rattle.song_merge.proofs.Joins.{Going, begins, left_of, first_true, left_stops, right_stops, over_stops, over_ends, left_again, right_again, left_less, right_less}
+use Prim.Native.Nat.{◌+◌}
+use Rattle.song_merge.proofs.Joins.{Going, left_of}
 use Rattle.song_merge.proofs.merging.join.Given as goal
 
 abbrev pub invariant-loop-x : goal.invariant-loop-x

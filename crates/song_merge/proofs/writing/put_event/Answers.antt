@@ -4,11 +4,10 @@ use lib.ListN.{length-append}
 use Rattle.song_merge.specs.Written.{delta_bytes, whole_event}
 use Rattle.song_merge.proofs.Bytes.{behind}
 use Rattle.song_merge.proofs.Deltas.{long_4}
-use borrow.Author.Rules.{rules}
 use Rattle.song_merge.proofs.writing.put_event.Goals as goal
 
 pub put_told-requires : goal.put_told-requires
-put_told-requires c = let kept = c.put_delta-place.auto.0 in
+put_told-requires c = let kept = c.put_delta-place.auto.out in
     let short = long_4 c.args.c.wait in
     (omega arith, omega arith)
 
@@ -16,7 +15,7 @@ pub returns : goal.returns
 returns c = let a = c.args in
     let d = delta_bytes a.c.wait in
     let t = whole_event a.list.now a.c in
-    let first = c.put_delta-place.ensures in (
-      omega (arith, c.put_told.ensures.0, first.0, length-append d t),
-      behind a.out.now d t a.at _ first.0 first.1 c.put_told.ensures.1,
-    )
+    let first = c.put_delta-place.ensures in record {
+      value = omega (arith, c.put_told.ensures.value, first.value, length-append d t);
+      out_after = behind a.out.now d t a.at _ first.value first.out_after c.put_told.ensures.out_after;
+    }

@@ -1,6 +1,5 @@
 -- `put_heading` meets its contract. Assumes nothing.
 use Rattle.octets.specs.Octets.{bytes_at}
-use borrow.Author.Rules.{rules}
 use Rattle.song_merge.proofs.writing.put_heading.Goals as goal
 
 pub returns : goal.returns

@@ -1,0 +1,22 @@
+-- `count_at` meets its contract: the channel is one of the two. Assumes nothing.
+use Rattle.std.proofs.Common.{rules, arith, ◌≡◌, length, min, ap, ◌∙◌, subst}
+use Rattle.channel.specs.declared.Channel.{Channel}
+use Rattle.channel.specs.Channels.{live}
+use Rattle.lent_sampler.specs.Lists.{count_in}
+use Rattle.lent_sampler.proofs.Lists.{seat_two, seated_there}
+use Rattle.lent_sampler.proofs.count_at.Goals as goal
+
+pub offset_bounds-s-j : goal.offset_bounds-s-j
+offset_bounds-s-j c = omega (arith, c.seat-j.ensures, seat_two c.args.channel)
+
+pub bounds-s-j : goal.bounds-s-j
+bounds-s-j c = omega (arith, c.seat-j.ensures, seat_two c.args.channel)
+
+pub returns : goal.returns
+returns c =
+    let two : length c.args.s.now.channels ≡ 2 = search rules in
+    let is = seated_there c.args.s.now c.args.channel _ two c.seat-j.ensures in
+    record {
+      counted = c.count_of.ensures.counted ∙ ap (λ (d : Channel). count_in c.args.all d) is;
+      whole = subst (λ (d : Channel). length (live d) ≡ min d.count 32) is c.count_of.ensures.whole;
+    }
