@@ -8,7 +8,7 @@ use borrow.Author.Rules.{rules}
 use Rattle.events.proofs.moved.Goals as goal
 
 pub loop-i-init : goal.loop-i-init
-loop-i-init c = (search rules, refl, refl, refl)
+loop-i-init c = (omega arith, refl, refl, refl)
 
 pub loop-i-preserved : goal.loop-i-preserved
 loop-i-preserved c =
@@ -23,8 +23,9 @@ pub returns : goal.returns
 returns c =
     let l = c.loop-i in
     let a = c.args in
-    let all : a.have - a.used ≡ l.i = omega arith in (
-      search rules,
-      ap (λ (n : ℕ). take n l.input) all ∙ l.invariant.2 ∙ ap (λ (n : ℕ). take n (drop a.used a.input.now)) (sym all)
-          ∙ sym (front_left a.used a.have a.input.now c.requires.0 c.requires.1),
-    )
+    let all : a.have - a.used ≡ l.i = omega arith in record {
+      upper_bound = omega arith;
+      input_after =
+          ap (λ (n : ℕ). take n l.input) all ∙ l.invariant.2 ∙ ap (λ (n : ℕ). take n (drop a.used a.input.now)) (sym all)
+          ∙ sym (front_left a.used a.have a.input.now c.requires.used_le_have c.requires.have_in_bounds);
+    }
