@@ -1,7 +1,6 @@
 -- `record` meets its contract: where nothing is recorded it leaves all as it is, and else what the recorder leaves is stored. Assumes nothing.
-use Rattle.std.proofs.Common.{rules, arith, ◌≡◌, length, sym, ap, ◌∙◌}
+use Rattle.std.proofs.Common.{◌≡◌, length, sym, ap, ◌∙◌}
 use Rattle.phrases.specs.declared.Beside.{Beside}
-use Rattle.phrases.specs.declared.Room.{Room}
 use Rattle.channel.specs.declared.Head.{Head}
 use Rattle.channel.specs.Heads.{written_in}
 use Rattle.channel.specs.Channels.{behind_in}
