@@ -24,8 +24,8 @@ returns-then-is_recording c =
       interpolates = h.interpolates;
       chosen = h.chosen;
     } in (
-      taken_there c.args.c.now c.args.data.now c.room-room.result is (with_after c.recorded-after.result) (ap with_after c.recorded-after.ensures.0),
-      memory_there c.args.c.now c.args.data.now c.room-room.result is c.args.input c.recorded-after.new.data c.recorded-after.ensures.1,
+      taken_there c.args.c.now c.args.data.now c.room-room.result is (with_after c.recorded-after.result) (ap with_after c.recorded-after.ensures.value),
+      memory_there c.args.c.now c.args.data.now c.room-room.result is c.args.input c.recorded-after.new.data c.recorded-after.ensures.data_after,
     )
 
 pub returns-else-is_recording : goal.returns-else-is_recording
