@@ -1,11 +1,9 @@
 -- `Channel::play` meets its contract, by the law of loops that store: each turn is a law of `Turns`. Assumes nothing.
-use mathlib.Core.Path.{◌≡◌, refl, sym, ap, ◌∙◌}
-use mathlib.Core.Logic.{⊎_elim}
-use Prim.Native.Nat.{◌≤◌, ◌-◌}
+use mathlib.Core.Path.{refl, sym, ap, ◌∙◌}
 use lib.ListN.{get_or}
 use lib.Ieee.{of_bits}
-use Rattle.walks.proofs.Lists.Loops.{Walk, turns, stores, ends, long, begins}
-use Rattle.channel.specs.Channels.{with_voices, live, phrase_at, turning_in}
+use Rattle.walks.proofs.Lists.Loops.{turns, stores, ends, begins}
+use Rattle.channel.specs.Channels.{with_voices, phrase_at, turning_in}
 use Rattle.channel.specs.declared.Channel.{Channel}
 use Rattle.channel.specs.declared.Turned.{Turned}
 use Rattle.channel.proofs.Slots.{none}
