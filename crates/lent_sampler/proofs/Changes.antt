@@ -54,7 +54,7 @@ module _ (s : Sampler) (x : Change) where
 
   -- where no channel is changed the record is as it was
   none_taken : (number : ℕ) → cond (eqb number 0) (min s.count 2) 0 ≡ 0 → s ≡ (answer_of number x s).sampler
-  unfolding answer_of
+  unfolding answer_of each_of
   none_taken number h = go (eqb number 0) h
     where
       go : (b : Bool) → cond b (min s.count 2) 0 ≡ 0 → s ≡ cond b (each_of x s) s
@@ -64,7 +64,7 @@ module _ (s : Sampler) (x : Change) where
       go false e = refl
 
   leaves : (number : ℕ) → length s.channels ≡ 2 → each_from x s 0 (take (cond (eqb number 0) (min s.count 2) 0) s.channels) ≡ (answer_of number x s).sampler
-  unfolding answer_of
+  unfolding answer_of each_of
   leaves number two = go (eqb number 0)
     where
       go : (b : Bool) → each_from x s 0 (take (cond b (min s.count 2) 0) s.channels) ≡ cond b (each_of x s) s

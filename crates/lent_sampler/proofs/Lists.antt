@@ -74,6 +74,10 @@ pub finished_so : (b : Bool) → not b ≡ false → b ≡ true
 finished_so true h = refl
 finished_so false h = absurd (true≢false h)
 
+pub unfinished_so : (b : Bool) → not b ≡ true → b ≡ false
+unfinished_so true h = absurd (true≢false (sym h))
+unfinished_so false h = refl
+
 pub is_listed : (all f : Bool) → (all || not f) ≡ true → cond all false f ≡ false
 is_listed true f h = refl
 is_listed false true h = absurd (true≢false (sym h))
@@ -248,6 +252,17 @@ notes_fit true true c room i h = go (ltb room (count_in false c)) refl h
         let rises : listed_count false (take (i + 1) c.voices) ≤ count_in false c = count_rises false (i + 1) c.count c.voices (omega (arith, low, length-take c.count c.voices)) in
         (omega (arith, low, length-take c.count c.voices), omega (arith, rises, ltb-false room (count_in false c) e))
 
+-- how many voices are looked at, each of them in use
+abbrev pub note_turns : Sampler → ℕ → ℕ → ℕ
+note_turns s j room = cond (eqb (note_rows (good_sampler s) (ltb j s.count) (seated s j) room) 0) (count_in true (seated s j)) 0
+
+taken : (b : Bool) (n i : ℕ) → i < cond b n 0 → i < n
+taken true n i h = h
+taken false n i h = absurd (omega (arith, h))
+
+pub few_looked : (b : Bool) (c : Channel) (i : ℕ) → length (live c) ≡ min c.count 32 → i < cond b (count_in true c) 0 → i < 32
+few_looked b c i whole h = omega (arith, taken b (count_in true c) i h, count_all (live c), whole)
+
 -- so the list stays as long as it is
 pub notes_long : (good there : Bool) (c : Channel) (lent : List ℕ)
     → length (noted_upto c.voices lent (cond (eqb (note_rows good there c (length lent)) 0) (count_in true c) 0)) ≡ length lent
@@ -358,6 +373,10 @@ module _ (p : Params) (a : Channel) where
             (infos_counted (cond b (voice_infos_of p a c) (infos_with no_infos 0 m)), listed_of (cond b (voice_infos_of p a c) (infos_with no_infos 0 m)) lent)
         go true e = ap₂ (λ (r : Counted) (ys : List VoiceInfo). (r, ys)) (ap counted.Done (count_all (live c) ∙ full)) front_so
         go false e = ap (λ (r : Counted). (r, lent)) (sym (ap (λ (b : Bool). cond b (counted.Done 0) (counted.Refused m)) e))
+
+-- how many voices are looked at
+abbrev pub info_turns : Sampler → ℕ → Params → ℕ → ℕ
+info_turns s j p room = cond (eqb (info_rows p (channel_at s 0) (good_sampler s) (ltb j s.count) (seated s j) room) 0) (count_in true (seated s j)) 0
 
 module _ (s : Sampler) (j : ℕ) (p : Params) (lent : List VoiceInfo) (all : length (live (seated s j)) ≡ min (seated s j).count 32) where
   abbrev first : Channel

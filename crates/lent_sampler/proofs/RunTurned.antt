@@ -27,7 +27,7 @@ module _ (s : Sampler) (l : List Float) (p : Params) (m : List ℕ) where
   abbrev frames : ℕ
   frames = (run_answer s (length l) p (length m)).frames
 
-  abbrev steps : ℕ
+  abbrev pub steps : ℕ
   steps = frames * s.count
 
   abbrev seat : ℕ → ℕ

@@ -1,5 +1,5 @@
 -- What a sample of one channel of a lent record leaves, refused or not, by the laws of `sampler`. Assumes nothing.
-use Rattle.std.proofs.Common.{◌≡◌, ℕ, ◌+◌, ◌-◌, ◌*◌, ◌<◌, ◌≤◌, Bool, cond, List, ◌++◌, length, get_or, take, drop, set, sym, refl, ap, ◌∙◌, subst, arith, eq-eqb, ne_eqb}
+use Rattle.std.proofs.Common.{◌≡◌, ℕ, ◌+◌, ◌-◌, ◌*◌, ◌<◌, ◌≤◌, Bool, false, cond, List, ◌++◌, length, get_or, take, drop, set, sym, refl, ap, ◌∙◌, subst, arith, eq-eqb, ne_eqb}
 use lib.Ieee.{Float, binary32, mul}
 use Rattle.binary32.specs.Leaves.{zero32}
 use Rattle.walks.proofs.Lists.Loops.{get_d_any}

@@ -1,5 +1,9 @@
 -- What a read leaves is `read_wave_of`: it makes a change that is accepted where the read is, and one that is refused where it isn't. Assumes nothing.
-use Rattle.std.proofs.Common.{◌≡◌, ℕ, Bool, true, false, cond, not, eqb, leb, List, [], ◌∷◌, length, refl, ap, ◌∙◌, arith, eqb-true}
+use Rattle.std.proofs.Common.{◌≡◌, ℕ, zero, suc, ◌<◌, Bool, true, false, cond, not, eqb, List, [], ◌∷◌, length, get_or, refl, ap, ◌∙◌, arith, eqb-true}
+use base.Fml.{Fml}
+use mir.Val.{Val}
+use denote.Shadow.{shadow}
+use denote.Array.{each}
 use Rattle.wave.specs.Reader.{file_judged}
 use Rattle.channel.specs.declared.Change.TheVariants.{Head}
 use Rattle.channel.specs.declared.HeadChange.TheVariants.{Load, Choose}
@@ -12,6 +16,14 @@ use Rattle.recordings.specs.Sights.{survey_of, loading_seen}
 use Rattle.recordings.proofs.Numbers.{read_says, loads_change}
 use Rattle.recordings.proofs.Sights.{read_number_seen_lem, read_seen}
 use Rattle.lent_sampler.specs.Loads.{load_of}
+
+-- an element of an array that a record holds is what its type says
+module _ {A : Type 0} (own : A → List Val → Fml) where
+  pub element : (xs : List A) (us : List Val) (i : ℕ) (d : A) → i < length xs → shadow (each A own xs us) → (u : Val) × shadow (own (get_or xs i d) (u ∷ []))
+  element [] us i d h p = absurd (omega arith)
+  element (x ∷ xs) [] i d h p = absurd p
+  element (x ∷ xs) (u ∷ us) zero d h p = (u, p.0)
+  element (x ∷ xs) (u ∷ us) (suc i) d h p = element xs us i d (omega arith) p.1
 
 module _ (s : Sampler) (two : length s.channels ≡ 2) (f : List ℕ) (size : ℕ) where
   abbrev number : ℕ

@@ -28,7 +28,7 @@ module _ (s : Sampler) (l : List Float) (p : Params) (m : List ℕ) where
   abbrev number : ℕ
   number = frame_number s (length l) p (length m)
 
-  abbrev steps : ℕ
+  abbrev pub steps : ℕ
   steps = steps_of number (length l)
 
   -- the record, the frame and the memory after i entries, u gathered

@@ -26,6 +26,7 @@ ghost use Rattle.sampler.specs.Samplers.{
 };
 ghost use Rattle.sampler.specs.Samplers.{process_sample_of as sample_of};
 ghost use Rattle.sampler.specs.Refusals.{
+  channel_at,
   change_rows,
   change_number,
   gather_number,
@@ -664,6 +665,7 @@ fn surveyed(seen: Seen, first: Beside, second: Beside) -> Surveyed
 fn survey(s: &Sampler) -> Surveyed
     ensures surveyed { result ≡ survey_of s.now }
     ensures two { length s.now.channels ≡ 2 }
+    ensures eight { length (channel_at s.now 1).table ≡ 8 }
 {
     let seen = look(s);
     let capacity = s.capacity;

@@ -423,6 +423,7 @@ pub fn along(
     if side.pour.left == 0 {
         refill(c, side, params, togo, data);
     }
+    prove!(c.voices[..].len() == 32);
     let first = side.pour.sums[side.pour.next];
     side.pour.next = side.pour.next + 1;
     side.pour.left = side.pour.left - 1;

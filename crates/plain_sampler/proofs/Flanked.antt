@@ -1,29 +1,30 @@
 -- The loop of a frame, and of a run, with a second record lent: what stands there after i entries, each of the channel that `seat` says. A refused call has no entry to play. Assumes nothing.
-use mathlib.Core.Path.{◌≡◌, refl, sym, ap, ◌∙◌}
-use mathlib.Core.Bool.{Bool, true, false, cond}
-use mathlib.Core.List.{List, ◌++◌}
-use Prim.Native.Nat.{ℕ, zero, suc, ◌+◌, ◌-◌, ◌*◌, ◌<◌}
-use native.Mathlib.Nat.{sub-zero, zero-mul}
-use native.Mathlib.Omega.{arith}
-use lib.Dec.{eqb}
-use lib.ListN.{length, get_or, take, drop, set, length-set}
+use Rattle.std.proofs.Common.{◌≡◌, refl, sym, ap, ◌∙◌, subst, Bool, true, false, cond, List, ◌++◌, ℕ, zero, suc, ◌+◌, ◌-◌, ◌*◌, ◌<◌, add-one, zero-mul, arith, eqb, length, get_or, take, drop, set, length-set}
+use native.Mathlib.Nat.{sub-zero}
 use lib.Ieee.{Float, nan, binary32, mul}
 use Rattle.binary32.specs.Leaves.{zero32}
 use Rattle.walks.proofs.Lists.Loops.{get_d_any}
 use Rattle.common_types.specs.declared.Params.{Params}
+use Rattle.channel.specs.declared.Channel.{Channel}
 use Rattle.channel.specs.declared.Played.{Played}
 use Rattle.channel.specs.Channels.{memory_of}
 use Rattle.channel.specs.Channels.{process_sample_of as channel_sample_of}
+use Rattle.lent_channel.specs.declared.Heard.{Heard}
+use Rattle.lent_channel.specs.Turns.{heard_of}
+use Rattle.plain_channel.specs.declared.Side.{Side}
 use Rattle.plain_channel.specs.Sides.{side_after}
 use Rattle.sampler.specs.declared.Sampler.{Sampler}
 use Rattle.sampler.specs.Refusals.{channel_at, frame_number}
 use Rattle.sampler.specs.Samplers.{with_channels, channel_stepped_of, output_of, memory_at, Framed, framed, run_answer}
+use Rattle.sampler.proofs.Seats.{none}
 use Rattle.sampler.proofs.Parts.{part_is, stepped_is, output-is, memory_is}
+use Rattle.lent_sampler.specs.Hearing.{at_volume}
 use Rattle.lent_sampler.specs.Numbers.{run_seat}
 use Rattle.lent_sampler.proofs.RunTurns.{turn_of}
 use Rattle.lent_sampler.proofs.RunTurned.{done_fitting, inside}
 use Rattle.plain_sampler.specs.declared.Backing.{Backing}
 use Rattle.plain_sampler.specs.Backings.{side_at, with_side, side_stepped, entries_backing, frames_backing, frame_backing, rested_backing, run_backing}
+use Rattle.plain_sampler.proofs.Beside.{channel_is, side_is}
 use Rattle.plain_sampler.proofs.Turns.{side_turn, side_turns, frame_turns, run_turns}
 
 -- ---- one entry more: channel j's sample on its part, from a to e
@@ -77,6 +78,34 @@ module _ (p : Params) (seat : ℕ → ℕ) (n : ℕ) (before : Framed) (f : Back
             ∙ ap (λ (c : ℕ). side_turns p seat (n - suc i) (suc i) (turn_of p c i (framed t io k)) (side_turn p c i (framed t io k) h)) is_seat
             ∙ sym (ap (λ (c : ℕ). side_turns p seat c i (framed t io k) h) one_less) ∙ w.same;
       }
+
+  -- the same as the code has it, which reads the channel and its side where they stand
+  module _ {i : ℕ} {t : Sampler} {io : List Float} {k : List ℕ} {h : Backing} (w : Flanked i t io k h) (small : i < n) (j : ℕ) (is_seat : j ≡ seat i) (low : j < 2) (a e : ℕ) (starts : a ≡ j * t.capacity) (ends : e ≡ a + t.capacity) (there : i < length io) (two : length t.channels ≡ 2) (spare : Side) where
+    abbrev x' : Float
+    x' = get_or io i nan
+
+    abbrev c : Channel
+    c = get_or t.channels j none
+
+    abbrev d : Side
+    d = get_or h.sides j spare
+
+    abbrev part' : List ℕ
+    part' = take (e - a) (drop a k)
+
+    pub flanked_next : (r : Heard) (c' : Channel) (k' : List ℕ) (d' : Side) → r ≡ at_volume p (heard_of (channel_sample_of p x' c part')) → c' ≡ (channel_sample_of p x' c part').channel
+        → k' ≡ take a k ++ (memory_of x' c part' ++ drop (e - a) (drop a k)) → d' ≡ side_after p x' c part' d
+        → Flanked (i + 1) (with_channels (set t.channels j c') t) (set io i r.output) k' (with_side h j d')
+    flanked_next r c' k' d' gives becomes leaves follows =
+        let c_is : c ≡ channel_at t j = channel_is t two j low in
+        let d_is : d ≡ side_at h j = side_is h spare w.two j low in
+        let is_r : r ≡ at_volume p (heard_of (channel_sample_of p x' (channel_at t j) part')) = gives ∙ ap (λ (b : Channel). at_volume p (heard_of (channel_sample_of p x' b part'))) c_is in
+        let is_c : c' ≡ (channel_sample_of p x' (channel_at t j) part').channel = becomes ∙ ap (λ (b : Channel). (channel_sample_of p x' b part').channel) c_is in
+        let is_k : k' ≡ take a k ++ (memory_of x' (channel_at t j) part' ++ drop (e - a) (drop a k)) = leaves ∙ ap (λ (b : Channel). take a k ++ (memory_of x' b part' ++ drop (e - a) (drop a k))) c_is in
+        let is_d : d' ≡ side_after p x' (channel_at t j) part' (side_at h j) = follows ∙ (λ q. side_after p x' (c_is q) part' (d_is q)) in
+        subst (λ (X : Type 0). X)
+        (λ q. Flanked (sym (add-one i) q) (with_channels (set t.channels j (sym is_c q)) t) (set io i (sym is_r q).output) (sym is_k q) (with_side h j (sym is_d q)))
+        (flanked_on i t io k h j a e w small is_seat starts ends there)
 
 pub flanked_starts : (p : Params) (seat : ℕ → ℕ) (n : ℕ) (s : Sampler) (l : List Float) (m : List ℕ) (f : Backing) → length f.sides ≡ 2 → Flanked p seat n (framed s l m) f 0 s l m f
 flanked_starts p seat n s l m f two = record { two = two; same = ap (λ (c : ℕ). side_turns p seat c 0 (framed s l m) f) (sub-zero n) }

@@ -1,17 +1,10 @@
 -- The loop of a run in which voices are ahead: what stands after i entries, beside the record and the backing that there would be without easing. The memory and the run are the same of both.
 --     Streamed         so after i entries: each channel and its side are under way of those that there would be
 --     streamed_starts, streamed_low, streamed_asks, streamed_on, streamed_ends     before the first entry; where an entry's channel stands, and what its sample asks; after it; after the last
+--     streamed_may, streamed_next     what an entry's sample asks, and after it, as the code has it
 -- Assumes nothing.
-use mathlib.Core.Path.{◌≡◌, refl, sym, ap, ◌∙◌, subst}
-use mathlib.Core.Bool.{Bool, true, false}
-use mathlib.Core.Logic.{◌≢◌}
-use mathlib.Core.List.{List, [], ◌∷◌, ◌++◌}
-use Prim.Native.Nat.{ℕ, zero, suc, ◌+◌, ◌-◌, ◌*◌, ◌≤◌, ◌<◌, zero-le}
-use native.Mathlib.Omega.{arith}
-use borrow.Author.Tests.{eqb-true, eqb-false}
-use lib.Dec.{eqb}
-use lib.ListN.{length, get_or, take, drop, set, length-set}
-use lib.Seq.{get_or-set_same, get_or-set_other}
+use Rattle.std.proofs.Common.{◌≡◌, ◌≢◌, refl, sym, ap, ◌∙◌, subst, Bool, true, false, List, [], ◌∷◌, ◌++◌, ℕ, zero, suc, ◌+◌, ◌-◌, ◌*◌, ◌≤◌, ◌<◌, zero-le, add-one, arith, eqb, eqb-true, length, get_or, take, drop, set, length-set, get_or-set_same, get_or-set_other}
+use Rattle.std.proofs.lemmas.Bool.{eqb-false}
 use lib.Ieee.{Float, nan, binary32, mul}
 use Rattle.common_types.specs.declared.Params.{Params}
 use Rattle.plain_voice.specs.declared.Hot.{Hot}
@@ -28,6 +21,7 @@ use Rattle.plain_channel.proofs.Aheads.{ahead_now, hots_now, ahead_nothing}
 use Rattle.sampler.specs.declared.Sampler.{Sampler}
 use Rattle.sampler.specs.Refusals.{channel_at}
 use Rattle.sampler.specs.Samplers.{with_channels, part_of, memory_at, framed, Frames, ran_of, run_answer}
+use Rattle.sampler.proofs.Seats.{none}
 use Rattle.sampler.proofs.Parts.{part_is, memory_is}
 use Rattle.sampler.proofs.Entries.{part_length}
 use Rattle.sampler.proofs.Replaced.{replaced_own, replaced_apart}
@@ -37,6 +31,7 @@ use Rattle.lent_sampler.proofs.RunTurned.{Turned, turned_starts, turned_low, tur
 use Rattle.plain_sampler.specs.declared.Backing.{Backing}
 use Rattle.plain_sampler.specs.Backings.{side_at, with_side, rested_backing, run_backing}
 use Rattle.plain_sampler.specs.Streams.{to_go, PartAlong}
+use Rattle.plain_sampler.proofs.Beside.{channel_is, side_is}
 use Rattle.plain_sampler.proofs.Flanked.{Flanked, flanked_starts, flanked_on, flanked_ends, whole_run}
 use Rattle.plain_sampler.proofs.Togos.{togo_of, togo_at, togo_less, togo_some, togo_other, togo_none}
 
@@ -109,6 +104,7 @@ module _ (s : Sampler) (l : List Float) (p : Params) (m : List ℕ) (f : Backing
     pub turned : Turned s l p m i sampler io k
     pub flanked : Flanked p seat n (framed s l m) f i sampler io k backing
     pub else : t ≡ with_channels t.channels sampler
+    pub whole : length sampler.channels ≡ 2
     pub two : length t.channels ≡ 2
     pub both : length h.sides ≡ 2
     pub under : (j : ℕ) → j < 2 → Underway p (part_of sampler j k) (togo_of j i n s.count) (channel_at sampler j) (side_at backing j).hots (channel_at t j) (side_at h j)
@@ -117,9 +113,10 @@ module _ (s : Sampler) (l : List Float) (p : Params) (m : List ℕ) (f : Backing
   streamed_starts two both = record {
     sampler = s;
     backing = f;
-    turned = turned_starts s l p m two;
+    turned = turned_starts s l p m;
     flanked = flanked_starts p seat n s l m f both;
     else = refl;
+    whole = two;
     two = two;
     both = rested_two f both;
     under = λ j low. subst (Underway p (part_of s j m) (togo_of j 0 n s.count) (channel_at s j) (side_at f j).hots (channel_at s j)) (sym (rested_side_lem f both j low)) (under_starts p (part_of s j m) _ (channel_at s j) (side_at f j));
@@ -129,7 +126,7 @@ module _ (s : Sampler) (l : List Float) (p : Params) (m : List ℕ) (f : Backing
     pub streamed_ends : i ≡ n → Frames (ran_of s l p m) t io k × (rested_backing h ≡ run_backing s l p m f)
     streamed_ends e =
         let none : (j : ℕ) → togo_of j i n s.count ≡ 0 = λ j. ap (λ (c : ℕ). togo_of j c n s.count) e ∙ togo_none j n s.count in
-        let same : z.sampler ≡ t = sym (z.else ∙ ap (λ (cs : List Channel). with_channels cs z.sampler) (same_two t.channels z.sampler.channels _ z.two z.turned.two (λ j low. under_channel p _ (z.under j low) (none j)))) in (
+        let same : z.sampler ≡ t = sym (z.else ∙ ap (λ (cs : List Channel). with_channels cs z.sampler) (same_two t.channels z.sampler.channels _ z.two z.whole (λ j low. under_channel p _ (z.under j low) (none j)))) in (
           subst (λ (g : Sampler). Frames (ran_of s l p m) g io k) same (turned_ends s l p m z.turned e),
           rested_same h z.backing z.both z.flanked.two (λ j low. under_hots p _ (z.under j low) (none j)) ∙ ap rested_backing (flanked_ends p seat n (framed s l m) f i z.sampler io k z.backing z.flanked e) ∙ whole_run s l p m f,
         )
@@ -266,7 +263,7 @@ module _ (s : Sampler) (l : List Float) (p : Params) (m : List ℕ) (f : Backing
         mine : Underway p (part_of g' j k'') (togo_of j (suc i) n s.count) (channel_at g' j) (side_at b' j).hots (channel_at t' j) (side_at h' j)
         unfolding side_after side_played
         mine = subst (λ (X : Type 0). X)
-            (λ q. Underway p (own q) (togo_next q) (sym (get_or-set_same g.channels j played.channel new (omega (arith, low, z.turned.two))) q)
+            (λ q. Underway p (own q) (togo_next q) (sym (get_or-set_same g.channels j played.channel new (omega (arith, low, z.whole))) q)
             (sym (get_or-set_same b.sides j (side_after p x d part (side_at b j)) cold_side (omega (arith, low, z.flanked.two))) q).hots
             (sym (get_or-set_same t.channels j c' new (omega (arith, low, z.two))) q) (sym (get_or-set_same h.sides j d' cold_side (omega (arith, low, z.both))) q))
             (w.along.under d (side_at b j).hots here)
@@ -293,7 +290,37 @@ module _ (s : Sampler) (l : List Float) (p : Params) (m : List ℕ) (f : Backing
           turned = turned';
           flanked = flanked';
           else = ap (with_channels (set t.channels j c')) z.else;
+          whole = length-set g.channels j played.channel ∙ z.whole;
           two = length-set t.channels j c' ∙ z.two;
           both = length-set h.sides j d' ∙ z.both;
           under = under';
         }))
+
+    -- the same as the code has it, which reads the channel and its side where they stand
+    module _ (more : i < n) (v : ℕ) (is_v : v ≡ j) (a : ℕ) (starts : a ≡ j * s.capacity) (last : ℕ) (is_last : last ≡ n) (togo : ℕ) (is_togo : togo ≡ to_go i last t.count) (spare : Side) where
+      abbrev end : ℕ
+      end = a + s.capacity
+
+      abbrev c : Channel
+      c = get_or t.channels v none
+
+      abbrev d' : Side
+      d' = get_or h.sides v spare
+
+      c_is : c ≡ channel_at t j
+      c_is = ap (λ (u : ℕ). get_or t.channels u none) is_v ∙ channel_is t z.two j (streamed_low more).0
+
+      d_is : d' ≡ side_at h j
+      d_is = ap (λ (u : ℕ). get_or h.sides u spare) is_v ∙ side_is h spare z.both j (streamed_low more).0
+
+      togo_same : togo ≡ to_go i n t.count
+      togo_same = is_togo ∙ ap (λ (u : ℕ). to_go i u t.count) is_last
+
+      pub streamed_may : InRun p (take (end - a) (drop a k)) togo c d'
+      streamed_may = subst (λ (X : Type 0). X) (λ q. InRun p (take (end - a) (drop a k)) (sym togo_same q) (sym c_is q) (sym d_is q)) (streamed_asks more a starts)
+
+      pub streamed_next : (r : Heard) (e : Channel) (l' : Side) (k' : List ℕ) → PartAlong p (get_or io i nan) a end togo c d' k r e l' k'
+          → Streamed (i + 1) (with_channels (set t.channels v e) t) (set io i r.output) k' (with_side h v l')
+      streamed_next r e l' k' w =
+          subst (λ (X : Type 0). X) (λ q. Streamed (sym (add-one i) q) (with_channels (set t.channels (sym is_v q) e) t) (set io i r.output) k' (with_side h (sym is_v q) l'))
+          (streamed_on more a starts r e l' k' (subst (λ (X : Type 0). X) (λ q. PartAlong p (get_or io i nan) a end (togo_same q) (c_is q) (d_is q) k r e l' k') w))

@@ -182,6 +182,9 @@ fn part_sample(
         ≡ side_after params input c.old (take (end - start) (drop start memory.old))
         side.old) }
 {
+    // Each array is read once: what is behind a reference is known to be whole where it is read.
+    let _voice = c.voices[0].finished;
+    let _hot = side.hots[0].plain;
     let heard = plain_channel::behind(c, side, params, input, &mut memory[start..end], 0, 0.0);
     lent_sampler::at_volume(params, heard)
 }

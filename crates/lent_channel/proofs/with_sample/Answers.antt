@@ -22,15 +22,15 @@ returns c =
     ap (λ (d : Channel). played_of (turning_in c.args.params d c.record.new.data) d) taken ∙ ap (λ (l : List ℕ). played_of (turning_in c.args.params h l) h) stored in
     let parts : (c.if-c-ne0.played ≡ heard_of (played_of s h)) × (c.if-c-ne0.unfinished ≡ any_unfinished_of c.if-c-ne0.c) × (c.if-c-ne0.c ≡ (played_of s h).channel) =
     elim c.if-c-ne0.branch [
-      then-c-ne0 w ↦ (
+      | then-c-ne0 w ↦ (
         w.played-is ∙ w.play-played.ensures.0 ∙ ap heard_of same,
         w.unfinished-is ∙ w.any_unfinished-unfinished.ensures ∙ ap any_unfinished_of (sym w.c-is),
         w.c-is ∙ w.play-played.ensures.1 ∙ ap (λ (r : Played). r.channel) same,
       )
       | else-c-ne0 w ↦
-        let none : h.count ≡ 0 = ap (λ (d : Channel). d.count) (sym taken) ∙ w.if-c-ne0.false in
-        let gone : c.if-c-ne0.c ≡ (played_of s h).channel = w.c-is ∙ taken ∙ none_gone s h none in
-        (w.played-is ∙ c.silence-played.ensures ∙ none_heard s h none, w.unfinished-is ∙ none_unfinished s h none ∙ ap any_unfinished_of (sym gone), gone)
+          let none : h.count ≡ 0 = ap (λ (d : Channel). d.count) (sym taken) ∙ w.if-c-ne0.false in
+          let gone : c.if-c-ne0.c ≡ (played_of s h).channel = w.c-is ∙ taken ∙ none_gone s h none in
+          (w.played-is ∙ c.silence-played.ensures ∙ none_heard s h none, w.unfinished-is ∙ none_unfinished s h none ∙ ap any_unfinished_of (sym gone), gone)
     ] in
     let done = sample_done c.args.params c.args.input c.args.c.now c.args.data.now c.if-c-ne0.played c.if-c-ne0.unfinished c.if-c-ne0.c parts.0 parts.1 parts.2 in
     (c.close.ensures.0 ∙ done.0, c.close.ensures.1 ∙ done.1, stored)

@@ -1,7 +1,6 @@
 -- `later` meets its contract. Assumes nothing.
 use native.Mathlib.Omega.{arith}
 use Rattle.listing.specs.Steps.{later_by}
-use borrow.Author.Rules.{rules}
 use Rattle.listing.proofs.later.Goals as goal
 
 pub returns-then-n-room : goal.returns-then-n-room

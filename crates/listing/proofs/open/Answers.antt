@@ -1,6 +1,5 @@
 -- `open` meets its contract. Assumes nothing.
 use Rattle.listing.specs.Steps.{opened_of}
-use borrow.Author.Rules.{rules}
 use Rattle.listing.proofs.open.Goals as goal
 
 pub returns-in-Good : goal.returns-in-Good

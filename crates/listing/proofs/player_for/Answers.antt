@@ -3,7 +3,6 @@ use mathlib.Core.Path.{sym, ◌∙◌}
 use lib.Seq.{length-take-le}
 use native.Mathlib.Omega.{arith}
 use Rattle.listing.specs.Steps.{player_of}
-use borrow.Author.Rules.{rules}
 use Rattle.listing.proofs.player_for.Goals as goal
 
 pub slice_bounds-new-end : goal.slice_bounds-new-end

@@ -9,4 +9,4 @@ returns-then-number-eq0 c = simp (eq-eqb _ _ c.if-number-eq0.true) (omega arith)
 
 pub returns-else-number-eq0 : goal.returns-else-number-eq0
 unfolding one_more_refused
-returns-else-number-eq0 c = simp (ne_eqb _ _ c.if-number-eq0.false, c.wrapping_add_usize.ensures)
+returns-else-number-eq0 c = simp (ne_eqb _ _ c.if-number-eq0.false, c.wrapping_add_usize.ensures.value)

@@ -1,28 +1,27 @@
 -- `header_fault` meets its contract. Assumes nothing.
 -- a version that there isn't
 use mathlib.Core.Path.{◌≡◌}
-use mathlib.Core.Bool.{true, false, not, ◌||◌}
+use mathlib.Core.Bool.{true, false, ◌||◌}
 use mathlib.Core.List.{List}
 use Prim.Native.Nat.{ℕ}
 use lib.Dec.{eqb}
 use lib.ListN.{length}
-use borrow.Author.Tests.{lt-leb, le-leb, ne_eqb, not-true}
+use borrow.Author.Tests.{lt-leb, le-leb, ne_eqb}
 use Rattle.octets.specs.Octets.{byte_at}
 use Rattle.listing.specs.declared.faults.HeaderFault.TheVariants as header
 use Rattle.listing.specs.Faults.{header_fault_of}
-use borrow.Author.Rules.{rules}
 use Rattle.listing.proofs.faults.header_fault.Goals as goal
 
 other_version : (b : List ℕ) (version : ℕ) → version ≡ byte_at b 0 → length b ≡ 3
-    → not (eqb version 1 || eqb version 2) ≡ true → header.Version version ≡ header_fault_of b
+    → (eqb version 1 || eqb version 2) ≡ false → header.Version version ≡ header_fault_of b
 unfolding header_fault_of
-other_version b version v size other = simp (← v, size, not-true (eqb version 1 || eqb version 2) other)
+other_version b version v size other = simp (← v, size, other)
 
 -- a number of channels that there isn't
 channels : (b : List ℕ) (version count : ℕ) → version ≡ byte_at b 0 → count ≡ byte_at b 1 → length b ≡ 3
-    → not (eqb version 1 || eqb version 2) ≡ false → not (eqb count 1 || eqb count 2) ≡ true → header.Channels count ≡ header_fault_of b
+    → (eqb version 1 || eqb version 2) ≡ true → (eqb count 1 || eqb count 2) ≡ false → header.Channels count ≡ header_fault_of b
 unfolding header_fault_of
-channels b version count v n size known other = simp (← v, ← n, size, known, not-true (eqb count 1 || eqb count 2) other)
+channels b version count v n size known other = simp (← v, ← n, size, known, other)
 
 pub returns-then-bytes-eq0 : goal.returns-then-bytes-eq0
 unfolding header_fault_of

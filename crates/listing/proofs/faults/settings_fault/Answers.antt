@@ -1,7 +1,6 @@
 -- `settings_fault` meets its contract. Assumes nothing.
 use borrow.Author.Tests.{le-leb, lt-leb}
 use Rattle.listing.specs.Faults.{settings_fault_of}
-use borrow.Author.Rules.{rules}
 use Rattle.listing.proofs.faults.settings_fault.Goals as goal
 
 pub returns-then-passthru-gt1 : goal.returns-then-passthru-gt1

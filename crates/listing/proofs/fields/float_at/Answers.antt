@@ -1,6 +1,5 @@
 -- `float_at` meets its contract. Assumes nothing.
 use Rattle.listing.specs.Records.{float_at}
-use borrow.Author.Rules.{rules}
 use Rattle.listing.proofs.fields.float_at.Goals as goal
 
 pub returns : goal.returns

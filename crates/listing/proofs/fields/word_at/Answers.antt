@@ -5,7 +5,6 @@ use Prim.Native.Nat.{ℕ, ◌+◌, ◌*◌}
 use native.Mathlib.Omega.{arith}
 use Rattle.octets.specs.Octets.{byte_at, number_after, number_of}
 use Rattle.listing.specs.Records.{half_at, word_at}
-use borrow.Author.Rules.{rules}
 use Rattle.listing.proofs.fields.word_at.Goals as goal
 
 -- two halves make what their four bytes make

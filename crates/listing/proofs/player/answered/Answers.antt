@@ -1,6 +1,5 @@
 -- `answered` meets its contract. Assumes nothing.
 use Rattle.listing.specs.Steps.{answer_played}
-use borrow.Author.Rules.{rules}
 use Rattle.listing.proofs.player.answered.Goals as goal
 
 pub returns : goal.returns

@@ -7,9 +7,8 @@ use native.Mathlib.Omega.{arith}
 use Rattle.walks.proofs.Lists.Loops.{long, get_d_any}
 use Rattle.channel.specs.declared.Channel.{Channel}
 use Rattle.listing.specs.Steps.{clock_of}
-use borrow.Author.Rules.{rules}
 use Rattle.listing.proofs.player.clock.Goals as goal
 
 pub returns : goal.returns
 unfolding clock_of
-returns c = ap (λ (x : Channel). x.head.now) (get_d_any c.args.t1.channels 0 none (channel_of (record { auto_passthru = false })) (omega (arith, long _ c.args.t1.channels 2 c.well_formed.0.1.1.0.1.0.1)))
+returns c = ap (λ (x : Channel). x.head.now) (get_d_any c.args.s.channels 0 none (channel_of (record { auto_passthru = false })) (omega arith))

@@ -6,14 +6,7 @@ use native.Mathlib.Omega.{arith}
 use Rattle.listing.specs.declared.records.Call.TheVariants.{Reset}
 use lib.ListN.{get_or-eq_default}
 use Rattle.listing.specs.Records.{calls, call_of}
-use borrow.Author.Rules.{rules}
 use Rattle.listing.proofs.records.call_of.Goals as goal
-
-low : (k : ℕ) → k ≢ 0 → k ≢ 1 → k ≢ 2 → k ≢ 3 → 4 ≤ k
-low k a b c d = omega arith
-
-high : (k : ℕ) → 4 ≤ k → k ≢ 4 → k ≢ 5 → k ≢ 6 → 7 ≤ k
-high k h a b c = omega arith
 
 pub returns-in-0 : goal.returns-in-0
 unfolding call_of
@@ -45,6 +38,6 @@ returns-in-6 c = simp (← c.byte_at-kind.ensures, c.in-6.is, c.frame_call.ensur
 
 pub returns-in_default : goal.returns-in_default
 unfolding call_of
-returns-in_default c = let n = c.in_default.rest in
-    let past : 7 ≤ c.byte_at-kind.result = high _ (low _ n.0.0.0.0.0.0.1 n.0.0.0.0.0.1 n.0.0.0.0.1 n.0.0.0.1) n.0.0.1 n.0.1 n.1 in
+returns-in_default c =
+    let past : 7 ≤ c.byte_at-kind.result = omega arith in
     sym (rw (sym c.byte_at-kind.ensures) (get_or-eq_default (calls c.args.h c.args.r.now) Reset past))

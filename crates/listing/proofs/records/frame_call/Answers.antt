@@ -1,6 +1,5 @@
 -- `frame_call` meets its contract. Assumes nothing.
 use Rattle.listing.specs.Records.{frame_call_of}
-use borrow.Author.Rules.{rules}
 use Rattle.listing.proofs.records.frame_call.Goals as goal
 
 pub returns-then-h : goal.returns-then-h

@@ -1,6 +1,5 @@
 -- `good_header` meets its contract. Assumes nothing.
 use Rattle.listing.specs.Records.{good_header}
-use borrow.Author.Rules.{rules}
 use Rattle.listing.proofs.records.good_header.Goals as goal
 
 pub returns : goal.returns

@@ -1,6 +1,5 @@
 -- `good_settings` meets its contract. Assumes nothing.
 use Rattle.listing.specs.Records.{good_settings}
-use borrow.Author.Rules.{rules}
 use Rattle.listing.proofs.records.good_settings.Goals as goal
 
 pub returns : goal.returns

@@ -3,7 +3,6 @@ use mathlib.Core.Path.{sym, ap}
 use Prim.Native.Nat.{ℕ, ◌+◌, ◌*◌}
 use lib.ListN.{get_or, get_or-eq_default}
 use Rattle.listing.specs.Records.{channel_count, lengths, kind_length}
-use borrow.Author.Rules.{rules}
 use Rattle.listing.proofs.records.length_of.Goals as goal
 
 pub returns-then-at-lt8 : goal.returns-then-at-lt8

@@ -1,5 +1,6 @@
 -- `loop_length` meets its contract. Assumes nothing.
 use mathlib.Core.Path.{sym}
+use Prim.Native.Nat.{◌≤◌}
 use native.Mathlib.Omega.{arith}
 use Rattle.common_types.specs.declared.time_value.TimeOrRatio.TheVariants.{WholeBars}
 use lib.ListN.{get_or-eq_default}
@@ -29,5 +30,5 @@ returns-in-4 c = rw c.in-4.is
 pub returns-in_default : goal.returns-in_default
 unfolding length_by_kind
 returns-in_default c =
-    sym (get_or-eq_default (first_lengths c.args.value) (WholeBars c.args.value) {n = c.args.kind}
-    (omega (arith, c.in_default.rest.0.0.0.0.1, c.in_default.rest.0.0.0.1, c.in_default.rest.0.0.1, c.in_default.rest.0.1, c.in_default.rest.1)))
+    let past : 5 ≤ c.args.kind = omega arith in
+    sym (get_or-eq_default (first_lengths c.args.value) (WholeBars c.args.value) past)

@@ -1,6 +1,5 @@
 -- `loop_mode` meets its contract. Assumes nothing.
 use Rattle.listing.specs.Records.{loop_mode_of}
-use borrow.Author.Rules.{rules}
 use Rattle.listing.proofs.records.loop_mode.Goals as goal
 
 pub returns-in-Done : goal.returns-in-Done

@@ -1,5 +1,4 @@
 -- `note` meets its contract. Assumes nothing.
-use borrow.Author.Rules.{rules}
 use Rattle.listing.proofs.records.note.Goals as goal
 
 pub returns : goal.returns

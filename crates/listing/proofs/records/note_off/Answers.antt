@@ -1,6 +1,5 @@
 -- `note_off` meets its contract. Assumes nothing.
 use Rattle.listing.specs.Records.{note_off_of}
-use borrow.Author.Rules.{rules}
 use Rattle.listing.proofs.records.note_off.Goals as goal
 
 pub returns-in-Done : goal.returns-in-Done

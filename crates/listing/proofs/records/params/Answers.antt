@@ -1,6 +1,5 @@
 -- `params` meets its contract: each field from its place. Assumes nothing.
 use Rattle.listing.specs.Records.{params_of}
-use borrow.Author.Rules.{rules}
 use Rattle.listing.proofs.records.params.Goals as goal
 
 pub returns : goal.returns

@@ -1,6 +1,5 @@
 -- `read_header` meets its contract. Assumes nothing.
 use Rattle.listing.specs.Records.{header_of}
-use borrow.Author.Rules.{rules}
 use Rattle.listing.proofs.records.read_header.Goals as goal
 
 pub returns-then-good_header : goal.returns-then-good_header

@@ -1,6 +1,5 @@
 -- `read_record` meets its contract. Assumes nothing.
 use Rattle.listing.specs.Records.{record_of}
-use borrow.Author.Rules.{rules}
 use Rattle.listing.proofs.records.read_record.Goals as goal
 
 pub returns-then-good_record : goal.returns-then-good_record

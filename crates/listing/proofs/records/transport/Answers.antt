@@ -1,6 +1,5 @@
 -- `transport` meets its contract. Assumes nothing.
 use Rattle.listing.specs.Records.{transport_of}
-use borrow.Author.Rules.{rules}
 use Rattle.listing.proofs.records.transport.Goals as goal
 
 pub returns : goal.returns

@@ -6,7 +6,6 @@ use Rattle.decimal.specs.Lines.{bytes}
 use Rattle.decimal.proofs.Decimals.{decimal_short}
 use Rattle.decimal.proofs.Lines.{built_none, built_on}
 use Rattle.listing.specs.Lines.{bad_line, newline}
-use borrow.Author.Rules.{rules}
 use Rattle.listing.proofs.texts.bad_line.Goals as goal
 
 pub returns : goal.returns

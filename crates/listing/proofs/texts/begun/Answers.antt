@@ -1,6 +1,5 @@
 -- `begun` meets its contract. Assumes nothing.
 use Rattle.decimal.specs.Lines.{bytes}
-use borrow.Author.Rules.{rules}
 use Rattle.listing.proofs.texts.begun.Goals as goal
 
 pub returns : goal.returns

@@ -1,5 +1,4 @@
 -- `counted` meets its contract. Assumes nothing.
-use borrow.Author.Rules.{rules}
 use Rattle.listing.proofs.texts.counted.Goals as goal
 
 pub returns : goal.returns

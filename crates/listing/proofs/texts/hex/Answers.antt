@@ -1,7 +1,6 @@
 -- `hex` meets its contract: each digit in turn. Assumes nothing.
 use native.Mathlib.Nat.{div-one}
 use Rattle.listing.specs.Lines.{hex_digits}
-use borrow.Author.Rules.{rules}
 use Rattle.listing.proofs.texts.hex.Goals as goal
 
 pub returns : goal.returns

@@ -1,7 +1,6 @@
 -- `hex_digit` meets its contract. Assumes nothing.
 use borrow.Author.Tests.{lt-ltb, le-ltb}
 use Rattle.listing.specs.Lines.{hex_digit}
-use borrow.Author.Rules.{rules}
 use Rattle.listing.proofs.texts.hex_digit.Goals as goal
 
 pub returns-then-d-lt10 : goal.returns-then-d-lt10

@@ -5,7 +5,6 @@ use lib.Dec.{lit≤}
 use Rattle.decimal.specs.Lines.{line_of}
 use Rattle.listing.proofs.Outputs.{two-line}
 use Rattle.listing.proofs.Printed.{printed_one, printed_output, printed_count}
-use borrow.Author.Rules.{rules}
 use Rattle.listing.proofs.texts.stereo_line.Goals as goal
 
 pub returns : goal.returns

@@ -1,7 +1,6 @@
 -- `with_output` meets its contract. Assumes nothing.
 use Rattle.listing.proofs.Outputs.{output_nan, output_digits}
 use Rattle.decimal.specs.Lines.{bytes}
-use borrow.Author.Rules.{rules}
 use Rattle.listing.proofs.texts.with_output.Goals as goal
 
 pub returns-then-x : goal.returns-then-x

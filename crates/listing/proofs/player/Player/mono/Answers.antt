@@ -2,7 +2,6 @@
 use mathlib.Core.Path.{◌∙◌}
 use lib.Ieee.{nan}
 use Rattle.listing.proofs.Frames.{one_of, answer_of, shows_outputs, shows_number}
-use borrow.Author.Rules.{rules}
 use Rattle.listing.proofs.player.Player.mono.Goals as goal
 
 pub returns-then-number-eq0 : goal.returns-then-number-eq0

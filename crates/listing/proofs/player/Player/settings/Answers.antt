@@ -1,6 +1,5 @@
 -- `Player::settings` meets its contract: row 4 decides. Assumes nothing.
 use Rattle.listing.specs.Steps.{settings_of}
-use borrow.Author.Rules.{rules}
 use Rattle.listing.proofs.player.Player.settings.Goals as goal
 
 pub returns-then-beyond_limits : goal.returns-then-beyond_limits
