@@ -541,14 +541,7 @@ pub fn asks(change: Change) -> Ask
 }
 
 // What a channel of so many voices has against that; `used` says that one has the phrase that is asked for.
-#[tactic(
-    auto,
-    unfolding(
-        crate::specs::Tables::against_by,
-        crate::specs::Tables::blocked_by,
-        crate::specs::Tables::short_by,
-    )
-)]
+#[tactic(auto, unfolding(crate::specs::Tables::against_by, crate::specs::Tables::blocked_by, crate::specs::Tables::short_by,))]
 pub fn held_against(
     ask: Ask,
     head: Head,

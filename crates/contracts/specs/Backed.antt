@@ -51,47 +51,47 @@ use Rattle.contracts.specs.Lent.{Ensures, lying, answer}
 
 -- m is the memory that lies beside the record; only a sample, a frame and a run of frames are lent it
 pub record Backed (m : List ℕ) : Type 2 where
-  pub change : Ensures change_call.ended change_code.routine
+  pub change : Ensures change_call.ended change_code.code change_code.name
       (λ κs (s, (k, (d, _))) r (left, (beside, _)).
       Allows (on (lying s.now m) (change d)) (answer left.now r)
       × (beside.now ≡ change_backing s.now d k.now))
-  pub start_playing : Ensures start_playing.ended start_playing_code.routine
+  pub start_playing : Ensures start_playing.ended start_playing_code.code start_playing_code.name
       (λ κs (s, (k, (position, (note, (velocity, (params, _)))))) r (left, (beside, _)).
       Allows (on (lying s.now m) (start position note velocity params)) (answer left.now r)
       × (beside.now ≡ change_backing s.now (Start params position note velocity) k.now))
-  pub stop_playing : Ensures stop_playing.ended stop_playing_code.routine
+  pub stop_playing : Ensures stop_playing.ended stop_playing_code.code stop_playing_code.name
       (λ κs (s, (k, (note, (params, _)))) r (left, (beside, _)).
       Allows (on (lying s.now m) (stop note params)) (answer left.now r)
       × (beside.now ≡ change_backing s.now (Stop params note) k.now))
-  pub set_note_speed : Ensures set_note_speed.ended set_note_speed_code.routine
+  pub set_note_speed : Ensures set_note_speed.ended set_note_speed_code.code set_note_speed_code.name
       (λ κs (s, (k, (note, (rate, _)))) r (left, (beside, _)).
       Allows (on (lying s.now m) (speed note rate)) (answer left.now r)
       × (beside.now ≡ change_backing s.now (Speed note rate) k.now))
-  pub start_recording_lem : Ensures start_recording_lem.ended start_recording_code.routine
+  pub start_recording_lem : Ensures start_recording_lem.ended start_recording_code.code start_recording_code.name
       (λ κs (s, (k, _)) r (left, (beside, _)).
       Allows (on (lying s.now m) start_recording) (answer left.now r)
       × (beside.now ≡ change_backing s.now (Head StartRecording) k.now))
-  pub stop_recording_lem : Ensures stop_recording_lem.ended stop_recording_code.routine
+  pub stop_recording_lem : Ensures stop_recording_lem.ended stop_recording_code.code stop_recording_code.name
       (λ κs (s, (k, _)) r (left, (beside, _)).
       Allows (on (lying s.now m) stop_recording) (answer left.now r)
       × (beside.now ≡ change_backing s.now (Head StopRecording) k.now))
-  pub set_interpolation_lem : Ensures set_interpolation_lem.ended set_interpolation_code.routine
+  pub set_interpolation_lem : Ensures set_interpolation_lem.ended set_interpolation_code.code set_interpolation_code.name
       (λ κs (s, (k, (smooth, _))) r (left, (beside, _)).
       Allows (on (lying s.now m) (set_interpolation smooth)) (answer left.now r)
       × (beside.now ≡ change_backing s.now (Head (Interpolate smooth)) k.now))
-  pub choose_phrase_lem : Ensures choose_phrase_lem.ended choose_phrase_code.routine
+  pub choose_phrase_lem : Ensures choose_phrase_lem.ended choose_phrase_code.code choose_phrase_code.name
       (λ κs (s, (k, (phrase, _))) r (left, (beside, _)).
       Allows (on (lying s.now m) (choose_phrase phrase)) (answer left.now r)
       × (beside.now ≡ change_backing s.now (Head (Choose phrase)) k.now))
-  pub delete_phrase_lem : Ensures delete_phrase_lem.ended delete_phrase_code.routine
+  pub delete_phrase_lem : Ensures delete_phrase_lem.ended delete_phrase_code.code delete_phrase_code.name
       (λ κs (s, (k, (phrase, _))) r (left, (beside, _)).
       Allows (on (lying s.now m) (delete_phrase phrase)) (answer left.now r)
       × (beside.now ≡ change_backing s.now (Head (Delete phrase)) k.now))
-  pub reset : Ensures reset_call.ended reset_code.routine
+  pub reset : Ensures reset_call.ended reset_code.code reset_code.name
       (λ κs (s, (k, _)) r (left, (beside, _)).
       Allows (on (lying s.now m) reset) (answer left.now r)
       × (beside.now ≡ change_backing s.now Reset k.now))
-  pub process_sample : Ensures process_sample.ended process_sample_code.routine
+  pub process_sample : Ensures process_sample.ended process_sample_code.code process_sample_code.name
       (λ κs (s, (k, (channel, (input, (params, (memory, _)))))) r (left, (beside, (_, (_, (_, (written, _)))))).
       Allows (on (lying s.now memory.now) (sample channel input params))
       (record {
@@ -99,7 +99,7 @@ pub record Backed (m : List ℕ) : Type 2 where
         memory = written.now;
       })
       × (beside.now ≡ sample_backing s.now channel input params memory.now k.now))
-  pub process_frame : Ensures process_frame.ended process_frame_code.routine
+  pub process_frame : Ensures process_frame.ended process_frame_code.code process_frame_code.name
       (λ κs (s, (k, (entries, (params, (memory, _))))) r (left, (beside, (played, (_, (written, _))))).
       Allows (on (lying s.now memory.now) (frame entries.now params))
       (record {
@@ -108,7 +108,7 @@ pub record Backed (m : List ℕ) : Type 2 where
         memory = written.now;
       })
       × (beside.now ≡ frame_backing s.now entries.now params memory.now k.now))
-  pub process_frames : Ensures process_frames.ended process_frames_code.routine
+  pub process_frames : Ensures process_frames.ended process_frames_code.code process_frames_code.name
       (λ κs (s, (k, (entries, (params, (memory, _))))) r (left, (beside, (played, (_, (written, _))))).
       Allows (along (lying s.now memory.now) entries.now params)
       (record { answer = record { sampler = left.now; ran = r }; run = played.now; memory = written.now })

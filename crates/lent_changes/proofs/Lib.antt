@@ -1,3 +1,3 @@
 pub mod Endings
 pub mod Passes
-pub mod Phrasing
+pub mod Goings

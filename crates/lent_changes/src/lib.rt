@@ -405,6 +405,7 @@ pub fn gather(c: &mut Channel, memory: &mut [u32], start: usize, end: usize)
         ++ drop (end - start) (drop start memory.old))) }
 {
     let l = gathered(c.table, c.several, c.head, memory, start, end);
-    c.table = l.table;
+    let table = l.table;
+    c.table = table;
     c.head = l.head;
 }

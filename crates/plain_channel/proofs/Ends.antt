@@ -14,14 +14,16 @@ use Rattle.plain_voice.specs.declared.Hot.{Hot}
 use Rattle.channel.specs.declared.Channel.{Channel}
 use Rattle.channel.specs.declared.Played.{Played}
 use Rattle.common_types.specs.declared.Params.{Params}
-use Rattle.channel.specs.Channels.{with_voices, Turning, turning_in, kept_of, tidied_of, taken_of}
+use Rattle.channel.specs.Channels.{with_voices, Turning, turning_in, kept_of, tidied_of, taken_of, memory_of, any_unfinished_of, with_head}
+use Rattle.channel.specs.Heads.{closed_of}
 use Rattle.channel.proofs.Turns as T
 use Rattle.lent_channel.specs.declared.Going.{Going}
-use Rattle.lent_channel.specs.Turns.{glided_to, moved_by, Stands, rest_by, rest_of, heard_of}
+use Rattle.lent_channel.specs.declared.Heard.{Heard}
+use Rattle.lent_channel.specs.Turns.{mixed_with, glided_to, moved_by, Stands, rest_by, rest_of, heard_of}
 use Rattle.plain_channel.specs.declared.Pour.{Pour}
 use Rattle.plain_channel.specs.declared.Side.{Side}
 use Rattle.plain_channel.specs.Sides.{with_hots, rest_hots, Together}
-use Rattle.plain_channel.specs.Ahead.{PlaysFrom}
+use Rattle.plain_channel.specs.Ahead.{behind_of, hots_behind, side_behind, PlaysFrom}
 use Rattle.plain_channel.proofs.Sides.{hots_end}
 
 -- turns may begin behind any of the voices
@@ -92,3 +94,40 @@ pub together_first : (p : Params) (m : List ℕ) (e : ℕ) (first : Float) (c : 
 together_first p m e first c k n g all inside is =
     subst (Together (turning_in p c m) n c k (glided_to e first) c k) (sym is)
     (record { onward = record { stands = from_there n e first (omega (arith, all)) (omega (arith, all, inside)); same = refl }; same = refl; pour = refl })
+
+-- the same of what is the same
+pub plays_as : {p : Params} {m : List ℕ} {e : ℕ} {first : Float} {c d d' : Channel} {k l l' : Side} {r r' : Heard} → r ≡ r' → d ≡ d' → l ≡ l' → PlaysFrom p m e first c k r' d' l' → PlaysFrom p m e first c k r d l
+plays_as u v w plays = record { heard = u ∙ plays.heard; channel = v ∙ plays.channel; side = w ∙ plays.side }
+
+-- where all are ahead
+pub played_ahead : (p : Params) (m : List ℕ) (e : ℕ) (first : Float) (c : Channel) (k : Side) (r : Heard) → e ≤ min c.count 32 → c.count ≡ e → r ≡ record { output = first; moved = 0 } → PlaysFrom p m e first c k r c k
+played_ahead p m e first c k r inside level is = record {
+  heard = is ∙ ahead_heard (turning_in p c m) c e first inside level;
+  channel = ahead_gone (turning_in p c m) c e first inside level;
+  side = ahead_beside (turning_in p c m) c e first inside level k;
+}
+
+-- ---- a sample behind some voices, once it is recorded, they have played, and it is closed
+module _ (p : Params) (x : Float) (from : ℕ) (first : Float) (h : Channel) (ms : List ℕ) (k : Side) where
+  abbrev others_of : Channel → List ℕ → Played
+  others_of c m = rest_of (turning_in p c m) (min c.count 32) c (glided_to from first)
+
+  abbrev closed : Channel → Channel
+  closed c = with_head (closed_of p (any_unfinished_of c) c.head) c
+
+  abbrev Gives : Heard → Channel → List ℕ → Side → Type 0
+  Gives out last m l = (out ≡ heard_of (behind_of p x from first h ms)) × (last ≡ (behind_of p x from first h ms).channel) × (m ≡ memory_of x h ms) × (l ≡ side_behind p x from h ms k)
+
+  done_so : let o = others_of (taken_of ms h) (memory_of x h ms) in
+      Gives (mixed_with o.channel.head x (heard_of o)) (closed o.channel) (memory_of x h ms) (with_hots (rest_hots (turning_in p (taken_of ms h) (memory_of x h ms)) (min (taken_of ms h).count 32) (taken_of ms h) k (glided_to from first)) k)
+  unfolding behind_of hots_behind rest_by rest_hots glided_to
+  done_so = (refl, refl, refl, refl)
+
+  pub closes_so : (c : Channel) (m : List ℕ) → c ≡ taken_of ms h → m ≡ memory_of x h ms → (r : Heard) (d : Channel) (l : Side) → PlaysFrom p m from first c k r d l
+      → (out : Heard) → out ≡ mixed_with d.head x r → (last : Channel) → last ≡ closed d → Gives out last m l
+  closes_so c m is_taken is_memory r d l plays out is_out last is_last = (
+    is_out ∙ ap₂ (λ (u : Channel) (z : Heard). mixed_with u.head x z) plays.channel plays.heard ∙ ap₂ (λ (u : Channel) (n : List ℕ). mixed_with (others_of u n).channel.head x (heard_of (others_of u n))) is_taken is_memory ∙ done_so.0,
+    is_last ∙ ap closed plays.channel ∙ ap₂ (λ (u : Channel) (n : List ℕ). closed (others_of u n).channel) is_taken is_memory ∙ done_so.1,
+    is_memory,
+    plays.side ∙ ap₂ (λ (u : Channel) (n : List ℕ). with_hots (rest_hots (turning_in p u n) (min u.count 32) u k (glided_to from first)) k) is_taken is_memory ∙ done_so.3,
+  )

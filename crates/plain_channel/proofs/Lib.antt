@@ -15,4 +15,5 @@ pub mod Filling
 pub mod Summing
 pub mod Phrasing
 pub mod Nexts
+pub mod Pouring
 pub mod Runs

@@ -1,5 +1,5 @@
 -- The steps of a run: before voices are poured none are ahead, what is poured over a stretch is what they are then ahead by, and a sample of the run takes the first of it. Assumes nothing.
-use mathlib.Core.Path.{◌≡◌, refl, sym, ◌∙◌, ap, subst}
+use mathlib.Core.Path.{◌≡◌, refl, sym, ◌∙◌, ap, ap₂, subst}
 use Prim.Native.Nat.{ℕ, suc, ◌+◌, ◌-◌, ◌%◌, ◌≤◌, ◌<◌, min}
 use native.Mathlib.Omega.{arith}
 use mathlib.Core.Bool.{Bool, true, false, cond}
@@ -17,7 +17,9 @@ use Rattle.plain_voice.specs.declared.Hot.{Hot}
 use Rattle.channel.specs.declared.Channel.{Channel}
 use Rattle.channel.specs.declared.Played.{Played}
 use Rattle.channel.specs.Channels.{memory_of, process_sample_of}
+use Rattle.lent_channel.specs.declared.Heard.{Heard}
 use Rattle.lent_channel.specs.Turns.{heard_of}
+use Rattle.plain_channel.specs.declared.Pour.{Pour}
 use Rattle.plain_channel.specs.declared.Side.{Side}
 use Rattle.plain_channel.specs.Sides.{no_pour, with_hots, side_after}
 use Rattle.plain_channel.specs.Ahead.{on_by, ahead_of, hots_on, behind_of, hots_behind, side_behind, may_ease, stretch_of, left_of, Ahead, AheadBy, Easing, EasedBy, Refilled, Underway, Along}
@@ -97,6 +99,27 @@ module _ (p : Params) (m : List ℕ) (togo : ℕ) (c : Channel) (k : Side) where
     left = left_few togo (stretch_of togo) r;
     some = λ more. left_some togo (stretch_of togo) r (stretch_some togo more);
   }
+
+  -- as it is stored: the pour u is emptied, and n is the stretch
+  module _ (u : Pour) (is_none : u ≡ no_pour) (n : ℕ) (is_stretch : n ≡ stretch_of togo) where
+    abbrev begun : Side
+    begun = with_pour (with_left n u) k
+
+    is_emptied : begun ≡ emptied
+    is_emptied = ap₂ (λ (v : Pour) (i : ℕ). with_pour (with_left i v) k) is_none is_stretch
+
+    pub easing_so : may_ease c.head n ≡ true → Easing p m 0 n c begun
+    easing_so may =
+        subst (λ (i : ℕ). Easing p m 0 i c begun) (sym is_stretch)
+        (subst (Easing p m 0 (stretch_of togo) c) (sym is_emptied) (easing_begins (subst (λ (i : ℕ). may_ease c.head i ≡ true) is_stretch may)))
+
+    pub unfilled_so : Refilled p m togo c k c begun
+    unfilled_so = subst (Refilled p m togo c k c) (sym is_emptied) unfilled
+
+    pub filled_so : (r : ℕ) (e : Channel) (l : Side) → EasedBy p m n c begun r e l → (left : ℕ) → left ≡ left_of togo n r → Refilled p m togo c k e (with_pour (with_eased r (with_left left l.pour)) l)
+    filled_so r e l by_these left is_left =
+        subst (λ (i : ℕ). Refilled p m togo c k e (with_pour (with_eased r (with_left i l.pour)) l)) (sym (is_left ∙ ap (λ (i : ℕ). left_of togo i r) is_stretch))
+        (filled r e l (subst (λ (i : ℕ). EasedBy p m i c emptied r e l) is_stretch (subst (λ (y : Side). EasedBy p m n c y r e l) is_emptied by_these)))
 
 -- ---- a run is under way where it was, and a sample is poured
 pub record Ready (p : Params) (m : List ℕ) (togo : ℕ) (c : Channel) (k : Side) (e : Channel) (l : Side) : Type 0 where
@@ -201,3 +224,17 @@ module _ (p : Params) (x : Float) (m : List ℕ) (togo : ℕ) (e : Channel) (l :
     memory = λ d hs under. memory_so d hs (ready.same d hs under);
     under = λ d hs under. under_next d hs (ready.same d hs under) k;
   }
+
+  -- with what is heard of the first as it is read, and what `behind` gives
+  pub along_so : (c : Channel) (k : Side) → Ready p m togo c k e l → (y : Float) → y ≡ first l → (r : Heard) → r ≡ heard_of (behind_of p x eased y e m) → (d : Channel) → d ≡ (behind_of p x eased y e m).channel
+      → (m' : List ℕ) → m' ≡ memory_of x e m → (l' : Side) → l' ≡ side_behind p x eased e m (stepped l) → Along p x m togo c k r d l' m'
+  along_so c k ready y is_first r is_heard d is_channel m' is_memory l' is_side =
+      let same : behind_of p x eased y e m ≡ played p x m e l = ap (λ (z : Float). behind_of p x eased z e m) is_first in
+      subst (λ (u : Heard). Along p x m togo c k u d l' m') (sym (is_heard ∙ ap heard_of same))
+      (subst (λ (u : Channel). Along p x m togo c k (heard_of (played p x m e l)) u l' m') (sym (is_channel ∙ ap (λ (z : Played). z.channel) same))
+      (subst (λ (u : Side). Along p x m togo c k (heard_of (played p x m e l)) (played p x m e l).channel u m') (sym is_side)
+      (subst (Along p x m togo c k (heard_of (played p x m e l)) (played p x m e l).channel (side_behind p x eased e m (stepped l))) (sym is_memory) (goes_along c k ready))))
+
+-- the same of what is the same
+pub ready_as : {p : Params} {m : List ℕ} {togo : ℕ} {c d d' : Channel} {k l l' : Side} → d ≡ d' → l ≡ l' → Ready p m togo c k d' l' → Ready p m togo c k d l
+ready_as {p} {m} {togo} {c} {d} {d'} {k} {l} {l'} u v ready = subst (λ (x : Channel). Ready p m togo c k x l) (sym u) (subst (Ready p m togo c k d') (sym v) ready)

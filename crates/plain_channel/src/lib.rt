@@ -176,7 +176,6 @@ fn stretch(c: &mut Channel, side: &mut Side, t: Tick, g: Going, n: usize, data: 
     ensures { (g.place < result.place)
         × GoTogether t «data».now n c.old side.old g c.new side.new result }
 {
-    prove!(c.voices[g.place].phrase == t.phrase);
     if g.glides {
         let p = side.hots[g.place];
         if p.plain {
@@ -424,6 +423,7 @@ pub fn along(
     if side.pour.left == 0 {
         refill(c, side, params, togo, data);
     }
+    prove!(c.voices[..].len() == 32);
     let first = side.pour.sums[side.pour.next];
     side.pour.next = side.pour.next + 1;
     side.pour.left = side.pour.left - 1;

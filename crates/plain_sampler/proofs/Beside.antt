@@ -43,9 +43,9 @@ module _ (s : Sampler) (x : Change) (k : Backing) (spare : Side) (two : length s
   change_so a y z made after first second =
       let t : Sampler = a.sampler in
       let is_y : y ≡ taken_at (channel_at t 0) (channel_at s 0).count (side_at k 0) =
-          first ∙ (λ q. taken_at (channel_is t after 0 (omega arith) q) (channel_is s two 0 (omega arith) q).count (side_is k spare both 0 (omega arith) q)) in
+      first ∙ (λ q. taken_at (channel_is t after 0 (omega arith) q) (channel_is s two 0 (omega arith) q).count (side_is k spare both 0 (omega arith) q)) in
       let is_z : z ≡ taken_at (channel_at t 1) (channel_at s 1).count (side_at (with_side k 0 y) 1) =
-          second ∙ (λ q. taken_at (channel_is t after 1 (omega arith) q) (channel_is s two 1 (omega arith) q).count (side_is (with_side k 0 y) spare (length-set k.sides 0 y ∙ both) 1 (omega arith) q)) in
+      second ∙ (λ q. taken_at (channel_is t after 1 (omega arith) q) (channel_is s two 1 (omega arith) q).count (side_is (with_side k 0 y) spare (length-set k.sides 0 y ∙ both) 1 (omega arith) q)) in
       (λ q. with_side (with_side k 0 y) 1 (is_z q))
       ∙ ap (λ (u : Side). taken_on s t 1 (with_side k 0 u)) is_y
       ∙ ap (λ (b : Answer). taken_on s b.sampler 1 (taken_on s b.sampler 0 k)) made
@@ -74,7 +74,7 @@ module _ (s : Sampler) (k : Backing) (j : ℕ) (x : Float) (p : Params) (m : Lis
   unfolding sample_backing side_stepped
   beside_played accepted a starts low two both spare y follows =
       let is_y : y ≡ side_after p x (channel_at s j) (take (a + s.capacity - a) (drop a m)) (side_at k j) =
-          follows ∙ (λ q. side_after p x (channel_is s two j low q) (take (a + s.capacity - a) (drop a m)) (side_is k spare both j low q)) in
+      follows ∙ (λ q. side_after p x (channel_is s two j low q) (take (a + s.capacity - a) (drop a m)) (side_is k spare both j low q)) in
       ap (with_side k j) is_y
       ∙ ap (λ (l : List ℕ). with_side k j (side_after p x (channel_at s j) l (side_at k j))) (part_is s j a (a + s.capacity) m starts refl)
       ∙ sym (ap (λ (b : Bool). cond b (side_stepped s j p x m k) k) (eq-eqb number 0 accepted))

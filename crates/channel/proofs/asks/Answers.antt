@@ -1,6 +1,5 @@
 -- `asks` meets its contract, by its cases. Assumes nothing.
 use Rattle.channel.specs.Tables.{asks_of}
-use borrow.Author.Rules.{rules}
 use Rattle.channel.proofs.asks.Goals as goal
 
 pub returns-in-Start : goal.returns-in-Start

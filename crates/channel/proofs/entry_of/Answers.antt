@@ -9,7 +9,6 @@ use Rattle.channel.specs.declared.Change.{Change}
 use Rattle.channel.specs.declared.Entry.{Entry}
 use Rattle.channel.specs.declared.Head.{Head}
 use Rattle.channel.proofs.Entries.{entry_below}
-use borrow.Author.Rules.{rules}
 use Rattle.channel.proofs.entry_of.Goals as goal
 
 placed : (x : Change) (h : Head) (several : Bool) (entry : Phrase) (e : Entry) → e ≡ entry_stored x h several entry → (e ≡ entry_stored x h several entry) × (e.place < 8)

@@ -1,6 +1,5 @@
 -- `finds` meets its contract, by its cases. Assumes nothing.
 use Rattle.channel.specs.Tables.{found_by}
-use borrow.Author.Rules.{rules}
 use Rattle.channel.proofs.finds.Goals as goal
 
 pub returns-then-several-k : goal.returns-then-several-k

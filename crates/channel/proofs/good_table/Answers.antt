@@ -1,7 +1,5 @@
 -- `good_table` meets its contract: its test is that of `good_table`. Assumes nothing.
-use borrow.Author.Tests.{not-true, not-false}
 use Rattle.channel.specs.Tables.{good_table}
-use borrow.Author.Rules.{rules}
 use Rattle.channel.proofs.good_table.Goals as goal
 
 pub returns-then-not-several : goal.returns-then-not-several

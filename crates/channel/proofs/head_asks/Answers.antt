@@ -1,6 +1,5 @@
 -- `head_asks` meets its contract, by its cases. Assumes nothing.
 use Rattle.channel.specs.Tables.{head_asks}
-use borrow.Author.Rules.{rules}
 use Rattle.channel.proofs.head_asks.Goals as goal
 
 pub returns-in-StartRecording : goal.returns-in-StartRecording

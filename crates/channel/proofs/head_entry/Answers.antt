@@ -1,7 +1,6 @@
 -- `head_entry` meets its contract, by its cases. Assumes nothing.
 use borrow.Author.Tests.{le-leb, lt-leb}
 use Rattle.channel.specs.Tables.{head_entry}
-use borrow.Author.Rules.{rules}
 use Rattle.channel.proofs.head_entry.Goals as goal
 
 pub returns-then-k-head : goal.returns-then-k-head

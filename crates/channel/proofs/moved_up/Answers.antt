@@ -1,6 +1,5 @@
 -- `moved_up` meets its contract: its test is that of the definition. Assumes nothing.
 use borrow.Author.Tests.{lt-ltb, le-ltb}
-use borrow.Author.Rules.{rules}
 use Rattle.channel.proofs.moved_up.Goals as goal
 
 pub returns-then-k-i : goal.returns-then-k-i

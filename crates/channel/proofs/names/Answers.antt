@@ -1,6 +1,5 @@
 -- `names` meets its contract, by its cases. Assumes nothing.
 use Rattle.channel.specs.Tables.{names_of}
-use borrow.Author.Rules.{rules}
 use Rattle.channel.proofs.names.Goals as goal
 
 pub returns-in-Start : goal.returns-in-Start

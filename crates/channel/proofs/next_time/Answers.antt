@@ -1,7 +1,6 @@
 -- `next_time` meets its contract: its test is that of `next_time`. Assumes nothing.
 use borrow.Author.Tests.{lt-ltb, le-ltb}
 use Rattle.channel.specs.Heads.{next_time}
-use borrow.Author.Rules.{rules}
 use Rattle.channel.proofs.next_time.Goals as goal
 
 pub returns-then-now-lt-LAST_TIME : goal.returns-then-now-lt-LAST_TIME

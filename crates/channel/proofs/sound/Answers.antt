@@ -1,6 +1,5 @@
 -- `sound` meets its contract. Assumes nothing.
 use Rattle.channel.specs.Channels.{added_of}
-use borrow.Author.Rules.{rules}
 use Rattle.channel.proofs.sound.Goals as goal
 
 pub returns-then-should_remove : goal.returns-then-should_remove

@@ -1,6 +1,5 @@
 -- `sped` meets its contract. Assumes nothing.
 use Rattle.channel.specs.Channels.{sped_of}
-use borrow.Author.Rules.{rules}
 use Rattle.channel.proofs.sped.Goals as goal
 
 pub returns-then-same_note : goal.returns-then-same_note

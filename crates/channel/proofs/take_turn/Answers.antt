@@ -4,7 +4,6 @@ use borrow.Author.Tests.{eq-eqb, ne_eqb}
 use Rattle.voice.specs.declared.Tick.{Tick}
 use Rattle.channel.specs.Channels.{Turning, turning_by, resting, turned_of}
 use Rattle.channel.proofs.Turns.{turned_by, turning_none, turning_some}
-use borrow.Author.Rules.{rules}
 use Rattle.channel.proofs.take_turn.Goals as goal
 
 pub returns-then-at-eq0 : goal.returns-then-at-eq0

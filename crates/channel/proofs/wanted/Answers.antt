@@ -1,6 +1,5 @@
 -- `wanted` meets its contract. Assumes nothing.
 use Rattle.channel.specs.Channels.{wanted_of}
-use borrow.Author.Rules.{rules}
 use Rattle.channel.proofs.wanted.Goals as goal
 
 pub returns-then-same_note : goal.returns-then-same_note

@@ -6,4 +6,4 @@ pub returns : goal.returns
 returns c =
     let gather = c.gather-moved in
     let all = c.all_of-all in
-    (simp (c.laid_of.ensures, gather.ensures.0, all.ensures), simp (gather.ensures.1, all.ensures))
+    (simp (c.laid_of.ensures, gather.ensures.value, all.ensures), simp (gather.ensures.data_after, all.ensures))

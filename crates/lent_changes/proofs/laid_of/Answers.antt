@@ -22,10 +22,10 @@ pub returns-then-several : goal.returns-then-several
 returns-then-several c =
     let a = c.args in
     let place = c.place_of in
-    put a.table a.several a.head _ place.result true place.ensures.0 c.if-several.true
+    put a.table a.several a.head _ place.result true place.ensures.value c.if-several.true
 
 pub returns-else-several : goal.returns-else-several
 returns-else-several c =
     let a = c.args in
     let place = c.place_of in
-    put a.table a.several a.head _ place.result false place.ensures.0 c.if-several.false
+    put a.table a.several a.head _ place.result false place.ensures.value c.if-several.false

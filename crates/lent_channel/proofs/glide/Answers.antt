@@ -1,5 +1,5 @@
 -- `glide` meets its contract: voices take their turns quickly until one doesn't glide. Assumes nothing.
-use Rattle.std.proofs.Common.{rules, arith, ◌≡◌, ◌≤◌, ◌<◌, ◌+◌, length, set, sym, subst}
+use Rattle.std.proofs.Common.{rules, ◌≡◌, ◌≤◌, ◌+◌, length, set, sym, subst}
 use lib.Ieee.{Float}
 use Rattle.channel.specs.Channels.{with_voices}
 use borrow.Author.Tests.{not-false}
@@ -21,7 +21,7 @@ loop-i-preserved c =
     let all : length c.loop-i.c.voices ≡ 32 = search rules in
     let few : c.args.n ≤ 32 = c.requires.0.few in
     let next = still_next c.args.t c.args.data.now c.args.n c.args.c.now c.args.g c.loop-i.c c.loop-i.i c.loop-i.output c.loop-i.invariant c.loop-i-test.true few all c.quick-q.result c.quick-q.ensures
-        (not-false c.quick-q.result.glides c.if-not-q.false) in
+    (not-false c.quick-q.result.glides c.if-not-q.false) in
     subst (λ (out : Float). Still c.args.t c.args.data.now c.args.n c.args.c.now c.args.g (with_voices (set c.loop-i.c.voices c.loop-i.i c.quick-q.result.voice) c.loop-i.c.count c.loop-i.c) (c.loop-i.i + 1) out) (sym c.added-output.ensures) next
 
 pub returns : goal.returns

@@ -1,6 +1,5 @@
 -- `go_on` meets its contract: the next voice rests where its phrase is empty, and else a stretch of turns begins with its own. Assumes nothing.
-use Rattle.std.proofs.Common.{rules, arith, ◌≡◌, ◌<◌, ◌≤◌, ℕ, length, get_or, ap, ◌∙◌}
-use Rattle.phrases.specs.declared.Phrase.{Phrase}
+use Rattle.std.proofs.Common.{rules, ◌≡◌, ℕ, length, get_or, ap, ◌∙◌}
 use Rattle.phrases.specs.Phrases.{no_phrase}
 use Rattle.channel.specs.Heads.{phrase_by}
 use Rattle.channel.specs.Channels.{phrase_at, turning_in}
@@ -16,7 +15,7 @@ returns-then-phrase-eq0 c =
     let k : ℕ = (get_or h.voices g.place none).phrase in
     let is : c.phrase_by-phrase.result ≡ phrase_at h k = c.phrase_by-phrase.ensures ∙ ap (λ (j : ℕ). phrase_by h.head k h.several (get_or h.table j no_phrase)) c.place_of.ensures.value in
     let goes = next_rests c.args.params h g c.args.n c.args.data.now c.requires.0 c.requires.1 all c.phrase_by-phrase.result is c.if-phrase-eq0.true
-        c.rest_next.result c.rest_next.new.c c.rest_next.ensures.next c.rest_next.ensures.channel in
+    c.rest_next.result c.rest_next.new.c c.rest_next.ensures.next c.rest_next.ensures.channel in
     record { further = goes.0; onward = goes.1; all = all }
 
 pub stretch-requires : goal.stretch-requires

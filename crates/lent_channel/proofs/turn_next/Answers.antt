@@ -18,7 +18,7 @@ returns c =
     record {
       next = ap (λ (r : Turn). r.next) so;
       channel = elim c.if-r.branch [
-        then-r w ↦ w.c-is ∙ turned_stored c.args.c.now c.args.g c.turned-r.result w.if-r.true
+        | then-r w ↦ w.c-is ∙ turned_stored c.args.c.now c.args.g c.turned-r.result w.if-r.true
         | else-r w ↦ w.c-is ∙ turned_left c.args.c.now c.args.g c.turned-r.result w.if-r.false
       ] ∙ ap (λ (r : Turn). turned_in c.args.g r c.args.c.now) so;
       all = all;

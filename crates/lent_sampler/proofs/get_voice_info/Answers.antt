@@ -14,7 +14,7 @@ loop-i-init c = record { upto = omega arith; figured = refl }
 pub loop-i-preserved : goal.loop-i-preserved
 loop-i-preserved c =
     let asked = c.list_asked-asked.ensures.asked
-        ∙ ap (λ (b : Bool). listing_by (seen_of c.args.s.now) c.args.channel b (count_in true (seated c.args.s.now c.args.channel)) (count_in true (seated c.args.s.now c.args.channel)) (length c.args.list.now)) c.beyond_limits-beyond.ensures in
+    ∙ ap (λ (b : Bool). listing_by (seen_of c.args.s.now) c.args.channel b (count_in true (seated c.args.s.now c.args.channel)) (count_in true (seated c.args.s.now c.args.channel)) (length c.args.list.now)) c.beyond_limits-beyond.ensures in
     let all : c.list_asked-asked.result.turns ≡ info_turns c.args.s.now c.args.channel c.args.params (length c.args.list.now) = ap (λ (a : Listing). a.turns) asked in
     let h : c.loop-i.i < info_turns c.args.s.now c.args.channel c.args.params (length c.args.list.now) = omega (arith, all) in
     let few : c.loop-i.i < 32 = few_looked _ (seated c.args.s.now c.args.channel) c.loop-i.i c.list_asked-asked.ensures.whole h in
@@ -28,11 +28,10 @@ loop-i-preserved c =
 pub returns : goal.returns
 returns c =
     let asked = c.list_asked-asked.ensures.asked
-        ∙ ap (λ (b : Bool). listing_by (seen_of c.args.s.now) c.args.channel b (count_in true (seated c.args.s.now c.args.channel)) (count_in true (seated c.args.s.now c.args.channel)) (length c.args.list.now)) c.beyond_limits-beyond.ensures in
+    ∙ ap (λ (b : Bool). listing_by (seen_of c.args.s.now) c.args.channel b (count_in true (seated c.args.s.now c.args.channel)) (count_in true (seated c.args.s.now c.args.channel)) (length c.args.list.now)) c.beyond_limits-beyond.ensures in
     let all : c.list_asked-asked.result.turns ≡ info_turns c.args.s.now c.args.channel c.args.params (length c.args.list.now) = ap (λ (a : Listing). a.turns) asked in
-    let e : c.loop-i.i ≡ info_turns c.args.s.now c.args.channel c.args.params (length c.args.list.now) = omega (arith, all, c.loop-i.invariant.upto) in
-    (
+    let e : c.loop-i.i ≡ info_turns c.args.s.now c.args.channel c.args.params (length c.args.list.now) = omega (arith, all, c.loop-i.invariant.upto) in (
       c.listed.ensures ∙ ap answered_of asked ∙ infos_counted_lem c.args.s.now c.args.channel c.args.params c.args.list.now c.list_asked-asked.ensures.whole,
       c.loop-i.invariant.figured ∙ ap (figured_upto c.args.params (channel_at c.args.s.now 0) (seated c.args.s.now c.args.channel) c.args.list.now) e
-      ∙ infos_listed c.args.s.now c.args.channel c.args.params c.args.list.now c.list_asked-asked.ensures.whole,
+          ∙ infos_listed c.args.s.now c.args.channel c.args.params c.args.list.now c.list_asked-asked.ensures.whole,
     )

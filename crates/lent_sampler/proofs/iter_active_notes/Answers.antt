@@ -6,7 +6,7 @@ use Rattle.voice.specs.Voices.{blank_voice}
 use Rattle.sampler.specs.Refusals.{good_sampler}
 use Rattle.lent_sampler.specs.declared.Listing.{Listing}
 use Rattle.lent_sampler.specs.Lists.{seated, unlisted, listed_count, answered_of}
-use Rattle.lent_sampler.proofs.Lists.{voice_there, finished_so, unfinished_so, count_none, count_few, count_more, count_next, noted_upto, noted_none, noted_length, noted_kept, noted_more, note_turns, few_looked, notes_fit, notes_after, notes_counted, notes_listed}
+use Rattle.lent_sampler.proofs.Lists.{voice_there, finished_so, unfinished_so, count_none, count_few, count_more, count_next, noted_upto, noted_none, noted_kept, noted_more, note_turns, few_looked, notes_fit, notes_after, notes_counted, notes_listed}
 use Rattle.lent_sampler.proofs.iter_active_notes.Goals as goal
 use Rattle.lent_sampler.proofs.iter_active_notes.Goals.{then-not-v, else-not-v}
 
@@ -47,7 +47,7 @@ loop-i-preserved c =
           ∙ (λ q. cond (unlisted false (same q)) (c.loop-i.invariant.counted q) ((c.loop-i.invariant.counted q + 1) % 2 ^ 64))
           ∙ count_next false blank_voice c.loop-i.i (seated c.args.s.now c.args.channel).voices fit.0 few;
       noted = elim c.if-not-v.branch [
-        then-not-v w ↦
+        | then-not-v w ↦
             let unfinished : (get_or (seated c.args.s.now c.args.channel).voices c.loop-i.i blank_voice).finished ≡ false = sym (ap (λ (u : Voice). u.finished) same) ∙ unfinished_so _ w.if-not-v.true in
             let note : w.packed.result ≡ into_u64_of (get_or (seated c.args.s.now c.args.channel).voices c.loop-i.i blank_voice).note = w.packed.ensures ∙ ap (λ (u : Voice). into_u64_of u.note) same in
             w.notes-is
@@ -63,8 +63,7 @@ loop-i-preserved c =
 pub returns : goal.returns
 returns c =
     let all : c.list_asked-asked.result.turns ≡ note_turns c.args.s.now c.args.channel (length c.args.notes.now) = ap (λ (a : Listing). a.turns) c.list_asked-asked.ensures.asked in
-    let e : c.loop-i.i ≡ note_turns c.args.s.now c.args.channel (length c.args.notes.now) = omega (arith, all, c.loop-i.invariant.upto) in
-    (
+    let e : c.loop-i.i ≡ note_turns c.args.s.now c.args.channel (length c.args.notes.now) = omega (arith, all, c.loop-i.invariant.upto) in (
       c.listed.ensures ∙ ap answered_of c.list_asked-asked.ensures.asked ∙ notes_counted c.args.s.now c.args.channel (length c.args.notes.now),
       c.loop-i.invariant.noted ∙ ap (noted_upto (seated c.args.s.now c.args.channel).voices c.args.notes.now) e ∙ notes_after (seated c.args.s.now c.args.channel) c.args.notes.now _ ∙ notes_listed c.args.s.now c.args.channel c.args.notes.now,
     )

@@ -83,8 +83,7 @@ loop-i-preserved c =
 pub returns : goal.returns
 returns c =
     let all : c.run_asked-asked.result.entries ≡ steps c.args.s.now c.args.run.now c.args.params c.args.memory.now = ap (λ (r : Running). r.entries) c.run_asked-asked.ensures in
-    let e : c.loop-i.i ≡ steps c.args.s.now c.args.run.now c.args.params c.args.memory.now = omega (arith, all, c.loop-i.invariant.upto) in
-    (
+    let e : c.loop-i.i ≡ steps c.args.s.now c.args.run.now c.args.params c.args.memory.now = omega (arith, all, c.loop-i.invariant.upto) in (
       c.run_done.ensures ∙ ap (λ (r : Running). r.ran) c.run_asked-asked.ensures,
       turned_ends c.args.s.now c.args.run.now c.args.params c.args.memory.now c.loop-i.invariant.turned e,
     )

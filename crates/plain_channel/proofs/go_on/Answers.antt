@@ -34,7 +34,7 @@ returns-then-phrase-eq0 c =
     subst (Rests (turning_in a.params h a.«data».now)) (get_d_any h.voices i none blank_voice inside) (turning_rests a.params h a.«data».now (get_or h.voices i none) empty) in
     let r = c.rest_next-r in
     let f = c.followed in
-    rest_follows (turning_in a.params h a.«data».now) a.n h a.side.now a.g c.requires.0 below voices hots rests f.result r.new.c (f.ensures.0 ∙ r.ensures.0, r.ensures.1)
+    rest_follows (turning_in a.params h a.«data».now) a.n h a.side.now a.g c.requires.0 below voices hots rests f.result r.new.c (f.ensures.0 ∙ r.ensures.next, r.ensures.channel)
     f.new.side (f.ensures.1 ∙ ap (λ (x : Going). followed_by r.new.c a.g x a.side.now) (sym f.ensures.0))
 
 pub returns : goal.returns

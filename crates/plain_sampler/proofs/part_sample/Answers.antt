@@ -15,8 +15,7 @@ returns c =
     let hots : length c.args.side.now.hots ≡ 32 = search rules in
     let part : List ℕ = take (c.args.end - c.args.start) (drop c.args.start c.args.memory.now) in
     let same = behind_none c.args.params c.args.input c.args.c.now part voices in
-    let was = c.behind-heard.ensures in
-    (
+    let was = c.behind-heard.ensures in (
       (
         c.at_volume.ensures ∙ ap (at_volume c.args.params) (was.0 ∙ ap heard_of same),
         was.1 ∙ ap (λ (w : Played). w.channel) same,

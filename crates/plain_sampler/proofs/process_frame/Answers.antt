@@ -76,8 +76,7 @@ loop-i-preserved c =
 pub returns : goal.returns
 returns c =
     let all : c.frame_asked-asked.result.entries ≡ steps c.args.s.now c.args.frame.now c.args.params c.args.memory.now = ap (λ (r : Framing). r.entries) c.frame_asked-asked.ensures in
-    let e : c.loop-i.i ≡ steps c.args.s.now c.args.frame.now c.args.params c.args.memory.now = omega (arith, all, c.loop-i.invariant.upto) in
-    (
+    let e : c.loop-i.i ≡ steps c.args.s.now c.args.frame.now c.args.params c.args.memory.now = omega (arith, all, c.loop-i.invariant.upto) in (
       (
         ap (λ (r : FrameDone). r.number) c.frame_done.ensures ∙ ap (λ (r : Framing). r.number) c.frame_asked-asked.ensures,
         turned_ends c.args.s.now c.args.frame.now c.args.params c.args.memory.now c.loop-i.invariant.turned e,

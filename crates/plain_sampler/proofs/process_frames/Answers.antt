@@ -106,8 +106,7 @@ returns c =
     let all : c.run_asked-asked.result.entries ≡ steps c.args.s.now c.args.run.now c.args.params c.args.memory.now = ap (λ (r : Running). r.entries) c.run_asked-asked.ensures in
     let e : c.loop-i.i ≡ steps c.args.s.now c.args.run.now c.args.params c.args.memory.now = omega (arith, all, c.loop-i.invariant.upto) in
     let both : length c.loop-i.k.sides ≡ 2 = search rules in
-    let end = streamed_ends c.args.s.now c.args.run.now c.args.params c.args.memory.now c.args.k.now c.loop-i.invariant.streamed e in
-    (
+    let end = streamed_ends c.args.s.now c.args.run.now c.args.params c.args.memory.now c.args.k.now c.loop-i.invariant.streamed e in (
       (c.run_done.ensures ∙ ap (λ (r : Running). r.ran) c.run_asked-asked.ensures, end.0),
       rested_so c.loop-i.k _ both _ _ c.rest-3.ensures c.rest-4.ensures ∙ end.1,
     )

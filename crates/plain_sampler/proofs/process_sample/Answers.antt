@@ -13,10 +13,9 @@ use Rattle.plain_sampler.proofs.process_sample.Goals as goal
 pub returns-then-number-ne0 : goal.returns-then-number-ne0
 returns-then-number-ne0 c =
     let is = c.refused.ensures ∙ ap (λ (n : ℕ). record { output = zero32; number = n; moved = 0 }) c.sample_asked-number.ensures in
-    let no : sample_number c.args.s.now c.args.channel c.args.params (length c.args.memory.now) ≡ 0 → ⊥ = λ e. c.if-number-ne0.true (c.sample_asked-number.ensures ∙ e) in
-    (
+    let no : sample_number c.args.s.now c.args.channel c.args.params (length c.args.memory.now) ≡ 0 → ⊥ = λ e. c.if-number-ne0.true (c.sample_asked-number.ensures ∙ e) in (
       subst (λ (r : Sampled). Leaves c.args.s.now c.args.channel c.args.input c.args.params c.args.memory.now r c.args.s.now c.args.memory.now) (sym is)
-      (is_refused c.args.s.now c.args.channel c.args.input c.args.params c.args.memory.now no),
+          (is_refused c.args.s.now c.args.channel c.args.input c.args.params c.args.memory.now no),
       beside_refused c.args.s.now c.args.k.now c.args.channel c.args.input c.args.params c.args.memory.now no,
     )
 
@@ -57,9 +56,8 @@ returns c =
     let starts : c.part_start-start.result ≡ c.args.channel * c.args.s.now.capacity = starts_at c.args.channel c.args.s.now.capacity _ ready.below c.part_start-start.ensures in
     let two : length c.args.s.now.channels ≡ 2 = search rules in
     let both : length c.args.k.now.sides ≡ 2 = search rules in
-    let was = c.part_sample-heard.ensures in
-    (
+    let was = c.part_sample-heard.ensures in (
       subst (λ (r : Sampled). Leaves c.args.s.now c.args.channel c.args.input c.args.params c.args.memory.now r (with_channels (set c.args.s.now.channels c.args.channel c.part_sample-heard.new.c) c.args.s.now) c.part_sample-heard.new.memory) (sym c.answered.ensures)
-      (sample_so c.args.s.now c.args.channel c.args.input c.args.params c.args.memory.now accepted _ starts two _ _ _ was.0.0 was.0.1 was.0.2),
+          (sample_so c.args.s.now c.args.channel c.args.input c.args.params c.args.memory.now accepted _ starts two _ _ _ was.0.0 was.0.1 was.0.2),
       beside_played c.args.s.now c.args.k.now c.args.channel c.args.input c.args.params c.args.memory.now accepted _ starts ready.below two both _ _ was.1,
     )

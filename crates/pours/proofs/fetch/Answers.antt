@@ -15,9 +15,6 @@ loop-k-init c =
     let a = c.args in
     (zero-le, nothing a.«data».now a.played a.by a.values.now, λ j h. refl)
 
-pub overflow_cast-index : goal.overflow_cast-index
-overflow_cast-index c = record { fits = omega (arith, c.slice_known-in-loop-k-1.given c.loop-k.k) }
-
 pub loop-k-preserved : goal.loop-k-preserved
 loop-k-preserved c =
     let a = c.args in

@@ -15,7 +15,7 @@ overflow_add-result c =
     let two = c.if-s-eq2.true in
     let seats = c.well_formed.0.1.1.0.1.0.1 in
     let table : length (get_or s.channels 1 none).table ≡ 8 =
-        (element (C.the_row).own_val s.channels c.well_formed.0.1.1.0.0 1 none (omega (arith, seats)) c.well_formed.0.1.1.0.1.1).1.1.1.1.0.1.0.1 in
+    (element (C.the_row).own_val s.channels c.well_formed.0.1.1.0.0 1 none (omega (arith, seats)) c.well_formed.0.1.1.0.1.1).1.1.1.1.0.1.0.1 in
     let past : Channel = channel_of (record { auto_passthru = false }) in
     let eight = ap (λ (d : Channel). length d.table) (get_d_any s.channels 1 past none (omega (arith, seats))) ∙ table in
     let small = le_trans (le_of_eq (ap (λ (n : ℕ). s.capacity + n) c.begins.ensures ∙ second_begins_there s two seats none)) (second_begins_small s two c.requires eight) in

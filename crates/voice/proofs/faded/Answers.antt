@@ -1,6 +1,5 @@
 -- `faded` meets its contract: its test is that of `faded_of`. Assumes nothing.
 use lib.Ieee.{of_bits}
-use borrow.Author.Rules.{rules}
 use Rattle.voice.proofs.faded.Goals as goal
 
 pub returns-then-out : goal.returns-then-out

@@ -1,5 +1,4 @@
 -- `near_valued` meets its contract: its test is that of `value_at`, and an index and what remains are a position. Assumes nothing.
-use borrow.Author.Rules.{rules}
 use borrow.Author.Tests.{not-true, not-false}
 use Rattle.clip.specs.Positions.{position_of}
 use Rattle.voice.proofs.near_valued.Goals as goal

@@ -1,6 +1,5 @@
 -- `over` meets its contract. Assumes nothing.
 use Rattle.voice.specs.Voices.{over_of}
-use borrow.Author.Rules.{rules}
 use Rattle.voice.proofs.over.Goals as goal
 
 pub returns-in-Decay : goal.returns-in-Decay

@@ -1,5 +1,4 @@
 -- `quick_beside` meets its contract, by that of `quick_next`. Assumes nothing.
-use borrow.Author.Rules.{rules}
 use borrow.Author.Tests.{not-true, not-false}
 use Rattle.voice.proofs.quick_beside.Goals as goal
 

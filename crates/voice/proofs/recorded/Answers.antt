@@ -2,7 +2,6 @@
 use mathlib.Core.Path.{sym, ap}
 use lib.Ieee.{of_bits, binary32}
 use lib.ListN.{get_or-eq_default}
-use borrow.Author.Rules.{rules}
 use Rattle.voice.proofs.recorded.Goals as goal
 
 pub returns-else-index-data : goal.returns-else-index-data

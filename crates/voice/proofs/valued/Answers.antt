@@ -1,5 +1,4 @@
 -- `valued` meets its contract: its test is that of `value_at`. Assumes nothing.
-use borrow.Author.Rules.{rules}
 use borrow.Author.Tests.{not-true, not-false}
 use Rattle.voice.proofs.valued.Goals as goal
 

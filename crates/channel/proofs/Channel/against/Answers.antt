@@ -1,5 +1,4 @@
 -- `Channel::against` meets its contract. Assumes nothing.
-use borrow.Author.Rules.{rules}
 use Rattle.channel.proofs.Channel.against.Goals as goal
 
 pub returns : goal.returns

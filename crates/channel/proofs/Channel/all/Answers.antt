@@ -1,5 +1,4 @@
 -- `Channel::all` meets its contract. Assumes nothing.
-use borrow.Author.Rules.{rules}
 use Rattle.channel.proofs.Channel.all.Goals as goal
 
 pub returns : goal.returns

@@ -1,8 +1,7 @@
 -- `Channel::any_unfinished` meets its contract, by the law of loops. Assumes nothing.
-use Prim.Native.Nat.{◌-◌}
 use Rattle.walks.specs.Walks.{any}
-use Rattle.walks.proofs.Lists.Loops.{Walk, turns, stops, ends, long, begins}
-use Rattle.channel.specs.Channels.{live, unfinished_of, any_unfinished_of}
+use Rattle.walks.proofs.Lists.Loops.{turns, stops, ends, begins}
+use Rattle.channel.specs.Channels.{unfinished_of, any_unfinished_of}
 use Rattle.channel.proofs.Slots.{none}
 use borrow.Author.Rules.{rules}
 use Rattle.channel.proofs.Channel.any_unfinished.Goals as goal

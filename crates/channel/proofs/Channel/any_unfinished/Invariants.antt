@@ -1,9 +1,7 @@
 use Prim.Native.Nat.{◌-◌}
 use Rattle.walks.specs.Walks.{any}
-use Rattle.walks.proofs.Lists.Loops.{Walk, turns, stops, ends, long, begins}
-use Rattle.channel.specs.Channels.{live, unfinished_of, any_unfinished_of}
-use Rattle.channel.proofs.Slots.{none}
-use borrow.Author.Rules.{rules}
+use Rattle.walks.proofs.Lists.Loops.{Walk}
+use Rattle.channel.specs.Channels.{live, unfinished_of}
 use Rattle.channel.proofs.Channel.any_unfinished.Given as goal
 
 abbrev pub invariant-loop-i : goal.invariant-loop-i

@@ -1,5 +1,4 @@
 -- `Channel::begins` meets its contract. Assumes nothing.
-use borrow.Author.Rules.{rules}
 use Rattle.channel.proofs.Channel.begins.Goals as goal
 
 pub returns : goal.returns

@@ -1,5 +1,4 @@
 -- `Channel::beside` meets its contract. Assumes nothing.
-use borrow.Author.Rules.{rules}
 use Rattle.channel.proofs.Channel.beside.Goals as goal
 
 pub returns : goal.returns

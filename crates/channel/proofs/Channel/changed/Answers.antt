@@ -1,6 +1,5 @@
 -- `Channel::changed` meets its contract, by its cases. Assumes nothing.
 use Rattle.channel.specs.Channels.{changed_of}
-use borrow.Author.Rules.{rules}
 use Rattle.channel.proofs.Channel.changed.Goals as goal
 
 pub returns-in-Start : goal.returns-in-Start

@@ -1,13 +1,7 @@
 -- `Channel::find` meets its contract, by the law of loops: the search is left at the first voice that is wanted. Assumes nothing.
-use mathlib.Core.List.{List}
-use Prim.Native.Nat.{ℕ, ◌-◌}
-use Rattle.common_types.specs.declared.Note.{Note}
-use Rattle.voice.specs.declared.Voice.{Voice}
 use Rattle.walks.specs.Walks.{seek}
-use Rattle.walks.proofs.Lists.Loops.{Walk, turns, stops, ends, long, begins}
-use Rattle.channel.specs.Channels.{live, wanted_of, find_of}
-use Rattle.channel.specs.declared.Found.{Found}
-use Rattle.channel.specs.declared.Found.TheVariants.{At, Nothing}
+use Rattle.walks.proofs.Lists.Loops.{turns, stops, ends, begins}
+use Rattle.channel.specs.Channels.{find_of}
 use Rattle.channel.proofs.Slots.{none}
 use borrow.Author.Rules.{rules}
 use Rattle.channel.proofs.Channel.find.Invariants.{from}

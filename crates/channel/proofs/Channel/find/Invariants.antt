@@ -3,12 +3,10 @@ use Prim.Native.Nat.{ℕ, ◌-◌}
 use Rattle.common_types.specs.declared.Note.{Note}
 use Rattle.voice.specs.declared.Voice.{Voice}
 use Rattle.walks.specs.Walks.{seek}
-use Rattle.walks.proofs.Lists.Loops.{Walk, turns, stops, ends, long, begins}
-use Rattle.channel.specs.Channels.{live, wanted_of, find_of}
+use Rattle.walks.proofs.Lists.Loops.{Walk}
+use Rattle.channel.specs.Channels.{live, wanted_of}
 use Rattle.channel.specs.declared.Found.{Found}
 use Rattle.channel.specs.declared.Found.TheVariants.{At, Nothing}
-use Rattle.channel.proofs.Slots.{none}
-use borrow.Author.Rules.{rules}
 use Rattle.channel.proofs.Channel.find.Given as goal
 
 abbrev pub from : Note → ℕ → List Voice → Found

@@ -1,10 +1,9 @@
 -- `Channel::finish_voice` meets its contract: its tests are those of `finished_at_of`. Assumes nothing.
 use borrow.Author.Tests.{lt-ltb, le-ltb}
 use Rattle.voice.specs.Voices.{blank_voice}
-use Rattle.walks.proofs.Lists.Loops.{long, get_d_any}
+use Rattle.walks.proofs.Lists.Loops.{get_d_any}
 use Rattle.channel.specs.Channels.{finished_at_of}
 use Rattle.channel.proofs.Slots.{none}
-use borrow.Author.Rules.{rules}
 use native.Mathlib.Omega.{arith}
 use Rattle.channel.proofs.Channel.finish_voice.Goals as goal
 

@@ -11,7 +11,6 @@ use Rattle.channel.specs.Heads.{starting_at}
 use Rattle.channel.specs.Tables.{place_of}
 use Rattle.channel.specs.Channels.{phrases_in, gathered_in, gathered_memory}
 use Rattle.channel.specs.declared.Channel.{Channel}
-use borrow.Author.Rules.{rules}
 use Rattle.channel.proofs.Channel.gathered.Goals as goal
 
 -- the channel with its phrases gathered, as it is put together

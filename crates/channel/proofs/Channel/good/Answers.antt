@@ -1,7 +1,6 @@
 -- `Channel::good` meets its contract: its tests are those of `good_channel`. Assumes nothing.
-use borrow.Author.Tests.{le-leb, lt-leb, not-true, not-false}
+use borrow.Author.Tests.{le-leb, lt-leb}
 use Rattle.channel.specs.Channels.{good_channel}
-use borrow.Author.Rules.{rules}
 use Rattle.channel.proofs.Channel.good.Goals as goal
 
 pub returns-then-self-gt32 : goal.returns-then-self-gt32

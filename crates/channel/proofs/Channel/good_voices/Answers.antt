@@ -1,10 +1,8 @@
 -- `Channel::good_voices` meets its contract, by the law of loops. Assumes nothing.
-use Prim.Native.Nat.{◌-◌}
-use borrow.Author.Tests.{not-true, not-false}
 use Rattle.walks.specs.Walks.{every}
-use Rattle.walks.proofs.Lists.Loops.{Walk, turns, stops, ends, long, begins}
+use Rattle.walks.proofs.Lists.Loops.{turns, stops, ends, begins}
 use Rattle.voice.specs.Voices.{good_voice}
-use Rattle.channel.specs.Channels.{live, good_voices_of}
+use Rattle.channel.specs.Channels.{good_voices_of}
 use Rattle.channel.proofs.Slots.{none}
 use borrow.Author.Rules.{rules}
 use Rattle.channel.proofs.Channel.good_voices.Goals as goal

@@ -1,6 +1,5 @@
 -- `Channel::handle_passthru` meets its contract. Assumes nothing.
 use Rattle.channel.specs.Channels.{handled_of}
-use borrow.Author.Rules.{rules}
 use Rattle.channel.proofs.Channel.handle_passthru.Goals as goal
 
 pub returns : goal.returns

@@ -1,11 +1,9 @@
 -- `Channel::head_changed` meets its contract: what it stores in the table is the table after the change. Assumes nothing.
 use mathlib.Core.Path.{◌≡◌, sym, ap, subst, ◌∙◌}
 use mathlib.Core.Bool.{Bool, cond}
-use mathlib.Core.Logic.{⊎_elim}
 use Prim.Native.Nat.{◌<◌}
 use native.Mathlib.Omega.{arith}
 use lib.ListN.{length, get_or, set}
-use Rattle.walks.proofs.Lists.Loops.{long}
 use Rattle.phrases.specs.declared.Phrase.{Phrase}
 use Rattle.phrases.specs.Phrases.{no_phrase, no_phrases}
 use Rattle.channel.specs.Heads.{head_changed_of}
@@ -16,7 +14,6 @@ use Rattle.channel.specs.declared.Channel.{Channel}
 use Rattle.channel.specs.declared.Entry.{Entry}
 use Rattle.channel.specs.declared.HeadChange.{HeadChange}
 use Rattle.channel.proofs.Entries.{head_entry_below, head_stored, head_several}
-use borrow.Author.Rules.{rules}
 use Rattle.channel.proofs.Channel.head_changed.Goals as goal
 use Rattle.channel.proofs.Channel.head_changed.Goals.{then-e, else-e}
 

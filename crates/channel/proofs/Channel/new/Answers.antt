@@ -1,6 +1,5 @@
 -- `Channel::new` meets its contract. Assumes nothing.
 use Rattle.channel.specs.Channels.{channel_of}
-use borrow.Author.Rules.{rules}
 use Rattle.channel.proofs.Channel.new.Goals as goal
 
 pub returns : goal.returns

@@ -1,5 +1,4 @@
 -- `Channel::phrase_at` meets its contract. Assumes nothing.
-use borrow.Author.Rules.{rules}
 use Rattle.channel.proofs.Channel.phrase_at.Goals as goal
 
 pub returns : goal.returns

@@ -1,11 +1,9 @@
 -- `Channel::play` meets its contract, by the law of loops that store: each turn is a law of `Turns`. Assumes nothing.
-use mathlib.Core.Path.{◌≡◌, refl, sym, ap, ◌∙◌}
-use mathlib.Core.Logic.{⊎_elim}
-use Prim.Native.Nat.{◌≤◌, ◌-◌}
+use mathlib.Core.Path.{refl, sym, ap, ◌∙◌}
 use lib.ListN.{get_or}
 use lib.Ieee.{of_bits}
-use Rattle.walks.proofs.Lists.Loops.{Walk, turns, stores, ends, long, begins}
-use Rattle.channel.specs.Channels.{with_voices, live, phrase_at, turning_in}
+use Rattle.walks.proofs.Lists.Loops.{turns, stores, ends, begins}
+use Rattle.channel.specs.Channels.{with_voices, phrase_at, turning_in}
 use Rattle.channel.specs.declared.Channel.{Channel}
 use Rattle.channel.specs.declared.Turned.{Turned}
 use Rattle.channel.proofs.Slots.{none}
@@ -45,22 +43,22 @@ loop-i-preserved c =
     let stays = ap (λ (x : Turned). x.stays) same in
     let is = ap s.leaves (sym turned) in
     elim c.if-r.branch [
-      then-r w ↦ rw (w.self-is, w.moved-is, w.k-is) (
-      stores none h.k _ h.invariant.0 below h.invariant.1 (λ vs. rest_keep s h.self _ _ _ _ _ _ turned sounds is vs (sym stays ∙ w.if-r.true)),
-      omega arith,
-      stores none h.k _ h.invariant.2 below h.invariant.1
-          (λ vs. tidied_keep s h.self h.k _ _ _ _ _ turned sounds is vs h.moved h.i h.invariant.1 _ w.moved_up-moved.ensures (sym stays ∙ w.if-r.true)),
-      step_up h.moved h.k h.i _ h.invariant.3 w.moved_up-moved.ensures,
-      h.invariant.4,
-      ap (with_voices _ _) h.invariant.5,
+      | then-r w ↦ rw (w.self-is, w.moved-is, w.k-is) (
+        stores none h.k _ h.invariant.0 below h.invariant.1 (λ vs. rest_keep s h.self _ _ _ _ _ _ turned sounds is vs (sym stays ∙ w.if-r.true)),
+        omega arith,
+        stores none h.k _ h.invariant.2 below h.invariant.1
+            (λ vs. tidied_keep s h.self h.k _ _ _ _ _ turned sounds is vs h.moved h.i h.invariant.1 _ w.moved_up-moved.ensures (sym stays ∙ w.if-r.true)),
+        step_up h.moved h.k h.i _ h.invariant.3 w.moved_up-moved.ensures,
+        h.invariant.4,
+        ap (with_voices _ _) h.invariant.5,
       )
-    | else-r w ↦ rw (w.self-is, w.moved-is, w.k-is) (
-      turns none h.invariant.0 below (λ vs. rest_gone s h.self _ _ _ _ _ _ turned sounds is vs (sym stays ∙ w.if-r.false)),
-      omega arith,
-      turns none h.invariant.2 below (λ vs. tidied_gone s h.self h.k _ _ _ _ _ turned sounds is vs h.moved h.i h.invariant.1 (sym stays ∙ w.if-r.false)),
-      omega arith,
-      h.invariant.4,
-      h.invariant.5,
+      | else-r w ↦ rw (w.self-is, w.moved-is, w.k-is) (
+        turns none h.invariant.0 below (λ vs. rest_gone s h.self _ _ _ _ _ _ turned sounds is vs (sym stays ∙ w.if-r.false)),
+        omega arith,
+        turns none h.invariant.2 below (λ vs. tidied_gone s h.self h.k _ _ _ _ _ turned sounds is vs h.moved h.i h.invariant.1 (sym stays ∙ w.if-r.false)),
+        omega arith,
+        h.invariant.4,
+        h.invariant.5,
       )
     ]
 

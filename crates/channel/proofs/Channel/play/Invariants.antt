@@ -1,16 +1,8 @@
-use mathlib.Core.Path.{◌≡◌, refl, sym, ap, ◌∙◌}
-use mathlib.Core.Logic.{⊎_elim}
+use mathlib.Core.Path.{◌≡◌}
 use Prim.Native.Nat.{◌≤◌, ◌-◌}
-use lib.ListN.{get_or}
-use lib.Ieee.{of_bits}
-use Rattle.walks.proofs.Lists.Loops.{Walk, turns, stores, ends, long, begins}
-use Rattle.channel.specs.Channels.{with_voices, live, phrase_at, turning_in}
-use Rattle.channel.specs.declared.Channel.{Channel}
-use Rattle.channel.specs.declared.Turned.{Turned}
-use Rattle.channel.proofs.Slots.{none}
-use Rattle.channel.proofs.Turns.{turned_there, rest_of, rest_start, rest_end, rest_keep, rest_gone, tidied_from, tidied_start, tidied_end, tidied_keep, tidied_gone, step_up}
-use borrow.Author.Rules.{rules}
-use native.Mathlib.Omega.{arith}
+use Rattle.walks.proofs.Lists.Loops.{Walk}
+use Rattle.channel.specs.Channels.{with_voices, live, turning_in}
+use Rattle.channel.proofs.Turns.{rest_of, tidied_from}
 use Rattle.channel.proofs.Channel.play.Given as goal
 
 abbrev pub invariant-loop-i : goal.invariant-loop-i

@@ -1,7 +1,6 @@
 -- `Channel::push` meets its contract: its test is that of `pushed_of`. Assumes nothing.
 use borrow.Author.Tests.{lt-ltb, le-ltb}
 use Rattle.channel.specs.Channels.{pushed_of}
-use borrow.Author.Rules.{rules}
 use Rattle.channel.proofs.Channel.push.Goals as goal
 
 pub returns-then-n-ge32 : goal.returns-then-n-ge32

@@ -4,7 +4,6 @@ use lib.ListN.{length}
 use Rattle.phrases.specs.declared.Beside.{Beside}
 use Rattle.channel.specs.Heads.{written_in}
 use Rattle.channel.proofs.Rooms.{taken_there, memory_there}
-use borrow.Author.Rules.{rules}
 use Rattle.channel.proofs.Channel.record.Goals as goal
 
 pub returns : goal.returns

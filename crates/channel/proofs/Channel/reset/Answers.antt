@@ -1,7 +1,6 @@
 -- `Channel::reset` meets its contract. Assumes nothing.
 use lib.Ieee.{of_bits}
 use Rattle.channel.specs.Channels.{reset_of}
-use borrow.Author.Rules.{rules}
 use Rattle.channel.proofs.Channel.reset.Goals as goal
 
 pub returns : goal.returns

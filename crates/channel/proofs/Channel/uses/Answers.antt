@@ -1,12 +1,8 @@
 -- `Channel::uses` meets its contract, by the law of loops. Assumes nothing.
-use mathlib.Core.Bool.{Bool}
-use Prim.Native.Nat.{ℕ, ◌-◌}
-use lib.Dec.{eqb}
 use borrow.Author.Tests.{eq-eqb, ne_eqb}
 use Rattle.walks.specs.Walks.{any}
-use Rattle.walks.proofs.Lists.Loops.{Walk, turns, stops, ends, long, begins}
-use Rattle.voice.specs.declared.Voice.{Voice}
-use Rattle.channel.specs.Channels.{live, uses_of}
+use Rattle.walks.proofs.Lists.Loops.{turns, stops, ends, begins}
+use Rattle.channel.specs.Channels.{uses_of}
 use Rattle.channel.proofs.Slots.{none}
 use borrow.Author.Rules.{rules}
 use Rattle.channel.proofs.Channel.uses.Invariants.{has}

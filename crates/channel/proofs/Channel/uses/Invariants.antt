@@ -1,13 +1,10 @@
 use mathlib.Core.Bool.{Bool}
 use Prim.Native.Nat.{ℕ, ◌-◌}
 use lib.Dec.{eqb}
-use borrow.Author.Tests.{eq-eqb, ne_eqb}
 use Rattle.walks.specs.Walks.{any}
-use Rattle.walks.proofs.Lists.Loops.{Walk, turns, stops, ends, long, begins}
+use Rattle.walks.proofs.Lists.Loops.{Walk}
 use Rattle.voice.specs.declared.Voice.{Voice}
-use Rattle.channel.specs.Channels.{live, uses_of}
-use Rattle.channel.proofs.Slots.{none}
-use borrow.Author.Rules.{rules}
+use Rattle.channel.specs.Channels.{live}
 use Rattle.channel.proofs.Channel.uses.Given as goal
 
 abbrev pub has : ℕ → Voice → Bool

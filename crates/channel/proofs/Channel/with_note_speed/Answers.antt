@@ -1,8 +1,7 @@
 -- `Channel::with_note_speed` meets its contract, by the law of loops that store. Assumes nothing.
-use Prim.Native.Nat.{◌-◌}
 use native.Mathlib.Nat.{le_refl}
-use Rattle.walks.proofs.Lists.Loops.{Walk, stores, ends, long, begins}
-use Rattle.channel.specs.Channels.{live, sped_of, set_note_speed_of}
+use Rattle.walks.proofs.Lists.Loops.{stores, ends, begins}
+use Rattle.channel.specs.Channels.{sped_of, set_note_speed_of}
 use Rattle.channel.proofs.Slots.{none, map_from, map_on}
 use borrow.Author.Rules.{rules}
 use Rattle.channel.proofs.Channel.with_note_speed.Goals as goal

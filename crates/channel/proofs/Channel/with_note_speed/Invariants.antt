@@ -1,9 +1,7 @@
 use Prim.Native.Nat.{◌-◌}
-use native.Mathlib.Nat.{le_refl}
-use Rattle.walks.proofs.Lists.Loops.{Walk, stores, ends, long, begins}
-use Rattle.channel.specs.Channels.{live, sped_of, set_note_speed_of}
-use Rattle.channel.proofs.Slots.{none, map_from, map_on}
-use borrow.Author.Rules.{rules}
+use Rattle.walks.proofs.Lists.Loops.{Walk}
+use Rattle.channel.specs.Channels.{live, sped_of}
+use Rattle.channel.proofs.Slots.{map_from}
 use Rattle.channel.proofs.Channel.with_note_speed.Given as goal
 
 abbrev pub invariant-loop-i : goal.invariant-loop-i

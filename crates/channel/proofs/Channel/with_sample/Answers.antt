@@ -1,6 +1,5 @@
 -- `Channel::with_sample` meets its contract: recording first, then the voices, then the input at its level, then the close. Assumes nothing.
 use Rattle.channel.specs.Channels.{process_sample_of}
-use borrow.Author.Rules.{rules}
 use Rattle.channel.proofs.Channel.with_sample.Goals as goal
 
 pub returns : goal.returns

@@ -1,7 +1,6 @@
 -- `Channel::with_start` meets its contract: its test is that of `start_playing_of`. Assumes nothing.
 use borrow.Author.Tests.{eq-eqb, ne_eqb}
 use Rattle.channel.specs.Channels.{start_playing_of}
-use borrow.Author.Rules.{rules}
 use Rattle.channel.proofs.Channel.with_start.Goals as goal
 
 pub returns-then-head-eq0 : goal.returns-then-head-eq0

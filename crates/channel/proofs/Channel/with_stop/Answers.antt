@@ -1,6 +1,5 @@
 -- `Channel::with_stop` meets its contract. Assumes nothing.
 use Rattle.channel.specs.Channels.{stop_playing_of}
-use borrow.Author.Rules.{rules}
 use Rattle.channel.proofs.Channel.with_stop.Goals as goal
 
 pub returns : goal.returns

@@ -1,5 +1,4 @@
 -- `Head::after` meets its contract. Assumes nothing.
-use borrow.Author.Rules.{rules}
 use Rattle.channel.proofs.Head.after.Goals as goal
 
 pub returns : goal.returns

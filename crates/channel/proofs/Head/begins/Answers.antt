@@ -1,6 +1,5 @@
 -- `Head::begins` meets its contract: its test is that of `begins_at`. Assumes nothing.
 use Rattle.channel.specs.Heads.{begins_at}
-use borrow.Author.Rules.{rules}
 use Rattle.channel.proofs.Head.begins.Goals as goal
 
 pub returns-then-self-is_recording : goal.returns-then-self-is_recording

@@ -1,6 +1,5 @@
 -- `Head::changed` meets its contract. Assumes nothing.
 use Rattle.channel.specs.Heads.{head_changed_of}
-use borrow.Author.Rules.{rules}
 use Rattle.channel.proofs.Head.changed.Goals as goal
 
 pub returns : goal.returns

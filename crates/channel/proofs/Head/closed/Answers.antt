@@ -1,6 +1,5 @@
 -- `Head::closed` meets its contract: its test is that of `passthru_of`. Assumes nothing.
 use Rattle.channel.specs.Heads.{passthru_of, closed_of}
-use borrow.Author.Rules.{rules}
 use Rattle.channel.proofs.Head.closed.Goals as goal
 
 pub returns-then-wanted-self : goal.returns-then-wanted-self

@@ -1,5 +1,4 @@
 -- `Head::copied` meets its contract, by those of the copies that it is made of. Assumes nothing.
-use borrow.Author.Rules.{rules}
 use Rattle.channel.proofs.Head.copied.Goals as goal
 
 pub returns : goal.returns

@@ -9,7 +9,6 @@ use Rattle.phrases.specs.declared.Phrase.{Phrase}
 use Rattle.phrases.specs.Phrases.{is_over_by}
 use Rattle.channel.specs.Heads.{last_time, recording_in, good_head}
 use Rattle.channel.specs.declared.Head.{Head}
-use borrow.Author.Rules.{rules}
 use Rattle.channel.proofs.Head.good.Goals as goal
 
 not_leb : (a b : ℕ) → ltb b a ≡ not (leb a b)

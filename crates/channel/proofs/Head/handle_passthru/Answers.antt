@@ -1,6 +1,5 @@
 -- `Head::handle_passthru` meets its contract: its test is that of `passthru_of`. Assumes nothing.
 use Rattle.channel.specs.Heads.{passthru_of}
-use borrow.Author.Rules.{rules}
 use Rattle.channel.proofs.Head.handle_passthru.Goals as goal
 
 pub returns-then-wanted-self : goal.returns-then-wanted-self

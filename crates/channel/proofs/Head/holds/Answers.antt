@@ -1,7 +1,6 @@
 -- `Head::holds` meets its contract: its test is that of `holds_of`. Assumes nothing.
 use borrow.Author.Tests.{eq-eqb, ne_eqb}
 use Rattle.channel.specs.Heads.{holds_of}
-use borrow.Author.Rules.{rules}
 use Rattle.channel.proofs.Head.holds.Goals as goal
 
 pub returns-then-self-eq0 : goal.returns-then-self-eq0

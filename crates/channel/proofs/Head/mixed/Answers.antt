@@ -1,6 +1,5 @@
 -- `Head::mixed` meets its contract. Assumes nothing.
 use lib.Ieee.{of_bits}
-use borrow.Author.Rules.{rules}
 use Rattle.channel.proofs.Head.mixed.Goals as goal
 
 pub returns : goal.returns

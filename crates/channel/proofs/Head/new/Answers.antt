@@ -1,6 +1,5 @@
 -- `Head::new` meets its contract. Assumes nothing.
 use Rattle.channel.specs.Heads.{head_of}
-use borrow.Author.Rules.{rules}
 use Rattle.channel.proofs.Head.new.Goals as goal
 
 pub returns : goal.returns

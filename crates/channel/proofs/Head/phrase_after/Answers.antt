@@ -1,7 +1,6 @@
 -- `Head::phrase_after` meets its contract, by its cases. Assumes nothing.
 use borrow.Author.Tests.{eq-eqb, ne_eqb}
 use Rattle.channel.specs.Heads.{phrase_after}
-use borrow.Author.Rules.{rules}
 use Rattle.channel.proofs.Head.phrase_after.Goals as goal
 
 pub returns-then-k-self : goal.returns-then-k-self

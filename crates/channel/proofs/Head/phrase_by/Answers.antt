@@ -1,7 +1,6 @@
 -- `Head::phrase_by` meets its contract: its tests are those of `phrase_by`. Assumes nothing.
 use borrow.Author.Tests.{eq-eqb, ne_eqb}
 use Rattle.channel.specs.Heads.{phrase_by}
-use borrow.Author.Rules.{rules}
 use Rattle.channel.proofs.Head.phrase_by.Goals as goal
 
 pub returns-then-k-self : goal.returns-then-k-self

@@ -1,5 +1,4 @@
 -- `Head::ramped` meets its contract. Assumes nothing.
-use borrow.Author.Rules.{rules}
 use Rattle.channel.proofs.Head.ramped.Goals as goal
 
 pub returns : goal.returns

@@ -1,5 +1,4 @@
 -- `Head::recorded` meets its contract. Assumes nothing.
-use borrow.Author.Rules.{rules}
 use Rattle.channel.proofs.Head.recorded.Goals as goal
 
 pub returns : goal.returns

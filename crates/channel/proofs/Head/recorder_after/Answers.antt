@@ -1,6 +1,5 @@
 -- `Head::recorder_after` meets its contract, by its cases. Assumes nothing.
 use Rattle.channel.specs.Heads.{recorder_after}
-use borrow.Author.Rules.{rules}
 use Rattle.channel.proofs.Head.recorder_after.Goals as goal
 
 pub returns-in-StartRecording : goal.returns-in-StartRecording

@@ -1,6 +1,5 @@
 -- `Head::rests` meets its contract. Assumes nothing.
 use Rattle.channel.specs.Heads.{rests_of}
-use borrow.Author.Rules.{rules}
 use Rattle.channel.proofs.Head.rests.Goals as goal
 
 pub returns : goal.returns

@@ -2,7 +2,6 @@
 use native.Mathlib.Nat.{min-le_right, le_refl}
 use borrow.Author.Tests.{le-leb, lt-leb}
 use Rattle.channel.specs.Heads.{written_in}
-use borrow.Author.Rules.{rules}
 use Rattle.channel.proofs.Head.room.Goals as goal
 
 pub returns-then-behind-self : goal.returns-then-behind-self

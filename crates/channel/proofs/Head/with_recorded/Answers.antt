@@ -1,5 +1,4 @@
 -- `Head::with_recorded` meets its contract. Assumes nothing.
-use borrow.Author.Rules.{rules}
 use Rattle.channel.proofs.Head.with_recorded.Goals as goal
 
 pub returns : goal.returns

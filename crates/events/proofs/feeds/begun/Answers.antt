@@ -11,4 +11,4 @@ pub returns : goal.returns
 unfolding opened_of header_of good_header
 returns c =
     let size : length c.args.memory.now ≡ 8192 = ap length c.requires ∙ length-replicate {A = ℕ} 8192 0 in
-    simp (c.«open».ensures, size)
+    simp (c.open-step.ensures, size)

@@ -16,19 +16,14 @@ goes_on-requires c = c.loop-turns.invariant.2.used
 
 pub one-fed-requires : goal.one-fed-requires
 one-fed-requires c =
-    let g = c.loop-turns.invariant.2 in
-    (g.used, omega (arith, g.room, c.loop-turns-test.true))
-
-pub overflow_sub-turns : goal.overflow_sub-turns
-overflow_sub-turns c = omega (arith, c.loop-turns-test.true)
-
-pub loop-turns-smaller : goal.loop-turns-smaller
-loop-turns-smaller c = omega (arith, c.loop-turns-test.true)
+    let g = c.loop-turns.invariant.2 in record {
+      used_in_bounds = g.used;
+      size_in_bounds = omega (arith, g.room, c.loop-turns-test.true);
+    }
 
 pub loop-turns-preserved : goal.loop-turns-preserved
 loop-turns-preserved c =
-    let one = c.one-fed in
-    (
+    let one = c.one-fed in (
       search rules,
       search rules,
       goes_next c.loop-turns.invariant.2 c.loop-turns-test.true (sym c.goes_on.ensures ∙ c.if-goes_on.true) one.ensures (search rules),

@@ -7,6 +7,6 @@ pub returns : goal.returns
 returns c = record {
   state = refl;
   used = c.past.ensures;
-  size = c.put.ensures.0;
-  text = c.put.ensures.1;
+  size = c.put.ensures.upper_bound;
+  text = c.put.ensures.out_after;
 }

@@ -2,7 +2,7 @@
 use Prim.Native.Nat.{◌+◌, min}
 use mathlib.Core.Path.{◌≡◌}
 use native.Mathlib.Omega.{arith}
-use Rattle.walks.proofs.Lists.Loops.{long}
+use lib.ListN.{length}
 use Rattle.events.proofs.Bytes.{put_is}
 use borrow.Author.Rules.{rules}
 use Rattle.events.proofs.feeds.put.Goals as goal
@@ -10,13 +10,13 @@ use Rattle.events.proofs.feeds.put.Goals as goal
 pub returns-then-size-lt64 : goal.returns-then-size-lt64
 returns-then-size-lt64 c =
     let a = c.args in
-    let whole = long _ a.line.bytes 64 c.well_formed.0.1.1.0.1.0.1 in
+    let whole : length a.line.bytes ≡ 64 = c.well_formed.0.1.1.0.1.0.1 in
     let size : a.at + a.line.length ≡ a.at + min a.line.length 64 = omega (arith, c.if-size-lt64.true) in
-    (omega (arith, c.if-size-lt64.true), put_is a.line a.out.now _ a.at whole c.requires c.print.ensures.1 _ size)
+    record { upper_bound = omega (arith, c.if-size-lt64.true); out_after = put_is a.line a.out.now _ a.at whole c.requires c.print.ensures.lent_after _ size }
 
 pub returns-else-size-lt64 : goal.returns-else-size-lt64
 returns-else-size-lt64 c =
     let a = c.args in
-    let whole = long _ a.line.bytes 64 c.well_formed.0.1.1.0.1.0.1 in
+    let whole : length a.line.bytes ≡ 64 = c.well_formed.0.1.1.0.1.0.1 in
     let size : a.at + 64 ≡ a.at + min a.line.length 64 = omega (arith, c.if-size-lt64.false) in
-    (omega arith, put_is a.line a.out.now _ a.at whole c.requires c.print.ensures.1 _ size)
+    record { upper_bound = omega arith; out_after = put_is a.line a.out.now _ a.at whole c.requires c.print.ensures.lent_after _ size }

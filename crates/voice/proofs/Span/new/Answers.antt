@@ -1,6 +1,5 @@
 -- `Span::new` meets its contract. Assumes nothing.
 use Rattle.voice.specs.Voices.{span_by}
-use borrow.Author.Rules.{rules}
 use Rattle.voice.proofs.Span.new.Goals as goal
 
 pub returns : goal.returns

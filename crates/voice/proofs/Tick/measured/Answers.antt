@@ -1,5 +1,4 @@
 -- `Tick::measured` meets its contract. Assumes nothing.
-use borrow.Author.Rules.{rules}
 use Rattle.voice.proofs.Tick.measured.Goals as goal
 
 pub returns : goal.returns

@@ -1,7 +1,6 @@
 -- `Tick::new` meets its contract: by their measure the parameters give the same length. Assumes nothing.
 use mathlib.Core.Path.{◌∙◌}
 use Rattle.voice.proofs.Measured.{tick_measured}
-use borrow.Author.Rules.{rules}
 use Rattle.voice.proofs.Tick.new.Goals as goal
 
 pub returns : goal.returns

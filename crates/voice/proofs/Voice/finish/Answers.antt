@@ -1,7 +1,6 @@
 -- `Voice::finish` meets its contract. Assumes nothing.
 use lib.Ieee.{of_bits}
 use Rattle.voice.specs.Voices.{finish_of}
-use borrow.Author.Rules.{rules}
 use Rattle.voice.proofs.Voice.finish.Goals as goal
 
 pub returns : goal.returns

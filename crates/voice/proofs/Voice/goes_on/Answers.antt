@@ -1,6 +1,5 @@
 -- `Voice::goes_on` meets its contract: its tests are those of `goes_on_of`. Assumes nothing.
 use Rattle.voice.specs.Gliding.{goes_on_of}
-use borrow.Author.Rules.{rules}
 use Rattle.voice.proofs.Voice.goes_on.Goals as goal
 
 pub returns-then-played_out : goal.returns-then-played_out

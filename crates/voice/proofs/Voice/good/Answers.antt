@@ -1,7 +1,6 @@
 -- `Voice::good` meets its contract: its tests are those of `good_voice`. Assumes nothing.
-use borrow.Author.Tests.{lt-ltb, le-ltb, le-leb, lt-leb, not-true, not-false}
+use borrow.Author.Tests.{lt-ltb, le-ltb, le-leb, lt-leb}
 use Rattle.voice.specs.Voices.{good_voice}
-use borrow.Author.Rules.{rules}
 use Rattle.voice.proofs.Voice.good.Goals as goal
 
 pub returns-then-self-ge8 : goal.returns-then-self-ge8

@@ -1,7 +1,6 @@
 -- `Voice::late` meets its contract: its tests are those of `late_of`. Assumes nothing.
 use borrow.Author.Tests.{le-leb, lt-leb}
 use Rattle.voice.specs.Voices.{late_of}
-use borrow.Author.Rules.{rules}
 use Rattle.voice.proofs.Voice.late.Goals as goal
 
 pub returns-then-t-since : goal.returns-then-t-since

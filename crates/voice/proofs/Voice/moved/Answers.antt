@@ -1,6 +1,5 @@
 -- `Voice::moved` meets its contract: the four updates in one call. Assumes nothing.
 use Rattle.voice.specs.Voices.{moved_of}
-use borrow.Author.Rules.{rules}
 use Rattle.voice.proofs.Voice.moved.Goals as goal
 
 pub returns : goal.returns

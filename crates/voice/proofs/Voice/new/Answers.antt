@@ -2,7 +2,6 @@
 use lib.Ieee.{of_bits}
 use Rattle.clip.specs.Updates.{made_of}
 use Rattle.voice.specs.Voices.{fresh_of}
-use borrow.Author.Rules.{rules}
 use Rattle.voice.proofs.Voice.new.Goals as goal
 
 pub returns : goal.returns

@@ -1,7 +1,6 @@
 -- `Voice::played_out` meets its contract: its tests are those of `played_out_of`. Assumes nothing.
 use borrow.Author.Tests.{not-true, not-false}
 use Rattle.voice.specs.Voices.{played_out_of}
-use borrow.Author.Rules.{rules}
 use Rattle.voice.proofs.Voice.played_out.Goals as goal
 
 pub returns-then-not-t : goal.returns-then-not-t

@@ -2,8 +2,6 @@
 use mathlib.Core.Path.{sym, ap, ◌∙◌}
 use mathlib.Core.Bool.{true≢false}
 use lib.Ieee.{Float, binary32, mul}
-use borrow.Author.Rules.{rules}
-use borrow.Author.Tests.{not-false}
 use Rattle.voice.specs.Gliding.{quick_at}
 use Rattle.voice.proofs.Gliding.{answered}
 use Rattle.voice.proofs.Voice.quick.Goals as goal

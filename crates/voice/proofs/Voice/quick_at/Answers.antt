@@ -1,5 +1,4 @@
 -- `Voice::quick_at` meets its contract: the voice is `sounded_at`'s, field by field. Assumes nothing.
-use borrow.Author.Rules.{rules}
 use Rattle.voice.specs.Gliding.{quick_at}
 use Rattle.voice.proofs.Voice.quick_at.Goals as goal
 

@@ -1,7 +1,6 @@
 -- `Voice::settled` meets its contract: played out or not, its fields are those of the voice ended and stepped. Assumes nothing.
 use mathlib.Core.Path.{◌≡◌, sym}
 use mathlib.Core.Bool.{Bool, true, false, cond, ◌||◌}
-use borrow.Author.Rules.{rules}
 use Rattle.voice.specs.declared.Voice.{Voice}
 use Rattle.voice.specs.declared.Tick.{Tick}
 use Rattle.voice.specs.Voices.{played_out_of, ended_of, finish_of, volume_stepped, faded_of}

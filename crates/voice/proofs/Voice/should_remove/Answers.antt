@@ -1,7 +1,6 @@
 -- `Voice::should_remove` meets its contract: its tests are those of `should_remove_of`. Assumes nothing.
 use borrow.Author.Tests.{not-true, not-false}
 use Rattle.voice.specs.Voices.{should_remove_of}
-use borrow.Author.Rules.{rules}
 use Rattle.voice.proofs.Voice.should_remove.Goals as goal
 
 pub returns-then-not-self : goal.returns-then-not-self

@@ -10,7 +10,6 @@ use Rattle.clip.proofs.Indices.{position_index}
 use Rattle.voice.specs.declared.Tick.{Tick}
 use Rattle.voice.specs.Voices.{moved_of, value_at, value_of, sounded_of, product_of}
 use Rattle.voice.proofs.Values.{value_beside}
-use borrow.Author.Rules.{rules}
 use Rattle.voice.proofs.Voice.sounded.Goals as goal
 
 -- what is worked out at a clip's sounding is its value

@@ -1,6 +1,5 @@
 -- `Voice::turn` meets its contract: its test is that of `turn_of`. Assumes nothing.
 use Rattle.voice.specs.Voices.{turn_of}
-use borrow.Author.Rules.{rules}
 use Rattle.voice.proofs.Voice.turn.Goals as goal
 
 pub returns-then-should_remove : goal.returns-then-should_remove

@@ -1,6 +1,5 @@
 -- `Voice::volume_stepped` meets its contract. Assumes nothing.
 use Rattle.voice.specs.Voices.{volume_stepped}
-use borrow.Author.Rules.{rules}
 use Rattle.voice.proofs.Voice.volume_stepped.Goals as goal
 
 pub returns : goal.returns
