@@ -32,10 +32,10 @@ loop-i-preserved c =
       turns = turns;
       few = c.loop-i.invariant.few;
       goes = elim c.if-hit.branch [
-        then-hit w ↦ subst (λ (d : Channel). Goes c.args.change c.args.c.now d c.passed-p.result (c.loop-i.i + 1)) (sym w.c-is)
-          (has_hit c.args.change c.args.c.now c.loop-i.c c.loop-i.p c.loop-i.i g lt c.hits-hit.result c.hits-hit.ensures c.passed-p.result c.passed-p.ensures w.remade-w.result w.remade-w.ensures w.if-hit.true)
+        | then-hit w ↦ subst (λ (d : Channel). Goes c.args.change c.args.c.now d c.passed-p.result (c.loop-i.i + 1)) (sym w.c-is)
+            (has_hit c.args.change c.args.c.now c.loop-i.c c.loop-i.p c.loop-i.i g lt c.hits-hit.result c.hits-hit.ensures c.passed-p.result c.passed-p.ensures w.remade-w.result w.remade-w.ensures w.if-hit.true)
         | else-hit w ↦ subst (λ (d : Channel). Goes c.args.change c.args.c.now d c.passed-p.result (c.loop-i.i + 1)) (sym w.c-is)
-          (has_missed c.args.change c.args.c.now c.loop-i.c c.loop-i.p c.loop-i.i g lt c.hits-hit.result c.hits-hit.ensures c.passed-p.result c.passed-p.ensures w.if-hit.false)
+            (has_missed c.args.change c.args.c.now c.loop-i.c c.loop-i.p c.loop-i.i g lt c.hits-hit.result c.hits-hit.ensures c.passed-p.result c.passed-p.ensures w.if-hit.false)
       ];
     }
 
@@ -57,7 +57,7 @@ returns c =
     let turns = c.loop-i.invariant.turns in
     let end : (begins x h).turns ≤ c.loop-i.i = omega (arith, turns) in
     let opened : c.if-p.c ≡ with_voices (cond p.fresh (set d.voices h.count (started_voice x h.head)) d.voices) h.count h = elim c.if-p.branch [
-      then-p w ↦ w.c-is ∙ opens_one x h d p c.loop-i.i g w.if-p.true w.opened-w.result w.opened-w.ensures
+      | then-p w ↦ w.c-is ∙ opens_one x h d p c.loop-i.i g w.if-p.true w.opened-w.result w.opened-w.ensures
       | else-p w ↦ w.c-is ∙ opens_none x h d p c.loop-i.i g w.if-p.false
     ] in
     let all : length c.if-p.c.voices ≡ 32 = search rules in
@@ -66,7 +66,7 @@ returns c =
     let e : Entry = c.entry_of-e.result in
     let with_table : List Phrase → Channel = λ t. record { voices = f.voices; table = t; count = p.count; head = f.head; several = f.several } in
     let emptied : c.if-e.c ≡ record { voices = f.voices; table = cond e.clears no_phrases f.table; count = p.count; head = f.head; several = f.several } = elim c.if-e.branch [
-      then-e w ↦ w.c-is ∙ ap with_table w.none-c.ensures ∙ sym (ap (λ (b : Bool). with_table (cond b no_phrases f.table)) w.if-e.true)
+      | then-e w ↦ w.c-is ∙ ap with_table w.none-c.ensures ∙ sym (ap (λ (b : Bool). with_table (cond b no_phrases f.table)) w.if-e.true)
       | else-e w ↦ w.c-is ∙ sym (ap (λ (b : Bool). with_table (cond b no_phrases f.table)) w.if-e.false)
     ] in
     goes_done x h d p c.loop-i.i g end f opened all eight c.place_of.result (c.place_of.ensures.value ∙ ap place_of c.names.ensures) c.beside.result c.beside.ensures c.aside_of-aside.result c.aside_of-aside.ensures e c.entry_of-e.ensures.value
