@@ -1,5 +1,4 @@
 -- `gathered` meets its contract. Assumes nothing.
-use borrow.Author.Rules.{rules}
 use Rattle.lent_changes.proofs.gathered.Goals as goal
 
 pub returns : goal.returns

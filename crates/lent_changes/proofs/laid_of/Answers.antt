@@ -11,7 +11,6 @@ use Rattle.channel.specs.declared.Head.{Head}
 use Rattle.channel.specs.Heads.{starting_at}
 use Rattle.channel.specs.Tables.{place_of}
 use Rattle.lent_changes.specs.Laying.{laid_of}
-use borrow.Author.Rules.{rules}
 use Rattle.lent_changes.proofs.laid_of.Goals as goal
 
 put : (table : List Phrase) (several : Bool) (h : Head) (all : List Phrase) (k : ℕ) (b : Bool) → k ≡ place_of h.chosen → several ≡ b → record { table = cond b all table; head = starting_at (get_or all k no_phrase).start h } ≡ laid_of table several h all
