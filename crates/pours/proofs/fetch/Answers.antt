@@ -1,11 +1,9 @@
 -- `fetch` meets its contract. The invariant: so many are fetched, and the rest stands. The measure is how many are left. Assumes nothing.
-use mathlib.Core.Path.{◌≡◌, refl, sym, subst}
+use mathlib.Core.Path.{refl, subst}
 use mathlib.Core.Bool.{true}
-use Prim.Native.Nat.{ℕ, ◌-◌, ◌≤◌, ◌<◌, zero-le}
-use native.Mathlib.Nat.{le_refl}
+use Prim.Native.Nat.{ℕ, ◌<◌, zero-le}
 use native.Mathlib.Omega.{arith}
-use lib.ListN.{length, get_or}
-use borrow.Author.Rules.{rules}
+use lib.ListN.{length}
 use Rattle.pours.specs.Steady.{Fetches}
 use Rattle.pours.proofs.Filling.{nothing, one_more, left}
 use Rattle.pours.proofs.fetch.Goals as goal

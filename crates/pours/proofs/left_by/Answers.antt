@@ -2,7 +2,7 @@
 -- what is above 0 is at least 0
 use mathlib.Core.Bool.{not, ◌&&◌}
 use lib.Dec.{T}
-use lib.Ieee.{Float, binary32, binary64, lt, le, fits, is_nan, of_bits}
+use lib.Ieee.{Float, binary64, lt, le, fits, is_nan, of_bits}
 use lib.Ieee.Fits.{and_i, and_l, and_r, fits_widens}
 use Rattle.binary32.specs.Leaves.{zero32}
 use Rattle.binary32.proofs.Truth.{yes}
