@@ -1,7 +1,6 @@
 -- Every call on a record that its host lends leaves what the call by value may leave: `Allows`, with the record at the
--- end for the one that is handed back. A function that takes a record lent is proved by hand, and so would be its twin;
--- so it is said of the functions of lent_sampler/src/lib.rt themselves, as they run. `proofs/Lent: lent` proves it. Definitions
--- only. Assumes nothing.
+-- end for the one that is handed back. It is said of the functions of lent_sampler/src/lib.rt themselves, as they run.
+-- `proofs/Lent: lent` proves it. Definitions only. Assumes nothing.
 use Rattle.std.specs.Prelude.{ℕ, ◌≡◌, List}
 use seplogic.Ra.Ura.{Ura}
 use base.Logic.{emp}

@@ -7,7 +7,6 @@ use mathlib.Core.Bool.{Bool, true, false, cond}
 use mathlib.Core.List.{List}
 use lib.ListN.{length, length-set, take, get_or, set}
 use Rattle.walks.proofs.Lists.Loops.{Walk, turns as turns_on, stores, ends as ends_there}
-use Rattle.phrases.specs.declared.Phrase.{Phrase}
 use Rattle.phrases.specs.declared.Beside.{Beside}
 use Rattle.phrases.specs.Phrases.{no_phrase, no_phrases}
 use Rattle.voice.specs.declared.Voice.{Voice}

@@ -1,6 +1,6 @@
 -- A loop over an array behind a reference, of which the first `count` are in use: how long the array is, is known once a turn has looked into it.
 -- Over any element type and any result. Assumes nothing.
-use mathlib.Core.Path.{◌≡◌, refl, ap, ◌∙◌, subst}
+use mathlib.Core.Path.{◌≡◌, refl, ap, ◌∙◌}
 use mathlib.Core.Bool.{Bool}
 use mathlib.Core.List.{List, []}
 use lib.Dec.{eqb}

@@ -7,7 +7,7 @@ use Rattle.walks.specs.Walks.{without}
 use Rattle.walks.proofs.Tests.{one_more}
 use Rattle.walks.proofs.Lists.Each.{fewer}
 use Rattle.walks.proofs.Lists.Loops.{get_d_any}
-use Rattle.walks.proofs.Lists.Stored.{fronted, fronted_next, fronted_length}
+use Rattle.walks.proofs.Lists.Stored.{fronted, fronted_next}
 use Rattle.common_types.specs.Notes.{into_u64_of}
 use Rattle.common_types.specs.declared.Params.{Params}
 use Rattle.common_types.specs.Settings.{beyond_limits, loop_length_of}
@@ -203,9 +203,6 @@ module _ (l : List Voice) (lent : List ℕ) where
   unfolding notes_of without
   noted_none = refl
 
-  pub noted_length : (i : ℕ) → listed_count false (take i l) ≤ length lent → length (noted_upto l lent i) ≡ length lent
-  noted_length i h = omega (arith, length-append (notes_of (take i l)) (drop (length (notes_of (take i l))) lent), length-drop (length (notes_of (take i l))) lent, notes_count (take i l), h)
-
   module _ (d : Voice) (i : ℕ) (lt : i < length l) where
     pub noted_kept : (get_or l i d).finished ≡ true → noted_upto l lent i ≡ noted_upto l lent (i + 1)
     noted_kept e = ap (λ (ns : List ℕ). in_front ns lent) (sym (append-nil (notes_of (take i l))) ∙ sym (next_notes d i l lt true e))
@@ -263,15 +260,6 @@ taken false n i h = absurd (omega (arith, h))
 pub few_looked : (b : Bool) (c : Channel) (i : ℕ) → length (live c) ≡ min c.count 32 → i < cond b (count_in true c) 0 → i < 32
 few_looked b c i whole h = omega (arith, taken b (count_in true c) i h, count_all (live c), whole)
 
--- so the list stays as long as it is
-pub notes_long : (good there : Bool) (c : Channel) (lent : List ℕ)
-    → length (noted_upto c.voices lent (cond (eqb (note_rows good there c (length lent)) 0) (count_in true c) 0)) ≡ length lent
-notes_long good there c lent = go _ (notes_fit good there c (length lent))
-  where
-    go : (n : ℕ) → ((i : ℕ) → i < n → (i < length c.voices) × (listed_count false (take (i + 1) c.voices) ≤ length lent)) → length (noted_upto c.voices lent n) ≡ length lent
-    go zero fit = ap length (sym (noted_none c.voices lent))
-    go (suc m) fit = ap (λ (k : ℕ). length (noted_upto c.voices lent k)) (sym (one_more m)) ∙ noted_length c.voices lent (m + 1) (fit m (omega arith)).1
-
 -- where they are all looked at, or none, the list is what it is to be
 pub notes_after : (c : Channel) (lent : List ℕ) (number : ℕ) → noted_upto c.voices lent (cond (eqb number 0) (count_in true c) 0) ≡ list_after_by (notes_of (live c)) lent number
 notes_after c lent number = go (eqb number 0)
@@ -317,9 +305,6 @@ module _ (p : Params) (a : Channel) where
         ∙ fronted_next (figures c) lent i (figures_of p a c blank_voice) (omega (arith, lt, length-map (live c) (figures_of p a c))) (omega (arith, lt, room))
         ∙ ap (figured_upto c lent) (sym (one_more i))
 
-    pub figured_length : i ≤ length (live c) → length (live c) ≤ length lent → length (figured_upto c lent i) ≡ length lent
-    figured_length le room = fronted_length (figures c) lent i (omega (arith, le, length-map (live c) (figures_of p a c))) (omega (arith, le, room))
-
   -- the rows of the figures of a channel for which there is so much room
   abbrev pub info_rows : Bool → Bool → Channel → ℕ → ℕ
   info_rows good there c room = list_rows (not good) (not there) (beyond_limits p) (count_in true c) room
@@ -334,15 +319,6 @@ module _ (p : Params) (a : Channel) where
       go true b e k = absurd (omega (arith, k))
       go false true e k = absurd (omega (arith, k))
       go false false e k = (omega (arith, k, count_all (live c)), omega (arith, count_all (live c), ltb-false room (count_in true c) e))
-
-  -- so the list stays as long as it is
-  pub infos_long : (good there : Bool) (c : Channel) (lent : List VoiceInfo)
-      → length (figured_upto c lent (cond (eqb (info_rows good there c (length lent)) 0) (count_in true c) 0)) ≡ length lent
-  infos_long good there c lent = go _ (infos_room good there c (length lent))
-    where
-      go : (n : ℕ) → ((i : ℕ) → i < n → (i < length (live c)) × (length (live c) ≤ length lent)) → length (figured_upto c lent n) ≡ length lent
-      go zero fit = refl
-      go (suc m) fit = let two = fit m (omega arith) in figured_length c lent (suc m) (omega (arith, two.0)) two.1
 
   -- what is answered with that number, and the list then: as it is written, and as it is to be
   abbrev answer : ℕ → Channel → VoiceInfos

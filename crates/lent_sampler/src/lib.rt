@@ -1,6 +1,6 @@
 // The sampler's calls on one record that its host lends, with the definitions of the calls by value in their contracts.
 // Each is done where the record stands: a frame, a run or a sample is played there, a change, a gather or a read made, a
-// question answered, and no channel is copied. What takes a record, a channel or a list of records lent is proved by hand.
+// question answered, and no channel is copied.
 #![tactic(auto)]
 
 ghost use Rattle.std.specs.Prelude.{◌≡◌, ◌+◌, ◌-◌, ◌*◌, ◌%◌, ◌^◌, ◌<◌, ◌≤◌, true, [], ◌∷◌, ◌++◌, length, take, drop, if◌then◌else◌, nat_eq, min, slice_range};
@@ -860,8 +860,8 @@ pub fn run_asked(s: &Sampler, entries: usize, params: Params, size: usize) -> Ru
     run_of(t, entries, params, size)
 }
 
-// Whose entry i is: of a frame channel i's, of a run that of its place in its frame. Both calls have one shape, and so
-// one proof; the first doesn't need the count.
+// Whose entry i is: of a frame channel i's, of a run that of its place in its frame. Both calls have one shape;
+// the first doesn't need the count.
 pub fn frame_channel(i: usize, _count: usize) -> usize
     ensures { result ≡ i }
 {
@@ -968,7 +968,7 @@ pub struct FrameDone {
 }
 
 // The voices that moved up so far, with those of one entry more: at most 62, far from where a byte wraps. A run answers
-// none of them; both calls have one shape, and so one proof.
+// none of them; both calls have one shape.
 pub fn frame_moved(moved: u8, heard: Heard) -> u8
     ensures { result ≡ (moved + heard.moved) % 2 ^ 8 }
 {

@@ -1,6 +1,5 @@
 // The per-frame call and the run of frames on a record by value, played where the record stands: it is lent to the call
-// of `lent_sampler`, which copies no channel. The contract is that of the call by value. A function that lends a record
-// of its own is proved by hand.
+// of `lent_sampler`, which copies no channel. The contract is that of the call by value.
 #![tactic(auto)]
 
 ghost use Rattle.std.specs.Prelude.{◌≡◌, length};

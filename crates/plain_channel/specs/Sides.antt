@@ -1,6 +1,6 @@
 -- What stands beside a channel in the plain engine (request 9/12): a position for each voice. Definitions only. Assumes
 -- nothing.
-use Rattle.std.specs.Prelude.{◌≡◌, ℕ, ◌≤◌, ◌<◌, min, cond, List, [], ◌∷◌, ltb, take, get_or, set, replicate, Float}
+use Rattle.std.specs.Prelude.{◌≡◌, ℕ, ◌≤◌, min, cond, List, [], ◌∷◌, ltb, take, get_or, set, replicate, Float}
 use Rattle.std.proofs.lemmas.List.Edits.{sets}
 use Rattle.std.proofs.Math.Seq.{slice}
 use Rattle.binary32.specs.Leaves.{zero32}
@@ -15,7 +15,7 @@ use Rattle.channel.specs.declared.Head.{Head}
 use Rattle.channel.specs.declared.Channel.{Channel}
 use Rattle.channel.specs.Channels.{live, Turning, turning_in, taken_of, memory_of}
 use Rattle.lent_channel.specs.declared.Going.{Going}
-use Rattle.lent_channel.specs.Turns.{Stands, Onward, Follows}
+use Rattle.lent_channel.specs.Turns.{Onward, Follows}
 use Rattle.plain_channel.specs.declared.Pour.{Pour}
 use Rattle.plain_channel.specs.declared.Side.{Side}
 

@@ -1,5 +1,5 @@
 -- The plain engine has exactly the voices that request 9/12 says, and moves their positions by one. Assumes nothing.
-use Rattle.std.proofs.Common.{◌≡◌, ℕ, ◌+◌, ◌*◌, ◌/◌, ◌%◌, ◌^◌, ◌<◌, ◌≤◌, Bool, true, false, cond, not, ◌&&◌, ltb, leb, sym, refl, ap, ◌∙◌, subst, true≢false, le_of_lt, mod-lt, div-add-mod', arith, le-ltb, lt-ltb, le-leb}
+use Rattle.std.proofs.Common.{◌≡◌, ℕ, ◌+◌, ◌*◌, ◌^◌, ◌<◌, ◌≤◌, Bool, true, false, cond, not, ◌&&◌, sym, refl, ap, ◌∙◌, subst, true≢false, mod-lt, div-add-mod', arith, le-ltb, lt-ltb, le-leb}
 use Rattle.binary32.specs.Leaves.{as_whole}
 use Rattle.clip.specs.declared.Clip.{Clip}
 use Rattle.clip.specs.Positions.{elapsed_at}

@@ -4,7 +4,7 @@
 --     agreed                 the tests of `agrees` are enough
 --     index-first, -next     the index by a position that agrees
 --     stepped_to, -on        the position moved by one is that one sample on, and of the voice after its turn
-use Rattle.std.proofs.Common.{◌≡◌, ℕ, ◌+◌, ◌-◌, ◌*◌, ◌/◌, ◌%◌, ◌^◌, ◌<◌, ◌≤◌, Bool, true, false, cond, not, ◌&&◌, ◌||◌, T, eqb, ltb, leb, sym, refl, ap, ◌∙◌, subst, ap₂, zero-le, le_trans, add-zero, mod-eq_of_lt, add-mul, mul-le-mul_left, one-mul, arith, lit≤, eqb→eq, ltb→lt, leb→le, ltb-false, ltb-true, lt-ltb, ne_eqb}
+use Rattle.std.proofs.Common.{◌≡◌, ℕ, ◌+◌, ◌-◌, ◌*◌, ◌/◌, ◌%◌, ◌^◌, ◌<◌, ◌≤◌, Bool, true, false, cond, not, ◌&&◌, ◌||◌, T, eqb, ltb, leb, sym, refl, ap, ◌∙◌, subst, ap₂, zero-le, le_trans, add-zero, mod-eq_of_lt, add-mul, mul-le-mul_left, one-mul, arith, lit≤, eqb→eq, ltb→lt, leb→le, ltb-false, ltb-true, lt-ltb}
 use native.Mathlib.Nat.{mod-eq-sub-mod, div-eq_of_lt, mul-add-mod_self_right, mul-add-div_right}
 use mathlib.Core.Bool.{beq}
 use lib.Ieee.{Float, nan, inf, fin, up, down, eq, level}
@@ -14,7 +14,7 @@ use borrow.Author.Tests.{not-true}
 use Rattle.binary32.specs.Leaves.{zero32, one32, as_float, as_whole}
 use Rattle.binary32.specs.Wholes.{Is, is_whole_in}
 use Rattle.binary32.proofs.Truth.{yes}
-use Rattle.binary32.proofs.Wholes.{float_is, zero_is, one_is, equal_is, is_equal, cast_is, WholeIn, whole_in, in_whole}
+use Rattle.binary32.proofs.Wholes.{float_is, zero_is, one_is, equal_is, is_equal, cast_is, WholeIn, whole_in}
 use Rattle.clip.specs.declared.Mode.{Mode}
 use Rattle.clip.specs.declared.Mode.TheVariants.{Loop}
 use Rattle.clip.specs.declared.Clip.{Clip}

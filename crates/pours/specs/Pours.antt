@@ -1,6 +1,6 @@
 -- Turns of one voice in a row, and what they add to the sums of as many samples (request 9/12, for runs). Definitions only.
 -- Assumes nothing.
-use Rattle.std.specs.Prelude.{◌≡◌, ℕ, zero, suc, ◌+◌, Bool, true, false, List, [], ◌∷◌, Float}
+use Rattle.std.specs.Prelude.{◌≡◌, ℕ, zero, suc, ◌+◌, true, false, List, [], ◌∷◌, Float}
 use Rattle.std.specs.Float.{binary32}
 use Rattle.std.specs.Float.Ieee.{add}
 use Rattle.voice.specs.declared.Voice.{Voice}
@@ -9,7 +9,7 @@ use Rattle.voice.specs.Voices.{turn_of}
 use Rattle.voice.specs.Gliding.{glides_of}
 use Rattle.plain_voice.specs.declared.Hot.{Hot}
 use Rattle.plain_voice.specs.declared.Beat.{Beat}
-use Rattle.plain_voice.specs.Hots.{judged_of, beat_of}
+use Rattle.plain_voice.specs.Hots.{judged_of}
 use Rattle.pours.specs.declared.Pouring.{Pouring}
 
 -- the tick k samples on, while nothing is recorded: only the clock is new

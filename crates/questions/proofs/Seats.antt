@@ -10,20 +10,17 @@ use lib.Dec.{eqb, leb}
 use lib.ListN.{length, take, drop}
 use lib.Ieee.{Float}
 use Rattle.walks.proofs.Lists.Every.{both}
-use Rattle.phrases.specs.Phrases.{is_over_by, stored_in}
+use Rattle.phrases.specs.Phrases.{stored_in}
 use Rattle.phrases.proofs.Rooms.{ends_inside, inside_ends}
 use Rattle.channel.specs.Heads.{recording_in}
-use Rattle.channel.specs.Channels.{recording_of}
 use Rattle.sampler.specs.declared.Sampler.{Sampler}
 use Rattle.sampler.specs.Refusals.{channel_at, good_sizes, good_sampler, good_with}
-use Rattle.sampler.specs.Samplers.{part_of}
 use Rattle.sampler.proofs.Rows.{passed, is_true, good_sizes_lem, fitting}
 use Rattle.sampler.proofs.Channels.{recording_within}
-use Rattle.questions.specs.Questions.{answered, in_front}
+use Rattle.questions.specs.Questions.{answered}
 use Rattle.questions.specs.Waveforms.{columns_of, summary_by, values_after_by, waveform_number, waveform_of, get_waveform_summary_of, waveform_after}
 use Rattle.questions.specs.Sights.{seen_of, in_part, sound_in, good_in, waveform_number_in, values_in, waveform_in, waveform_left}
 use Rattle.questions.specs.declared.Seen.{Seen}
-use Rattle.questions.specs.declared.WaveformSummary.{WaveformSummary}
 use Rattle.questions.proofs.Stored.{stored_at}
 
 -- ---- sizes that a record may have

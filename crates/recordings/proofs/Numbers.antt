@@ -1,5 +1,5 @@
 -- What a refused call leaves, and what a number of 0 says of record, memory and file. Assumes nothing.
-use Rattle.std.proofs.Common.{◌≡◌, ℕ, ◌+◌, ◌*◌, ◌^◌, ◌<◌, ◌≤◌, Bool, true, false, cond, not, eqb, ltb, List, length, sym, refl, ap, ◌∙◌, subst, mul-le-mul_right, arith, ltb-false, lt-ltb, ne_eqb, eqb-true, le-leb}
+use Rattle.std.proofs.Common.{◌≡◌, ℕ, ◌+◌, ◌*◌, ◌^◌, ◌<◌, ◌≤◌, Bool, true, false, cond, not, eqb, ltb, List, length, sym, refl, ◌∙◌, subst, mul-le-mul_right, arith, ltb-false, lt-ltb, ne_eqb, eqb-true, le-leb}
 use Rattle.binary32.proofs.Truth.{cond_split}
 use Rattle.wave.specs.declared.Starts.{Starts}
 use Rattle.wave.specs.declared.Layout.{Layout}
@@ -21,7 +21,6 @@ use Rattle.sampler.specs.Samplers.{each_of, answer_of, change_of}
 use Rattle.sampler.proofs.Rows.{passed, is_true, Fitting, fitting}
 use Rattle.sampler.proofs.Channels.{good_at, short_data, read_within}
 use Rattle.sampler.proofs.Against.{against_samples, short_samples, none_at}
-use Rattle.questions.specs.declared.Counted.{Counted}
 use Rattle.questions.specs.declared.Counted.TheVariants as counted
 use Rattle.questions.specs.Questions.{counted_number, answered}
 use Rattle.recordings.specs.Waves.{samples_of, lengths_differ, layout_in, write_number, write_wave_of, bad_file, held_in, read_number, read_wave_of, beginnings_in, read_memory}

@@ -7,15 +7,14 @@ use Rattle.wave.specs.declared.Layout.{Layout}
 use Rattle.wave.specs.declared.Wave.{Wave}
 use Rattle.wave.specs.declared.Judged.{Judged}
 use Rattle.wave.specs.Reader.{file_judged}
-use Rattle.wave.specs.Memory.{fits_memory, fits_file, writes, bytes_of, written_of, output_after, loaded_of}
+use Rattle.wave.specs.Memory.{fits_memory, writes, bytes_of, written_of, output_after, loaded_of}
 use Rattle.phrases.proofs.Reaches.{behind_same}
-use Rattle.recorder.specs.Recording.{is_recording_of}
 use Rattle.channel.specs.declared.Channel.{Channel}
 use Rattle.channel.specs.declared.Ask.TheVariants.{Samples}
 use Rattle.channel.specs.Heads.{begins_at, holds_of}
 use Rattle.channel.specs.Channels.{others_in, beside_in, begins_in}
 use Rattle.sampler.specs.declared.Sampler.{Sampler}
-use Rattle.sampler.specs.Refusals.{present, channel_at, row, good_sampler, good_with, records, any_recording, against_any}
+use Rattle.sampler.specs.Refusals.{channel_at, row, good_sampler, good_with, records, any_recording, against_any}
 use Rattle.sampler.proofs.Rows.{passed, is_true, fitting}
 use Rattle.sampler.proofs.Against.{against_samples, short_samples}
 use Rattle.questions.specs.declared.Counted.{Counted}

@@ -18,7 +18,7 @@ use Rattle.channel.specs.declared.Change.TheVariants as change
 use Rattle.channel.specs.declared.HeadChange.{HeadChange}
 use Rattle.channel.specs.declared.HeadChange.TheVariants.{StartRecording, StopRecording, Interpolate, Load, Choose, Delete}
 use Rattle.sampler.specs.Refusals.{row, capacity_of, good_sampler, good_with, no_channel, bad_note, bad_position, any_recording, at_end, channel_at, asked_of, start_rows, stop_rows, speed_rows, head_rows, change_rows, change_number, gather_number, sample_number, frame_number, channel_number}
-use Rattle.sampler.specs.Samplers.{set_up_of, each_of, answer_of, channel_stepped_of, process_sample_of, Gathered, gather_channel, Framed, framed, entry_of}
+use Rattle.sampler.specs.Samplers.{set_up_of, each_of, answer_of, channel_stepped_of, process_sample_of, Gathered, gather_channel, Framed, entry_of}
 use Rattle.sampler.specs.Soundness.{SoundSampler, Reached, Unbroken}
 use Rattle.sampler.specs.declared.Sampler.{Sampler}
 use Rattle.sampler.specs.declared.Asked.{Asked}

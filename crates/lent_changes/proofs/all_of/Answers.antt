@@ -1,5 +1,4 @@
 -- `all_of` meets its contract. Assumes nothing.
-use borrow.Author.Rules.{rules}
 use Rattle.lent_changes.proofs.all_of.Goals as goal
 
 pub returns : goal.returns

@@ -1,5 +1,4 @@
 -- `altered` meets its contract, by its cases. Assumes nothing.
-use borrow.Author.Rules.{rules}
 use lib.Ieee.{of_bits}
 use Rattle.lent_changes.specs.Changes.{altered_of}
 use Rattle.lent_changes.proofs.altered.Goals as goal

@@ -1,5 +1,4 @@
 -- `asking` meets its contract. Assumes nothing.
-use borrow.Author.Rules.{rules}
 use Rattle.lent_changes.specs.Changes.{asks_voices}
 use lib.Ieee.{of_bits}
 use Rattle.lent_changes.proofs.asking.Goals as goal

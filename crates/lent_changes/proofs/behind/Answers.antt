@@ -1,5 +1,4 @@
 -- `behind` meets its contract. Assumes nothing.
-use borrow.Author.Rules.{rules}
 use Rattle.lent_changes.specs.Changes.{stores_behind}
 use lib.Ieee.{of_bits}
 use Rattle.lent_changes.proofs.behind.Goals as goal

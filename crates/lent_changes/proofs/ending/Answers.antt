@@ -1,5 +1,4 @@
 -- `ending` meets its contract, by `Endings`. Assumes nothing.
-use borrow.Author.Rules.{rules}
 use Rattle.lent_changes.proofs.Endings.{ended_by}
 use Rattle.lent_changes.proofs.ending.Goals as goal
 

@@ -1,5 +1,4 @@
 -- `going` meets its contract. Assumes nothing.
-use borrow.Author.Rules.{rules}
 use Rattle.lent_changes.specs.Changes.{going_of}
 use Rattle.lent_changes.proofs.going.Goals as goal
 

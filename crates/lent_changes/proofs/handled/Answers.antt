@@ -1,5 +1,4 @@
 -- `handled` meets its contract: its test is that of `handled_by`. Assumes nothing.
-use borrow.Author.Rules.{rules}
 use Rattle.lent_changes.specs.Changes.{handled_by}
 use Rattle.lent_changes.proofs.handled.Goals as goal
 

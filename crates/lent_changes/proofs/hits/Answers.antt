@@ -1,5 +1,4 @@
 -- `hits` meets its contract. Assumes nothing.
-use borrow.Author.Rules.{rules}
 use Rattle.lent_changes.specs.Changes.{hits_of}
 use Rattle.lent_changes.proofs.hits.Goals as goal
 

@@ -11,7 +11,6 @@ use Rattle.channel.specs.declared.Head.{Head}
 use Rattle.channel.specs.Heads.{starting_at}
 use Rattle.channel.specs.Tables.{place_of}
 use Rattle.lent_changes.specs.Laying.{laid_of}
-use borrow.Author.Rules.{rules}
 use Rattle.lent_changes.proofs.laid_of.Goals as goal
 
 put : (table : List Phrase) (several : Bool) (h : Head) (all : List Phrase) (k : ℕ) (b : Bool) → k ≡ place_of h.chosen → several ≡ b → record { table = cond b all table; head = starting_at (get_or all k no_phrase).start h } ≡ laid_of table several h all
@@ -22,10 +21,10 @@ pub returns-then-several : goal.returns-then-several
 returns-then-several c =
     let a = c.args in
     let place = c.place_of in
-    put a.table a.several a.head _ place.result true place.ensures.0 c.if-several.true
+    put a.table a.several a.head _ place.result true place.ensures.value c.if-several.true
 
 pub returns-else-several : goal.returns-else-several
 returns-else-several c =
     let a = c.args in
     let place = c.place_of in
-    put a.table a.several a.head _ place.result false place.ensures.0 c.if-several.false
+    put a.table a.several a.head _ place.result false place.ensures.value c.if-several.false

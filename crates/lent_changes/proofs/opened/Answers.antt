@@ -1,5 +1,4 @@
 -- `opened` meets its contract, by its cases. Assumes nothing.
-use borrow.Author.Rules.{rules}
 use Rattle.lent_changes.specs.Changes.{started_voice}
 use Rattle.lent_changes.proofs.opened.Goals as goal
 

@@ -1,5 +1,4 @@
 -- `pass_of` meets its contract, by its cases. Assumes nothing.
-use borrow.Author.Rules.{rules}
 use lib.Ieee.{of_bits}
 use Rattle.lent_changes.specs.Changes.{pass_of}
 use Rattle.lent_changes.proofs.pass_of.Goals as goal

@@ -1,5 +1,4 @@
 -- `passed` meets its contract. Assumes nothing.
-use borrow.Author.Rules.{rules}
 use Rattle.lent_changes.specs.Changes.{passed_of}
 use Rattle.lent_changes.proofs.passed.Goals as goal
 

@@ -1,5 +1,4 @@
 -- `passing_if` meets its contract. Assumes nothing.
-use borrow.Author.Rules.{rules}
 use Rattle.lent_changes.specs.Changes.{passing_if}
 use Rattle.lent_changes.proofs.passing_if.Goals as goal
 

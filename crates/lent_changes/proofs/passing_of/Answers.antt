@@ -1,5 +1,4 @@
 -- `passing_of` meets its contract, by its cases. Assumes nothing.
-use borrow.Author.Rules.{rules}
 use Rattle.lent_changes.specs.Changes.{passing_of}
 use Rattle.lent_changes.proofs.passing_of.Goals as goal
 

@@ -1,5 +1,4 @@
 -- `remade` meets its contract: its test is that of `remade_of`. Assumes nothing.
-use borrow.Author.Rules.{rules}
 use Rattle.lent_changes.specs.Changes.{remade_of}
 use Rattle.lent_changes.proofs.remade.Goals as goal
 

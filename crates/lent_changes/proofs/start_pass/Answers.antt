@@ -1,5 +1,4 @@
 -- `start_pass` meets its contract: its tests are those of `start_pass`. Assumes nothing.
-use borrow.Author.Rules.{rules}
 use borrow.Author.Tests.{eq-eqb, ne_eqb, le-leb, lt-leb}
 use Rattle.lent_changes.specs.Changes.{start_pass}
 use Rattle.lent_changes.proofs.start_pass.Goals as goal

@@ -1,5 +1,5 @@
 -- `any_unfinished` meets its contract: voices are looked at until one is unfinished. Assumes nothing.
-use Rattle.std.proofs.Common.{rules, arith, ◌≡◌, ◌<◌, ◌≤◌, length, min}
+use Rattle.std.proofs.Common.{rules, arith, ◌≡◌, ◌<◌, length, min}
 use Rattle.walks.specs.Walks.{any}
 use Rattle.walks.proofs.Lists.Loops.{turns, stops}
 use Rattle.channel.proofs.Slots.{none}

@@ -1,9 +1,9 @@
 -- `beside` meets its contract: what the phrases so far say goes from turn to turn. Assumes nothing.
-use Rattle.std.proofs.Common.{rules, arith, ◌≡◌, ◌≤◌, ◌<◌, length, get_or, cond, sym, ap, ◌∙◌}
+use Rattle.std.proofs.Common.{rules, arith, ◌≡◌, ◌<◌, length, get_or, ap, ◌∙◌}
 use Rattle.phrases.specs.declared.Beside.{Beside}
 use Rattle.phrases.specs.Phrases.{no_phrase}
 use Rattle.lent_channel.specs.Turns.{beside_next}
-use Rattle.lent_channel.proofs.Besides.{entries, few, beside_nothing, beside_one_more, beside_seen, beside_upto}
+use Rattle.lent_channel.proofs.Besides.{entries, few, beside_nothing, beside_one_more, beside_seen}
 use Rattle.lent_channel.proofs.beside.Goals as goal
 
 pub loop-k-init : goal.loop-k-init

@@ -1,5 +1,4 @@
 -- `beside_next` meets its contract: its test is that of `beside_next`. Assumes nothing.
-use borrow.Author.Rules.{rules}
 use borrow.Author.Tests.{eq-eqb, ne_eqb}
 use Rattle.lent_channel.proofs.beside_next.Goals as goal
 

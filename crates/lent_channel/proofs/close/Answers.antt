@@ -1,5 +1,5 @@
 -- `close` meets its contract: where pass-through rests the clock alone moves. Assumes nothing.
-use Rattle.std.proofs.Common.{rules, ◌≡◌, ℕ, Bool, true, sym, ap, ◌∙◌}
+use Rattle.std.proofs.Common.{◌≡◌, ℕ, Bool, true, sym, ap, ◌∙◌}
 use Rattle.channel.specs.declared.Head.{Head}
 use Rattle.channel.specs.Heads.{passes_of, rests_of}
 use Rattle.channel.specs.Channels.{with_head}

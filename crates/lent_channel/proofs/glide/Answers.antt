@@ -1,5 +1,5 @@
 -- `glide` meets its contract: voices take their turns quickly until one doesn't glide. Assumes nothing.
-use Rattle.std.proofs.Common.{rules, arith, ◌≡◌, ◌≤◌, ◌<◌, ◌+◌, length, set, sym, subst}
+use Rattle.std.proofs.Common.{rules, ◌≡◌, ◌≤◌, ◌+◌, length, set, sym, subst}
 use lib.Ieee.{Float}
 use Rattle.channel.specs.Channels.{with_voices}
 use borrow.Author.Tests.{not-false}

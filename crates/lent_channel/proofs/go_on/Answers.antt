@@ -1,6 +1,5 @@
 -- `go_on` meets its contract: the next voice rests where its phrase is empty, and else a stretch of turns begins with its own. Assumes nothing.
-use Rattle.std.proofs.Common.{rules, arith, ◌≡◌, ◌<◌, ◌≤◌, ℕ, length, get_or, ap, ◌∙◌}
-use Rattle.phrases.specs.declared.Phrase.{Phrase}
+use Rattle.std.proofs.Common.{rules, ◌≡◌, ℕ, length, get_or, ap, ◌∙◌}
 use Rattle.phrases.specs.Phrases.{no_phrase}
 use Rattle.channel.specs.Heads.{phrase_by}
 use Rattle.channel.specs.Channels.{phrase_at, turning_in}

@@ -1,7 +1,5 @@
 -- `good` meets its contract: what is asked first goes before the rest. Assumes nothing.
-use Rattle.std.proofs.Common.{rules, ◌≡◌, Bool, sym, ◌∙◌}
-use Rattle.channel.specs.Channels.{good_channel}
-use Rattle.lent_channel.specs.Turns.{head_good_of}
+use Rattle.std.proofs.Common.{sym, ◌∙◌}
 use Rattle.lent_channel.proofs.Besides.{all_good, no_voices_good, no_head_good}
 use Rattle.lent_channel.proofs.good.Goals as goal
 

@@ -1,5 +1,5 @@
 -- `good_pairs` meets its contract: phrases are judged until one is not good. Assumes nothing.
-use Rattle.std.proofs.Common.{rules, arith, ◌≡◌, ◌≤◌, ◌<◌, cond, sym, ap, ◌∙◌}
+use Rattle.std.proofs.Common.{arith, ◌≡◌, ◌<◌, sym, ap, ◌∙◌}
 use Rattle.lent_channel.proofs.Besides.{entries, few, table_none, table_one_more, table_all, table_not, table_upto}
 use Rattle.lent_channel.proofs.good_pairs.Goals as goal
 

@@ -1,5 +1,5 @@
 -- `good_voices` meets its contract: its answer is that of the voices so far. Assumes nothing.
-use Rattle.std.proofs.Common.{rules, arith, ◌≡◌, ◌≤◌, ◌<◌, ◌&&◌, Bool, length, get_or, take, ap, sym, refl, ◌∙◌}
+use Rattle.std.proofs.Common.{rules, arith, ◌≡◌, ◌<◌, ◌&&◌, Bool, length, get_or, take, ap, sym, refl, ◌∙◌}
 use Rattle.walks.specs.Walks.{every}
 use Rattle.walks.proofs.Tests.{one_more}
 use Rattle.walks.proofs.Lists.Fronts.{every_next}

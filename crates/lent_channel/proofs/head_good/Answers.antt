@@ -1,5 +1,4 @@
 -- `head_good` meets its contract: its tests are those of `head_good_of`. Assumes nothing.
-use borrow.Author.Rules.{rules}
 use borrow.Author.Tests.{le-leb, lt-leb}
 use Rattle.lent_channel.specs.Turns.{head_good_of}
 use Rattle.lent_channel.proofs.head_good.Goals as goal

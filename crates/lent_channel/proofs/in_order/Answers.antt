@@ -1,6 +1,5 @@
 -- `in_order` meets its contract: phrases are looked at until one isn't clear of those before it. Assumes nothing.
-use Rattle.std.proofs.Common.{rules, arith, ◌≡◌, ◌≤◌, ◌<◌, ℕ, List, Bool, false, cond, sym, ap, ◌∙◌}
-use Rattle.phrases.specs.declared.Phrase.{Phrase}
+use Rattle.std.proofs.Common.{arith, ◌≡◌, ◌<◌, ℕ, sym, ap, ◌∙◌}
 use Rattle.phrases.specs.Phrases.{clear_of, reach_from, reach_below, is_in_order}
 use Rattle.phrases.proofs.Order.{reach_none, reach_next, order_none, order_next, order_not}
 use Rattle.channel.specs.Tables.{with_recording}

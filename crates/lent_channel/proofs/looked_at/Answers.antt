@@ -1,5 +1,4 @@
 -- `looked_at` meets its contract: its test is that of `looked_at`. Assumes nothing.
-use borrow.Author.Rules.{rules}
 use borrow.Author.Tests.{eq-eqb, ne_eqb}
 use Rattle.lent_channel.proofs.looked_at.Goals as goal
 

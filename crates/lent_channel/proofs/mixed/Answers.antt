@@ -1,5 +1,4 @@
 -- `mixed` meets its contract. Assumes nothing.
-use borrow.Author.Rules.{rules}
 use Rattle.lent_channel.proofs.mixed.Goals as goal
 
 pub returns : goal.returns

@@ -1,5 +1,4 @@
 -- `moved_of` meets its contract: its test is that of `moved_by`. Assumes nothing.
-use borrow.Author.Rules.{rules}
 use borrow.Author.Tests.{lt-ltb, le-ltb}
 use Rattle.lent_channel.specs.Turns.{moved_by}
 use Rattle.lent_channel.proofs.moved_of.Goals as goal

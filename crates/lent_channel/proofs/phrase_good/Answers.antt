@@ -1,5 +1,5 @@
 -- `phrase_good` meets its contract: its answer is that of the phrases so far. Assumes nothing.
-use Rattle.std.proofs.Common.{rules, arith, ◌≡◌, ◌≤◌, ◌<◌, ◌&&◌, Bool, length, get_or, ap, ◌∙◌}
+use Rattle.std.proofs.Common.{rules, arith, ◌≡◌, ◌<◌, ◌&&◌, Bool, length, get_or, ap, ◌∙◌}
 use Rattle.phrases.specs.declared.Phrase.{Phrase}
 use Rattle.phrases.specs.Phrases.{no_phrase, is_over_by, apart_of}
 use Rattle.lent_channel.specs.Turns.{looked_at}

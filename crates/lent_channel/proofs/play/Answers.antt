@@ -1,9 +1,7 @@
 -- `play` meets its contract: turns go on until none is left. Assumes nothing.
-use Rattle.std.proofs.Common.{rules, arith, ◌≡◌, ◌<◌, ◌≤◌, ℕ, min, sym, ap, subst, ◌∙◌}
-use Rattle.channel.specs.declared.Channel.{Channel}
+use Rattle.std.proofs.Common.{arith, ◌≤◌, ℕ, min, sym, ap, subst, ◌∙◌}
 use Rattle.channel.specs.Channels.{Turning, turning_in}
 use Rattle.lent_channel.specs.declared.Going.{Going}
-use Rattle.lent_channel.specs.declared.Heard.{Heard}
 use Rattle.lent_channel.specs.Turns.{Stands, Onward}
 use Rattle.lent_channel.proofs.Turns.{PlayedTo, played_first, played_next, ended_heard, ended_channel, same_turning, onward_else}
 use Rattle.lent_channel.proofs.play.Goals as goal

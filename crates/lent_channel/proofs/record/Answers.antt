@@ -1,7 +1,6 @@
 -- `record` meets its contract: where nothing is recorded it leaves all as it is, and else what the recorder leaves is stored. Assumes nothing.
-use Rattle.std.proofs.Common.{rules, arith, ◌≡◌, length, sym, ap, ◌∙◌}
+use Rattle.std.proofs.Common.{◌≡◌, length, sym, ap, ◌∙◌}
 use Rattle.phrases.specs.declared.Beside.{Beside}
-use Rattle.phrases.specs.declared.Room.{Room}
 use Rattle.channel.specs.declared.Head.{Head}
 use Rattle.channel.specs.Heads.{written_in}
 use Rattle.channel.specs.Channels.{behind_in}
@@ -24,8 +23,8 @@ returns-then-is_recording c =
       interpolates = h.interpolates;
       chosen = h.chosen;
     } in (
-      taken_there c.args.c.now c.args.data.now c.room-room.result is (with_after c.recorded-after.result) (ap with_after c.recorded-after.ensures.0),
-      memory_there c.args.c.now c.args.data.now c.room-room.result is c.args.input c.recorded-after.new.data c.recorded-after.ensures.1,
+      taken_there c.args.c.now c.args.data.now c.room-room.result is (with_after c.recorded-after.result) (ap with_after c.recorded-after.ensures.value),
+      memory_there c.args.c.now c.args.data.now c.room-room.result is c.args.input c.recorded-after.new.data c.recorded-after.ensures.data_after,
     )
 
 pub returns-else-is_recording : goal.returns-else-is_recording

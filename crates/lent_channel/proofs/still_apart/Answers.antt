@@ -1,5 +1,4 @@
 -- `still_apart` meets its contract. Assumes nothing.
-use borrow.Author.Rules.{rules}
 use Rattle.lent_channel.proofs.still_apart.Goals as goal
 
 pub returns : goal.returns

@@ -1,6 +1,5 @@
 -- `stretch` meets its contract: gliding turns, or the next voice's. Assumes nothing.
-use Rattle.std.proofs.Common.{rules, arith, ◌≡◌, ◌<◌, ◌≤◌, le_refl, sym, ap, subst, ◌∙◌}
-use Rattle.voice.specs.declared.Voice.{Voice}
+use Rattle.std.proofs.Common.{arith, ◌≡◌, ◌<◌, le_refl, ap, subst, ◌∙◌}
 use Rattle.channel.specs.declared.Channel.{Channel}
 use Rattle.lent_channel.specs.Turns.{next_voice, Goes}
 use Rattle.lent_channel.proofs.Turns.{turn_goes}

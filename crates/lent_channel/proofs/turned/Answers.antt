@@ -1,6 +1,5 @@
 -- `turned` meets its contract: its tests are those of `next_turn`. Assumes nothing.
 use mathlib.Core.Path.{sym, ◌∙◌, ap}
-use borrow.Author.Rules.{rules}
 use borrow.Author.Tests.{lt-ltb, le-ltb}
 use Rattle.voice.specs.Voices.{should_remove_of}
 use Rattle.lent_channel.specs.Turns.{next_turn}

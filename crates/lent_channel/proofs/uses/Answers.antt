@@ -1,5 +1,5 @@
 -- `uses` meets its contract: voices are looked at until one has the phrase. Assumes nothing.
-use Rattle.std.proofs.Common.{rules, arith, ◌≡◌, ◌<◌, ◌≤◌, length, min}
+use Rattle.std.proofs.Common.{rules, arith, ◌≡◌, ◌<◌, length, min}
 use borrow.Author.Tests.{eq-eqb, ne_eqb}
 use Rattle.walks.specs.Walks.{any}
 use Rattle.walks.proofs.Lists.Loops.{turns, stops}

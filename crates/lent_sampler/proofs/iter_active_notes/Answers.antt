@@ -6,7 +6,7 @@ use Rattle.voice.specs.Voices.{blank_voice}
 use Rattle.sampler.specs.Refusals.{good_sampler}
 use Rattle.lent_sampler.specs.declared.Listing.{Listing}
 use Rattle.lent_sampler.specs.Lists.{seated, unlisted, listed_count, answered_of}
-use Rattle.lent_sampler.proofs.Lists.{voice_there, finished_so, unfinished_so, count_none, count_few, count_more, count_next, noted_upto, noted_none, noted_length, noted_kept, noted_more, note_turns, few_looked, notes_fit, notes_after, notes_counted, notes_listed}
+use Rattle.lent_sampler.proofs.Lists.{voice_there, finished_so, unfinished_so, count_none, count_few, count_more, count_next, noted_upto, noted_none, noted_kept, noted_more, note_turns, few_looked, notes_fit, notes_after, notes_counted, notes_listed}
 use Rattle.lent_sampler.proofs.iter_active_notes.Goals as goal
 use Rattle.lent_sampler.proofs.iter_active_notes.Goals.{then-not-v, else-not-v}
 

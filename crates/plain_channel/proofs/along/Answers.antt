@@ -16,7 +16,7 @@ behind-requires c =
     let j = c.if-side-eq0 in
     let q = c.requires in
     let ready : Ready a.params a.«data».now a.togo a.c.now a.side.now j.c j.side = elim j.branch [
-      then-side-eq0 w ↦ ready_as w.c-is w.side-is (filled_ready a.params a.«data».now a.togo a.c.now a.side.now w.if-side-eq0.true q.some w.refill.new.c w.refill.new.side w.refill.ensures)
+      | then-side-eq0 w ↦ ready_as w.c-is w.side-is (filled_ready a.params a.«data».now a.togo a.c.now a.side.now w.if-side-eq0.true q.some w.refill.new.c w.refill.new.side w.refill.ensures)
       | else-side-eq0 w ↦ ready_as w.c-is w.side-is (still_ready a.params a.«data».now a.togo a.c.now a.side.now (let no = w.if-side-eq0.false in omega (arith, no)))
     ] in
     asks_so a.params a.input a.«data».now a.togo j.c j.side ready.some voices hots sums q.channel q.hots (ready.same q.channel q.hots q.under)
@@ -31,7 +31,7 @@ returns c =
     let q = c.requires in
     let b = c.behind in
     let ready : Ready a.params a.«data».now a.togo a.c.now a.side.now j.c j.side = elim j.branch [
-      then-side-eq0 w ↦ ready_as w.c-is w.side-is (filled_ready a.params a.«data».now a.togo a.c.now a.side.now w.if-side-eq0.true q.some w.refill.new.c w.refill.new.side w.refill.ensures)
+      | then-side-eq0 w ↦ ready_as w.c-is w.side-is (filled_ready a.params a.«data».now a.togo a.c.now a.side.now w.if-side-eq0.true q.some w.refill.new.c w.refill.new.side w.refill.ensures)
       | else-side-eq0 w ↦ ready_as w.c-is w.side-is (still_ready a.params a.«data».now a.togo a.c.now a.side.now (let no = w.if-side-eq0.false in omega (arith, no)))
     ] in
     let low : j.side.pour.next < 64 = next_low a.params a.input a.«data».now a.togo j.c j.side ready.some voices hots sums q.channel q.hots (ready.same q.channel q.hots q.under) in

@@ -1,5 +1,5 @@
 -- `behind` meets its contract: the sample is recorded, the voices behind the first play, and it is closed. Assumes nothing.
-use Rattle.std.proofs.Common.{rules, Bool, ◌≤◌, min, sym, ◌∙◌, ap, subst}
+use Rattle.std.proofs.Common.{Bool, ◌≤◌, min, sym, ◌∙◌, ap, subst}
 use Rattle.channel.specs.declared.Channel.{Channel}
 use Rattle.channel.specs.Heads.{closed_of}
 use Rattle.channel.specs.Channels.{with_head}
@@ -19,7 +19,7 @@ returns c =
     let u = c.any_unfinished-unfinished in
     let inside : a.from ≤ min h.count 32 = subst (λ (x : Channel). a.from ≤ min x.count 32) (sym c.record.ensures.0) (taken_some a.«data».now a.from a.c.now c.requires) in
     let plays : PlaysFrom a.params c.record.new.«data» a.from a.first h a.side.now j.played j.c j.side = elim j.branch [
-      then-c-from w ↦ plays_as w.played-is w.c-is w.side-is w.play-played.ensures
+      | then-c-from w ↦ plays_as w.played-is w.c-is w.side-is w.play-played.ensures
       | else-c-from w ↦ plays_as w.played-is w.c-is w.side-is
           (played_ahead a.params c.record.new.«data» a.from a.first h a.side.now c.heard_ahead-played.result inside w.if-c-from.false c.heard_ahead-played.ensures)
     ] in

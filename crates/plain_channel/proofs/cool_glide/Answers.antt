@@ -1,5 +1,5 @@
 -- `cool_glide` meets its contract: voices take their turns until one is plain, or doesn't glide. Assumes nothing.
-use Rattle.std.proofs.Common.{rules, arith, ◌≡◌, ◌≤◌, ◌<◌, length, sym, ap, subst}
+use Rattle.std.proofs.Common.{rules, arith, ◌≡◌, ◌≤◌, ◌<◌, length}
 use borrow.Author.Tests.{not-false}
 use Rattle.walks.proofs.Lists.Loops.{get_d_any}
 use Rattle.voice.specs.Voices.{blank_voice}

@@ -1,5 +1,5 @@
 -- `ease_next` meets its contract: the voice is poured by what its phrase says, if it eases. Assumes nothing.
-use Rattle.std.proofs.Common.{rules, arith, ◌≡◌, ℕ, ◌-◌, ◌≤◌, false, sym, ap, ◌∙◌, subst, length, get_or, take, drop, nat_eq, ne_eqb}
+use Rattle.std.proofs.Common.{rules, arith, ◌≡◌, ℕ, ◌≤◌, false, sym, ap, ◌∙◌, length, get_or, nat_eq, ne_eqb}
 use Rattle.phrases.specs.declared.Phrase.{Phrase}
 use Rattle.phrases.specs.Phrases.{no_phrase}
 use Rattle.plain_voice.specs.Hots.{cold}

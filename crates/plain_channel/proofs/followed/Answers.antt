@@ -1,5 +1,5 @@
 -- `followed` meets its contract: the tests are those of `followed_by`. Assumes nothing.
-use Rattle.std.proofs.Common.{◌≡◌, refl, sym, ◌∙◌, ap, ◌<◌, length, get_or, rules, arith, lt-ltb, le-ltb}
+use Rattle.std.proofs.Common.{◌≡◌, refl, ◌<◌, length, get_or, rules, arith, lt-ltb, le-ltb}
 use Rattle.walks.proofs.Lists.Loops.{get_d_any}
 use Rattle.voice.specs.Voices.{blank_voice}
 use Rattle.plain_voice.specs.Hots.{cold}

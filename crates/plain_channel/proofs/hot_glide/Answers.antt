@@ -1,6 +1,6 @@
 -- `hot_glide` meets its contract: plain voices take their turns until one isn't plain, or doesn't glide. Assumes nothing.
-use Rattle.std.proofs.Common.{rules, arith, refl, get_or, ◌≡◌, ◌≤◌, ◌<◌, length, sym, ap, subst}
-use borrow.Author.Tests.{not-true, not-false}
+use Rattle.std.proofs.Common.{rules, arith, refl, get_or, ◌≡◌, ◌≤◌, ◌<◌, length}
+use borrow.Author.Tests.{not-false}
 use mathlib.Core.Bool.{Bool}
 use Prim.Native.Nat.{ℕ}
 use lib.Ieee.{Float}

@@ -6,7 +6,6 @@ use Prim.Native.Nat.{ℕ, ◌+◌, ◌-◌, ◌≤◌, ◌<◌}
 use native.Mathlib.Omega.{arith}
 use lib.Dec.{leb}
 use borrow.Author.Tests.{leb-true, leb-false, le-leb, lt-leb}
-use borrow.Author.Rules.{rules}
 use Rattle.channel.specs.Heads.{last_time}
 use Rattle.plain_channel.specs.Ahead.{may_ease}
 use Rattle.plain_channel.proofs.may_ease.Goals as goal

@@ -1,5 +1,5 @@
 -- `play` meets its contract: turns go on together with the positions till none is left. Assumes nothing.
-use Rattle.std.proofs.Common.{rules, arith, subst}
+use Rattle.std.proofs.Common.{subst}
 use Rattle.channel.specs.Channels.{Turning}
 use Rattle.lent_channel.proofs.Turns.{onward_else, same_turning}
 use Rattle.plain_channel.specs.Sides.{Together}

@@ -1,6 +1,5 @@
 -- `stretch` meets its contract: voices glide, or the next takes its turn, and its position is judged. Assumes nothing.
-use Rattle.std.proofs.Common.{rules, arith, ◌≡◌, refl, sym, ap, ap₂, ◌∙◌, subst, length}
-use Rattle.voice.specs.declared.Voice.{Voice}
+use Rattle.std.proofs.Common.{rules, arith, ◌≡◌, sym, ap, ap₂, ◌∙◌, subst, length}
 use Rattle.channel.specs.declared.Channel.{Channel}
 use Rattle.lent_channel.specs.declared.Going.{Going}
 use Rattle.lent_channel.specs.Turns.{next_voice, next_turn, turned_in}

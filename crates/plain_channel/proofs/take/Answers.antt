@@ -1,5 +1,5 @@
 -- `take` meets its contract: its test is that of `taken_at`. Assumes nothing.
-use Rattle.std.proofs.Common.{◌≡◌, refl, sym, ◌∙◌, ap, ◌<◌, length, rules, arith, lt-ltb, le-ltb}
+use Rattle.std.proofs.Common.{◌≡◌, sym, ◌<◌, length, rules, arith, lt-ltb, le-ltb}
 use Rattle.walks.proofs.Lists.Loops.{get_d_any}
 use Rattle.voice.specs.Voices.{blank_voice}
 use Rattle.channel.proofs.Slots.{none}

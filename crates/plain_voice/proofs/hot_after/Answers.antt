@@ -1,5 +1,5 @@
 -- `hot_after` meets its contract: the numbers of such a clip are small. Assumes nothing.
-use Rattle.std.proofs.Common.{div-le_self, arith, rules}
+use Rattle.std.proofs.Common.{div-le_self, arith}
 use native.Mathlib.Nat.{mod-le}
 use Rattle.plain_voice.specs.Hots.{hot_after}
 use Rattle.plain_voice.proofs.Hots.{sized}

@@ -1,5 +1,5 @@
 -- `hot_at` meets its contract. Assumes nothing.
-use Rattle.std.proofs.Common.{sym, ◌∙◌, arith, rules}
+use Rattle.std.proofs.Common.{sym, ◌∙◌, arith}
 use Rattle.plain_voice.specs.Hots.{hot_at}
 use Rattle.plain_voice.proofs.Hots.{plays_so}
 use Rattle.plain_voice.proofs.hot_at.Goals as goal

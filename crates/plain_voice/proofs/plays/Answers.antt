@@ -1,6 +1,5 @@
 -- `plays` meets its contract: its tests are those of `plays_plain`. Assumes nothing.
 use Rattle.plain_voice.specs.Hots.{plays_plain}
-use Rattle.std.proofs.Common.{rules}
 use Rattle.plain_voice.proofs.plays.Goals as goal
 
 pub returns-then-smooth : goal.returns-then-smooth

@@ -10,7 +10,6 @@ use Rattle.pours.specs.Eases.{term_at, Added}
 use Rattle.pours.specs.Steady.{leveled}
 use Rattle.pours.proofs.Added.{restated}
 use Rattle.pours.proofs.Placing.{steady_by, level_by}
-use borrow.Author.Rules.{rules}
 use Rattle.pours.proofs.add_at.Goals as goal
 
 pub returns-then-elapsed-n : goal.returns-then-elapsed-n

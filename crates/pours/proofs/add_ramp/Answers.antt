@@ -1,10 +1,9 @@
 -- `add_ramp` meets its contract. The invariant: so many terms are added. The measure is how many are left. Assumes nothing.
 use mathlib.Core.Path.{ap₂, subst}
-use Prim.Native.Nat.{ℕ, ◌+◌, ◌-◌, ◌≤◌, ◌<◌, zero-le}
+use Prim.Native.Nat.{ℕ, ◌+◌, ◌<◌, zero-le}
 use native.Mathlib.Omega.{arith}
 use lib.Ieee.{Float, nan, binary32, add, mul}
 use lib.ListN.{get_or}
-use borrow.Author.Rules.{rules}
 use Rattle.pours.specs.Eases.{term_at, Added}
 use Rattle.pours.specs.Steady.{ramp_by}
 use Rattle.pours.proofs.Added.{none, one}

@@ -4,7 +4,6 @@ use lib.Dec.{T}
 use lib.Ieee.{Float, binary32, mul, rem, of_bits}
 use Rattle.binary32.proofs.Truth.{yes}
 use Rattle.clip.specs.Positions.{two32, folded_of, round_trip_of, bounced_of}
-use borrow.Author.Rules.{rules}
 use Rattle.pours.proofs.bounced.Goals as goal
 
 pub returns-then-y : goal.returns-then-y

@@ -2,7 +2,6 @@
 use mathlib.Core.Path.{sym}
 use mathlib.Core.Bool.{true≢false}
 use Rattle.pours.proofs.Promised.{eases_told}
-use borrow.Author.Rules.{rules}
 use Rattle.pours.proofs.eases.Goals as goal
 
 pub returns-then-n-gt-LAST_WHOLE : goal.returns-then-n-gt-LAST_WHOLE

@@ -1,10 +1,8 @@
 -- `ends` meets its contract. The invariant: the sum is that of so many, and none reached the whole length, unless it says so. The measure is how many are left. Assumes nothing.
-use mathlib.Core.Path.{◌≡◌, refl}
-use Prim.Native.Nat.{◌-◌, ◌≤◌, zero-le}
+use mathlib.Core.Path.{refl}
+use Prim.Native.Nat.{zero-le}
 use native.Mathlib.Omega.{arith}
-use mathlib.Core.Bool.{false}
-use borrow.Author.Rules.{rules}
-use Rattle.pours.specs.Steady.{played_on, PlaysBelow}
+use Rattle.pours.specs.Steady.{played_on}
 use Rattle.pours.proofs.Filling.{played_next, below_more}
 use Rattle.pours.proofs.ends.Goals as goal
 

@@ -1,10 +1,7 @@
-use mathlib.Core.Path.{◌≡◌, refl}
-use Prim.Native.Nat.{◌-◌, ◌≤◌, zero-le}
-use native.Mathlib.Omega.{arith}
+use mathlib.Core.Path.{◌≡◌}
+use Prim.Native.Nat.{◌-◌, ◌≤◌}
 use mathlib.Core.Bool.{false}
-use borrow.Author.Rules.{rules}
 use Rattle.pours.specs.Steady.{played_on, PlaysBelow}
-use Rattle.pours.proofs.Filling.{played_next, below_more}
 use Rattle.pours.proofs.ends.Given as goal
 
 abbrev pub invariant-loop-k : goal.invariant-loop-k

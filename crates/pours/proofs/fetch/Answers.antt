@@ -1,11 +1,9 @@
 -- `fetch` meets its contract. The invariant: so many are fetched, and the rest stands. The measure is how many are left. Assumes nothing.
-use mathlib.Core.Path.{◌≡◌, refl, sym, subst}
+use mathlib.Core.Path.{refl, subst}
 use mathlib.Core.Bool.{true}
-use Prim.Native.Nat.{ℕ, ◌-◌, ◌≤◌, ◌<◌, zero-le}
-use native.Mathlib.Nat.{le_refl}
+use Prim.Native.Nat.{ℕ, ◌<◌, zero-le}
 use native.Mathlib.Omega.{arith}
-use lib.ListN.{length, get_or}
-use borrow.Author.Rules.{rules}
+use lib.ListN.{length}
 use Rattle.pours.specs.Steady.{Fetches}
 use Rattle.pours.proofs.Filling.{nothing, one_more, left}
 use Rattle.pours.proofs.fetch.Goals as goal
@@ -14,9 +12,6 @@ pub loop-k-init : goal.loop-k-init
 loop-k-init c =
     let a = c.args in
     (zero-le, nothing a.«data».now a.played a.by a.values.now, λ j h. refl)
-
-pub overflow_cast-index : goal.overflow_cast-index
-overflow_cast-index c = record { fits = omega (arith, c.slice_known-in-loop-k-1.given c.loop-k.k) }
 
 pub loop-k-preserved : goal.loop-k-preserved
 loop-k-preserved c =

@@ -1,12 +1,8 @@
-use mathlib.Core.Path.{◌≡◌, refl, sym, subst}
+use mathlib.Core.Path.{◌≡◌}
 use mathlib.Core.Bool.{true}
-use Prim.Native.Nat.{ℕ, ◌-◌, ◌≤◌, ◌<◌, zero-le}
-use native.Mathlib.Nat.{le_refl}
-use native.Mathlib.Omega.{arith}
-use lib.ListN.{length, get_or}
-use borrow.Author.Rules.{rules}
+use Prim.Native.Nat.{ℕ, ◌-◌, ◌≤◌}
+use lib.ListN.{get_or}
 use Rattle.pours.specs.Steady.{Fetches}
-use Rattle.pours.proofs.Filling.{nothing, one_more, left}
 use Rattle.pours.proofs.fetch.Given as goal
 
 abbrev pub invariant-loop-k : goal.invariant-loop-k

@@ -7,7 +7,6 @@ use lib.Ieee.{binary32, of_int, in_float}
 use mir.Syntax.{w32}
 use mir.ValLaws.{to_z_pos}
 use Rattle.binary32.proofs.Halves.{castable}
-use borrow.Author.Rules.{rules}
 use Rattle.pours.proofs.float_of.Goals as goal
 
 pub int_to_float-result : goal.int_to_float-result

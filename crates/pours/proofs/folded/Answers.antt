@@ -2,7 +2,6 @@
 use mathlib.Core.Path.{◌∙◌}
 use lib.Ieee.{of_bits}
 use Rattle.clip.specs.Positions.{mirrored_of}
-use borrow.Author.Rules.{rules}
 use Rattle.pours.proofs.folded.Goals as goal
 
 pub returns-then-y-length : goal.returns-then-y-length

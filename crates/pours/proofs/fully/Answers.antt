@@ -3,9 +3,8 @@
 use mathlib.Core.Path.{refl}
 use native.Mathlib.Omega.{arith}
 use borrow.Author.Tests.{not-false}
-use Rattle.pours.specs.Steady.{SteadyAt, leveled}
+use Rattle.pours.specs.Steady.{leveled}
 use Rattle.pours.proofs.Promised.{steadily, left, sounds}
-use borrow.Author.Rules.{rules}
 use Rattle.pours.proofs.fully.Goals as goal
 
 pub returns-then-not-steady : goal.returns-then-not-steady

@@ -1,9 +1,7 @@
 -- `gather` meets its contract. Assumes nothing.
-use mathlib.Core.Path.{refl, sym, ◌∙◌}
-use native.Mathlib.Omega.{arith}
+use mathlib.Core.Path.{sym, ◌∙◌}
 use mathlib.Core.Bool.{true≢false}
 use Rattle.pours.proofs.Promised.{gathered}
-use borrow.Author.Rules.{rules}
 use Rattle.pours.proofs.gather.Goals as goal
 
 pub returns-then-not-places : goal.returns-then-not-places

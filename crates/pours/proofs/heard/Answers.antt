@@ -1,5 +1,4 @@
 -- `heard` meets its contract: the voice is `last_heard`'s, field by field. Assumes nothing.
-use borrow.Author.Rules.{rules}
 use Rattle.pours.specs.Eases.{last_heard}
 use Rattle.pours.proofs.heard.Goals as goal
 

@@ -1,6 +1,5 @@
 -- `if_told` meets its contract. Assumes nothing.
 use lib.Ieee.{of_bits}
-use borrow.Author.Rules.{rules}
 use Rattle.pours.proofs.if_told.Goals as goal
 
 pub returns-then-told : goal.returns-then-told

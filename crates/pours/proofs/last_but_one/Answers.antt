@@ -1,7 +1,6 @@
 -- `last_but_one` meets its contract. Assumes nothing.
 use mathlib.Core.Path.{refl, ap, ◌∙◌}
 use native.Mathlib.Omega.{arith}
-use borrow.Author.Rules.{rules}
 use Rattle.pours.specs.Eases.{term_at}
 use Rattle.pours.proofs.last_but_one.Goals as goal
 

@@ -4,7 +4,6 @@ use lib.Dec.{T}
 use lib.Ieee.{Float, binary32, rem, of_bits}
 use Rattle.binary32.proofs.Truth.{yes}
 use Rattle.pours.proofs.Placing.{looped_either}
-use borrow.Author.Rules.{rules}
 use Rattle.pours.proofs.looped.Goals as goal
 
 pub returns-then-y : goal.returns-then-y

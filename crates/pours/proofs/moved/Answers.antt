@@ -4,7 +4,6 @@ use Prim.Native.Nat.{ℕ, ◌+◌, ◌≤◌}
 use native.Mathlib.Nat.{add-zero, mod-lt, mod-eq_of_lt, div-eq_of_lt, div-le_self}
 use native.Mathlib.Omega.{arith}
 use mathlib.Core.Bool.{true}
-use borrow.Author.Rules.{rules}
 use Rattle.pours.specs.Eases.{moved_on}
 use Rattle.pours.proofs.moved.Goals as goal
 

@@ -12,10 +12,10 @@ pub float_to_float-result : goal.float_to_float-result
 unfolding of_bits
 float_to_float-result c =
     let x = c.args.x in
-    and_i (fits binary64 x) (not (is_nan x)) (fits_widens x c.row_known-1.given) (lt_not_nan zero32 x (and_l (lt zero32 x) (lt zero32 c.args.y) (yes c.if-x-y.true))).1
+    and_i (fits binary64 x) (not (is_nan x)) (fits_widens x (search rules)) (lt_not_nan zero32 x (and_l (lt zero32 x) (lt zero32 c.args.y) (yes c.if-x-y.true))).1
 
 pub float_to_float-result-then-x-y : goal.float_to_float-result-then-x-y
 unfolding of_bits
 float_to_float-result-then-x-y c =
     let y = c.args.y in
-    and_i (fits binary64 y) (not (is_nan y)) (fits_widens y c.row_known-then-x-y-1.given) (lt_not_nan zero32 y (and_r (lt zero32 c.args.x) (lt zero32 y) (yes c.if-x-y.true))).1
+    and_i (fits binary64 y) (not (is_nan y)) (fits_widens y (search rules)) (lt_not_nan zero32 y (and_r (lt zero32 c.args.x) (lt zero32 y) (yes c.if-x-y.true))).1

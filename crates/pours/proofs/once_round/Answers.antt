@@ -2,7 +2,7 @@
 use mathlib.Core.Path.{sym}
 use lib.Ieee.{binary32}
 use borrow.Author.Rules.{rules}
-use Rattle.binary32.proofs.Truth.{yes, no}
+use Rattle.binary32.proofs.Truth.{no}
 use Rattle.binary32.proofs.Remainders.{rem_below}
 use Rattle.clip.proofs.Quick.{once_round}
 use Rattle.pours.proofs.once_round.Goals as goal

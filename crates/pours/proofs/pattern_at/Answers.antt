@@ -1,7 +1,6 @@
 -- `pattern_at` meets its contract. Assumes nothing.
 use mathlib.Core.Path.{sym}
 use lib.ListN.{get_or-eq_default}
-use borrow.Author.Rules.{rules}
 use Rattle.pours.proofs.pattern_at.Goals as goal
 
 pub returns-else-index-data : goal.returns-else-index-data

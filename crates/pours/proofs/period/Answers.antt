@@ -1,6 +1,5 @@
 -- `period` meets its contract, by the way. Assumes nothing.
 use lib.Ieee.{of_bits}
-use borrow.Author.Rules.{rules}
 use Rattle.pours.proofs.period.Goals as goal
 
 pub returns-in-Up : goal.returns-in-Up

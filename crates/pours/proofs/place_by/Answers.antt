@@ -1,6 +1,5 @@
 -- `place_by` meets its contract, by the way. Assumes nothing.
 use mathlib.Core.Path.{◌∙◌}
-use borrow.Author.Rules.{rules}
 use Rattle.pours.proofs.place_by.Goals as goal
 
 pub returns-in-Up : goal.returns-in-Up

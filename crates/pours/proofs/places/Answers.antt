@@ -2,10 +2,8 @@
 use mathlib.Core.Path.{refl, sym, ap, ◌∙◌}
 use Rattle.binary32.specs.Leaves.{as_whole}
 use mathlib.Core.Bool.{true≢false}
-use Prim.Native.Nat.{◌+◌, ◌-◌, ◌^◌, ◌≤◌}
 use native.Mathlib.Omega.{arith}
 use Rattle.pours.proofs.Placing.{lead_few, offset_by}
-use borrow.Author.Rules.{rules}
 use Rattle.pours.proofs.places.Goals as goal
 
 pub returns-then-time-c : goal.returns-then-time-c

@@ -1,7 +1,6 @@
 -- `places_by` meets its contract: either way does. Assumes nothing.
 use mathlib.Core.Path.{ap, ◌∙◌}
 use Rattle.pours.specs.Steady.{mode_by}
-use borrow.Author.Rules.{rules}
 use Rattle.pours.proofs.places_by.Goals as goal
 
 pub places_up-requires : goal.places_up-requires

@@ -1,17 +1,15 @@
 -- `places_far` meets its contract. The invariant: so many samples stand. The measure is how many are left. Assumes nothing.
-use mathlib.Core.Path.{◌≡◌, refl, sym, ◌∙◌}
-use Prim.Native.Nat.{ℕ, ◌+◌, ◌-◌, ◌≤◌, ◌<◌, zero-le}
+use mathlib.Core.Path.{refl, sym, ◌∙◌}
+use Prim.Native.Nat.{ℕ, ◌+◌, ◌<◌, zero-le}
 use native.Mathlib.Omega.{arith}
-use mathlib.Core.Bool.{true, ◌&&◌, true≢false}
+use mathlib.Core.Bool.{true≢false}
 use lib.Ieee.{le, of_bits}
 use lib.Ieee.Bits.{is_true}
 use lib.Ieee.Fits.{and_l, and_r}
-use lib.ListN.{length, length-set}
-use borrow.Author.Rules.{rules}
+use lib.ListN.{length-set}
 use Rattle.binary32.specs.Leaves.{zero32}
 use Rattle.binary32.proofs.Truth.{yes}
 use Rattle.clip.specs.Positions.{travel_at}
-use Rattle.pours.specs.Steady.{Places}
 use Rattle.pours.proofs.Placing.{told_next}
 use Rattle.pours.proofs.places_far.Goals as goal
 

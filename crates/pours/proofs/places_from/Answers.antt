@@ -1,17 +1,14 @@
 -- `places_from` meets its contract. The invariant: so many samples stand, if each was told. The measure is how many are left. Assumes nothing.
-use mathlib.Core.Path.{◌≡◌, refl, sym, ap, ◌∙◌, subst}
-use Prim.Native.Nat.{ℕ, ◌+◌, ◌-◌, ◌≤◌, ◌<◌, zero-le}
+use mathlib.Core.Path.{refl, ◌∙◌}
+use Prim.Native.Nat.{ℕ, ◌+◌, ◌<◌, zero-le}
 use native.Mathlib.Omega.{arith}
-use mathlib.Core.Bool.{Bool, true, not}
-use lib.Dec.{T}
-use lib.Ieee.{Float, lt, le, is_nan, of_bits}
+use lib.Ieee.{le, of_bits}
 use lib.Ieee.Bits.{is_true}
 use lib.Ieee.Fits.{and_l, and_r}
-use lib.ListN.{length, length-set}
-use borrow.Author.Rules.{rules}
+use lib.ListN.{length-set}
 use Rattle.binary32.specs.Leaves.{zero32}
 use Rattle.binary32.proofs.Truth.{yes}
-use Rattle.pours.specs.Steady.{travel_by, CountedPlaces}
+use Rattle.pours.specs.Steady.{travel_by}
 use Rattle.pours.proofs.Placing.{told_next}
 use Rattle.pours.proofs.places_from.Goals as goal
 

@@ -3,7 +3,6 @@ use mathlib.Core.Path.{refl, ap}
 use native.Mathlib.Omega.{arith}
 use lib.Ieee.{binary32, add}
 use Rattle.pours.proofs.Promised.{agrees_so, laps_few, promised}
-use borrow.Author.Rules.{rules}
 use Rattle.pours.proofs.plainly.Goals as goal
 
 pub pour_all-requires : goal.pour_all-requires

@@ -4,7 +4,6 @@ use mathlib.Core.Bool.{true≢false}
 use borrow.Author.Tests.{not-true, not-false}
 use Rattle.pours.proofs.Turns.{unjudged}
 use Rattle.pours.proofs.Promised.{laps_few, moves}
-use borrow.Author.Rules.{rules}
 use Rattle.pours.proofs.position_on.Goals as goal
 
 pub returns-then-not-h : goal.returns-then-not-h

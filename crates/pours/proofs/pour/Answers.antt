@@ -1,12 +1,11 @@
 -- `pour` meets its contract. The invariant: so many terms are added. The measure is how many are left. Assumes nothing.
 use mathlib.Core.Path.{◌≡◌, sym, ap, ◌∙◌, subst}
-use Prim.Native.Nat.{ℕ, ◌+◌, ◌-◌, ◌≤◌, ◌<◌}
+use Prim.Native.Nat.{ℕ, ◌+◌, ◌-◌, ◌<◌}
 use native.Mathlib.Nat.{add_assoc, add-sub_cancel_left, add-zero}
 use native.Mathlib.Omega.{arith}
 use mathlib.Core.List.{List}
 use lib.Ieee.{Float, nan, binary32, add, mul}
 use lib.ListN.{length, get_or, set}
-use borrow.Author.Rules.{rules}
 use Rattle.voice.specs.Voices.{recorded_value_of}
 use Rattle.pours.specs.Eases.{term_at, Added}
 use Rattle.pours.proofs.Added.{none, one}

@@ -1,11 +1,7 @@
-use mathlib.Core.Path.{◌≡◌, sym, ap, ◌∙◌, subst}
-use Prim.Native.Nat.{ℕ, ◌+◌, ◌-◌, ◌%◌, ◌≤◌, ◌<◌, zero-le, min}
-use native.Mathlib.Nat.{mod-lt, mod-eq_of_lt, add-zero}
-use native.Mathlib.Omega.{arith}
-use borrow.Author.Rules.{rules}
+use mathlib.Core.Path.{◌≡◌}
+use Prim.Native.Nat.{◌+◌, ◌-◌, ◌%◌, ◌≤◌, ◌<◌}
 use Rattle.pours.specs.Eases.{Added}
-use Rattle.pours.proofs.Added.{none}
-use Rattle.pours.proofs.Straight.{term, further, place_next}
+use Rattle.pours.proofs.Straight.{term}
 use Rattle.pours.proofs.pour_all.Given as goal
 
 abbrev pub invariant-loop-f : goal.invariant-loop-f

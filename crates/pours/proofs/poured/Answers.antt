@@ -1,5 +1,4 @@
 -- `poured` meets its contract: either way does. Assumes nothing.
-use borrow.Author.Rules.{rules}
 use Rattle.pours.proofs.poured.Goals as goal
 
 pub plainly-requires : goal.plainly-requires

@@ -1,6 +1,5 @@
 -- `ramp_level` meets its contract. Assumes nothing.
 use lib.Ieee.{of_bits}
-use borrow.Author.Rules.{rules}
 use Rattle.pours.proofs.ramp_level.Goals as goal
 
 pub returns : goal.returns

@@ -1,7 +1,6 @@
 -- `rest` meets its contract: below the divisor x is its own remainder, and else that of what is left after it. Assumes nothing.
 use mathlib.Core.Path.{sym, ◌∙◌}
 use native.Mathlib.Nat.{mod-eq_of_lt, mod-eq-sub-mod}
-use borrow.Author.Rules.{rules}
 use Rattle.pours.proofs.rest.Goals as goal
 
 pub returns-then-x-by : goal.returns-then-x-by

@@ -1,5 +1,4 @@
 -- `size_by` meets its contract, by the way. Assumes nothing.
-use borrow.Author.Rules.{rules}
 use Rattle.pours.proofs.size_by.Goals as goal
 
 pub returns-in-Up : goal.returns-in-Up

@@ -9,7 +9,6 @@ use Rattle.binary32.proofs.Truth.{yes}
 use Rattle.binary32.proofs.Between.{lt_le_trans}
 use Rattle.pours.specs.Steady.{Low}
 use Rattle.pours.proofs.Placing.{spot_is}
-use borrow.Author.Rules.{rules}
 use Rattle.pours.proofs.spot_at.Goals as goal
 
 -- what is told is low, and so is 0

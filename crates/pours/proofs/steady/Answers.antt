@@ -2,7 +2,6 @@
 use mathlib.Core.Path.{sym}
 use mathlib.Core.Bool.{true≢false}
 use Rattle.pours.proofs.Promised.{steady_told}
-use borrow.Author.Rules.{rules}
 use Rattle.pours.proofs.steady.Goals as goal
 
 pub returns-then-n-lt1 : goal.returns-then-n-lt1

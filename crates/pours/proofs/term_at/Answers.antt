@@ -1,7 +1,6 @@
 -- `term_at` meets its contract. Assumes nothing.
 use mathlib.Core.Path.{ap}
 use lib.Ieee.{Float, binary32, mul}
-use borrow.Author.Rules.{rules}
 use Rattle.pours.proofs.term_at.Goals as goal
 
 pub returns : goal.returns

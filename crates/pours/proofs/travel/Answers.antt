@@ -1,7 +1,6 @@
 -- `travel` meets its contract. Assumes nothing.
 use mathlib.Core.Path.{ap}
 use lib.Ieee.{Float, binary32, add, mul}
-use borrow.Author.Rules.{rules}
 use Rattle.pours.proofs.travel.Goals as goal
 
 pub returns : goal.returns

@@ -2,7 +2,6 @@
 use mathlib.Core.Path.{ap₂, ◌∙◌}
 use native.Mathlib.Omega.{arith}
 use lib.Ieee.{Float, binary32, add, mul}
-use borrow.Author.Rules.{rules}
 use Rattle.clip.specs.Positions.{travel_at}
 use Rattle.pours.proofs.Placing.{lead_few, lead_float}
 use Rattle.pours.proofs.travel_at.Goals as goal

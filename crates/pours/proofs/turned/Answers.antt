@@ -1,7 +1,6 @@
 -- `turned` meets its contract, by that of `raised`. Assumes nothing.
 use mathlib.Core.Path.{◌∙◌}
 use lib.Ieee.{of_bits}
-use borrow.Author.Rules.{rules}
 use Rattle.pours.proofs.turned.Goals as goal
 
 pub returns-then-x : goal.returns-then-x

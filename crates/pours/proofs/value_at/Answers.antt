@@ -1,7 +1,6 @@
 -- `value_at` meets its contract. Assumes nothing.
 use mathlib.Core.Path.{ap₂}
 use lib.Ieee.{binary32, mul}
-use borrow.Author.Rules.{rules}
 use Rattle.pours.proofs.value_at.Goals as goal
 
 pub returns : goal.returns

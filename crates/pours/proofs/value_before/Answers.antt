@@ -1,7 +1,6 @@
 -- `value_before` meets its contract. Assumes nothing.
 use mathlib.Core.Path.{refl}
 use native.Mathlib.Omega.{arith}
-use borrow.Author.Rules.{rules}
 use Rattle.pours.proofs.value_before.Goals as goal
 
 pub returns-then-n-lt2 : goal.returns-then-n-lt2

@@ -1,7 +1,6 @@
 -- `wrapped` meets its contract, by the mode. Assumes nothing.
 use mathlib.Core.Path.{◌∙◌}
 use Rattle.clip.specs.Positions.{wrapped_of}
-use borrow.Author.Rules.{rules}
 use Rattle.pours.proofs.wrapped.Goals as goal
 
 pub returns-in-Loop : goal.returns-in-Loop

@@ -1,5 +1,4 @@
 -- `asked` meets its contract. Assumes nothing.
-use borrow.Author.Rules.{rules}
 use Rattle.questions.proofs.asked.Goals as goal
 
 pub returns : goal.returns

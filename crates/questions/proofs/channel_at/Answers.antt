@@ -3,9 +3,8 @@ use mathlib.Core.Path.{sym, ◌∙◌}
 use mathlib.Core.Bool.{false}
 use lib.ListN.{get_or-eq_default}
 use Rattle.channel.specs.Channels.{channel_of}
-use Rattle.walks.proofs.Lists.Loops.{long, get_d_any}
+use Rattle.walks.proofs.Lists.Loops.{get_d_any}
 use Rattle.sampler.proofs.Seats.{none}
-use borrow.Author.Rules.{rules}
 use native.Mathlib.Omega.{arith}
 use Rattle.questions.proofs.channel_at.Goals as goal
 

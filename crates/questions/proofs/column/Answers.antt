@@ -2,7 +2,6 @@
 use lib.ListN.{length-map}
 use Rattle.binary32.specs.Leaves.{float_of}
 use Rattle.questions.specs.Waveforms.{column_of}
-use borrow.Author.Rules.{rules}
 use Rattle.questions.proofs.column.Goals as goal
 
 pub returns : goal.returns

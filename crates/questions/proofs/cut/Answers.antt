@@ -4,7 +4,6 @@ use lib.Ieee.{Float, binary32, mul}
 use lib.Ieee.Fits.{mul-fits}
 use Rattle.binary32.specs.Leaves.{as_whole}
 use Rattle.binary32.proofs.Floors.{floor_cast}
-use borrow.Author.Rules.{rules}
 use Rattle.questions.proofs.cut.Goals as goal
 
 pub returns : goal.returns

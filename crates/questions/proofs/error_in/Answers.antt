@@ -4,7 +4,6 @@ use mathlib.Core.Bool.{not}
 use lib.Dec.{ltb}
 use Rattle.questions.specs.Sights.{head_in}
 use Rattle.questions.proofs.Answers.{text_refused, text_written, text_short}
-use borrow.Author.Rules.{rules}
 use Rattle.questions.proofs.error_in.Goals as goal
 
 pub returns-then-number-ne0 : goal.returns-then-number-ne0

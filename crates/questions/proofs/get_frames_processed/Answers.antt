@@ -1,5 +1,4 @@
 -- `get_frames_processed` meets its contract: what it answers of what is seen is what it answers of the record. Assumes nothing.
-use borrow.Author.Rules.{rules}
 use Rattle.questions.proofs.Sights.{frames_seen}
 use Rattle.questions.proofs.get_frames_processed.Goals as goal
 

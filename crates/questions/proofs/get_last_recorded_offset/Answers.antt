@@ -1,5 +1,4 @@
 -- `get_last_recorded_offset` meets its contract: what it answers of what is seen is what it answers of the record. Assumes nothing.
-use borrow.Author.Rules.{rules}
 use Rattle.questions.proofs.Sights.{offset_seen}
 use Rattle.questions.proofs.get_last_recorded_offset.Goals as goal
 

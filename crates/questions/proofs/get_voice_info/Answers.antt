@@ -1,7 +1,6 @@
 -- `get_voice_info` meets its contract: the table's rows in its order, and then the infos. Assumes nothing.
 use borrow.Author.Tests.{ne_eqb}
 use Rattle.questions.specs.Questions.{answered, info_number, get_voice_info_of}
-use borrow.Author.Rules.{rules}
 use Rattle.questions.proofs.get_voice_info.Goals as goal
 
 pub returns-then-number-ne0 : goal.returns-then-number-ne0

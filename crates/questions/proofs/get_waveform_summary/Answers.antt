@@ -1,5 +1,4 @@
 -- `get_waveform_summary` meets its contract: what it answers of what is seen is what it answers of the record. Assumes nothing.
-use borrow.Author.Rules.{rules}
 use Rattle.questions.proofs.Seats.{waveform_seen, list_seen}
 use Rattle.questions.proofs.get_waveform_summary.Goals as goal
 

@@ -1,6 +1,5 @@
 -- `good_in` meets its contract. Assumes nothing.
 use Rattle.questions.specs.Sights.{good_in}
-use borrow.Author.Rules.{rules}
 use Rattle.questions.proofs.good_in.Goals as goal
 
 pub returns-then-sound : goal.returns-then-sound

@@ -1,5 +1,4 @@
 -- `is_recording` meets its contract: what it answers of what is seen is what it answers of the record. Assumes nothing.
-use borrow.Author.Rules.{rules}
 use Rattle.questions.proofs.Sights.{recording_seen}
 use Rattle.questions.proofs.is_recording.Goals as goal
 

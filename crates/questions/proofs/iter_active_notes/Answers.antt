@@ -5,7 +5,6 @@ use Rattle.questions.specs.Questions.{notes_of}
 use Rattle.walks.proofs.Lists.Runs.{run_front}
 use Rattle.questions.specs.declared.Counted.TheVariants.{Done}
 use Rattle.questions.proofs.Answers.{list_asked, list_refused, list_done, list_fits}
-use borrow.Author.Rules.{rules}
 use Rattle.questions.proofs.iter_active_notes.Goals as goal
 
 pub returns-then-number-ne0 : goal.returns-then-number-ne0

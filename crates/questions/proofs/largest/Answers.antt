@@ -1,13 +1,10 @@
 -- `largest` meets its contract, by the law of loops. Assumes nothing.
-use mathlib.Core.Path.{◌≡◌, refl, sym, ap}
+use mathlib.Core.Path.{refl, sym, ap}
 use mathlib.Core.List.{List}
-use Prim.Native.Nat.{◌-◌}
-use lib.ListN.{length}
 use lib.Ieee.{Float, nan, of_bits}
 use Rattle.binary32.specs.Leaves.{max_of, zero32}
 use Rattle.walks.specs.Walks.{fold}
-use Rattle.walks.proofs.Lists.Loops.{Walk, turns, ends}
-use Rattle.questions.specs.Waveforms.{largest_of}
+use Rattle.walks.proofs.Lists.Loops.{turns, ends}
 use Rattle.questions.proofs.Filling.{from_start}
 use borrow.Author.Rules.{rules}
 use Rattle.questions.proofs.largest.Goals as goal

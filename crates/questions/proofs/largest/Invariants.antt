@@ -1,14 +1,12 @@
-use mathlib.Core.Path.{◌≡◌, refl, sym, ap}
+use mathlib.Core.Path.{◌≡◌}
 use mathlib.Core.List.{List}
 use Prim.Native.Nat.{◌-◌}
 use lib.ListN.{length}
-use lib.Ieee.{Float, nan, of_bits}
-use Rattle.binary32.specs.Leaves.{max_of, zero32}
+use lib.Ieee.{Float}
+use Rattle.binary32.specs.Leaves.{max_of}
 use Rattle.walks.specs.Walks.{fold}
-use Rattle.walks.proofs.Lists.Loops.{Walk, turns, ends}
+use Rattle.walks.proofs.Lists.Loops.{Walk}
 use Rattle.questions.specs.Waveforms.{largest_of}
-use Rattle.questions.proofs.Filling.{from_start}
-use borrow.Author.Rules.{rules}
 use Rattle.questions.proofs.largest.Given as goal
 
 abbrev pub invariant-loop-i : goal.invariant-loop-i

@@ -1,5 +1,4 @@
 -- `look` meets its contract. Assumes nothing.
-use borrow.Author.Rules.{rules}
 use Rattle.questions.proofs.look.Goals as goal
 
 pub returns : goal.returns

@@ -1,5 +1,4 @@
 -- `no_infos` meets its contract. Assumes nothing.
-use borrow.Author.Rules.{rules}
 use Rattle.questions.proofs.no_infos.Goals as goal
 
 pub returns : goal.returns

@@ -1,7 +1,6 @@
 -- `offset_in` meets its contract. Assumes nothing.
 use borrow.Author.Tests.{ne_eqb}
 use Rattle.questions.specs.Questions.{answered}
-use borrow.Author.Rules.{rules}
 use Rattle.questions.proofs.offset_in.Goals as goal
 
 pub returns-then-number-ne0 : goal.returns-then-number-ne0

@@ -1,5 +1,4 @@
 -- `print_error_info` meets its contract: what it answers of what is seen is what it answers of the record. Assumes nothing.
-use borrow.Author.Rules.{rules}
 use Rattle.questions.proofs.Sights.{error_seen, text_seen}
 use Rattle.questions.proofs.print_error_info.Goals as goal
 

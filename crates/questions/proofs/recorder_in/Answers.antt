@@ -1,5 +1,4 @@
 -- `recorder_in` meets its contract. Assumes nothing.
-use borrow.Author.Rules.{rules}
 use Rattle.questions.proofs.recorder_in.Goals as goal
 
 pub returns : goal.returns

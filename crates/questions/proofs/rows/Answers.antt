@@ -1,5 +1,4 @@
 -- `rows` meets its contract: the rows that each question begins with, in the table's order. Assumes nothing.
-use borrow.Author.Rules.{rules}
 use Rattle.questions.proofs.rows.Goals as goal
 
 pub returns : goal.returns

@@ -2,7 +2,6 @@
 use mathlib.Core.Bool.{and-true}
 use borrow.Author.Tests.{eq-eqb, ne_eqb}
 use Rattle.questions.specs.Sights.{sound_in}
-use borrow.Author.Rules.{rules}
 use Rattle.questions.proofs.sound.Goals as goal
 
 pub returns-then-t-eq2 : goal.returns-then-t-eq2

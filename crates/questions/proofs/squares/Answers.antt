@@ -1,13 +1,12 @@
 -- `squares` meets its contract, by the law of loops. Assumes nothing.
-use mathlib.Core.Path.{◌≡◌, refl, sym, ap}
+use mathlib.Core.Path.{refl, sym, ap}
 use mathlib.Core.List.{List, map}
-use Prim.Native.Nat.{ℕ, ◌-◌}
-use lib.ListN.{length}
+use Prim.Native.Nat.{ℕ}
 use lib.Ieee.{Float, of_bits}
 use Rattle.binary32.specs.Leaves.{float_of, zero32}
 use Rattle.walks.specs.Walks.{fold}
-use Rattle.walks.proofs.Lists.Loops.{Walk, turns, ends}
-use Rattle.questions.specs.Waveforms.{with_square, squares_of}
+use Rattle.walks.proofs.Lists.Loops.{turns, ends}
+use Rattle.questions.specs.Waveforms.{with_square}
 use Rattle.questions.proofs.Filling.{from_start}
 use borrow.Author.Rules.{rules}
 use Rattle.questions.proofs.squares.Goals as goal

@@ -1,14 +1,11 @@
-use mathlib.Core.Path.{◌≡◌, refl, sym, ap}
+use mathlib.Core.Path.{◌≡◌}
 use mathlib.Core.List.{List, map}
 use Prim.Native.Nat.{ℕ, ◌-◌}
 use lib.ListN.{length}
-use lib.Ieee.{Float, of_bits}
-use Rattle.binary32.specs.Leaves.{float_of, zero32}
+use Rattle.binary32.specs.Leaves.{float_of}
 use Rattle.walks.specs.Walks.{fold}
-use Rattle.walks.proofs.Lists.Loops.{Walk, turns, ends}
+use Rattle.walks.proofs.Lists.Loops.{Walk}
 use Rattle.questions.specs.Waveforms.{with_square, squares_of}
-use Rattle.questions.proofs.Filling.{from_start}
-use borrow.Author.Rules.{rules}
 use Rattle.questions.proofs.squares.Given as goal
 
 abbrev pub invariant-loop-i : goal.invariant-loop-i

@@ -1,7 +1,6 @@
 -- `voice_info` meets its contract. Assumes nothing.
 use lib.Ieee.{of_bits}
 use Rattle.questions.specs.Questions.{voice_info_of}
-use borrow.Author.Rules.{rules}
 use Rattle.questions.proofs.voice_info.Goals as goal
 
 pub returns : goal.returns

@@ -1,10 +1,8 @@
 -- `voice_infos` meets its contract, by the law of loops: each turn fills the place of its voice. Assumes nothing.
 use mathlib.Core.Path.{◌∙◌}
-use Prim.Native.Nat.{◌-◌}
-use Rattle.walks.proofs.Lists.Loops.{Walk, turns, ends, long, begins}
-use Rattle.channel.specs.Channels.{live}
+use Rattle.walks.proofs.Lists.Loops.{turns, ends, begins}
 use Rattle.channel.proofs.Slots.{none}
-use Rattle.questions.specs.Questions.{figures_of, voice_infos_of}
+use Rattle.questions.specs.Questions.{voice_infos_of}
 use Rattle.questions.proofs.Infos.{figured, filled, filled_on, filled_front}
 use borrow.Author.Rules.{rules}
 use Rattle.questions.proofs.voice_infos.Goals as goal

@@ -1,11 +1,8 @@
-use mathlib.Core.Path.{◌∙◌}
 use Prim.Native.Nat.{◌-◌}
-use Rattle.walks.proofs.Lists.Loops.{Walk, turns, ends, long, begins}
+use Rattle.walks.proofs.Lists.Loops.{Walk}
 use Rattle.channel.specs.Channels.{live}
-use Rattle.channel.proofs.Slots.{none}
-use Rattle.questions.specs.Questions.{figures_of, voice_infos_of}
-use Rattle.questions.proofs.Infos.{figured, filled, filled_on, filled_front}
-use borrow.Author.Rules.{rules}
+use Rattle.questions.specs.Questions.{figures_of}
+use Rattle.questions.proofs.Infos.{filled}
 use Rattle.questions.proofs.voice_infos.Given as goal
 
 abbrev pub invariant-loop-i : goal.invariant-loop-i

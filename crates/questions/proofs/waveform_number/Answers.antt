@@ -1,5 +1,4 @@
 -- `waveform_number` meets its contract: the table's rows in its order. Assumes nothing.
-use borrow.Author.Rules.{rules}
 use Rattle.questions.proofs.waveform_number.Goals as goal
 
 pub returns : goal.returns

@@ -1,11 +1,8 @@
 -- `write_columns` meets its contract: each turn begins where the last ended. Assumes nothing.
-use mathlib.Core.Path.{◌≡◌, refl, ap₂, ◌∙◌}
-use Prim.Native.Nat.{◌-◌}
-use lib.ListN.{length, length-set}
-use lib.Seq.{sets}
+use mathlib.Core.Path.{refl, ap₂, ◌∙◌}
+use lib.ListN.{length-set}
 use lib.Ieee.{binary32, div}
-use Rattle.questions.specs.Waveforms.{columns_of}
-use Rattle.questions.proofs.Filling.{Filling, filling_starts, from_start_on, inside, filling_goes_on, filling_ends}
+use Rattle.questions.proofs.Filling.{filling_starts, from_start_on, inside, filling_goes_on, filling_ends}
 use borrow.Author.Rules.{rules}
 use Rattle.questions.proofs.write_columns.Goals as goal
 

@@ -1,11 +1,9 @@
-use mathlib.Core.Path.{◌≡◌, refl, ap₂, ◌∙◌}
+use mathlib.Core.Path.{◌≡◌}
 use Prim.Native.Nat.{◌-◌}
-use lib.ListN.{length, length-set}
+use lib.ListN.{length}
 use lib.Seq.{sets}
-use lib.Ieee.{binary32, div}
 use Rattle.questions.specs.Waveforms.{columns_of}
-use Rattle.questions.proofs.Filling.{Filling, filling_starts, from_start_on, inside, filling_goes_on, filling_ends}
-use borrow.Author.Rules.{rules}
+use Rattle.questions.proofs.Filling.{Filling}
 use Rattle.questions.proofs.write_columns.Given as goal
 
 abbrev pub invariant-loop-i : goal.invariant-loop-i

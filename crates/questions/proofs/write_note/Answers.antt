@@ -3,7 +3,6 @@ use mathlib.Core.Path.{ap}
 use lib.ListN.{length}
 use native.Mathlib.Omega.{arith}
 use Rattle.questions.proofs.Notes.{no_note, its_note}
-use borrow.Author.Rules.{rules}
 use Rattle.questions.proofs.write_note.Goals as goal
 
 pub returns-then-v : goal.returns-then-v

@@ -1,12 +1,10 @@
 -- `write_notes` meets its contract, by the law of loops: what is left to list, stored from here on, gives the whole list. Assumes nothing.
-use mathlib.Core.Path.{◌≡◌, refl, ap}
-use Prim.Native.Nat.{ℕ, ◌-◌}
+use mathlib.Core.Path.{refl, ap}
+use Prim.Native.Nat.{ℕ}
 use native.Mathlib.Omega.{arith}
 use mathlib.Core.List.{List}
-use lib.ListN.{length}
 use Rattle.walks.specs.Walks.{without}
-use Rattle.walks.proofs.Lists.Loops.{Walk, turns, ends, long, begins}
-use Rattle.channel.specs.Channels.{live}
+use Rattle.walks.proofs.Lists.Loops.{turns, ends, begins}
 use Rattle.channel.proofs.Slots.{none}
 use Rattle.questions.specs.Questions.{notes_of}
 use Rattle.questions.proofs.Notes.{laid, laid_on, turn-fits}

@@ -1,15 +1,9 @@
-use mathlib.Core.Path.{◌≡◌, refl, ap}
-use Prim.Native.Nat.{ℕ, ◌-◌}
-use native.Mathlib.Omega.{arith}
-use mathlib.Core.List.{List}
+use mathlib.Core.Path.{◌≡◌}
+use Prim.Native.Nat.{◌-◌}
 use lib.ListN.{length}
-use Rattle.walks.specs.Walks.{without}
-use Rattle.walks.proofs.Lists.Loops.{Walk, turns, ends, long, begins}
+use Rattle.walks.proofs.Lists.Loops.{Walk}
 use Rattle.channel.specs.Channels.{live}
-use Rattle.channel.proofs.Slots.{none}
-use Rattle.questions.specs.Questions.{notes_of}
-use Rattle.questions.proofs.Notes.{laid, laid_on, turn-fits}
-use borrow.Author.Rules.{rules}
+use Rattle.questions.proofs.Notes.{laid}
 use Rattle.questions.proofs.write_notes.Given as goal
 
 abbrev pub invariant-loop-i : goal.invariant-loop-i

@@ -1,5 +1,4 @@
 -- `any_recording` meets its contract. Assumes nothing.
-use Rattle.std.proofs.Common.{rules}
 use Rattle.recordings.proofs.any_recording.Goals as goal
 
 pub returns : goal.returns

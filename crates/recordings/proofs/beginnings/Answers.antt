@@ -1,6 +1,6 @@
 -- `beginnings` meets its contract. Assumes nothing.
-use Rattle.std.proofs.Common.{false, ap, ◌∙◌, arith, rules}
-use Rattle.walks.proofs.Lists.Loops.{long, get_d_any}
+use Rattle.std.proofs.Common.{false, ap, ◌∙◌, arith}
+use Rattle.walks.proofs.Lists.Loops.{get_d_any}
 use Rattle.channel.specs.Channels.{channel_of, begins_in}
 use Rattle.sampler.proofs.Seats.{none}
 use Rattle.recordings.proofs.beginnings.Goals as goal

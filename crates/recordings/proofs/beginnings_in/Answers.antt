@@ -1,5 +1,4 @@
 -- `beginnings_in` meets its contract. Assumes nothing.
-use Rattle.std.proofs.Common.{rules}
 use Rattle.recordings.proofs.beginnings_in.Goals as goal
 
 pub returns : goal.returns

@@ -1,5 +1,4 @@
 -- `held` meets its contract, by its cases. Assumes nothing.
-use Rattle.std.proofs.Common.{rules}
 use Rattle.recordings.proofs.held.Goals as goal
 
 pub returns-in-Refused : goal.returns-in-Refused

@@ -1,5 +1,5 @@
 -- `layout` meets its contract. Assumes nothing.
-use Rattle.std.proofs.Common.{refl, rules}
+use Rattle.std.proofs.Common.{refl}
 use Rattle.recordings.proofs.layout.Goals as goal
 
 pub returns : goal.returns

@@ -1,5 +1,4 @@
 -- `number_in` meets its contract: the rows, by what is seen. Assumes nothing.
-use Rattle.std.proofs.Common.{rules}
 use Rattle.recordings.proofs.number_in.Goals as goal
 
 pub returns : goal.returns

@@ -1,6 +1,5 @@
 -- `read_in` meets its contract: refused with the memory kept, or done with the file's words in it. Assumes nothing.
 use Rattle.recordings.proofs.Sights.{loading_refused, loading_done}
-use Rattle.std.proofs.Common.{rules}
 use Rattle.recordings.proofs.read_in.Goals as goal
 
 pub returns-then-number-ne0 : goal.returns-then-number-ne0

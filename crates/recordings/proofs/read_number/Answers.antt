@@ -1,6 +1,5 @@
 -- `read_number` meets its contract: the rows, by what the record has against it. Assumes nothing.
 use Rattle.recordings.specs.Waves.{read_number}
-use Rattle.std.proofs.Common.{rules}
 use Rattle.recordings.proofs.read_number.Goals as goal
 
 pub returns : goal.returns

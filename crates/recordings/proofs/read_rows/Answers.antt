@@ -1,5 +1,4 @@
 -- `read_rows` meets its contract: the request's rows in their order. Assumes nothing.
-use Rattle.std.proofs.Common.{rules}
 use Rattle.recordings.proofs.read_rows.Goals as goal
 
 pub returns : goal.returns

@@ -1,5 +1,5 @@
 -- `read_wave` meets its contract: the request's rows in their order, and then the file's words and length. Assumes nothing.
-use Rattle.std.proofs.Common.{sym, ◌∙◌, rules}
+use Rattle.std.proofs.Common.{sym, ◌∙◌}
 use Rattle.sampler.proofs.Rows.{fitting}
 use Rattle.recordings.proofs.Numbers.{read-refused, read_done, read_says}
 use Rattle.recordings.proofs.read_wave.Goals as goal

@@ -1,6 +1,6 @@
 -- `second_begins` meets its contract: of two channels the second is a good one. Assumes nothing.
 use Rattle.std.proofs.Common.{◌≡◌, ℕ, ◌+◌, false, length, get_or, refl, ap, ◌∙◌, le_trans, le_of_eq, arith, rules, ne_eqb}
-use Rattle.walks.proofs.Lists.Loops.{long, get_d_any}
+use Rattle.walks.proofs.Lists.Loops.{get_d_any}
 use Rattle.channel.specs.declared.Channel.{Channel}
 use Rattle.channel.specs.contracts.Channel as C
 use Rattle.channel.specs.Channels.{channel_of}

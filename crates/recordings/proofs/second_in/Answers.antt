@@ -1,5 +1,5 @@
 -- `second_in` meets its contract. Assumes nothing.
-use Rattle.std.proofs.Common.{refl, rules, eq-eqb, ne_eqb}
+use Rattle.std.proofs.Common.{refl, eq-eqb, ne_eqb}
 use Rattle.recordings.proofs.second_in.Goals as goal
 
 pub returns-then-seen-eq2 : goal.returns-then-seen-eq2

@@ -1,6 +1,5 @@
 -- `too_many` meets its contract. Assumes nothing.
 use Rattle.channel.specs.Tables.{short_by}
-use Rattle.std.proofs.Common.{rules}
 use Rattle.recordings.proofs.too_many.Goals as goal
 
 pub returns : goal.returns

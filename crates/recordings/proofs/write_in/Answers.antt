@@ -1,7 +1,6 @@
 -- `write_in` meets its contract: the request's rows in their order, and then the file. Assumes nothing.
 use Rattle.questions.proofs.Seats.{seated}
 use Rattle.recordings.proofs.Sights.{write_refused, write_good, write_done}
-use Rattle.std.proofs.Common.{rules}
 use Rattle.recordings.proofs.write_in.Goals as goal
 
 pub returns-then-number-ne0 : goal.returns-then-number-ne0

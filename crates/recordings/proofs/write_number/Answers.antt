@@ -1,5 +1,5 @@
 -- `write_number` meets its contract: the request's rows in their order. Assumes nothing.
-use Rattle.std.proofs.Common.{◌≡◌, ℕ, ◌*◌, ◌^◌, ◌≤◌, true, sym, ap, ◌∙◌, le_trans, le_of_eq, arith, rules}
+use Rattle.std.proofs.Common.{◌≡◌, ℕ, ◌*◌, ◌^◌, ◌≤◌, true, sym, ap, ◌∙◌, le_trans, le_of_eq, arith}
 use Rattle.wave.specs.declared.Layout.{Layout}
 use Rattle.questions.specs.declared.Seen.{Seen}
 use Rattle.questions.specs.Sights.{good_in}

@@ -1,7 +1,5 @@
 -- `write_wave` meets its contract: what it answers of what is seen is what it answers of the record. Assumes nothing.
-use Rattle.walks.proofs.Lists.Loops.{long}
 use Rattle.recordings.proofs.Sights.{write_seen_lem, wave_seen}
-use Rattle.std.proofs.Common.{rules}
 use Rattle.recordings.proofs.write_wave.Goals as goal
 
 pub returns : goal.returns

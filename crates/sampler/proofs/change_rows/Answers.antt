@@ -1,5 +1,4 @@
 -- `change_rows` meets its contract, by its cases. Assumes nothing.
-use borrow.Author.Rules.{rules}
 use Rattle.sampler.proofs.change_rows.Goals as goal
 
 pub returns-in-Start : goal.returns-in-Start

@@ -6,7 +6,6 @@ use native.Mathlib.Nat.{zero-mul, one-mul}
 use native.Mathlib.Omega.{arith}
 use lib.Dec.{leb, leb-zero}
 use Rattle.sampler.proofs.Rows.{quotient_test}
-use borrow.Author.Rules.{rules}
 use Rattle.sampler.proofs.enough.Goals as goal
 
 at_count : (count n c size : ℕ) → count ≡ n → leb (count * c) size ≡ leb (n * c) size

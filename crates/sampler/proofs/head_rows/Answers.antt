@@ -1,5 +1,4 @@
 -- `head_rows` meets its contract, by its cases. Assumes nothing.
-use borrow.Author.Rules.{rules}
 use Rattle.sampler.proofs.head_rows.Goals as goal
 
 pub returns-in-Load : goal.returns-in-Load

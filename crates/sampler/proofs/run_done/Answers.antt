@@ -1,6 +1,5 @@
 -- `run_done` meets its contract: the frames that there is room for, where work begins. Assumes nothing.
 use Rattle.sampler.specs.Refusals.{run_done}
-use borrow.Author.Rules.{rules}
 use Rattle.sampler.proofs.run_done.Goals as goal
 
 pub returns-then-number : goal.returns-then-number

@@ -1,5 +1,4 @@
 -- `run_rows` meets its contract: the table's rows, in its order. Assumes nothing.
-use borrow.Author.Rules.{rules}
 use Rattle.sampler.proofs.run_rows.Goals as goal
 
 pub returns : goal.returns

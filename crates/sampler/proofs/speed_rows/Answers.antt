@@ -1,6 +1,5 @@
 -- `speed_rows` meets its contract: the table's rows, in its order. Assumes nothing.
 use Rattle.sampler.specs.Refusals.{speed_rows}
-use borrow.Author.Rules.{rules}
 use Rattle.sampler.proofs.speed_rows.Goals as goal
 
 pub returns : goal.returns

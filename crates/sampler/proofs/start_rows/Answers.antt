@@ -1,6 +1,5 @@
 -- `start_rows` meets its contract: the table's rows, in its order. Assumes nothing.
 use Rattle.sampler.specs.Refusals.{start_rows}
-use borrow.Author.Rules.{rules}
 use Rattle.sampler.proofs.start_rows.Goals as goal
 
 pub returns : goal.returns

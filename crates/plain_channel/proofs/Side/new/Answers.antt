@@ -1,5 +1,4 @@
 -- `Side::new` meets its contract. Assumes nothing.
-use borrow.Author.Rules.{rules}
 use Rattle.plain_channel.specs.Sides.{cold_side}
 use Rattle.plain_channel.proofs.Side.new.Goals as goal
 

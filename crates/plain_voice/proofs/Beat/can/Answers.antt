@@ -1,6 +1,5 @@
 -- `Beat::can` meets its contract: its tests are those of `can_plain`. Assumes nothing.
 use Rattle.plain_voice.specs.Hots.{can_plain}
-use Rattle.std.proofs.Common.{rules}
 use Rattle.plain_voice.proofs.Beat.can.Goals as goal
 
 pub returns : goal.returns

@@ -1,5 +1,5 @@
 -- `Beat::of` meets its contract: where a voice can be plain, both lengths are small. Assumes nothing.
-use Rattle.std.proofs.Common.{◌≡◌, ℕ, ◌^◌, ◌<◌, sym, ◌∙◌, subst, rules}
+use Rattle.std.proofs.Common.{ℕ, ◌^◌, ◌<◌, sym, ◌∙◌, subst}
 use Rattle.plain_voice.specs.Hots.{beat_of}
 use Rattle.plain_voice.proofs.Hots.{lengths_fit}
 use Rattle.plain_voice.proofs.Beat.of.Goals as goal

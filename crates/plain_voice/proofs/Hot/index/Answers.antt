@@ -1,5 +1,5 @@
 -- `Hot::index` meets its contract: the index is in this round of the data, or in the next. Assumes nothing.
-use Rattle.std.proofs.Common.{arith, lit<, rules}
+use Rattle.std.proofs.Common.{arith, lit<}
 use Rattle.plain_voice.proofs.Hots.{index-first, index_next}
 use Rattle.plain_voice.proofs.Hot.index.Goals as goal
 

@@ -1,5 +1,5 @@
 -- `Hot::judged` meets its contract. Assumes nothing.
-use Rattle.std.proofs.Common.{sym, ◌∙◌, arith, rules}
+use Rattle.std.proofs.Common.{sym, ◌∙◌, arith}
 use borrow.Author.Tests.{not-true, not-false}
 use Rattle.plain_voice.specs.Hots.{judged_of}
 use Rattle.plain_voice.proofs.Hots.{plays_so}

@@ -1,5 +1,5 @@
 -- `Hot::quick` meets its contract: its tests are those that a voice that glides is known by, and the position agrees. Assumes nothing.
-use Rattle.std.proofs.Common.{◌≡◌, sym, ap, ◌∙◌, true≢false, lit<, rules}
+use Rattle.std.proofs.Common.{sym, ap, ◌∙◌, true≢false, lit<}
 use lib.Ieee.{binary32, mul}
 use borrow.Author.Tests.{not-false}
 use Rattle.volume.specs.declared.Held.{Held}

@@ -1,5 +1,5 @@
 -- `Hot::stepped` meets its contract: its test is that of `stepped_hot`. Assumes nothing.
-use Rattle.std.proofs.Common.{ℕ, ltb, sym, ap, ◌∙◌, rules, le-ltb, lt-ltb}
+use Rattle.std.proofs.Common.{ℕ, ltb, sym, ap, ◌∙◌, le-ltb, lt-ltb}
 use Rattle.plain_voice.specs.Hots.{stepped_hot}
 use Rattle.plain_voice.proofs.Hot.stepped.Goals as goal
 

@@ -1,9 +1,8 @@
 -- `Sampler::against` meets its contract, by the law of loops. Assumes nothing.
 use mathlib.Core.Path.{◌∙◌}
 use mathlib.Core.Bool.{false}
-use Prim.Native.Nat.{◌-◌}
-use Rattle.walks.proofs.Lists.Loops.{Walk, turns, ends, long, begins}
-use Rattle.sampler.specs.Refusals.{present, against_any}
+use Rattle.walks.proofs.Lists.Loops.{turns, ends, begins}
+use Rattle.sampler.specs.Refusals.{against_any}
 use Rattle.sampler.proofs.Seats.{none}
 use Rattle.sampler.proofs.Against.{against_from, against_on, against_ends}
 use borrow.Author.Rules.{rules}

@@ -1,11 +1,8 @@
-use mathlib.Core.Path.{◌∙◌}
 use mathlib.Core.Bool.{false}
 use Prim.Native.Nat.{◌-◌}
-use Rattle.walks.proofs.Lists.Loops.{Walk, turns, ends, long, begins}
-use Rattle.sampler.specs.Refusals.{present, against_any}
-use Rattle.sampler.proofs.Seats.{none}
-use Rattle.sampler.proofs.Against.{against_from, against_on, against_ends}
-use borrow.Author.Rules.{rules}
+use Rattle.walks.proofs.Lists.Loops.{Walk}
+use Rattle.sampler.specs.Refusals.{present}
+use Rattle.sampler.proofs.Against.{against_from}
 use Rattle.sampler.proofs.Sampler.against.Given as goal
 
 abbrev pub invariant-loop-j : goal.invariant-loop-j

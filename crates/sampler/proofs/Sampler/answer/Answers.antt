@@ -1,7 +1,6 @@
 -- `Sampler::answer` meets its contract: the change is made where the number is 0. Assumes nothing.
 use borrow.Author.Tests.{ne_eqb}
 use Rattle.sampler.specs.Samplers.{answer_of}
-use borrow.Author.Rules.{rules}
 use Rattle.sampler.proofs.Sampler.answer.Goals as goal
 
 pub returns-then-number-eq0 : goal.returns-then-number-eq0

@@ -1,9 +1,7 @@
 -- `Sampler::any_at_end` meets its contract, by the law of loops. Assumes nothing.
-use Prim.Native.Nat.{◌-◌}
-use lib.ListN.{take}
 use borrow.Author.Tests.{le-leb, lt-leb}
 use Rattle.walks.specs.Walks.{any}
-use Rattle.walks.proofs.Lists.Loops.{Walk, turns, stops, ends, long, begins}
+use Rattle.walks.proofs.Lists.Loops.{turns, stops, ends, begins}
 use Rattle.sampler.specs.Refusals.{at_end}
 use Rattle.sampler.proofs.Seats.{none}
 use borrow.Author.Rules.{rules}

@@ -1,11 +1,8 @@
 use Prim.Native.Nat.{◌-◌}
 use lib.ListN.{take}
-use borrow.Author.Tests.{le-leb, lt-leb}
 use Rattle.walks.specs.Walks.{any}
-use Rattle.walks.proofs.Lists.Loops.{Walk, turns, stops, ends, long, begins}
+use Rattle.walks.proofs.Lists.Loops.{Walk}
 use Rattle.sampler.specs.Refusals.{at_end}
-use Rattle.sampler.proofs.Seats.{none}
-use borrow.Author.Rules.{rules}
 use Rattle.sampler.proofs.Sampler.any_at_end.Given as goal
 
 abbrev pub invariant-loop-j : goal.invariant-loop-j

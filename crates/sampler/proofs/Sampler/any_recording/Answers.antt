@@ -1,8 +1,7 @@
 -- `Sampler::any_recording` meets its contract, by the law of loops. Assumes nothing.
-use Prim.Native.Nat.{◌-◌}
 use Rattle.walks.specs.Walks.{any}
-use Rattle.walks.proofs.Lists.Loops.{Walk, turns, stops, ends, long, begins}
-use Rattle.sampler.specs.Refusals.{present, records}
+use Rattle.walks.proofs.Lists.Loops.{turns, stops, ends, begins}
+use Rattle.sampler.specs.Refusals.{records}
 use Rattle.sampler.proofs.Seats.{none}
 use borrow.Author.Rules.{rules}
 use Rattle.sampler.proofs.Sampler.any_recording.Goals as goal

@@ -1,9 +1,7 @@
 use Prim.Native.Nat.{◌-◌}
 use Rattle.walks.specs.Walks.{any}
-use Rattle.walks.proofs.Lists.Loops.{Walk, turns, stops, ends, long, begins}
+use Rattle.walks.proofs.Lists.Loops.{Walk}
 use Rattle.sampler.specs.Refusals.{present, records}
-use Rattle.sampler.proofs.Seats.{none}
-use borrow.Author.Rules.{rules}
 use Rattle.sampler.proofs.Sampler.any_recording.Given as goal
 
 abbrev pub invariant-loop-j : goal.invariant-loop-j

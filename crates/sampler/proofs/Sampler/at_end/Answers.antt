@@ -4,10 +4,9 @@ use mathlib.Core.Bool.{false}
 use lib.ListN.{get_or-eq_default}
 use Rattle.channel.specs.Heads.{head_of}
 use Rattle.channel.specs.Channels.{channel_of}
-use Rattle.walks.proofs.Lists.Loops.{long, get_d_any}
+use Rattle.walks.proofs.Lists.Loops.{get_d_any}
 use Rattle.sampler.specs.Refusals.{at_end}
 use Rattle.sampler.proofs.Seats.{none}
-use borrow.Author.Rules.{rules}
 use native.Mathlib.Omega.{arith}
 use Rattle.sampler.proofs.Sampler.at_end.Goals as goal
 

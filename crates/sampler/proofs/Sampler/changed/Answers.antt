@@ -1,5 +1,4 @@
 -- `Sampler::changed` meets its contract. Assumes nothing.
-use borrow.Author.Rules.{rules}
 use Rattle.sampler.proofs.Sampler.changed.Goals as goal
 
 pub returns : goal.returns

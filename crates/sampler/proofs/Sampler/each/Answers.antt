@@ -1,8 +1,6 @@
 -- `Sampler::each` meets its contract, by the law of loops that store. Assumes nothing.
-use Prim.Native.Nat.{◌-◌}
 use native.Mathlib.Nat.{le_refl}
-use Rattle.walks.proofs.Lists.Loops.{Walk, stores, ends, long, begins}
-use Rattle.sampler.specs.Refusals.{present}
+use Rattle.walks.proofs.Lists.Loops.{stores, ends, begins}
 use Rattle.sampler.specs.Samplers.{each_of}
 use Rattle.sampler.proofs.Seats.{none, each_from, each_on}
 use borrow.Author.Rules.{rules}

@@ -1,10 +1,7 @@
 use Prim.Native.Nat.{◌-◌}
-use native.Mathlib.Nat.{le_refl}
-use Rattle.walks.proofs.Lists.Loops.{Walk, stores, ends, long, begins}
+use Rattle.walks.proofs.Lists.Loops.{Walk}
 use Rattle.sampler.specs.Refusals.{present}
-use Rattle.sampler.specs.Samplers.{each_of}
-use Rattle.sampler.proofs.Seats.{none, each_from, each_on}
-use borrow.Author.Rules.{rules}
+use Rattle.sampler.proofs.Seats.{each_from}
 use Rattle.sampler.proofs.Sampler.each.Given as goal
 
 abbrev pub invariant-loop-j : goal.invariant-loop-j

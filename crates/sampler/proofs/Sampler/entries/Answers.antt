@@ -1,9 +1,5 @@
 -- `Sampler::entries` meets its contract, by the laws of `Framing`. Assumes nothing.
-use Prim.Native.Nat.{◌-◌}
-use lib.ListN.{length}
-use Rattle.sampler.specs.Samplers.{framed, entries_of, entries_moved}
-use Rattle.sampler.proofs.Framing.{Framing, framing_starts, framing_ready, framing_on, framing_ends, Summing, summing_starts, summing_on, summing_ends}
-use borrow.Author.Rules.{rules}
+use Rattle.sampler.proofs.Framing.{framing_starts, framing_ready, framing_on, framing_ends, summing_starts, summing_on, summing_ends}
 use native.Mathlib.Omega.{arith}
 use Rattle.sampler.proofs.Sampler.entries.Goals as goal
 

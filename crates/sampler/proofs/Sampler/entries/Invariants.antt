@@ -1,9 +1,7 @@
 use Prim.Native.Nat.{◌-◌}
 use lib.ListN.{length}
 use Rattle.sampler.specs.Samplers.{framed, entries_of, entries_moved}
-use Rattle.sampler.proofs.Framing.{Framing, framing_starts, framing_ready, framing_on, framing_ends, Summing, summing_starts, summing_on, summing_ends}
-use borrow.Author.Rules.{rules}
-use native.Mathlib.Omega.{arith}
+use Rattle.sampler.proofs.Framing.{Framing, Summing}
 use Rattle.sampler.proofs.Sampler.entries.Given as goal
 
 abbrev pub invariant-loop-j : goal.invariant-loop-j

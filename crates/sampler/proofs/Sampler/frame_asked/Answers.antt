@@ -1,5 +1,4 @@
 -- `Sampler::frame_asked` meets its contract. Assumes nothing.
-use borrow.Author.Rules.{rules}
 use Rattle.sampler.proofs.Sampler.frame_asked.Goals as goal
 
 pub returns : goal.returns

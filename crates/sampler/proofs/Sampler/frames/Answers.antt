@@ -1,8 +1,5 @@
 -- `Sampler::frames` meets its contract, by the laws of `Running`. Assumes nothing.
-use Prim.Native.Nat.{◌-◌}
-use lib.ListN.{length}
-use Rattle.sampler.specs.Samplers.{framed, frames_of}
-use Rattle.sampler.proofs.Running.{Running, running_starts, running_room, running_steps, running_on, running_ends}
+use Rattle.sampler.proofs.Running.{running_starts, running_room, running_steps, running_on, running_ends}
 use borrow.Author.Rules.{rules}
 use native.Mathlib.Omega.{arith}
 use Rattle.sampler.proofs.Sampler.frames.Goals as goal

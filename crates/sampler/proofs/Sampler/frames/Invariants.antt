@@ -1,9 +1,7 @@
 use Prim.Native.Nat.{◌-◌}
 use lib.ListN.{length}
 use Rattle.sampler.specs.Samplers.{framed, frames_of}
-use Rattle.sampler.proofs.Running.{Running, running_starts, running_room, running_steps, running_on, running_ends}
-use borrow.Author.Rules.{rules}
-use native.Mathlib.Omega.{arith}
+use Rattle.sampler.proofs.Running.{Running}
 use Rattle.sampler.proofs.Sampler.frames.Given as goal
 
 abbrev pub invariant-loop-i : goal.invariant-loop-i

@@ -3,7 +3,6 @@ use mathlib.Core.Path.{sym, ◌∙◌}
 use borrow.Author.Tests.{ne_eqb}
 use Rattle.sampler.specs.Samplers.{gather_of, gather_memory}
 use Rattle.sampler.proofs.Rows.{gather_steps}
-use borrow.Author.Rules.{rules}
 use Rattle.sampler.proofs.Sampler.gather.Goals as goal
 
 pub returns-then-number-ne0 : goal.returns-then-number-ne0

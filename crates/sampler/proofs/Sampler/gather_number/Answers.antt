@@ -1,6 +1,5 @@
 -- `Sampler::gather_number` meets its contract: the table's rows, in its order. Assumes nothing.
 use Rattle.sampler.specs.Refusals.{gather_number}
-use borrow.Author.Rules.{rules}
 use Rattle.sampler.proofs.Sampler.gather_number.Goals as goal
 
 pub returns : goal.returns

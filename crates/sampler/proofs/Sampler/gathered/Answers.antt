@@ -1,14 +1,12 @@
 -- `Sampler::gathered` meets its contract, by the laws of `Gathers`. Assumes nothing.
 use mathlib.Core.Path.{ap}
 use mathlib.Core.Bool.{false}
-use Prim.Native.Nat.{◌-◌}
-use lib.ListN.{length}
-use Rattle.walks.proofs.Lists.Loops.{long, get_d_any}
+use Rattle.walks.proofs.Lists.Loops.{get_d_any}
 use Rattle.channel.specs.Channels.{channel_of}
-use Rattle.sampler.specs.Samplers.{Gathered, gathered_all}
+use Rattle.sampler.specs.Samplers.{Gathered}
 use Rattle.sampler.proofs.Seats.{none}
 use Rattle.sampler.proofs.Parts.{starts_at}
-use Rattle.sampler.proofs.Gathers.{Gathering, gathering_starts, gathering_low, gathering_room, gathering_on, gathering_ends}
+use Rattle.sampler.proofs.Gathers.{gathering_starts, gathering_low, gathering_room, gathering_on, gathering_ends}
 use borrow.Author.Rules.{rules}
 use native.Mathlib.Omega.{arith}
 use Rattle.sampler.proofs.Sampler.gathered.Goals as goal

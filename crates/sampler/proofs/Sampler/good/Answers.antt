@@ -1,6 +1,5 @@
 -- `Sampler::good` meets its contract. Assumes nothing.
 use Rattle.sampler.specs.Refusals.{good_sampler}
-use borrow.Author.Rules.{rules}
 use Rattle.sampler.proofs.Sampler.good.Goals as goal
 
 pub returns-then-good_sizes : goal.returns-then-good_sizes

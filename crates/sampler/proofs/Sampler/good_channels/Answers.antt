@@ -1,10 +1,7 @@
 -- `Sampler::good_channels` meets its contract, by the law of loops. Assumes nothing.
-use Prim.Native.Nat.{◌-◌}
-use borrow.Author.Tests.{not-true, not-false}
 use Rattle.walks.specs.Walks.{every}
-use Rattle.walks.proofs.Lists.Loops.{Walk, turns, stops, ends, long, begins}
+use Rattle.walks.proofs.Lists.Loops.{turns, stops, ends, begins}
 use Rattle.channel.specs.Channels.{good_channel}
-use Rattle.sampler.specs.Refusals.{present}
 use Rattle.sampler.proofs.Seats.{none}
 use borrow.Author.Rules.{rules}
 use Rattle.sampler.proofs.Sampler.good_channels.Goals as goal

@@ -1,11 +1,8 @@
 use Prim.Native.Nat.{◌-◌}
-use borrow.Author.Tests.{not-true, not-false}
 use Rattle.walks.specs.Walks.{every}
-use Rattle.walks.proofs.Lists.Loops.{Walk, turns, stops, ends, long, begins}
+use Rattle.walks.proofs.Lists.Loops.{Walk}
 use Rattle.channel.specs.Channels.{good_channel}
 use Rattle.sampler.specs.Refusals.{present}
-use Rattle.sampler.proofs.Seats.{none}
-use borrow.Author.Rules.{rules}
 use Rattle.sampler.proofs.Sampler.good_channels.Given as goal
 
 abbrev pub invariant-loop-j : goal.invariant-loop-j

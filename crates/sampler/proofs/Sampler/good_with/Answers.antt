@@ -1,6 +1,5 @@
 -- `Sampler::good_with` meets its contract. Assumes nothing.
 use Rattle.sampler.specs.Refusals.{good_with}
-use borrow.Author.Rules.{rules}
 use Rattle.sampler.proofs.Sampler.good_with.Goals as goal
 
 pub returns-then-good : goal.returns-then-good

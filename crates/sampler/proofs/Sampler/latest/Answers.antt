@@ -1,8 +1,7 @@
 -- `Sampler::latest` meets its contract, by the law of loops. Assumes nothing.
-use Prim.Native.Nat.{◌-◌}
 use Rattle.walks.specs.Walks.{fold}
-use Rattle.walks.proofs.Lists.Loops.{Walk, turns, ends, long, begins}
-use Rattle.sampler.specs.Refusals.{later_of, latest_of, present}
+use Rattle.walks.proofs.Lists.Loops.{turns, ends, begins}
+use Rattle.sampler.specs.Refusals.{later_of, latest_of}
 use Rattle.sampler.proofs.Seats.{none}
 use borrow.Author.Rules.{rules}
 use Rattle.sampler.proofs.Sampler.latest.Goals as goal

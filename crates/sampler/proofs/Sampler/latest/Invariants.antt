@@ -1,9 +1,7 @@
 use Prim.Native.Nat.{◌-◌}
 use Rattle.walks.specs.Walks.{fold}
-use Rattle.walks.proofs.Lists.Loops.{Walk, turns, ends, long, begins}
+use Rattle.walks.proofs.Lists.Loops.{Walk}
 use Rattle.sampler.specs.Refusals.{later_of, latest_of, present}
-use Rattle.sampler.proofs.Seats.{none}
-use borrow.Author.Rules.{rules}
 use Rattle.sampler.proofs.Sampler.latest.Given as goal
 
 abbrev pub invariant-loop-j : goal.invariant-loop-j

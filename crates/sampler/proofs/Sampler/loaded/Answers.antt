@@ -1,10 +1,8 @@
 -- `Sampler::loaded` meets its contract, by the law of loops that store. Assumes nothing.
-use Prim.Native.Nat.{◌-◌}
 use native.Mathlib.Nat.{le_refl}
-use Rattle.walks.proofs.Lists.Loops.{Walk, stores, ends, long, begins}
+use Rattle.walks.proofs.Lists.Loops.{stores, ends, begins}
 use Rattle.channel.specs.declared.Change.TheVariants.{Head}
 use Rattle.channel.specs.declared.HeadChange.TheVariants.{Load}
-use Rattle.sampler.specs.Refusals.{present}
 use Rattle.sampler.specs.Samplers.{each_of}
 use Rattle.sampler.proofs.Seats.{none, each_from, head_on}
 use borrow.Author.Rules.{rules}

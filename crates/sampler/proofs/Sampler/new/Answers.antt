@@ -1,7 +1,6 @@
 -- `Sampler::new` meets its contract: its test is that of set-up. Assumes nothing.
 use Rattle.sampler.specs.Refusals.{set_up_number}
 use Rattle.sampler.specs.Samplers.{set_up_of}
-use borrow.Author.Rules.{rules}
 use Rattle.sampler.proofs.Sampler.new.Goals as goal
 
 pub returns-then-good_sizes : goal.returns-then-good_sizes

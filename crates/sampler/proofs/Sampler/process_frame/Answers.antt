@@ -4,7 +4,6 @@ use lib.ListN.{length}
 use Rattle.sampler.specs.Refusals.{frame_number}
 use Rattle.sampler.proofs.Rows.{frame_asked, frame_steps}
 use Rattle.sampler.proofs.Framing.{frame_refused, frame_done, moved_refused, moved_done}
-use borrow.Author.Rules.{rules}
 use Rattle.sampler.proofs.Sampler.process_frame.Goals as goal
 
 pub returns-then-number-ne0 : goal.returns-then-number-ne0

@@ -5,7 +5,6 @@ use lib.ListN.{length}
 use Rattle.sampler.specs.Samplers.{Turns, framed, Frames, frames_of, ran_of, run_answer}
 use Rattle.sampler.specs.declared.Ran.{Ran}
 use Rattle.sampler.proofs.RunRows.{run_asked, done_turns}
-use borrow.Author.Rules.{rules}
 use Rattle.sampler.proofs.Sampler.process_frames.Goals as goal
 
 pub frames-sampler-requires : goal.frames-sampler-requires

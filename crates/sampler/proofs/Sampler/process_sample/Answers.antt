@@ -4,7 +4,6 @@ use lib.Ieee.{of_bits}
 use borrow.Author.Tests.{ne_eqb}
 use Rattle.sampler.specs.Samplers.{process_sample_of, sample_memory}
 use Rattle.sampler.proofs.Rows.{sample_ready}
-use borrow.Author.Rules.{rules}
 use Rattle.sampler.proofs.Sampler.process_sample.Goals as goal
 
 pub returns-then-number-ne0 : goal.returns-then-number-ne0

@@ -1,5 +1,4 @@
 -- `Sampler::run_asked` meets its contract. Assumes nothing.
-use borrow.Author.Rules.{rules}
 use Rattle.sampler.proofs.Sampler.run_asked.Goals as goal
 
 pub returns : goal.returns

@@ -1,6 +1,5 @@
 -- `Sampler::sample_number` meets its contract: the table's rows, in its order. Assumes nothing.
 use Rattle.sampler.specs.Refusals.{sample_number}
-use borrow.Author.Rules.{rules}
 use Rattle.sampler.proofs.Sampler.sample_number.Goals as goal
 
 pub returns : goal.returns
