@@ -1,5 +1,4 @@
 -- `params` meets its contract. Assumes nothing.
-use borrow.Author.Rules.{rules}
 use Rattle.coupling.proofs.params.Goals as goal
 
 pub returns : goal.returns

@@ -1,7 +1,6 @@
 -- `pressed` meets its contract. Assumes nothing.
 use lib.Ieee.{of_bits}
 use Rattle.coupling.specs.Coupling.{pressed_of}
-use borrow.Author.Rules.{rules}
 use Rattle.coupling.proofs.pressed.Goals as goal
 
 pub returns : goal.returns

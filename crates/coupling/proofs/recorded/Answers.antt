@@ -1,6 +1,5 @@
 -- `recorded` meets its contract. Assumes nothing.
 use Rattle.coupling.specs.Coupling.{frame_recorded}
-use borrow.Author.Rules.{rules}
 use Rattle.coupling.proofs.recorded.Goals as goal
 
 pub returns : goal.returns

@@ -1,6 +1,5 @@
 -- `told` meets its contract. Assumes nothing.
 use Rattle.coupling.specs.Coupling.{told_of}
-use borrow.Author.Rules.{rules}
 use Rattle.coupling.proofs.told.Goals as goal
 
 pub returns : goal.returns

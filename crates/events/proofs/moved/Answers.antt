@@ -1,8 +1,8 @@
 -- `moved` meets its contract. The invariant: so many bytes stand in front, and those from there on are as they were. Assumes nothing.
-use Prim.Native.Nat.{ℕ, ◌≤◌, ◌-◌}
+use Prim.Native.Nat.{ℕ, ◌-◌}
 use mathlib.Core.Path.{◌≡◌, refl, sym, ap, ◌∙◌}
 use native.Mathlib.Omega.{arith}
-use lib.ListN.{length, take, drop}
+use lib.ListN.{take, drop}
 use Rattle.events.proofs.Bytes.{moved_front, moved_ahead, front_left}
 use borrow.Author.Rules.{rules}
 use Rattle.events.proofs.moved.Goals as goal

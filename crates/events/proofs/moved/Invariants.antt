@@ -1,9 +1,6 @@
-use Prim.Native.Nat.{ℕ, ◌≤◌, ◌-◌}
-use mathlib.Core.Path.{◌≡◌, refl, sym, ap, ◌∙◌}
-use native.Mathlib.Omega.{arith}
+use Prim.Native.Nat.{◌≤◌, ◌-◌}
+use mathlib.Core.Path.{◌≡◌}
 use lib.ListN.{length, take, drop}
-use Rattle.events.proofs.Bytes.{moved_front, moved_ahead, front_left}
-use borrow.Author.Rules.{rules}
 use Rattle.events.proofs.moved.Given as goal
 
 abbrev pub invariant-loop-i : goal.invariant-loop-i

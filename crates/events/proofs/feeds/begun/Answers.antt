@@ -4,7 +4,6 @@ use Prim.Native.Nat.{ℕ}
 use lib.ListN.{length, length-replicate}
 use Rattle.listing.specs.Records.{good_header, header_of}
 use Rattle.listing.specs.Steps.{opened_of}
-use borrow.Author.Rules.{rules}
 use Rattle.events.proofs.feeds.begun.Goals as goal
 
 pub returns : goal.returns

@@ -1,10 +1,8 @@
 -- `feed` meets its contract. The invariant: what the turns that are left hand out, behind what was, is what all of them do. The measure is the turns that are
 -- left. Assumes nothing.
-use mathlib.Core.Path.{◌≡◌, refl, sym, ◌∙◌}
+use mathlib.Core.Path.{refl, sym, ◌∙◌}
 use native.Mathlib.Omega.{arith}
-use lib.ListN.{length}
-use Rattle.events.specs.Feeds.{fed_of}
-use Rattle.events.proofs.Turned.{Goes, goes_first, goes_next, goes_none, goes_over}
+use Rattle.events.proofs.Turned.{goes_first, goes_next, goes_none, goes_over}
 use borrow.Author.Rules.{rules}
 use Rattle.events.proofs.feeds.feed.Goals as goal
 

@@ -1,9 +1,7 @@
-use mathlib.Core.Path.{◌≡◌, refl, sym, ◌∙◌}
-use native.Mathlib.Omega.{arith}
+use mathlib.Core.Path.{◌≡◌}
 use lib.ListN.{length}
 use Rattle.events.specs.Feeds.{fed_of}
-use Rattle.events.proofs.Turned.{Goes, goes_first, goes_next, goes_none, goes_over}
-use borrow.Author.Rules.{rules}
+use Rattle.events.proofs.Turned.{Goes}
 use Rattle.events.proofs.feeds.feed.Given as goal
 
 abbrev pub invariant-loop-turns : goal.invariant-loop-turns

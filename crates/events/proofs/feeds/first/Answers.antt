@@ -3,7 +3,6 @@ use mathlib.Core.Path.{◌∙◌}
 use Prim.Native.Nat.{◌+◌, ◌-◌}
 use lib.ListN.{take, drop}
 use Rattle.events.proofs.Turned.{one_is, as_header}
-use borrow.Author.Rules.{rules}
 use Rattle.events.proofs.feeds.first.Goals as goal
 
 pub returns : goal.returns

@@ -2,7 +2,6 @@
 use mathlib.Core.Path.{◌∙◌}
 use Rattle.events.specs.Feeds.{ready_of}
 use Rattle.events.proofs.Bytes.{tail-is}
-use borrow.Author.Rules.{rules}
 use Rattle.events.proofs.feeds.goes_on.Goals as goal
 
 pub returns : goal.returns

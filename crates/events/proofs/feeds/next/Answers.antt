@@ -3,7 +3,6 @@ use mathlib.Core.Path.{◌∙◌}
 use Prim.Native.Nat.{◌+◌, ◌-◌}
 use lib.ListN.{take, drop}
 use Rattle.events.proofs.Turned.{one_is, as_record}
-use borrow.Author.Rules.{rules}
 use Rattle.events.proofs.feeds.next.Goals as goal
 
 pub returns : goal.returns

@@ -1,6 +1,5 @@
 -- `played` meets its contract. Assumes nothing.
 use mathlib.Core.Path.{refl}
-use borrow.Author.Rules.{rules}
 use Rattle.events.proofs.feeds.played.Goals as goal
 
 pub returns : goal.returns

@@ -4,7 +4,6 @@ use mathlib.Core.Path.{◌≡◌}
 use native.Mathlib.Omega.{arith}
 use lib.ListN.{length}
 use Rattle.events.proofs.Bytes.{put_is}
-use borrow.Author.Rules.{rules}
 use Rattle.events.proofs.feeds.put.Goals as goal
 
 pub returns-then-size-lt64 : goal.returns-then-size-lt64

@@ -1,5 +1,4 @@
 -- `ready` meets its contract. Assumes nothing.
-use borrow.Author.Rules.{rules}
 use Rattle.events.proofs.feeds.ready.Goals as goal
 
 pub returns : goal.returns

@@ -2,7 +2,6 @@
 use mathlib.Core.Path.{ap}
 use Prim.Native.Nat.{ℕ, ◌+◌}
 use Rattle.events.proofs.Bytes.{no_rest}
-use borrow.Author.Rules.{rules}
 use Rattle.events.proofs.feeds.record_size.Goals as goal
 
 pub returns-then-input-lt2 : goal.returns-then-input-lt2

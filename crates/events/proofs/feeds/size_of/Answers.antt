@@ -1,6 +1,5 @@
 -- `size_of` meets its contract. Assumes nothing.
 use Rattle.events.specs.Feeds.{size_of}
-use borrow.Author.Rules.{rules}
 use Rattle.events.proofs.feeds.size_of.Goals as goal
 
 pub returns-then-opened : goal.returns-then-opened

@@ -1,4 +1,4 @@
-use Rattle.std.proofs.Common.{◌≡◌, ◌-◌, ◌≤◌, length, length-set, rules}
+use Rattle.std.proofs.Common.{◌≡◌, ◌-◌, ◌≤◌, length}
 use Rattle.oracle_acts.proofs.calls.clear.Given as goal
 
 abbrev pub invariant-loop-i : goal.invariant-loop-i

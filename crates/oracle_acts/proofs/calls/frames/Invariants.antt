@@ -1,4 +1,4 @@
-use Rattle.std.proofs.Common.{◌≡◌, ◌-◌, length, rules}
+use Rattle.std.proofs.Common.{◌≡◌, ◌-◌, length}
 use Rattle.oracle_acts.proofs.calls.frames.Given as goal
 
 abbrev pub invariant-loop-i : goal.invariant-loop-i

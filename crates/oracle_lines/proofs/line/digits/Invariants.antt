@@ -1,5 +1,4 @@
 use Prim.Native.Nat.{◌≤◌}
-use borrow.Author.Rules.{rules}
 use Rattle.oracle_lines.proofs.line.digits.Given as goal
 
 abbrev pub invariant-loop-i : goal.invariant-loop-i

@@ -1,6 +1,5 @@
 use Prim.Native.Nat.{◌+◌, ◌*◌, ◌-◌, ◌≤◌}
 use mathlib.Core.Path.{◌≡◌}
-use borrow.Author.Rules.{rules}
 use Rattle.oracle_show.proofs.record.put_voices.Given as goal
 
 abbrev pub invariant-loop-i : goal.invariant-loop-i
