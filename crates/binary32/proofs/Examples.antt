@@ -1,6 +1,6 @@
 -- Values at which a wrong leaf would show. Each holds by computation. Assumes nothing.
-use Rattle.std.proofs.Common.{◌≡◌, ◌+◌, ◌-◌, ◌^◌, true, false, pos, refl}
-use lib.Ieee.{nan, inf, fin, lt, eq, is_nan, of_bits, of_int, size, round, to_unsigned}
+use Rattle.std.proofs.Common.{◌≡◌, ◌+◌, ◌-◌, ◌^◌, true, false, pos, negsuc, refl}
+use lib.Ieee.{nan, inf, fin, binary32, rem, lt, eq, is_nan, of_bits, of_int, size, round, to_unsigned}
 use Rattle.binary32.specs.Leaves.{as_float, as_whole, floor_of, min_of, max_of, abs_of, crossing_of, float_of, root_below, isqrt, root_of}
 
 -- rounded first to 24 digits and then again, this would be 2 ^ 60
@@ -58,3 +58,10 @@ roots_of_few = (refl, refl, refl, refl)
 roots_of_ends : (root_of (float_of 1) ≡ float_of 0x1a35_04f3) × (root_of (float_of 0x007f_ffff) ≡ float_of 0x1fff_ffff) × (root_of (float_of 0x0080_0000) ≡ float_of 0x2000_0000) × (root_of (float_of 0x7f7f_ffff) ≡ float_of 0x5f7f_ffff)
 unfolding root_of isqrt root_below size round of_bits
 roots_of_ends = (refl, refl, refl, refl)
+
+-- what `remainder` promises: the dividend's sign, at 0 too; the largest float by the smallest, and by one next to the smallest normal one; a divisor of 0, and an infinite one
+remainders : (rem binary32 (fin true 9 (pos 0)) (fin true 3 (pos 0)) ≡ fin true 0 (pos 0)) × (rem binary32 (fin true 11 (negsuc 0)) (fin false 1 (pos 1)) ≡ fin true 3 (negsuc 0))
+    × (rem binary32 (float_of 0x7f7f_ffff) (float_of 1) ≡ fin false 0 (pos 0)) × (rem binary32 (float_of 0x7f7f_ffff) (float_of 0x0080_0001) ≡ float_of 0x3)
+    × (rem binary32 (fin false 1 (pos 0)) (fin true 0 (pos 0)) ≡ nan) × (rem binary32 (fin true 1 (pos 0)) (inf true) ≡ fin true 1 (pos 0))
+unfolding rem size round of_bits
+remainders = (refl, refl, refl, refl, refl, refl)

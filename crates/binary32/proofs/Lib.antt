@@ -25,4 +25,5 @@ pub mod WholeRoots
 pub mod Roots
 pub mod RootDigits
 pub mod RootCases
+pub mod Rests
 pub mod Examples

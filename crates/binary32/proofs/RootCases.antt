@@ -28,7 +28,7 @@ above_pattern x f h = elim (eq-zero-or-pos (bits_of x)) [
 ]
 
 -- a finite float's pattern is below that of the infinity
-finite_pattern : (m : ℕ) (e : ℤ) → T (fits binary32 (fin false m e)) → bits_of (fin false m e) < 0x7f80_0000
+pub finite_pattern : (m : ℕ) (e : ℤ) → T (fits binary32 (fin false m e)) → bits_of (fin false m e) < 0x7f80_0000
 unfolding to_bits
 finite_pattern m e f =
     let g = on_grid binary32 (fin false m e) tt f in

@@ -1,9 +1,10 @@
 // What the engine needs of binary32 beyond the language's own operators: conversions, rounded shifts, floor, minimum,
-// maximum, size, the crossing test, bit patterns, the square root and a quick remainder. Each public function takes every
-// value of its arguments, and equals a definition in specs/Leaves.antt; the remainder may be left undone.
+// maximum, size, the crossing test, bit patterns, the square root and the remainder, quick and whole. Each public function
+// takes every value of its arguments, and equals a definition in specs/Leaves.antt, or the kit's `rem`; the quick remainder
+// may be left undone.
 #![tactic(auto)]
 
-ghost use Rattle.std.specs.Prelude.{◌≡◌, ◌+◌, ◌*◌, ◌^◌, ◌<◌, ◌≤◌, false, T, from_bits};
+ghost use Rattle.std.specs.Prelude.{◌≡◌, ◌+◌, ◌*◌, ◌%◌, ◌^◌, ◌<◌, ◌≤◌, false, T, from_bits};
 ghost use Rattle.std.specs.Float.{nan, binary32};
 ghost use Rattle.std.specs.Float.Ieee.{rem, lt, le, round};
 ghost use Rattle.std.specs.Float.Ieee.Nearest.{closest};
@@ -166,6 +167,93 @@ pub fn rem_or_less(x: f32, y: f32) -> f32
     } else {
         -1.0
     }
+}
+
+// `x % y`, by the mantissas as whole numbers. The sign of y says nothing, and that of x is the remainder's.
+pub fn remainder(x: f32, y: f32) -> f32
+    ensures { result ≡ rem binary32 x y }
+{
+    let by = abs(y);
+    if by > 0.0 {
+        if x > 0.0 {
+            rest(x, by)
+        } else if x < 0.0 {
+            -rest(-x, by)
+        } else {
+            x
+        }
+    } else {
+        not_a_number()
+    }
+}
+
+// `x % y` of two floats above 0, of which either may be infinite.
+fn rest(x: f32, y: f32) -> f32
+    requires dividend { T (lt (from_bits binary32 0) x) }
+    requires divisor { T (lt (from_bits binary32 0) y) }
+    ensures { result ≡ rem binary32 x y }
+{
+    let a = f32::to_bits(x);
+    let b = f32::to_bits(y);
+    if a < 0x7f80_0000 {
+        if b < 0x7f80_0000 { rest_of(a, b) } else { x }
+    } else {
+        not_a_number()
+    }
+}
+
+// The same of two finite floats by their patterns. A float with fewer places at its end than the divisor is smaller.
+fn rest_of(a: u32, b: u32) -> f32
+    requires { (a < 0x7f80_0000) × (0 < b) × (b < 0x7f80_0000) }
+    ensures { result ≡ rem binary32 (float_of a) (float_of b) }
+{
+    let from = places(a);
+    let to = places(b);
+    if from < to {
+        f32::from_bits(a)
+    } else {
+        let by = (b - to * 0x80_0000) as u64;
+        (scaled_rest((a - from * 0x80_0000) as u64, from - to, by) as f32) * unit(to)
+    }
+}
+
+// How many places follow the digits of a float: it is m * 2^places of the smallest floats, and its pattern is
+// places * 2^23 + m. From 2^-126 on, the exponent's field stands for a leading digit too.
+fn places(pattern: u32) -> u32
+    requires { pattern < 0x7f80_0000 }
+    ensures { (result * 2 ^ 23 ≤ pattern) × (pattern < result * 2 ^ 23 + 2 ^ 24) × (0 < result → result * 2 ^ 23 + 2 ^ 23 ≤ pattern) × (result < 254) }
+{
+    if pattern < 0x80_0000 {
+        0
+    } else {
+        pattern / 0x80_0000 - 1
+    }
+}
+
+// 2^places of the smallest floats.
+fn unit(places: u32) -> f32
+    requires { places < 254 }
+    ensures { result ≡ round binary32 false (2 ^ places) (2 ^ 149) }
+{
+    if places < 23 {
+        f32::from_bits(1 << places)
+    } else {
+        f32::from_bits((places - 22) * 0x80_0000)
+    }
+}
+
+// m * 2^places % by, of 32 places at a time: no more fit beside the 24 digits of what is left.
+fn scaled_rest(m: u64, places: u32, by: u64) -> u64
+    requires { (0 < by) × (by < 2 ^ 24) }
+    ensures { result ≡ m * 2 ^ places % by }
+{
+    let mut left = m % by;
+    let mut more = places;
+    while more >= 32 {
+        left = (left << 32) % by;
+        more = more - 32;
+    }
+    (left << more) % by
 }
 
 // f32::min.
