@@ -216,13 +216,13 @@ fn looped(x: f32, length: f32) -> f32
     if t >= 0.0 {
         return t;
     }
-    raised(x % length, length)
+    raised(binary32::remainder(x, length), length)
 }
 
 fn round_trip(x: f32, length: f32) -> f32
     ensures { result ≡ round_trip_of x length }
 {
-    binary32::abs(x) % (2.0 * length)
+    binary32::remainder(binary32::abs(x), 2.0 * length)
 }
 
 fn mirrored(y: f32, length: f32) -> f32
@@ -495,8 +495,12 @@ impl Clip {
         ensures { result ≡ clip_to_data_of self place }
     {
         let s = self.start + place;
-        let t = quick_rem(s, self.data_length);
-        if t >= 0.0 { t } else { s % self.data_length }
+        let left = quick_rem(s, self.data_length);
+        if left >= 0.0 {
+            left
+        } else {
+            binary32::remainder(s, self.data_length)
+        }
     }
 
     pub fn offset_at(self, now: usize) -> Position

@@ -335,7 +335,7 @@ pub fn voice_info(v: Voice, length: f32, data_length: f32) -> VoiceInfo
 {
     VoiceInfo {
         start: v.loop_start_percent,
-        end: (v.loop_start_percent + length / data_length) % 1.0,
+        end: binary32::remainder(v.loop_start_percent + length / data_length, 1.0),
         pos: binary32::usize_to_f32(v.last_sample_index) / data_length,
     }
 }

@@ -14,4 +14,4 @@ returns-then-t c =
 
 pub returns : goal.returns
 unfolding looped_of
-returns c = search rules
+returns c = simp (c.raised.ensures, c.remainder.ensures)

@@ -5,4 +5,4 @@ use Rattle.clip.proofs.round_trip.Goals as goal
 
 pub returns : goal.returns
 unfolding round_trip_of of_bits
-returns c = simp c.abs.ensures
+returns c = simp (c.remainder.ensures, c.abs.ensures)

@@ -5,4 +5,4 @@ use Rattle.questions.proofs.voice_info.Goals as goal
 
 pub returns : goal.returns
 unfolding voice_info_of of_bits
-returns c = simp c.usize_to_f32.ensures
+returns c = simp (c.usize_to_f32.ensures, c.remainder.ensures)

@@ -1,0 +1,5 @@
+-- `params` meets its contract. Assumes nothing.
+use Rattle.coupling.proofs.params.Goals as goal
+
+pub returns : goal.returns
+returns c = cc

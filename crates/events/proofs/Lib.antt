@@ -1,0 +1,3 @@
+pub mod Fed
+pub mod Bytes
+pub mod Turned
