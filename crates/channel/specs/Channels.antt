@@ -6,7 +6,8 @@ use Rattle.std.proofs.lemmas.List.Edits.{sets}
 use Rattle.std.specs.Float.{binary32}
 use Rattle.std.specs.Float.Ieee.{add}
 use Rattle.binary32.specs.Leaves.{bits_of, zero32, one32}
-use Rattle.walks.specs.Walks.{any, every, without, behind, fold, seek}
+use Rattle.std.specs.List.{list_any, list_all, fold}
+use Rattle.walks.specs.Walks.{without, behind, seek}
 use Rattle.common_types.specs.declared.InitParams.{InitParams}
 use Rattle.common_types.specs.declared.Params.{Params}
 use Rattle.common_types.specs.declared.Note.{Note}
@@ -129,7 +130,7 @@ begins_in c = begins_at (behind_in c) c.head
 
 -- a voice has the phrase of that number
 unfoldable pub uses_of : ℕ → Channel → Bool
-uses_of k c = any (λ (v : Voice). eqb v.phrase k) (live c)
+uses_of k c = list_any (λ (v : Voice). eqb v.phrase k) (live c)
 
 -- what the channel has against what a change asks, in a record of that capacity
 abbrev pub against_of : ℕ → Ask → Channel → Against
@@ -166,7 +167,7 @@ abbrev pub unfinished_of : Voice → Bool
 unfinished_of v = not v.finished
 
 unfoldable pub any_unfinished_of : Channel → Bool
-any_unfinished_of c = any unfinished_of (live c)
+any_unfinished_of c = list_any unfinished_of (live c)
 
 -- pass-through follows whether a voice is unfinished
 unfoldable pub handled_of : Params → Channel → Channel
@@ -326,7 +327,7 @@ full_of c = not (eqb c.head.data_len 0) && leb 32 c.count
 
 -- ---- a channel that may stand in a record of that capacity
 unfoldable pub good_voices_of : Channel → Bool
-good_voices_of c = every (good_voice c.head.now) (live c)
+good_voices_of c = list_all (good_voice c.head.now) (live c)
 
 unfoldable pub good_channel : ℕ → Channel → Bool
 good_channel capacity c = leb c.count 32 && good_head capacity c.head

@@ -5,7 +5,7 @@ use mathlib.Core.List.{List, [], ◌∷◌, ◌++◌}
 use mathlib.Core.Option.{Option, some}
 use Prim.Native.Nat.{ℕ}
 use lib.Ieee.{Float, binary32, mul}
-use Rattle.walks.specs.Walks.{any}
+use Rattle.std.specs.List.{list_any}
 use Rattle.common_types.specs.declared.Params.{Params}
 use Rattle.volume.specs.Levels.{level_of}
 use Rattle.clip.specs.declared.Clip.{Clip}
@@ -161,7 +161,7 @@ module _ (p : Params) (x : Float) (m : List ℕ) where
     pub follows : follow_all es c n ≡ at place
     pub beats : Beats p x m (acts es c) place q
 
-  pub beats_at : (es : List Event) (c : Channel) → Housed c → any is_reset es ≡ false → (n : ℕ) (v : Voice) → voice_at c n ≡ some v → v.finished ≡ false → finished_in es c n ≡ false
+  pub beats_at : (es : List Event) (c : Channel) → Housed c → list_any is_reset es ≡ false → (n : ℕ) (v : Voice) → voice_at c n ≡ some v → v.finished ≡ false → finished_in es c n ≡ false
       → empty_at m (acts es c) v ≡ false → altered_in (es ++ (sounds p x m ∷ [])) c n ≡ false → BeatsAt es c n v.clip2
   beats_at es c h r n v s u f e a =
       let w = stays_all es c h r n v s u f in

@@ -4,7 +4,7 @@ use native.Mathlib.Nat.{min-le_left}
 use lib.Seq.{take-nil}
 use Rattle.walks.proofs.Tests.{and-true, or-false}
 use Rattle.walks.proofs.Lists.Loops.{get_d_any}
-use Rattle.walks.specs.Walks.{any, every, fold}
+use Rattle.std.specs.List.{list_any, list_all, fold}
 use Rattle.recorder.specs.Recording.{is_recording_of}
 use Rattle.common_types.specs.declared.Params.{Params}
 use Rattle.common_types.specs.Settings.{beyond_limits}
@@ -28,31 +28,31 @@ use Rattle.lent_sampler.specs.Numbers.{all_of, any_of, readings_of, readings_in,
 
 -- ---- of two, the first n
 pub all_first : (a b : Bool) → a ≡ all_of 1 (a ∷ b ∷ [])
-unfolding all_of every
+unfolding all_of
 all_first a b = and-true a
 
 pub all_both : (n : ℕ) (a b : Bool) → (n ≡ 0 → ⊥) → (n ≡ 1 → ⊥) → (a && b) ≡ all_of n (a ∷ b ∷ [])
-unfolding all_of every
+unfolding all_of
 all_both zero a b h k = absurd (h refl)
 all_both (suc zero) a b h k = absurd (k refl)
-all_both (suc (suc n)) a b h k = ap (λ (c : Bool). a && c) (and-true b) ∙ ap (λ (l : List Bool). a && (b && every (λ (c : Bool). c) l)) (sym (take-nil n))
+all_both (suc (suc n)) a b h k = ap (λ (c : Bool). a && c) (and-true b) ∙ ap (λ (l : List Bool). a && (b && list_all (λ (c : Bool). c) l)) (sym (take-nil n))
 
 pub any_first : (a b : Bool) → a ≡ any_of 1 (a ∷ b ∷ [])
-unfolding any_of any
+unfolding any_of
 any_first a b = or-false a
 
 pub any_both : (n : ℕ) (a b : Bool) → (n ≡ 0 → ⊥) → (n ≡ 1 → ⊥) → (a || b) ≡ any_of n (a ∷ b ∷ [])
-unfolding any_of any
+unfolding any_of
 any_both zero a b h k = absurd (h refl)
 any_both (suc zero) a b h k = absurd (k refl)
-any_both (suc (suc n)) a b h k = ap (λ (c : Bool). a || c) (or-false b) ∙ ap (λ (l : List Bool). a || (b || any (λ (c : Bool). c) l)) (sym (take-nil n))
+any_both (suc (suc n)) a b h k = ap (λ (c : Bool). a || c) (or-false b) ∙ ap (λ (l : List Bool). a || (b || list_any (λ (c : Bool). c) l)) (sym (take-nil n))
 
 pub latest_first : (a b : ℕ) → a ≡ latest_time 1 (a ∷ b ∷ [])
-unfolding latest_time fold
+unfolding latest_time
 latest_first a b = omega arith
 
 latest_both : (n a b : ℕ) → (n ≡ 0 → ⊥) → (n ≡ 1 → ⊥) → max (max 0 a) b ≡ latest_time n (a ∷ b ∷ [])
-unfolding latest_time fold
+unfolding latest_time
 latest_both zero a b h k = absurd (h refl)
 latest_both (suc zero) a b h k = absurd (k refl)
 latest_both (suc (suc n)) a b h k = ap (fold max (max (max 0 a) b)) (sym (take-nil n))
@@ -80,20 +80,17 @@ played_fit a n p ran e fits = lt_of_le_of_lt (le_trans (le_of_eq (ap (λ (r : Ra
 
 -- ---- the first n of what is asked of each
 module _ {A B : Type 0} (f : A → B) where
-  every_first : (p : B → Bool) (n : ℕ) (l : List A) → every p (take n (map f l)) ≡ every (λ (x : A). p (f x)) (take n l)
-  unfolding every
+  every_first : (p : B → Bool) (n : ℕ) (l : List A) → list_all p (take n (map f l)) ≡ list_all (λ (x : A). p (f x)) (take n l)
   every_first p zero l = refl
   every_first p (suc n) [] = refl
   every_first p (suc n) (x ∷ l) = ap (λ (c : Bool). p (f x) && c) (every_first p n l)
 
-  any_first_of : (p : B → Bool) (n : ℕ) (l : List A) → any p (take n (map f l)) ≡ any (λ (x : A). p (f x)) (take n l)
-  unfolding any
+  any_first_of : (p : B → Bool) (n : ℕ) (l : List A) → list_any p (take n (map f l)) ≡ list_any (λ (x : A). p (f x)) (take n l)
   any_first_of p zero l = refl
   any_first_of p (suc n) [] = refl
   any_first_of p (suc n) (x ∷ l) = ap (λ (c : Bool). p (f x) || c) (any_first_of p n l)
 
 fold_first : {A : Type 0} (f : A → ℕ) (n t : ℕ) (l : List A) → fold max t (take n (map f l)) ≡ fold (λ (u : ℕ) (x : A). max u (f x)) t (take n l)
-unfolding fold
 fold_first f zero t l = refl
 fold_first f (suc n) t [] = refl
 fold_first f (suc n) t (x ∷ l) = fold_first f n (max t (f x)) l
@@ -103,8 +100,8 @@ none_records : records (channel_of (record { auto_passthru = false })) ≡ false
 unfolding channel_of head_of is_recording_of
 none_records = refl
 
-any_records : (n : ℕ) (l : List Channel) → n ≤ 2 → any_of n (records (get_or l 0 (channel_of (record { auto_passthru = false }))) ∷ records (get_or l 1 (channel_of (record { auto_passthru = false }))) ∷ []) ≡ any records (take n l)
-unfolding any_of any
+any_records : (n : ℕ) (l : List Channel) → n ≤ 2 → any_of n (records (get_or l 0 (channel_of (record { auto_passthru = false }))) ∷ records (get_or l 1 (channel_of (record { auto_passthru = false }))) ∷ []) ≡ list_any records (take n l)
+unfolding any_of
 any_records zero l few = refl
 any_records (suc zero) [] few = simp none_records
 any_records (suc zero) (c ∷ l) few = refl
@@ -138,15 +135,15 @@ module _ (s : Sampler) (two : length s.channels ≡ 2) where
   pub good_is : good_by t.count t.capacity t.first t.second ≡ good_sampler s
   unfolding good_by all_of good_sampler
   good_is = ap (λ (b : Bool). good_sizes s.count s.capacity && b)
-      (every_first (good_channel s.capacity) (λ (b : Bool). b) s.count (channel_at s 0 ∷ channel_at s 1 ∷ []) ∙ ap (λ (l : List Channel). every (good_channel s.capacity) (take s.count l)) are_two)
+      (every_first (good_channel s.capacity) (λ (b : Bool). b) s.count (channel_at s 0 ∷ channel_at s 1 ∷ []) ∙ ap (λ (l : List Channel). list_all (good_channel s.capacity) (take s.count l)) are_two)
 
   with_is : (size : ℕ) → good_with_by t size ≡ good_with s size
   unfolding good_with_by good_with
   with_is size = ap (λ (b : Bool). b && leb (s.count * s.capacity) size) good_is
 
-  any_is : (p : Channel → Bool) (n : ℕ) → any_of n (p (channel_at s 0) ∷ p (channel_at s 1) ∷ []) ≡ any p (take n s.channels)
+  any_is : (p : Channel → Bool) (n : ℕ) → any_of n (p (channel_at s 0) ∷ p (channel_at s 1) ∷ []) ≡ list_any p (take n s.channels)
   unfolding any_of
-  any_is p n = any_first_of p (λ (b : Bool). b) n (channel_at s 0 ∷ channel_at s 1 ∷ []) ∙ ap (λ (l : List Channel). any p (take n l)) are_two
+  any_is p n = any_first_of p (λ (b : Bool). b) n (channel_at s 0 ∷ channel_at s 1 ∷ []) ∙ ap (λ (l : List Channel). list_any p (take n l)) are_two
 
   room_is : room_left t ≡ frames_left s
   unfolding room_left latest_time frames_left latest_of

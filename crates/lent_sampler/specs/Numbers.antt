@@ -1,7 +1,7 @@
 -- What the rows of a call ask of a record, from what is read of it and of its two channels. Definitions only. Assumes
 -- nothing.
 use Rattle.std.specs.Prelude.{ℕ, ◌-◌, ◌*◌, ◌%◌, max, Bool, cond, not, ◌&&◌, List, [], ◌∷◌, take, ◌==◌, nat_le, nat_lt, slice_index}
-use Rattle.walks.specs.Walks.{any, every, fold}
+use Rattle.std.specs.List.{list_any, list_all, fold}
 use Rattle.recorder.specs.Recording.{is_recording_of}
 use Rattle.common_types.specs.declared.Params.{Params}
 use Rattle.common_types.specs.Settings.{beyond_limits}
@@ -25,10 +25,10 @@ use Rattle.lent_sampler.specs.declared.Running.{Running}
 
 -- of these answers the first n: all hold, or one
 unfoldable pub all_of : ℕ → List Bool → Bool
-all_of n l = every (λ (b : Bool). b) (take n l)
+all_of n l = list_all (λ (b : Bool). b) (take n l)
 
 unfoldable pub any_of : ℕ → List Bool → Bool
-any_of n l = any (λ (b : Bool). b) (take n l)
+any_of n l = list_any (λ (b : Bool). b) (take n l)
 
 abbrev pub readings_of : ℕ → ℕ → Bool → Bool → ℕ → ℕ → Readings
 readings_of count capacity first second time other = record {

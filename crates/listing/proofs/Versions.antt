@@ -10,7 +10,7 @@ use borrow.Author.Tests.{leb-true, leb-false, eqb-true, eqb-false, le-leb, lt-le
 use lib.Dec.{eqb, leb}
 use lib.ListN.{length, take, drop, replicate}
 use lib.Ieee.{Float}
-use Rattle.walks.specs.Walks.{any}
+use Rattle.std.specs.List.{list_any}
 use Rattle.walks.proofs.Tests.{neither}
 use Rattle.decimal.specs.Lines.{text_of}
 use Rattle.octets.specs.Octets.{byte_at}
@@ -61,9 +61,9 @@ memory_under v l r m x = refl
 -- one listing of version v, read by R, and one of version w, read by S, whose records are read alike but where p finds something
 module _ (R S : Header → List ℕ → Reading) (v w : Bool) (p : List ℕ → Bool)
     (alike : (h : Header) (r : List ℕ) → p r ≡ false → R (headed v h) r ≡ S (headed w h) r) where
-  printed_alike : (n : ℕ) (l : Listing) (m input : List ℕ) → any p (records_from n input) ≡ false
+  printed_alike : (n : ℕ) (l : Listing) (m input : List ℕ) → list_any p (records_from n input) ≡ false
       → printed_from_by R n (under v l) m input ≡ printed_from_by S n (under w l) m input
-  unfolding printed_from_by records_from any
+  unfolding printed_from_by records_from
   printed_alike zero l m input none = refl
   printed_alike (suc n) l m input none =
       let r = next_of input in
@@ -136,8 +136,7 @@ first_record h r = by (good_first_record (headed false h) r) refl (eqb (kind_of 
     by true e false q = simp (first_good h r, e, q)
     by true e true q = simp (first_good h r, e, eqb-true (kind_of r) 0 q, first_params r (kind_named (headed false h) r q e))
 
-none_found : (rs : List (List ℕ)) → any (λ (r : List ℕ). false) rs ≡ false
-unfolding any
+none_found : (rs : List (List ℕ)) → list_any (λ (r : List ℕ). false) rs ≡ false
 none_found [] = refl
 none_found (r ∷ rs) = none_found rs
 
@@ -190,7 +189,7 @@ both_bad : (b : List ℕ) → good_header (1 ∷ b) ≡ false → header_of (2 �
 unfolding header_of good_header
 both_bad b g = simp (g)
 
-both_alike : (rest : List ℕ) → any in_whole_bars (records_of (1 ∷ rest)) ≡ false → printed_by header_of record_of (2 ∷ rest) ≡ printed_by header_of record_of (1 ∷ rest)
+both_alike : (rest : List ℕ) → list_any in_whole_bars (records_of (1 ∷ rest)) ≡ false → printed_by header_of record_of (2 ∷ rest) ≡ printed_by header_of record_of (1 ∷ rest)
 unfolding printed_by opened_of player_of
 both_alike rest none = by (good_header (1 ∷ take 2 rest)) refl
   where

@@ -2,7 +2,7 @@
 -- printed when there was version 1 alone, and where no length is in whole bars both versions print the same:
 -- `proofs/Versions: versions` proves the record `Versions` at the end. Definitions only.
 use Rattle.std.specs.Prelude.{ℕ, zero, suc, ◌+◌, ◌≡◌, ◌≢◌, Bool, true, false, not, cond, ◌&&◌, ◌||◌, List, [], ◌∷◌, ◌++◌, eqb, leb, length, get_or, take, drop, replicate, Float}
-use Rattle.walks.specs.Walks.{any}
+use Rattle.std.specs.List.{list_any}
 use Rattle.common_types.specs.declared.Params.{Params}
 use Rattle.common_types.specs.declared.time_value.TimeValue.TheVariants.{QuarterNotes, Samples, Seconds, Bars}
 use Rattle.common_types.specs.declared.time_value.TimeOrRatio.{TimeOrRatio}
@@ -132,5 +132,5 @@ pub record Versions : Type 0 where
   -- and what was printed before there was version 2, on every input that doesn't begin with 02.
   pub version_one : (input : List ℕ) → byte_at input 0 ≢ 2 → printed input ≡ printed_by first_header_of first_record_of input
   -- A listing of which no length is in whole bars prints the same under both versions.
-  pub same_otherwise : (rest : List ℕ) → any in_whole_bars (records_of (1 ∷ rest)) ≡ false
+  pub same_otherwise : (rest : List ℕ) → list_any in_whole_bars (records_of (1 ∷ rest)) ≡ false
       → printed (2 ∷ rest) ≡ printed (1 ∷ rest)

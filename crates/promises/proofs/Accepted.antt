@@ -10,7 +10,7 @@ use lib.Dec.{T, leb, eqb, ltb}
 use lib.ListN.{length, take, get_or}
 use lib.Seq.{length-take-le, get_or-take}
 use lib.Ieee.{Float, binary32, mul}
-use Rattle.walks.specs.Walks.{any}
+use Rattle.std.specs.List.{list_any}
 use Rattle.common_types.specs.declared.Params.{Params}
 use Rattle.common_types.specs.declared.Note.{Note}
 use Rattle.common_types.specs.Settings.{beyond_limits}
@@ -37,18 +37,16 @@ use Rattle.promises.proofs.Calls.{Standing}
 
 -- ---- none of a list
 module _ {A : Type 0} (p : A → Bool) where
-  pub any_at : (l : List A) (j : ℕ) (d : A) → any p l ≡ false → j < length l → p (get_or l j d) ≡ false
-  unfolding any
+  pub any_at : (l : List A) (j : ℕ) (d : A) → list_any p l ≡ false → j < length l → p (get_or l j d) ≡ false
   any_at [] j d h k = absurd (omega arith)
-  any_at (x ∷ xs) zero d h k = (neither (p x) (any p xs) h).0
-  any_at (x ∷ xs) (suc j) d h k = any_at xs j d (neither (p x) (any p xs) h).1 (omega arith)
+  any_at (x ∷ xs) zero d h k = (neither (p x) (list_any p xs) h).0
+  any_at (x ∷ xs) (suc j) d h k = any_at xs j d (neither (p x) (list_any p xs) h).1 (omega arith)
 
-  pub any_none : (l : List A) (d : A) → ((j : ℕ) → j < length l → p (get_or l j d) ≡ false) → any p l ≡ false
-  unfolding any
+  pub any_none : (l : List A) (d : A) → ((j : ℕ) → j < length l → p (get_or l j d) ≡ false) → list_any p l ≡ false
   any_none [] d h = refl
   any_none (x ∷ xs) d h = rw (h 0 (omega arith)) (any_none xs d (λ j k. h (suc j) (omega arith)))
 
-  pub any_front : (l : List A) (n j : ℕ) (d : A) → any p (take n l) ≡ false → j < n → n ≤ length l → p (get_or l j d) ≡ false
+  pub any_front : (l : List A) (n j : ℕ) (d : A) → list_any p (take n l) ≡ false → j < n → n ≤ length l → p (get_or l j d) ≡ false
   any_front l n j d h a b = ap p (sym (get_or-take n l j d a)) ∙ any_at (take n l) j d h (omega (arith, length-take-le n l b))
 
 -- ---- a start
@@ -81,10 +79,10 @@ unfolding sample_number
 sample_early s j p size h =
     (passed (at_end (channel_at s j)) 5 0 (passed (beyond_limits p) 3 _ (passed (no_channel s j) 0 _ (passed (not (good_with s size)) 8 _ h).1).1).1).0
 
-frame_early : (s : Sampler) (n : ℕ) (p : Params) (size : ℕ) → frame_number s n p size ≡ 0 → any at_end (take n s.channels) ≡ false
+frame_early : (s : Sampler) (n : ℕ) (p : Params) (size : ℕ) → frame_number s n p size ≡ 0 → list_any at_end (take n s.channels) ≡ false
 unfolding frame_number
 frame_early s n p size h =
-    (passed (any at_end (take n s.channels)) 5 0 (passed (beyond_limits p) 3 _ (passed (ltb s.count n) 0 _ (passed (not (good_with s size)) 8 _ h).1).1).1).0
+    (passed (list_any at_end (take n s.channels)) 5 0 (passed (beyond_limits p) 3 _ (passed (ltb s.count n) 0 _ (passed (not (good_with s size)) 8 _ h).1).1).1).0
 
 pub record Heard (w : World) (c : Call) (j : ℕ) (p : Params) (x : Float) (m : List ℕ) : Type 0 where
   pub early : (chan w j).head.now < last_time

@@ -11,7 +11,7 @@ use borrow.Author.Tests.{leb-true, le-leb, ltb-true, lt-ltb, eqb-true, eq-eqb}
 use lib.Dec.{leb, ltb, eqb}
 use lib.ListN.{length, take, get_or, get_elem?}
 use lib.Ieee.{Float, le, of_int}
-use Rattle.walks.specs.Walks.{every}
+use Rattle.std.specs.List.{list_all}
 use Rattle.walks.specs.Each.{Each}
 use Rattle.walks.proofs.Lists.Every.{both}
 use Rattle.volume.specs.declared.Volume.{Volume}
@@ -45,30 +45,26 @@ pub join : (a b : Bool) → a ≡ true → b ≡ true → (a && b) ≡ true
 join a b h k = rw (h, k)
 
 -- what `every` tests holds of the element at each place
-every_place : {A : Type 0} (p : A → Bool) (l : List A) → every p l ≡ true → (n : ℕ) (x : A) → get_elem? l n ≡ some x → p x ≡ true
-unfolding every
+every_place : {A : Type 0} (p : A → Bool) (l : List A) → list_all p l ≡ true → (n : ℕ) (x : A) → get_elem? l n ≡ some x → p x ≡ true
 every_place p [] h n x e = let z : ◌≡◌ {A = ℕ} 0 1 = cc in absurd (omega arith)
-every_place p (y ∷ l) h zero x e = let q : y ≡ x = cc in ap p (sym q) ∙ (both (p y) (every p l) h).0
-every_place p (y ∷ l) h (suc n) x e = every_place p l (both (p y) (every p l) h).1 n x e
+every_place p (y ∷ l) h zero x e = let q : y ≡ x = cc in ap p (sym q) ∙ (both (p y) (list_all p l) h).0
+every_place p (y ∷ l) h (suc n) x e = every_place p l (both (p y) (list_all p l) h).1 n x e
 
-place_every : {A : Type 0} (p : A → Bool) (l : List A) → ((n : ℕ) (x : A) → get_elem? l n ≡ some x → p x ≡ true) → every p l ≡ true
-unfolding every
+place_every : {A : Type 0} (p : A → Bool) (l : List A) → ((n : ℕ) (x : A) → get_elem? l n ≡ some x → p x ≡ true) → list_all p l ≡ true
 place_every p [] h = refl
-place_every p (y ∷ l) h = join (p y) (every p l) (h 0 y refl) (place_every p l (λ n. h (suc n)))
+place_every p (y ∷ l) h = join (p y) (list_all p l) (h 0 y refl) (place_every p l (λ n. h (suc n)))
 
 -- of the first n, where past the end stands one that passes
-front_each : {A : Type 0} (p : A → Bool) (d : A) → p d ≡ true → (l : List A) (n : ℕ) → every p (take n l) ≡ true → (j : ℕ) → j < n → p (get_or l j d) ≡ true
-unfolding every
+front_each : {A : Type 0} (p : A → Bool) (d : A) → p d ≡ true → (l : List A) (n : ℕ) → list_all p (take n l) ≡ true → (j : ℕ) → j < n → p (get_or l j d) ≡ true
 front_each p d g [] n h j k = g
 front_each p d g (x ∷ l) zero h j k = absurd (omega arith)
-front_each p d g (x ∷ l) (suc n) h zero k = (both (p x) (every p (take n l)) h).0
-front_each p d g (x ∷ l) (suc n) h (suc j) k = front_each p d g l n (both (p x) (every p (take n l)) h).1 j (omega arith)
+front_each p d g (x ∷ l) (suc n) h zero k = (both (p x) (list_all p (take n l)) h).0
+front_each p d g (x ∷ l) (suc n) h (suc j) k = front_each p d g l n (both (p x) (list_all p (take n l)) h).1 j (omega arith)
 
-each_front : {A : Type 0} (p : A → Bool) (d : A) (l : List A) (n : ℕ) → ((j : ℕ) → j < n → p (get_or l j d) ≡ true) → every p (take n l) ≡ true
-unfolding every
+each_front : {A : Type 0} (p : A → Bool) (d : A) (l : List A) (n : ℕ) → ((j : ℕ) → j < n → p (get_or l j d) ≡ true) → list_all p (take n l) ≡ true
 each_front p d l zero h = refl
 each_front p d [] (suc n) h = refl
-each_front p d (x ∷ l) (suc n) h = join (p x) (every p (take n l)) (h 0 (omega arith)) (each_front p d l n (λ j k. h (suc j) (omega arith)))
+each_front p d (x ∷ l) (suc n) h = join (p x) (list_all p (take n l)) (h 0 (omega arith)) (each_front p d l n (λ j k. h (suc j) (omega arith)))
 
 -- what holds of the first n holds of each of them, where it holds past the end
 pub front_holds : {A : Type 0} (P : A → Type 0) (d : A) → P d → (l : List A) (n : ℕ) → Each P (take n l) → (j : ℕ) → j < n → P (get_or l j d)
@@ -335,7 +331,7 @@ tables s t j k = front_holds (λ (c : Channel). length c.table ≡ 8) blank (new
 pub record_to : (s : Sampler) → Tabled s → good_sampler s ≡ true → GoodRecord s
 unfolding good_sampler
 record_to s t h =
-    let g = both (good_sizes s.count s.capacity) (every (good_channel s.capacity) (present s)) h in
+    let g = both (good_sizes s.count s.capacity) (list_all (good_channel s.capacity) (present s)) h in
     record {
       sizes = sizes_to s.count s.capacity g.0;
       channels = λ j k. channel_to s.capacity (channel_at s j) (tables s t j k)
@@ -345,7 +341,7 @@ record_to s t h =
 record_from : (s : Sampler) → Tabled s → GoodRecord s → good_sampler s ≡ true
 unfolding good_sampler
 record_from s t h =
-    join (good_sizes s.count s.capacity) (every (good_channel s.capacity) (present s)) (sizes_from s.count s.capacity h.sizes)
+    join (good_sizes s.count s.capacity) (list_all (good_channel s.capacity) (present s)) (sizes_from s.count s.capacity h.sizes)
     (each_front (good_channel s.capacity) _ s.channels s.count (λ j k. channel_from s.capacity (channel_at s j) (tables s t j k) (h.channels j k)))
 
 memory : (s : Sampler) (size : ℕ) → Tabled s → (good_with s size ≡ true) ↔ (GoodRecord s × (s.count * s.capacity ≤ size))

@@ -10,7 +10,7 @@ use borrow.Author.Tests.{lt-leb, eq-eqb}
 use lib.Dec.{eqb, ltb}
 use lib.ListN.{length}
 use lib.Ieee.{Float, binary32, mul}
-use Rattle.walks.specs.Walks.{any}
+use Rattle.std.specs.List.{list_any}
 use Rattle.common_types.specs.declared.InitParams.{InitParams}
 use Rattle.common_types.specs.declared.Params.{Params}
 use Rattle.common_types.specs.declared.Note.{Note}
@@ -57,11 +57,11 @@ event_reset w (read_wave f) j h = quiet (eqb (code w (read_wave f)) 0) _ refl
 event_reset w gather j h = quiet (eqb (code w gather) 0) _ refl
 event_reset w (asks q) j h = quiet (eqb (code w (asks q)) 0) idle refl
 
-pub events_reset : (w : World) (cs : List Call) (j : ℕ) → any is_reset_call cs ≡ false → any is_reset (events w cs j) ≡ false
-unfolding events any
+pub events_reset : (w : World) (cs : List Call) (j : ℕ) → list_any is_reset_call cs ≡ false → list_any is_reset (events w cs j) ≡ false
+unfolding events
 events_reset w [] j h = refl
 events_reset w (c ∷ cs) j h =
-    let a = neither (is_reset_call c) (any is_reset_call cs) h in
+    let a = neither (is_reset_call c) (list_any is_reset_call cs) h in
     rw (event_reset w c j a.0) (events_reset (after w c) cs j a.1)
 
 -- ---- what is heard
@@ -106,7 +106,7 @@ module _ (w : World) (st : Standing w) (j : ℕ) (k : j < w.sampler.count) where
     unfolding b
     takes = ap live made ∙ taken p₀ position note velocity (chan w j) house some_data room
 
-    module _ (cs : List Call) (r : any is_reset_call cs ≡ false) where
+    module _ (cs : List Call) (r : list_any is_reset_call cs ≡ false) where
       es : List Event
       es = events (after w (start position note velocity p₀)) cs j
 
@@ -119,7 +119,7 @@ module _ (w : World) (st : Standing w) (j : ℕ) (k : j < w.sampler.count) where
       first : (p : Params) (x : Float) (m : List ℕ) → (chan w j).head.now < last_time → (acts (b ∷ es) (chan w j)).head.now ≡ (chan w j).head.now
           → stopped_in es (act b (chan w j)) (length (live (chan w j))) ≡ false → empty_at m (acts (b ∷ es) (chan w j)) (born_of p₀ position note velocity (chan w j)) ≡ false
           → First p x m (acts (b ∷ es) (chan w j)) (length (live (chan w j))) (born_of p₀ position note velocity (chan w j))
-      unfolding b any is_reset is_sample es
+      unfolding b is_reset is_sample es
       first p x m early same free full =
           let q = no_sample (b ∷ es) (chan w j) (events_reset (after w (start position note velocity p₀)) cs j r) early same in
           on_time p₀ position note velocity (chan w j) house some_data room es (events_reset (after w (start position note velocity p₀)) cs j r) q free p x m full

@@ -14,7 +14,7 @@ use Rattle.binary32.proofs.Casts.{narrow}
 use Rattle.binary32.proofs.Floors.{floor_exact, floor_cast}
 use Rattle.binary32.proofs.Patterns.{value_back, pattern_back}
 use Rattle.binary32.proofs.Roots.{nearest}
-use Rattle.walks.specs.Walks.{fold}
+use Rattle.std.specs.List.{fold}
 use Rattle.common_types.proofs.Packing.{unpack_pack, pack_unpack}
 use Rattle.common_types.specs.declared.InitParams.{InitParams}
 use Rattle.common_types.specs.declared.Params.{Params}
@@ -279,11 +279,11 @@ unfolding loop_length_of length_of of_int
 whole_bars p n x e = ap (λ (l : TimeOrRatio). max_of (length_of l p.transport n) (as_float 1)) e
 
 column_of_none : column_of [] ≡ nan
-unfolding column_of fold of_int round units odd div root_of
+unfolding column_of of_int round units odd div root_of
 column_of_none = refl
 
 demand2 : Demand2
-unfolding columns_from fold
+unfolding columns_from
 demand2 = record {
   exact = of_int_whole binary32;
   narrow = narrow;

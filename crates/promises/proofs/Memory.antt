@@ -9,7 +9,7 @@ use lib.ListN.{length, take, drop, get_or}
 use lib.Ieee.{Float}
 use Rattle.common_types.specs.declared.Params.{Params}
 use Rattle.binary32.specs.Leaves.{zero32}
-use Rattle.walks.specs.Walks.{any}
+use Rattle.std.specs.List.{list_any}
 use Rattle.walks.proofs.Tests.{neither}
 use Rattle.channel.specs.declared.Channel.{Channel}
 use Rattle.channel.specs.Channels.{memory_of}
@@ -114,8 +114,8 @@ module _ (w : World) (j : ℕ) where
   part_written c p x k h = part_after c (no_rewrite c p x k h) ∙ ap (λ (e : Event). part_by e (chan w j) (own_part w j)) h
 
 -- several calls
-pub parts_unwritten : (w : World) (cs : List Call) (j : ℕ) → any is_sample (events w cs j) ≡ false → any rewrites cs ≡ false → own_part (run w cs) j ≡ own_part w j
-unfolding run events any
+pub parts_unwritten : (w : World) (cs : List Call) (j : ℕ) → list_any is_sample (events w cs j) ≡ false → list_any rewrites cs ≡ false → own_part (run w cs) j ≡ own_part w j
+unfolding run events
 parts_unwritten w [] j h r = refl
 parts_unwritten w (c ∷ cs) j h r =
     let a = neither (is_sample (event w c j)) _ h in

@@ -12,7 +12,7 @@ use lib.Dec.{eqb, leb}
 use lib.ListN.{length, take, drop, get_or, length-drop, take-append-drop}
 use lib.Seq.{ext_get_or, drop-drop, length-take-le}
 use lib.Ieee.{Float}
-use Rattle.walks.specs.Walks.{any}
+use Rattle.std.specs.List.{list_any}
 use Rattle.common_types.specs.declared.Params.{Params}
 use Rattle.phrases.specs.declared.Phrase.{Phrase}
 use Rattle.phrases.specs.Phrases.{no_phrase, no_samples, reach_of, stored_in, good_phrases}
@@ -71,11 +71,11 @@ pub mod One
 
 -- ---- rows
 module _ (w : World) (k : ℕ) where
-  choose_rows : code w (choose_phrase k) ≡ row (not (good_sampler w.sampler)) 9 (row (leb 8 k) 19 (row (any (records_other k) (present w.sampler)) 21 0))
+  choose_rows : code w (choose_phrase k) ≡ row (not (good_sampler w.sampler)) 9 (row (leb 8 k) 19 (row (list_any (records_other k) (present w.sampler)) 21 0))
   unfolding code against_any asks_of head_asks blocked_by
   choose_rows = refl
 
-  delete_rows : code w (delete_phrase k) ≡ row (not (good_sampler w.sampler)) 9 (row (leb 8 k) 19 (row (any (in_use k) (present w.sampler)) 20 0))
+  delete_rows : code w (delete_phrase k) ≡ row (not (good_sampler w.sampler)) 9 (row (leb 8 k) 19 (row (list_any (in_use k) (present w.sampler)) 20 0))
   unfolding code against_any asks_of head_asks blocked_by leaving_of
   delete_rows = refl
 

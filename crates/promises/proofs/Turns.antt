@@ -11,7 +11,7 @@ use lib.Dec.{leb, ltb, eqb}
 use lib.ListN.{length, take, drop, get_or, length-drop}
 use lib.Seq.{length-take-le, get_or-take, drop-drop}
 use lib.Ieee.{Float}
-use Rattle.walks.specs.Walks.{any, fold}
+use Rattle.std.specs.List.{list_any, fold}
 use Rattle.walks.proofs.Lists.Every.{both}
 use Rattle.binary32.specs.Leaves.{zero32}
 use Rattle.binary32.proofs.Truth.{no}
@@ -48,17 +48,14 @@ abbrev none : Channel
 none = channel_of (record { auto_passthru = false })
 
 latest_most : (b t : ℕ) (cs : List Channel) → t ≤ b → ((j : ℕ) → j < length cs → (get_or cs j none).head.now ≤ b) → fold later_of t cs ≤ b
-unfolding fold
 latest_most b t [] h k = h
 latest_most b t (c ∷ cs) h k = latest_most b (max t c.head.now) cs (omega (arith, k 0 (omega arith))) (λ j q. k (suc j) (omega arith))
 
 latest_from : (t : ℕ) (cs : List Channel) → t ≤ fold later_of t cs
-unfolding fold
 latest_from t [] = le_refl t
 latest_from t (c ∷ cs) = omega (arith, latest_from (max t c.head.now) cs)
 
 latest_at : (t : ℕ) (cs : List Channel) (j : ℕ) → j < length cs → (get_or cs j none).head.now ≤ fold later_of t cs
-unfolding fold
 latest_at t [] j h = absurd (omega arith)
 latest_at t (c ∷ cs) zero h = omega (arith, latest_from (max t c.head.now) cs)
 latest_at t (c ∷ cs) (suc j) h = latest_at (max t c.head.now) cs j (omega arith)
@@ -88,23 +85,23 @@ module _ (w : World) (st : Standing w) where
   unfolding frames_left latest
   early h j k = omega (arith, at_least j k)
 
-  none_at_end : 0 < frames_left w.sampler → any at_end (present w.sampler) ≡ false
+  none_at_end : 0 < frames_left w.sampler → list_any at_end (present w.sampler) ≡ false
   none_at_end h =
       any_none at_end (present w.sampler) none
       (λ j k. ap at_end (get_or-take w.sampler.count w.sampler.channels j none (omega (arith, in_use))) ∙ lt-leb last_time (chan w j).head.now (early h j (omega (arith, in_use))))
 
   -- no room: some clock does
-  some_at_end : frames_left w.sampler ≡ 0 → any at_end (present w.sampler) ≡ true
+  some_at_end : frames_left w.sampler ≡ 0 → list_any at_end (present w.sampler) ≡ true
   unfolding frames_left latest
-  some_at_end h = go (any at_end (present w.sampler)) refl
+  some_at_end h = go (list_any at_end (present w.sampler)) refl
     where
-      below : any at_end (present w.sampler) ≡ false → (j : ℕ) → j < w.sampler.count → (chan w j).head.now ≤ last_time - 1
+      below : list_any at_end (present w.sampler) ≡ false → (j : ℕ) → j < w.sampler.count → (chan w j).head.now ≤ last_time - 1
       below e j k =
           let b : (chan w j).head.now < last_time
           = leb-false last_time (chan w j).head.now (ap at_end (sym (get_or-take w.sampler.count w.sampler.channels j none k)) ∙ any_at at_end (present w.sampler) j none e (omega (arith, in_use))) in
           omega arith
 
-      go : (b : Bool) → any at_end (present w.sampler) ≡ b → b ≡ true
+      go : (b : Bool) → list_any at_end (present w.sampler) ≡ b → b ≡ true
       go true e = refl
       go false e = absurd (omega (arith, at_most (last_time - 1) (below e)))
 
@@ -117,11 +114,11 @@ record Open (w : World) (p : Params) : Type 0 where
   floats : FittingParams p
 
 module _ (w : World) (p : Params) (o : Open w p) (xs : List Float) (n : length xs ≡ w.sampler.count) where
-  rows : (b : Bool) → any at_end (present w.sampler) ≡ b → code w (frame xs p) ≡ cond b 6 0
+  rows : (b : Bool) → list_any at_end (present w.sampler) ≡ b → code w (frame xs p) ≡ cond b 6 0
   unfolding code frame_number
   rows b e =
       let few : ltb w.sampler.count (length xs) ≡ false = le-ltb w.sampler.count (length xs) (le_of_eq n) in
-      let ends : any at_end (take (length xs) w.sampler.channels) ≡ b = ap (λ (k : ℕ). any at_end (take k w.sampler.channels)) n ∙ e in
+      let ends : list_any at_end (take (length xs) w.sampler.channels) ≡ b = ap (λ (k : ℕ). list_any at_end (take k w.sampler.channels)) n ∙ e in
       rw (o.good, few, o.within, ends)
 
   refused : frames_left w.sampler ≡ 0 → code w (frame xs p) ≡ 6
@@ -291,7 +288,7 @@ unfolding code frame_number run_number
 alike w xs p n h k ys l =
     let few : ltb w.sampler.count (length ys) ≡ false = le-ltb w.sampler.count (length ys) (le_of_eq l) in
     rw few
-    (alike_rows (not (good_with w.sampler (length w.memory))) (not (eqb (length xs % w.sampler.count) 0)) (beyond_limits p) (ltb (frames_left w.sampler) (length xs / w.sampler.count)) (any at_end (take (length ys) w.sampler.channels)) n h k)
+    (alike_rows (not (good_with w.sampler (length w.memory))) (not (eqb (length xs % w.sampler.count) 0)) (beyond_limits p) (ltb (frames_left w.sampler) (length xs / w.sampler.count)) (list_any at_end (take (length ys) w.sampler.channels)) n h k)
 
 -- ---- with 6 the frames that are done use up the room
 module _ (w : World) (xs : List Float) (p : Params) (six : run_number w.sampler (length xs) p (length w.memory) ≡ 6) where

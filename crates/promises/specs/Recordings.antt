@@ -1,7 +1,7 @@
 -- Request 10/12, after demand 3: "Recordings out and in as WAVE", said of the calls. What a good file is, is said of its
 -- bytes alone in wave/specs/Grammar.antt (`IsWave`). Definitions only. Assumes nothing.
 use Rattle.std.specs.Prelude.{◌≡◌, Bool, not, List, ℕ, ◌+◌, ◌*◌, ◌^◌, ◌<◌, eqb, ltb, length, take, drop}
-use Rattle.walks.specs.Walks.{any}
+use Rattle.std.specs.List.{list_any}
 use Rattle.walks.specs.Each.{Each}
 use Rattle.octets.specs.Octets.{Bytes}
 use Rattle.wave.specs.Files.{file_of}
@@ -43,7 +43,7 @@ write_place_of h = elim h.recorder.state [ Triggered write ↦ write | Idle ↦ 
 -- one of the channels in use may not hold so many samples
 abbrev pub no_room : Sampler → ℕ → Bool
 no_room s samples =
-    any (λ (c : Channel). ltb (holds_of (beside_in s.capacity c) s.capacity c.head) samples) (present s)
+    list_any (λ (c : Channel). ltb (holds_of (beside_in s.capacity c) s.capacity c.head) samples) (present s)
 
 -- ---- what a write leaves
 

@@ -14,7 +14,7 @@ use Rattle.binary32.specs.Leaves.{zero32, min_of, root_of}
 use Rattle.binary32.proofs.Between.{le_not_lt}
 use Rattle.binary32.proofs.Rounding.{round_sign, round_not_nan}
 use Rattle.binary32.proofs.Signs.{unsigned}
-use Rattle.walks.specs.Walks.{fold}
+use Rattle.std.specs.List.{fold}
 use Rattle.walks.proofs.Tests.{denied}
 use Rattle.walks.proofs.Lists.Runs.{run_front}
 use Rattle.phrases.specs.Phrases.{stored_in}
@@ -60,7 +60,7 @@ unfolding column_at column_of
 column_above columns recording i = root_above _
 
 pub smallest_zero : (columns : ℕ) (recording : List ℕ) (count i : ℕ) → smallest_of (columns_from columns recording count i) ≡ zero32
-unfolding columns_from fold
+unfolding columns_from
 smallest_zero columns recording zero i = refl
 smallest_zero columns recording (suc count) i =
     ap (λ (x : Float). fold min_of x (columns_from columns recording count (i + 1))) (least_on (column_at columns recording i) (column_above columns recording i)) ∙ smallest_zero columns recording count (i + 1)

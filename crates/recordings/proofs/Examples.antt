@@ -7,7 +7,7 @@ use Rattle.wave.specs.Files.{format_of, riff_row, format_row, fact_row, data_row
 use Rattle.wave.specs.Reader.{padded_at, met_of, chunk_at, walk_from, walk_of, good_riff, good_format, good_fact, counted_judged, judged_at, file_judged}
 use Rattle.wave.specs.Memory.{fits_memory, frame_words, stored_of, loaded_of}
 use Rattle.common_types.specs.declared.InitParams.{InitParams}
-use Rattle.walks.specs.Walks.{any, every, fold}
+use Rattle.std.specs.List.{list_any, list_all, fold}
 use Rattle.volume.specs.Levels.{good_volume}
 use Rattle.recorder.specs.Recording.{in_state, start_of, is_recording_of, good_recorder}
 use Rattle.phrases.specs.Phrases.{no_samples, is_over_by, reach_of, apart_of, others_of, every_below, good_at, good_phrases, beside_with, beside_of}
@@ -26,7 +26,7 @@ use Rattle.recordings.specs.declared.ReadAnswer.{ReadAnswer}
 
 -- whatever an answer computes by
 unfoldable pub computing : Unit {0}
-unfolding from_hex pairs digits_of bytes_at little_of little_bytes two_at four_at word_bytes listed format_of riff_row format_row fact_row data_row header_of padded_at met_of chunk_at walk_from walk_of good_riff good_format good_fact counted_judged judged_at file_judged fits_memory frame_words stored_of loaded_of any every fold good_volume in_state start_of is_recording_of good_recorder no_samples is_over_by reach_of apart_of others_of every_below good_at good_phrases beside_with beside_of begins_at holds_of head_of phrase_after recorder_after interpolates_after chosen_after head_changed_of good_head good_table table_after several_after head_names found_by leaving_of blocked_by short_by channel_of uses_of head_changed_in changed_of good_voices_of good_channel good_sizes good_sampler capacity_of good_with against_any set_up_number set_up_of each_of answer_of answered write_number write_wave_of wave_after read_number read_wave_of read_memory
+unfolding from_hex pairs digits_of bytes_at little_of little_bytes two_at four_at word_bytes listed format_of riff_row format_row fact_row data_row header_of padded_at met_of chunk_at walk_from walk_of good_riff good_format good_fact counted_judged judged_at file_judged fits_memory frame_words stored_of loaded_of good_volume in_state start_of is_recording_of good_recorder no_samples is_over_by reach_of apart_of others_of every_below good_at good_phrases beside_with beside_of begins_at holds_of head_of phrase_after recorder_after interpolates_after chosen_after head_changed_of good_head good_table table_after several_after head_names found_by leaving_of blocked_by short_by channel_of uses_of head_changed_in changed_of good_voices_of good_channel good_sizes good_sampler capacity_of good_with against_any set_up_number set_up_of each_of answer_of answered write_number write_wave_of wave_after read_number read_wave_of read_memory
 computing = tt
 
 -- ---- records: two channels with parts of three words, in a memory of seven

@@ -1,6 +1,6 @@
 -- What is answered and left by what is seen of a record is what is by the record; and what a number of 0 says of what is seen. Assumes nothing.
 use Rattle.std.proofs.Common.{◌≡◌, ℕ, zero, suc, ◌+◌, ◌*◌, ◌%◌, ◌^◌, ◌≤◌, Bool, true, false, cond, not, ◌&&◌, ◌||◌, eqb, ltb, List, [], ◌∷◌, length, get_or, take, sym, refl, ap, ◌∙◌, subst, mod-eq_of_lt, arith, ltb-false, eq-eqb, ne_eqb, eqb-true}
-use Rattle.walks.specs.Walks.{any}
+use Rattle.std.specs.List.{list_any}
 use Rattle.walks.proofs.Tests.{or-false}
 use Rattle.wave.specs.declared.Starts.{Starts}
 use Rattle.wave.specs.declared.Layout.{Layout}
@@ -31,8 +31,7 @@ use Rattle.recordings.proofs.Parts.{parts_fit, second_begins_small}
 use Rattle.recordings.proofs.Numbers.{words_few, room_enough, read_says}
 
 -- ---- of a record's channels, one or two are in use
-any_two : {A : Type 0} (p : A → Bool) (l : List A) (n : ℕ) (d : A) → length l ≡ 2 → 1 ≤ n → n ≤ 2 → any p (take n l) ≡ (p (get_or l 0 d) || (eqb n 2 && p (get_or l 1 d)))
-unfolding any
+any_two : {A : Type 0} (p : A → Bool) (l : List A) (n : ℕ) (d : A) → length l ≡ 2 → 1 ≤ n → n ≤ 2 → list_any p (take n l) ≡ (p (get_or l 0 d) || (eqb n 2 && p (get_or l 1 d)))
 any_two p [] n d long some few = absurd (omega arith)
 any_two p (a ∷ []) n d long some few = absurd (omega arith)
 any_two p (a ∷ b ∷ l) zero d long some few = absurd (omega arith)

@@ -1,7 +1,7 @@
 -- Recordings out and in as WAVE files (request 10/12): what the two calls answer, and what they leave of the record and
 -- of what is lent with it. A file's bytes are said in crate `wave`. Definitions only. Assumes nothing.
 use Rattle.std.specs.Prelude.{ℕ, ◌+◌, Bool, true, false, cond, not, List, ◌++◌, length, drop, ◌==◌, nat_lt}
-use Rattle.walks.specs.Walks.{any}
+use Rattle.std.specs.List.{list_any}
 use Rattle.wave.specs.declared.Starts.{Starts}
 use Rattle.wave.specs.declared.Layout.{Layout}
 use Rattle.wave.specs.declared.Wave.{Wave}
@@ -31,7 +31,7 @@ samples_of s = (channel_at s 0).head.data_len
 
 -- "16 for channels of different lengths"
 abbrev pub lengths_differ : Sampler → Bool
-lengths_differ s = any (λ (c : Channel). not (c.head.data_len == samples_of s)) (present s)
+lengths_differ s = list_any (λ (c : Channel). not (c.head.data_len == samples_of s)) (present s)
 
 -- where each channel's recording begins in the memory: from its start on in its part (request 11/12); of one channel
 -- there is no second

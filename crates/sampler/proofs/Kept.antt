@@ -10,7 +10,7 @@ use lib.ListN.{length, take, get_or, set, length-set}
 use lib.Seq.{sets, length-sets, get_or-take, length-take-le}
 use lib.Ieee.{Float, le}
 use Rattle.binary32.proofs.Truth.{yes, no, cond_split}
-use Rattle.walks.specs.Walks.{every}
+use Rattle.std.specs.List.{list_all}
 use Rattle.walks.specs.Each.{Each}
 use Rattle.walks.proofs.Lists.Every.{both}
 use Rattle.walks.proofs.Lists.Each.{each_at, each_front, each_set, each_every, each_map, each_weaker, every_each, any_each, front_map}
@@ -48,7 +48,7 @@ record Parts (s : Sampler) : Type 0 where
 parts : {s : Sampler} → SoundSampler s → Parts s
 unfolding good_sampler
 parts {s} h =
-    let g = both (good_sizes s.count s.capacity) (every (good_channel s.capacity) (present s)) h.good in
+    let g = both (good_sizes s.count s.capacity) (list_all (good_channel s.capacity) (present s)) h.good in
     record {
       sizes = g.0;
       seats = h.fitting.seats;

@@ -9,7 +9,7 @@ use borrow.Author.Tests.{leb-true, le-leb}
 use lib.Dec.{T, leb, ltb, eqb, T_not}
 use lib.ListN.{length, take}
 use lib.Ieee.Fits.{eq→eqb}
-use Rattle.walks.specs.Walks.{any}
+use Rattle.std.specs.List.{list_any}
 use Rattle.walks.proofs.Lists.Every.{both}
 use Rattle.binary32.proofs.Truth.{cond_split}
 use Rattle.common_types.specs.Settings.{beyond_limits}
@@ -96,7 +96,7 @@ good_unbroken s size h =
     record {
       change = λ x. change_unbroken (asked_of s x) good x;
       sample = λ j p. passes (good_with s size) _ h (another (no_channel s j) 1 _ tt (another (beyond_limits p) 4 _ tt (another (at_end (channel_at s j)) 6 0 tt none)));
-      frame = λ n p. passes (good_with s size) _ h (another (ltb s.count n) 1 _ tt (another (beyond_limits p) 4 _ tt (another (any at_end (take n s.channels)) 6 0 tt none)));
+      frame = λ n p. passes (good_with s size) _ h (another (ltb s.count n) 1 _ tt (another (beyond_limits p) 4 _ tt (another (list_any at_end (take n s.channels)) 6 0 tt none)));
       gather = passes (good_with s size) _ h (another (any_recording s) 21 0 tt none);
       question = λ j. passes (good_sampler s) _ good (another (no_channel s j) 1 0 tt none);
     }

@@ -2,7 +2,7 @@
 -- Definitions only.
 use Rattle.std.specs.Prelude.{ℕ, ◌-◌, ◌*◌, ◌/◌, ◌%◌, ◌^◌, min, max, Bool, false, not, ◌&&◌, ◌||◌, cond, List, leb, ltb, eqb, take, get_or, Float}
 use Rattle.std.specs.Float.Ieee.{le}
-use Rattle.walks.specs.Walks.{any, every, fold}
+use Rattle.std.specs.List.{list_any, list_all, fold}
 use Rattle.binary32.specs.Leaves.{zero32, one32}
 use Rattle.common_types.specs.declared.Params.{Params}
 use Rattle.common_types.specs.declared.Note.{Note}
@@ -44,7 +44,7 @@ unfoldable pub good_sizes : ℕ → ℕ → Bool
 good_sizes count capacity = (eqb count 1 || eqb count 2) && leb 1 capacity && leb capacity (2 ^ 22)
 
 unfoldable pub good_sampler : Sampler → Bool
-good_sampler s = good_sizes s.count s.capacity && every (good_channel s.capacity) (present s)
+good_sampler s = good_sizes s.count s.capacity && list_all (good_channel s.capacity) (present s)
 
 -- the lent memory's length divided by the channel count, rounded down, at most 2 ^ 22
 unfoldable pub capacity_of : ℕ → ℕ → ℕ
@@ -66,20 +66,20 @@ abbrev pub bad_position : Float → Bool
 bad_position position = not (le zero32 position && le position one32)
 
 abbrev pub any_full : Sampler → Bool
-any_full s = any full_of (present s)
+any_full s = list_any full_of (present s)
 
 -- row 15 of request 10/12
 abbrev pub records : Channel → Bool
 records c = is_recording_of c.head.recorder
 
 abbrev pub any_recording : Sampler → Bool
-any_recording s = any records (present s)
+any_recording s = list_any records (present s)
 
 -- what the channels in use have against what a change asks: one of them has something in its way, or too little room
 unfoldable pub against_any : Ask → Sampler → Against
 against_any a s = record {
-  blocked = any (λ (c : Channel). (against_of s.capacity a c).blocked) (present s);
-  short = any (λ (c : Channel). (against_of s.capacity a c).short) (present s);
+  blocked = list_any (λ (c : Channel). (against_of s.capacity a c).blocked) (present s);
+  short = list_any (λ (c : Channel). (against_of s.capacity a c).short) (present s);
 }
 
 -- the clock of a channel that would be stepped stands at its end
@@ -92,7 +92,7 @@ asked_of s x = record { good = good_sampler s; against = against_any (asks_of x)
 
 -- a frame of n entries steps the first n channels
 abbrev pub frame_asked_of : Sampler → ℕ → ℕ → FrameAsked
-frame_asked_of s n size = record { good = good_with s size; count = s.count; ended = any at_end (take n s.channels) }
+frame_asked_of s n size = record { good = good_with s size; count = s.count; ended = list_any at_end (take n s.channels) }
 
 -- ---- the number of each call: that of the first `row` whose test holds, and 0 at the end of a chain
 abbrev pub row : Bool → ℕ → ℕ → ℕ

@@ -5,7 +5,7 @@
 ghost use Rattle.std.specs.Prelude.{◌≡◌, ◌+◌, ◌*◌, ◌/◌, ◌%◌, ◌≤◌, ◌<◌, min, ◌&&◌, leb, length, take};
 ghost use Rattle.std.specs.Float.Ieee.{le};
 ghost use Rattle.binary32.specs.Leaves.{zero32, one32};
-ghost use Rattle.walks.specs.Walks.{any, every};
+ghost use Rattle.std.specs.List.{list_any, list_all};
 ghost use Rattle.channel.specs.declared.Change.TheVariants.{Head};
 ghost use Rattle.channel.specs.declared.HeadChange.TheVariants.{Load};
 ghost use Rattle.channel.specs.Channels.{good_channel};
@@ -234,7 +234,7 @@ impl Sampler {
     }
 
     fn good_channels(self) -> bool
-        ensures { result ≡ every (good_channel self.capacity) (present self) }
+        ensures { result ≡ list_all (good_channel self.capacity) (present self) }
     {
         let capacity = self.capacity;
         let n = places(self.count);
@@ -298,7 +298,7 @@ impl Sampler {
 
     // Whether the clock of one of the first n channels stands at its end.
     fn any_at_end(self, n: usize) -> bool
-        ensures { result ≡ any at_end (take n self.channels) }
+        ensures { result ≡ list_any at_end (take n self.channels) }
     {
         let m = places(n);
         let mut j = 0;

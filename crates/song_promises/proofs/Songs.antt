@@ -19,7 +19,7 @@ use Rattle.channel.specs.declared.Change.{Change}
 use Rattle.channel.specs.Channels.{live}
 use Rattle.voice.specs.Voices.{fresh_of}
 use Rattle.walks.specs.Each.{Each}
-use Rattle.walks.specs.Walks.{any, fold}
+use Rattle.std.specs.List.{list_any, fold}
 use Rattle.sampler.specs.Refusals.{set_up_number}
 use Rattle.sampler.specs.Samplers.{start_playing_of, stop_playing_of}
 use Rattle.sampler.specs.declared.Sampler.{Sampler}
@@ -60,7 +60,7 @@ made p w c = go c.starts
 
 each_made : (p : Params) (w : World) (cs : List Cue)
     → with_sampler (fold (λ (e : Sampler) (c : Cue). (cue_call e c p).sampler) w.sampler cs) w ≡ run w (hands p cs)
-unfolding fold run
+unfolding run
 each_made p w [] = refl
 each_made p w (c ∷ cs) =
     each_made p (with_sampler (cue_call w.sampler c p).sampler w) cs ∙ ap (λ (v : World). run v (hands p cs)) (made p w c)
@@ -132,8 +132,8 @@ rises from (e ∷ es) h = (h.0, rises e.frame es h.1)
 
 -- ---- starts and stops are neither resets nor samples
 
-no_reset : (p : Params) (cs : List Cue) → any is_reset_call (hands p cs) ≡ false
-unfolding any hand_of is_reset_call is_reset
+no_reset : (p : Params) (cs : List Cue) → list_any is_reset_call (hands p cs) ≡ false
+unfolding hand_of is_reset_call is_reset
 no_reset p [] = refl
 no_reset p (c ∷ cs) = rw (keeps c.starts) (no_reset p cs)
   where
@@ -146,8 +146,8 @@ unfolding is_sample
 silent true d = refl
 silent false d = refl
 
-no_sample : (p : Params) (w : World) (cs : List Cue) (j : ℕ) → any is_sample (events w (hands p cs) j) ≡ false
-unfolding any events hand_of event done_to
+no_sample : (p : Params) (w : World) (cs : List Cue) (j : ℕ) → list_any is_sample (events w (hands p cs) j) ≡ false
+unfolding events hand_of event done_to
 no_sample p w [] j = refl
 no_sample p w (c ∷ cs) j = rw (keeps c.starts) (no_sample p (after w (hand_of p c)) cs j)
   where

@@ -1,6 +1,6 @@
 -- Playing the list equals making the calls by hand. Assumes nothing.
 use Rattle.std.proofs.Common.{◌≡◌, ℕ, ◌+◌, ◌*◌, Bool, true, false, cond, eqb, leb, List, [], ◌∷◌, ◌++◌, length, drop, refl, arith}
-use Rattle.walks.specs.Walks.{fold}
+use Rattle.std.specs.List.{fold}
 use Rattle.common_types.specs.declared.Params.{Params}
 use Rattle.sampler.specs.declared.Sampler.{Sampler}
 use Rattle.smf.specs.declared.Cue.{Cue}
@@ -29,7 +29,7 @@ module _ (at : ℕ) (p : Params) where
   Made s next refused r due = (r.sampler ≡ fold made s due) × (r.next ≡ next + length due) × (r.refused ≡ refused + length (refused_of s due p))
 
   hands : (s : Sampler) (cs : List Cue) (next refused : ℕ) → Made s next refused (cues_played s cs next at p refused) (due_of at cs)
-  unfolding cues_played due_of fold refused_of
+  unfolding cues_played due_of refused_of
   hands s [] next refused = (refl, omega arith, omega arith)
   hands s (c ∷ cs) next refused =
       let a = cue_call s c p in

@@ -2,7 +2,7 @@
 -- Definitions only.
 use Rattle.std.specs.Prelude.{◌≡◌, ℕ, ◌+◌, ◌*◌, cond, List, [], ◌∷◌, ◌++◌, length, drop, ◌==◌, nat_le}
 use Rattle.binary32.specs.Leaves.{as_float}
-use Rattle.walks.specs.Walks.{fold}
+use Rattle.std.specs.List.{fold}
 use Rattle.channel.specs.declared.Change.{Change}
 use Rattle.channel.specs.declared.Change.TheVariants as change
 use Rattle.common_types.specs.Notes.{from_u64_of}

@@ -1,11 +1,11 @@
 -- `any_of` meets its contract. Assumes nothing.
-use Rattle.walks.specs.Walks.{any}
+use Rattle.std.specs.List.{list_any}
 use Rattle.lent_sampler.specs.Numbers.{any_of}
 use Rattle.lent_sampler.proofs.Numbers.{any_first, any_both}
 use Rattle.lent_sampler.proofs.any_of.Goals as goal
 
 pub returns-then-n-eq0 : goal.returns-then-n-eq0
-unfolding any_of any
+unfolding any_of
 returns-then-n-eq0 c = simp c.if-n-eq0.true
 
 pub returns-then-n-eq1 : goal.returns-then-n-eq1

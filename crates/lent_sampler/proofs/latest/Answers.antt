@@ -1,12 +1,12 @@
 -- `latest` meets its contract. Assumes nothing.
-use Rattle.walks.specs.Walks.{fold}
+use Rattle.std.specs.List.{fold}
 use Rattle.lent_sampler.specs.Numbers.{latest_time}
 use Rattle.lent_sampler.proofs.Numbers.{latest_first, latest_later, latest_former}
 use Rattle.std.proofs.Common.{rules}
 use Rattle.lent_sampler.proofs.latest.Goals as goal
 
 pub returns-then-n-eq0 : goal.returns-then-n-eq0
-unfolding latest_time fold
+unfolding latest_time
 returns-then-n-eq0 c = simp c.if-n-eq0.true
 
 pub returns-then-n-eq1 : goal.returns-then-n-eq1

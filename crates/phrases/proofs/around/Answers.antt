@@ -1,6 +1,6 @@
 -- `around` meets its contract, by the law of loops. Assumes nothing.
 use Rattle.std.proofs.Common.{◌≡◌, length, ap, ◌∙◌, le_of_eq, arith, take_all, rules}
-use Rattle.walks.specs.Walks.{fold}
+use Rattle.std.specs.List.{fold}
 use Rattle.walks.proofs.Lists.Loops.{turns, ends}
 use Rattle.phrases.specs.Phrases.{no_phrase, beside_with, beside_of}
 use Rattle.phrases.proofs.around.Goals as goal
@@ -17,9 +17,7 @@ loop-i-init c =
     }
 
 pub loop-i-preserved : goal.loop-i-preserved
-unfolding fold
 loop-i-preserved c = turns no_phrase c.loop-i.invariant (search rules) (λ xs. simp c.with-b.ensures)
 
 pub returns : goal.returns
-unfolding fold
 returns c = ends c.loop-i.invariant c.loop-i-test.false

@@ -1,5 +1,5 @@
 use Rattle.std.proofs.Common.{◌-◌}
-use Rattle.walks.specs.Walks.{fold}
+use Rattle.std.specs.List.{fold}
 use Rattle.walks.proofs.Lists.Loops.{Walk}
 use Rattle.phrases.specs.Phrases.{beside_with, beside_of}
 use Rattle.phrases.proofs.around.Given as goal

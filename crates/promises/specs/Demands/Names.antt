@@ -6,7 +6,7 @@ pub use Rattle.std.specs.Float.Ieee.{up, down, add, sub, mul, div, eq, le, is_na
 pub use Rattle.std.specs.Float.Ieee.Exact.{HasValue}
 pub use Rattle.std.specs.Float.Ieee.Scale.{finite}
 pub use Rattle.std.specs.Float.Ieee.Positive.{positive}
-pub use Rattle.walks.specs.Walks.{any}
+pub use Rattle.std.specs.List.{list_any}
 pub use Rattle.walks.specs.Each.{Each}
 pub use Rattle.binary32.specs.Leaves.{as_float, as_whole, floor_of, min_of, max_of, bits_of, float_of, root_of, zero32}
 pub use Rattle.binary32.specs.Roots.{NearestRoot}

@@ -4,7 +4,7 @@ use Prim.Native.Nat.{◌-◌}
 use lib.ListN.{length}
 use lib.Ieee.{Float}
 use Rattle.binary32.specs.Leaves.{max_of}
-use Rattle.walks.specs.Walks.{fold}
+use Rattle.std.specs.List.{fold}
 use Rattle.walks.proofs.Lists.Loops.{Walk}
 use Rattle.questions.specs.Waveforms.{largest_of}
 use Rattle.questions.proofs.largest.Given as goal

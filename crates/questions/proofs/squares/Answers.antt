@@ -4,7 +4,7 @@ use mathlib.Core.List.{List, map}
 use Prim.Native.Nat.{ℕ}
 use lib.Ieee.{Float, of_bits}
 use Rattle.binary32.specs.Leaves.{float_of, zero32}
-use Rattle.walks.specs.Walks.{fold}
+use Rattle.std.specs.List.{fold}
 use Rattle.walks.proofs.Lists.Loops.{turns, ends}
 use Rattle.questions.specs.Waveforms.{with_square}
 use Rattle.questions.proofs.Filling.{from_start}
@@ -16,12 +16,10 @@ unfolding of_bits
 loop-i-init c = (from_start (λ (xs : List ℕ). fold with_square zero32 (map float_of xs)) _ _ refl, refl)
 
 pub loop-i-preserved : goal.loop-i-preserved
-unfolding fold
 loop-i-preserved c = (
   turns 0 c.loop-i.invariant.0 (search rules) (λ xs. ap (λ (x : Float). fold with_square (with_square c.loop-i.total x) (map float_of xs)) (sym c.from_bits-x.ensures)),
   c.loop-i.invariant.1,
 )
 
 pub returns : goal.returns
-unfolding fold
 returns c = ends c.loop-i.invariant.0 c.loop-i-test.false

@@ -3,7 +3,7 @@ use mathlib.Core.List.{List, map}
 use Prim.Native.Nat.{ℕ, ◌-◌}
 use lib.ListN.{length}
 use Rattle.binary32.specs.Leaves.{float_of}
-use Rattle.walks.specs.Walks.{fold}
+use Rattle.std.specs.List.{fold}
 use Rattle.walks.proofs.Lists.Loops.{Walk}
 use Rattle.questions.specs.Waveforms.{with_square, squares_of}
 use Rattle.questions.proofs.squares.Given as goal

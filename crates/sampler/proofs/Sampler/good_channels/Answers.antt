@@ -1,5 +1,5 @@
 -- `Sampler::good_channels` meets its contract, by the law of loops. Assumes nothing.
-use Rattle.walks.specs.Walks.{every}
+use Rattle.std.specs.List.{list_all}
 use Rattle.walks.proofs.Lists.Loops.{turns, stops, ends, begins}
 use Rattle.channel.specs.Channels.{good_channel}
 use Rattle.sampler.proofs.Seats.{none}
@@ -7,16 +7,13 @@ use borrow.Author.Rules.{rules}
 use Rattle.sampler.proofs.Sampler.good_channels.Goals as goal
 
 pub loop-j-init : goal.loop-j-init
-loop-j-init c = begins (every (good_channel c.args.self.capacity)) c.args.self.channels c.args.self.count _ 2 (search rules) c.places-n.ensures
+loop-j-init c = begins (list_all (good_channel c.args.self.capacity)) c.args.self.channels c.args.self.count _ 2 (search rules) c.places-n.ensures
 
 pub returns-then-not-good : goal.returns-then-not-good
-unfolding every
 returns-then-not-good c = stops none c.loop-j.invariant (search rules) (λ xs. simp (← c.good.ensures, c.if-not-good.true))
 
 pub loop-j-preserved : goal.loop-j-preserved
-unfolding every
 loop-j-preserved c = turns none c.loop-j.invariant (search rules) (λ xs. simp (← c.good.ensures, c.if-not-good.false))
 
 pub returns : goal.returns
-unfolding every
 returns c = ends c.loop-j.invariant c.loop-j-test.false

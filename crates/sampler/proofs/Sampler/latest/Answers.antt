@@ -1,5 +1,5 @@
 -- `Sampler::latest` meets its contract, by the law of loops. Assumes nothing.
-use Rattle.walks.specs.Walks.{fold}
+use Rattle.std.specs.List.{fold}
 use Rattle.walks.proofs.Lists.Loops.{turns, ends, begins}
 use Rattle.sampler.specs.Refusals.{later_of, latest_of}
 use Rattle.sampler.proofs.Seats.{none}
@@ -11,9 +11,7 @@ unfolding latest_of
 loop-j-init c = begins (fold later_of 0) c.args.self.channels c.args.self.count _ 2 (search rules) c.places-n.ensures
 
 pub loop-j-preserved : goal.loop-j-preserved
-unfolding fold
 loop-j-preserved c = turns none c.loop-j.invariant (search rules) (λ xs. simp c.larger-time.ensures)
 
 pub returns : goal.returns
-unfolding fold
 returns c = ends c.loop-j.invariant c.loop-j-test.false
