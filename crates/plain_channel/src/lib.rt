@@ -93,8 +93,7 @@ fn cool_glide(c: &mut Channel, side: &mut Side, t: Tick, g: Going, n: usize, dat
         side.new result }
 {
     let mut output = g.output;
-    let mut i = g.place;
-    while i < n {
+    for i in g.place..n {
         if side.hots[i].plain {
             return lent_channel::glided(i, output);
         }
@@ -106,9 +105,8 @@ fn cool_glide(c: &mut Channel, side: &mut Side, t: Tick, g: Going, n: usize, dat
         let w = q.voice;
         c.voices[i] = w;
         output = lent_channel::added(output, w);
-        i = i + 1;
     }
-    lent_channel::glided(i, output)
+    lent_channel::glided(n, output)
 }
 
 // Plain voices take their turns in place, from the next on and before the n-th, up to the first that isn't plain or
@@ -127,8 +125,7 @@ fn hot_glide(
         side.new result }
 {
     let mut output = g.output;
-    let mut i = g.place;
-    while i < n {
+    for i in g.place..n {
         let h = side.hots[i];
         if !h.plain {
             return lent_channel::glided(i, output);
@@ -147,9 +144,8 @@ fn hot_glide(
         side.hots[i].place = next.place;
         side.hots[i].lap = next.lap;
         output = lent_channel::added(output, w);
-        i = i + 1;
     }
-    lent_channel::glided(i, output)
+    lent_channel::glided(n, output)
 }
 
 // The voice that stood at g's place has taken its turn, or rested, and stands at g's count of those that stay if it does:
@@ -346,14 +342,12 @@ fn ease(c: &mut Channel, side: &mut Side, params: Params, n: usize, data: &[u32]
 {
     let turns = channel::places(c.count);
     let m = params.measure();
-    let mut i: usize = 0;
-    while i < turns {
+    for i in 0..turns {
         if !ease_next(c, side, i, n, params, m, data) {
             return i;
         }
-        i = i + 1;
     }
-    i
+    turns
 }
 
 // So many samples are poured at a time of those to go.

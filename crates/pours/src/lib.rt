@@ -213,10 +213,8 @@ fn pour(data: &[u32], from: usize, level: f32, sums: &mut [f32], at: usize, m: u
     requires { (from + m ≤ length «data».now) × (at + m ≤ length «sums».old) }
     ensures { Added (λ (k : ℕ). term_at «data».now level (from + (k - at))) at (at + m) «sums».old «sums».new }
 {
-    let mut k: usize = 0;
-    while k < m {
+    for k in 0..m {
         sums[at + k] = sums[at + k] + binary32::from_bits(data[from + k]) * level;
-        k += 1;
     }
 }
 
@@ -472,13 +470,11 @@ fn places_from(c: Clip, from: u32, values: &mut [u32], n: usize) -> bool
 {
     let mode = c.mode;
     let mut told = true;
-    let mut k: usize = 0;
-    while k < n {
+    for k in 0..n {
         let y = wrapped(mode, travel(c.shift, c.speed, from + (k as u32)), c.length);
         let p = spot_at(y, c.start, c.length, c.data_length);
         values[k] = p.index;
         told = told & ((y >= 0.0) & p.told);
-        k += 1;
     }
     told
 }
@@ -558,14 +554,12 @@ fn places_within(c: Clip, way: Way, near: f64, from: u32, values: &mut [u32], n:
     ensures { (length «values».new ≡ length «values».old) × (result ≡ true → CountedPlaces c from n «values».new) }
 {
     let mut told = true;
-    let mut k: usize = 0;
-    while k < n {
+    for k in 0..n {
         let x = size_by(way, travel(c.shift, c.speed, from + (k as u32)));
         let y = left_by(x, near, period(way, c.length));
         let p = spot_at(place_by(way, y, c.length), c.start, c.length, c.data_length);
         values[k] = p.index;
         told = told & ((y > 0.0) & p.told);
-        k += 1;
     }
     told
 }
@@ -644,15 +638,13 @@ fn places_far(c: Clip, time: usize, values: &mut [u32], n: usize) -> bool
     ensures { (length «values».new ≡ length «values».old) × (result ≡ true → Places c time n «values».new) }
 {
     let mode = c.mode;
-    let mut k: usize = 0;
-    while k < n {
+    for k in 0..n {
         let y = wrapped(mode, travel_at(c, time + k), c.length);
         let p = spot_at(y, c.start, c.length, c.data_length);
         if !((y >= 0.0) & p.told) {
             return false;
         }
         values[k] = p.index;
-        k += 1;
     }
     true
 }
@@ -680,11 +672,9 @@ fn ends(played: f32, by: f32, whole: f32, n: usize) -> bool
 {
     let mut sum = played;
     let mut over = false;
-    let mut k: usize = 0;
-    while k < n {
+    for k in 0..n {
         sum = sum + by;
         over = over | (whole <= binary32::abs(sum));
-        k += 1;
     }
     over
 }
@@ -720,12 +710,10 @@ fn fetch(data: &[u32], played: f32, by: f32, values: &mut [u32], n: usize) -> Fe
 {
     let mut index: usize = 0;
     let mut sum = played;
-    let mut k: usize = 0;
-    while k < n {
+    for k in 0..n {
         index = values[k] as usize;
         values[k] = pattern_at(data, index);
         sum = sum + by;
-        k += 1;
     }
     Fetched {
         index,
@@ -781,10 +769,8 @@ fn add_levels(values: &[u32], volume: Volume, time: usize, sums: &mut [f32], n: 
     requires { (time ≤ 2 ^ 62) × (n ≤ 2 ^ 24) × (n ≤ length «values».now) × (n ≤ length «sums».old) }
     ensures { Added (leveled «values».now volume time) 0 n «sums».old «sums».new }
 {
-    let mut k: usize = 0;
-    while k < n {
+    for k in 0..n {
         sums[k] = sums[k] + binary32::from_bits(values[k]) * volume.level(time + k);
-        k += 1;
     }
 }
 
@@ -801,11 +787,9 @@ fn add_ramp(values: &[u32], from: u32, over: f32, low: f32, rise: f32, sums: &mu
     requires { (from + n ≤ 2 ^ 24) × (n ≤ length «values».now) × (n ≤ length «sums».old) }
     ensures { Added (λ (k : ℕ). term_at «values».now (ramp_by over low rise (from + k)) k) 0 n «sums».old «sums».new }
 {
-    let mut k: usize = 0;
-    while k < n {
+    for k in 0..n {
         sums[k] = sums[k]
             + binary32::from_bits(values[k]) * ramp_level(from + (k as u32), over, low, rise);
-        k += 1;
     }
 }
 
