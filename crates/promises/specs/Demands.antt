@@ -45,8 +45,8 @@ pub record Demand1 : Type 0 where
       → (j : ℕ) (p : Params) (x : Float) (m : List ℕ) → event w c j ≡ sounds p x m
       → own_part (left_by w c r) j ≡ memory_of x (chan w j) m
   -- So it is of several calls, and of a run of frames, which is its frame calls (`in_turn`).
-  pub unwritten_run : (w : World) (cs : List Call) (j : ℕ) → any is_sample (events w cs j) ≡ false
-      → any rewrites cs ≡ false → own_part (run w cs) j ≡ own_part w j
+  pub unwritten_run : (w : World) (cs : List Call) (j : ℕ) → list_any is_sample (events w cs j) ≡ false
+      → list_any rewrites cs ≡ false → own_part (run w cs) j ≡ own_part w j
   pub run_sized : (w : World) → FittingSampler w.sampler → (xs : List Float) (p : Params) → FittingParams p
       → (r : RunOutcome) → Allows (along w xs p) r → length (world_left_along r).memory ≡ length w.memory
   -- "voice info fills a lent list of `VoiceInfo` records", and "a lent list longer than the answer keeps its rest." The
@@ -87,7 +87,7 @@ pub record Demand1 : Type 0 where
   pub frame_rows : (w : World) (xs : List Float) (p : Params) → code w (frame xs p)
       ≡ row (not (good_with w.sampler (length w.memory))) 9
       (row (ltb w.sampler.count (length xs)) 1
-      (row (beyond_limits p) 4 (row (any at_end (take (length xs) w.sampler.channels)) 6 0)))
+      (row (beyond_limits p) 4 (row (list_any at_end (take (length xs) w.sampler.channels)) 6 0)))
   -- A run of frames (request 3/12): "9, then 10 for a length that isn't a whole number of frames, then 4, then 6 with
   -- the count done." `frames_left` is what the largest clock of the channels in use has left.
   pub run_rows : (w : World) (xs : List Float) (p : Params) (r : RunOutcome) → Allows (along w xs p) r
@@ -380,7 +380,7 @@ pub record Demand3 (w : World) (j : ℕ) : Type 0 where
   pub counts : (s : Call) (p : Params) (x : Float) (m : List ℕ) → event w s j ≡ sounds p x m
       → (chan (after w s) j).head.now ≡ (chan w j).head.now + 1
   -- and calls among which there is none leave it: so the next one after a start has the start's count.
-  pub stands : (cs : List Call) → any is_reset_call cs ≡ false → any is_sample (events w cs j) ≡ false
+  pub stands : (cs : List Call) → list_any is_reset_call cs ≡ false → list_any is_sample (events w cs j) ≡ false
       → (chan (run w cs) j).head.now ≡ (chan w j).head.now
   -- What is heard: the call's output for the channel is `volume` times the channel's own.
   pub hears : (s : Call) (p : Params) (x : Float) (m : List ℕ) → event w s j ≡ sounds p x m
@@ -391,7 +391,7 @@ pub record Demand3 (w : World) (j : ℕ) : Type 0 where
   -- recording is judged once the sample has recorded.
   pub on_time : (position : Float) (note : Note) (velocity : Float) (p₀ : Params)
       → code w (start position note velocity p₀) ≡ 0 → is_empty (chan w j) ≡ false
-      → (cs : List Call) → any is_reset_call cs ≡ false
+      → (cs : List Call) → list_any is_reset_call cs ≡ false
       → (s : Call) (p : Params) (x : Float) (m : List ℕ)
       → event (run w (start position note velocity p₀ ∷ cs)) s j ≡ sounds p x m
       → (chan (run w (start position note velocity p₀ ∷ cs)) j).head.now ≡ (chan w j).head.now
@@ -404,14 +404,14 @@ pub record Demand3 (w : World) (j : ℕ) : Type 0 where
   -- And until it is finished a voice sounds, where it then stands, in every accepted sample that finds the recording
   -- not empty.
   pub sounds_on : (n : ℕ) (v : Voice) → voice_at (chan w j) n ≡ some v → v.finished ≡ false
-      → (cs : List Call) → any is_reset_call cs ≡ false → finished_in (events w cs j) (chan w j) n ≡ false
+      → (cs : List Call) → list_any is_reset_call cs ≡ false → finished_in (events w cs j) (chan w j) n ≡ false
       → (s : Call) (p : Params) (x : Float) (m : List ℕ) → event (run w cs) s j ≡ sounds p x m
       → empty_at m (chan (run w cs) j) v ≡ false
       → (k : ℕ) × (u : Voice) × (follow_all (events w cs j) (chan w j) n ≡ at k) × SoundsIn (run w cs) s j p x m k u
   -- STAYS. "No voice leaves before a stop or play-once has finished it." The call that it leaves in may be the one that
   -- finishes it.
   pub stays : (n : ℕ) (v : Voice) → voice_at (chan w j) n ≡ some v → v.finished ≡ false
-      → (cs : List Call) → any is_reset_call cs ≡ false → follow_all (events w cs j) (chan w j) n ≡ gone
+      → (cs : List Call) → list_any is_reset_call cs ≡ false → follow_all (events w cs j) (chan w j) n ≡ gone
       → finished_in (events w cs j) (chan w j) n ≡ true
   -- How a voice is followed: at the place that it is followed to stands what the call makes of that very voice. Voices
   -- keep their order,
@@ -459,7 +459,7 @@ pub record Undisturbed (w : World) (j : ℕ) (b : Call) (cs : List Call) (s : Ca
     (born : Voice) (k : ℕ) : Type 0 where
   pub accepted : code w b ≡ 0
   pub recorded : is_empty (chan w j) ≡ false
-  pub no_reset : any is_reset_call cs ≡ false
+  pub no_reset : list_any is_reset_call cs ≡ false
   pub unfinished : finished_in (events (after w b) cs j) (chan (after w b) j) (length (live (chan w j))) ≡ false
   pub unaltered : altered_in (events (after w b) (cs ++ (s ∷ [])) j) (chan (after w b) j) (length (live (chan w j)))
       ≡ false
