@@ -55,7 +55,7 @@ ghost use Rattle.questions.specs.Waveforms.{
 
 use channel::{Channel, Head};
 use common_types::{InitParams, Params};
-use recorder::{LastOffset, Recorder, Text};
+use recorder::Recorder;
 use sampler::{Sampler, first_of};
 use voice::Voice;
 
@@ -74,7 +74,7 @@ pub enum Told {
 
 #[derive(Clone, Copy)]
 pub enum OffsetAnswer {
-    Done(LastOffset),
+    Done(Option<usize>),
     Refused(u8),
 }
 
@@ -255,8 +255,8 @@ pub fn error_in(t: Seen, channel: usize, text: &mut [u8]) -> Counted
     }
     let written = recorder_in(t, channel).print_error_info(text);
     match written {
-        Text::Written(count) => Counted::Done(count),
-        Text::Short => Counted::Refused(8),
+        Ok(count) => Counted::Done(count),
+        Err(_) => Counted::Refused(8),
     }
 }
 
@@ -281,8 +281,7 @@ fn write_note(v: Voice, k: usize, notes: &mut [u64])
     if v.finished {
         return;
     }
-    let note = v.note;
-    notes[k] = note.into_u64();
+    notes[k] = u64::from(v.note);
 }
 
 fn active_count(c: Channel) -> usize

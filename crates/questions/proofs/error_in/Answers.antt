@@ -12,14 +12,14 @@ returns-then-number-ne0 c =
     let is = text_refused (not at.t.good) (not (ltb at.channel at.t.count)) (head_in at.t at.channel).recorder at.text.now _ c.number_in-number.ensures c.if-number-ne0.true in
     record { value = is.0; text_after = is.1 }
 
-pub returns-in-Written : goal.returns-in-Written
-returns-in-Written c =
+pub returns-in-Ok : goal.returns-in-Ok
+returns-in-Ok c =
     let at = c.args in
-    let is = text_written (not at.t.good) (not (ltb at.channel at.t.count)) c.recorder_in.result _ _ c.number_in-number.ensures c.if-number-ne0.false _ (sym c.print_error_info-written.ensures.value ∙ c.in-Written.is) in
+    let is = text_written (not at.t.good) (not (ltb at.channel at.t.count)) c.recorder_in.result _ _ c.number_in-number.ensures c.if-number-ne0.false _ (sym c.print_error_info-written.ensures.value ∙ c.in-Ok.is) in
     rw (← c.recorder_in.ensures) (record { value = is.0; text_after = c.print_error_info-written.ensures.text_after ∙ is.1 })
 
-pub returns-in-Short : goal.returns-in-Short
-returns-in-Short c =
+pub returns-in-Err : goal.returns-in-Err
+returns-in-Err c =
     let at = c.args in
-    let is = text_short (not at.t.good) (not (ltb at.channel at.t.count)) c.recorder_in.result _ _ c.number_in-number.ensures c.if-number-ne0.false (sym c.print_error_info-written.ensures.value ∙ c.in-Short.is) in
+    let is = text_short (not at.t.good) (not (ltb at.channel at.t.count)) c.recorder_in.result _ _ c.number_in-number.ensures c.if-number-ne0.false _ (sym c.print_error_info-written.ensures.value ∙ c.in-Err.is) in
     rw (← c.recorder_in.ensures) (record { value = is.0; text_after = c.print_error_info-written.ensures.text_after ∙ is.1 })
