@@ -317,7 +317,7 @@ fn ease_next(
     }
     let t = Tick::measured(params, m, c.head.moment_on(k, phrase.length));
     let room = phrase.room(data.len());
-    let r = pours::poured(
+    let poured = pours::poured(
         h,
         v,
         t,
@@ -327,11 +327,12 @@ fn ease_next(
         &mut side.pour.values,
         n,
     );
-    if r.eases {
-        c.voices[i] = r.voice;
-        side.hots[i] = r.hot;
-    }
-    r.eases
+    let Some(r) = poured else {
+        return false;
+    };
+    c.voices[i] = r.voice;
+    side.hots[i] = r.hot;
+    true
 }
 
 // Pours the first voices, as many as ease over n samples one after the other, and says how many.

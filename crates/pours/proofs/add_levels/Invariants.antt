@@ -1,4 +1,4 @@
-use Prim.Native.Nat.{◌-◌, ◌≤◌}
+use Prim.Native.Nat.{◌≤◌}
 use Rattle.pours.specs.Eases.{Added}
 use Rattle.pours.specs.Steady.{leveled}
 use Rattle.pours.proofs.add_levels.Given as goal

@@ -1,4 +1,4 @@
-use Prim.Native.Nat.{ℕ, ◌+◌, ◌-◌, ◌≤◌}
+use Prim.Native.Nat.{ℕ, ◌+◌, ◌≤◌}
 use Rattle.pours.specs.Eases.{term_at, Added}
 use Rattle.pours.specs.Steady.{ramp_by}
 use Rattle.pours.proofs.add_ramp.Given as goal

@@ -1,5 +1,5 @@
 use mathlib.Core.Path.{◌≡◌}
-use Prim.Native.Nat.{◌-◌, ◌≤◌}
+use Prim.Native.Nat.{◌≤◌}
 use mathlib.Core.Bool.{false}
 use Rattle.pours.specs.Steady.{played_on, PlaysBelow}
 use Rattle.pours.proofs.ends.Given as goal
