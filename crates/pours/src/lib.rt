@@ -143,6 +143,7 @@ fn last_but_one(before: f32, h: Hot, b: Beat, data: &[u32], level: f32, n: usize
 }
 
 // The voice after some samples, of which the last two were `last` and the one at that index.
+#[tactic(auto, unfolding(crate::specs::Eases::last_heard))]
 fn heard(v: Voice, index: usize, value: f32, last: f32, played: f32) -> Voice
     ensures { result ≡ last_heard v index value last played }
 {
