@@ -2,7 +2,7 @@
 --     Still            how many have been poured;  `still_first`, `still_asks`, `still_after`, `still_eased`, none yet, what the next asks, what it comes to, and what all come to
 --     pours_one        the next is poured, as its phrase is looked up
 -- Assumes nothing.
-use mathlib.Core.Path.{◌≡◌, refl, sym, ◌∙◌, ap, subst}
+use mathlib.Core.Path.{◌≡◌, refl, ◌∙◌, ap, subst}
 use Prim.Native.Nat.{ℕ, ◌+◌, ◌≤◌, ◌<◌, min}
 use native.Mathlib.Omega.{arith}
 use mathlib.Core.Bool.{Bool, true, false, cond}

@@ -219,7 +219,7 @@ fn go_on(
 }
 
 // Each voice from g's place on takes its turn if its phrase isn't empty; those that are then to be removed leave, and the
-// others move up in order, with their positions.
+// others move up in order, with their positions. No `for`: a turn of the loop goes on by as many voices as glide.
 fn play(
     c: &mut Channel,
     side: &mut Side,

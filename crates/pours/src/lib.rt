@@ -61,7 +61,8 @@ struct Spot {
     told: bool,
 }
 
-// Which way a voice goes through one lap: on through its loop or back through it, or there and back.
+// Which way a voice goes through one lap: on through its loop or back through it, or there and back. A const parameter
+// can't be of an enum, and as a number it says less.
 #[derive(Clone, Copy)]
 enum Way {
     Up,
@@ -143,6 +144,7 @@ fn last_but_one(before: f32, h: Hot, b: Beat, data: &[u32], level: f32, n: usize
 }
 
 // The voice after some samples, of which the last two were `last` and the one at that index.
+#[tactic(auto, unfolding(crate::specs::Eases::last_heard))]
 fn heard(v: Voice, index: usize, value: f32, last: f32, played: f32) -> Voice
     ensures { result ≡ last_heard v index value last played }
 {
@@ -188,7 +190,8 @@ fn pour(data: &[u32], from: usize, level: f32, sums: &mut [f32], at: usize, m: u
     }
 }
 
-// Adds n samples from its place on to the first n sums, in parts that go straight on.
+// Adds n samples from its place on to the first n sums, in parts that go straight on. No `for`: each turn goes on by as many
+// samples as its part has.
 fn pour_all(h: Hot, b: Beat, data: &[u32], level: f32, sums: &mut [f32], n: usize)
     requires { (h.start ≤ 2 ^ 22) × (h.place < b.length) × (b.length ≤ 2 ^ 22) × (1 ≤ b.total) × (b.total ≤ length «data».now) × (n ≤ length «sums».old) }
     ensures { Added (λ (k : ℕ). term_at «data».now level (plain_index h.start b.length b.total (h.place + k))) 0 n «sums».old «sums».new }
@@ -499,7 +502,8 @@ fn places_within(c: Clip, way: Way, near: f64, from: u32, values: &mut [u32], n:
     told
 }
 
-// Each way by a function of its own, so that each is a loop of its own.
+// Each way by a function of its own, so that each is a loop of its own: one function called three times with a constant is
+// made one call again, with no vectors (bench/TRIED.md).
 fn places_up(c: Clip, near: f64, from: u32, values: &mut [u32], n: usize) -> bool
     requires { (c.mode ≡ Mode.Loop) × (from + n ≤ 2 ^ 24 + 1) × (n ≤ length «values».old) }
     ensures { (length «values».new ≡ length «values».old) × (result ≡ true → CountedPlaces c from n «values».new) }
@@ -770,7 +774,8 @@ fn fully(
 }
 
 // Adds n samples of the voice to the sums, if it eases over them; else they are left. What is left in the list of values is
-// not to be looked at.
+// not to be looked at. A count beside the buffers, since those are arrays of the lent record and `Pours` says of the sums
+// past n, too, that they stay.
 pub fn poured(
     h: Hot,
     v: Voice,
