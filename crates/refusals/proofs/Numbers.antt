@@ -1,7 +1,8 @@
--- How a call is judged and its number say the same: 0 for done, and for each refusal another. Assumes nothing.
+-- A refusal is told by its number, and so is how a call was judged. Assumes nothing.
 use Rattle.std.proofs.Common.{◌≡◌, ◌≢◌, ℕ, Bool, true, false, cond, eqb, Result, Ok, Err, is_ok, true≢false, refl, sym, ap, ◌∙◌}
 use Rattle.std.proofs.lemmas.Bool.{eqb-false}
 use Rattle.refusals.specs.Refusals.{number_of, code_of, row}
+use Rattle.refusals.proofs.Codes.{numbered, coded}
 use Rattle.refusals.specs.declared.Refusal.{Refusal}
 use Rattle.refusals.specs.declared.Refusal.TheVariants.{
   NoChannel,
@@ -56,45 +57,27 @@ unfolding refusal_of
 refusal_back NoChannel = refl
 refusal_back r = refl
 
--- no two refusals have one number,
+-- no two refusals have one number
 pub number_same : (r s : Refusal) → number_of r ≡ number_of s → r ≡ s
 number_same r s h = sym (refusal_back r) ∙ ap refusal_of h ∙ refusal_back s
 
--- and none has 0
-pub number_above : (r : Refusal) → eqb (number_of r) 0 ≡ false
-number_above NoChannel = refl
-number_above r = refl
-
 -- ---- of what is answered by so much
 module _ {A : Type 0} where
-  -- it is done exactly where its number is 0
-  pub code_zero : (r : Result A Refusal) → eqb (code_of r) 0 ≡ is_ok r
-  code_zero (Ok x) = refl
-  code_zero (Err e) = number_above e
-
-  pub done_code : (r : Result A Refusal) → is_ok r ≡ true → code_of r ≡ 0
-  done_code (Ok x) h = refl
-  done_code (Err e) h = absurd (true≢false (sym h))
-
-  pub code_done : (r : Result A Refusal) → code_of r ≡ 0 → is_ok r ≡ true
-  code_done r h = sym (code_zero r) ∙ ap (λ (n : ℕ). eqb n 0) h
-
-  pub code_refused : (r : Result A Refusal) → code_of r ≢ 0 → is_ok r ≡ false
-  code_refused (Ok x) h = absurd (h refl)
-  code_refused (Err e) h = refl
+  pub refused_at : (r : Result A Refusal) → code_of r ≢ 0 → is_ok r ≡ false
+  refused_at (Ok x) h = absurd (h refl)
+  refused_at (Err e) h = refl
 
   pub refused_code : (r : Result A Refusal) → is_ok r ≡ false → code_of r ≢ 0
   refused_code (Ok x) h k = true≢false h
-  refused_code (Err e) h k = eqb-false (number_of e) 0 (number_above e) k
+  refused_code (Err e) h k = eqb-false (number_of e) 0 (numbered e) k
 
-  -- a row of the table, by its number
-  pub code_row : (test : Bool) (e : Refusal) (rest : Result A Refusal) → code_of (row test e rest) ≡ cond test (number_of e) (code_of rest)
-  code_row true e rest = refl
-  code_row false e rest = refl
+  -- a row of the table, by its number, before rows whose number is known
+  pub code_row : (test : Bool) (e : Refusal) (rest : Result A Refusal) (n : ℕ) → code_of rest ≡ n → code_of (row test e rest) ≡ cond test (number_of e) n
+  code_row test e rest n h = coded test e rest ∙ ap (cond test (number_of e)) h
 
 -- what two numbers say of calls that answer nothing more
 pub code_same : (r s : Result (Unit {0}) Refusal) → code_of r ≡ code_of s → r ≡ s
 code_same (Ok x) (Ok y) h = refl
-code_same (Ok x) (Err e) h = absurd (eqb-false (number_of e) 0 (number_above e) (sym h))
-code_same (Err d) (Ok y) h = absurd (eqb-false (number_of d) 0 (number_above d) h)
+code_same (Ok x) (Err e) h = absurd (eqb-false (number_of e) 0 (numbered e) (sym h))
+code_same (Err d) (Ok y) h = absurd (eqb-false (number_of d) 0 (numbered d) h)
 code_same (Err d) (Err e) h = ap Err (number_same d e h)
