@@ -11,10 +11,9 @@ use Rattle.common_types.specs.declared.Params.{Params}
 use Rattle.common_types.specs.declared.Transport.{Transport}
 use Rattle.common_types.specs.declared.LoopMode.{LoopMode}
 use Rattle.common_types.specs.declared.LoopMode.TheVariants.{PingPong}
-use Rattle.common_types.specs.declared.LoopModeAnswer.TheVariants as loop_mode
+use Rattle.std.specs.Prelude.{Ok, Err}
 use Rattle.common_types.specs.declared.NoteOffBehaviour.{NoteOffBehaviour}
 use Rattle.common_types.specs.declared.NoteOffBehaviour.TheVariants.{DecayAndZeroCrossing}
-use Rattle.common_types.specs.declared.NoteOffBehaviourAnswer.TheVariants as note_off
 use Rattle.common_types.specs.declared.time_value.TimeValue.TheVariants.{QuarterNotes, Samples, Seconds, Bars}
 use Rattle.common_types.specs.declared.time_value.TimeOrRatio.{TimeOrRatio}
 use Rattle.common_types.specs.declared.time_value.TimeOrRatio.TheVariants.{Time, Ratio, WholeBars}
@@ -97,11 +96,11 @@ note_at r = note_of (byte_at r 3) (byte_at r 4)
 
 -- the modes by their index, as the engine numbers them; for one that it refuses, the last
 unfoldable pub loop_mode_of : ℕ → LoopMode
-loop_mode_of index = elim (loop_mode_from_index_of index) [ loop_mode.Done mode ↦ mode | loop_mode.Refused ↦ PingPong ]
+loop_mode_of index = elim (loop_mode_from_index_of index) [ Ok mode ↦ mode | Err refusal ↦ PingPong ]
 
 unfoldable pub note_off_of : ℕ → NoteOffBehaviour
 note_off_of index = elim
-    (note_off_from_index_of index) [ note_off.Done behaviour ↦ behaviour | note_off.Refused ↦ DecayAndZeroCrossing ]
+    (note_off_from_index_of index) [ Ok behaviour ↦ behaviour | Err refusal ↦ DecayAndZeroCrossing ]
 
 -- length kinds 0 to 4; 5 is whole bars
 abbrev pub first_lengths : Float → List TimeOrRatio

@@ -22,9 +22,7 @@ ghost use Rattle.listing.specs.Records.{
 
 use crate::fields::{float_at, half_at, word_at};
 use common_types::time_value::{TimeOrRatio, TimeValue};
-use common_types::{
-    LoopMode, LoopModeAnswer, Note, NoteOffBehaviour, NoteOffBehaviourAnswer, Params, Transport,
-};
+use common_types::{LoopMode, Note, NoteOffBehaviour, Params, Transport};
 use octets::byte_at;
 
 // A listing is of the first version or the second, and has one channel or two.
@@ -151,22 +149,18 @@ fn good_record(h: Header, r: &[u8]) -> bool
     (r.len() == size + 2) & (size == length_of(h, kind)) & ((kind != 0) | good_settings(h, r))
 }
 
+#[tactic(auto, unfolding(crate::specs::Records::loop_mode_of))]
 pub fn loop_mode(index: u8) -> LoopMode
     ensures { result ≡ loop_mode_of index }
 {
-    match LoopMode::from_index(index as usize) {
-        LoopModeAnswer::Done(mode) => mode,
-        LoopModeAnswer::Refused => LoopMode::PingPong,
-    }
+    LoopMode::from_index(index as usize).unwrap_or(LoopMode::PingPong)
 }
 
+#[tactic(auto, unfolding(crate::specs::Records::note_off_of))]
 pub fn note_off(index: u8) -> NoteOffBehaviour
     ensures { result ≡ note_off_of index }
 {
-    match NoteOffBehaviour::from_index(index as usize) {
-        NoteOffBehaviourAnswer::Done(behaviour) => behaviour,
-        NoteOffBehaviourAnswer::Refused => NoteOffBehaviour::DecayAndZeroCrossing,
-    }
+    NoteOffBehaviour::from_index(index as usize).unwrap_or(NoteOffBehaviour::DecayAndZeroCrossing)
 }
 
 pub fn loop_length(kind: u8, value: f32) -> TimeOrRatio

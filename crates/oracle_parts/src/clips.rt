@@ -4,12 +4,10 @@
 // 32, now at 40, later at 48; of all four the new speed at 56 and data length at 60.
 ghost use Rattle.std.specs.Prelude.{◌≡◌, ◌+◌, ◌≤◌, ◌<◌, length};
 
-use clip::{
-    Clip, ClipAnswer, ElapsedAnswer, Found, FoundAnswer, Mode, PlaceAnswer, Position,
-    PositionAnswer, ReversingAnswer,
-};
+use clip::{Clip, Mode, Position};
 use oracle_lines::field::{f32_at, u64_at};
 use oracle_lines::line::{begin, begin_f32, end, put, put_bool, put_f32, put_u64};
+use refusals::Refusal;
 
 pub fn answer(fields: &[u8], out: &mut [u8; 65536], at: usize) -> usize
     requires in_bounds { 64 ≤ length fields.now }
@@ -56,12 +54,12 @@ fn read(out: &mut [u8; 65536], at: usize, c: Clip, now: usize) -> usize
     put_reversing(out, fourth, c.is_pingpong_reversing(now))
 }
 
-fn made(c: Clip) -> ClipAnswer {
+fn made(c: Clip) -> Result<Clip, Refusal> {
     let mode = c.mode;
     Clip::new(c.since, c.start, c.speed, c.length, c.data_length, mode)
 }
 
-fn update(fields: &[u8], c: Clip, time: usize) -> ClipAnswer
+fn update(fields: &[u8], c: Clip, time: usize) -> Result<Clip, Refusal>
     requires { 64 ≤ length fields.now }
 {
     let value = f32_at(fields, 28);
@@ -81,21 +79,18 @@ fn update(fields: &[u8], c: Clip, time: usize) -> ClipAnswer
 }
 
 // The clip after an update: itself, where it was refused.
-fn updated(c: Clip, a: ClipAnswer) -> Clip {
-    match a {
-        ClipAnswer::Done(d) => d,
-        ClipAnswer::Refused => c,
-    }
+fn updated(c: Clip, a: Result<Clip, Refusal>) -> Clip {
+    a.unwrap_or(c)
 }
 
 // Each of these puts document 01's number for the answer, and then its values.
-fn put_change(out: &mut [u8; 65536], at: usize, a: ClipAnswer) -> usize
+fn put_change(out: &mut [u8; 65536], at: usize, a: Result<Clip, Refusal>) -> usize
     requires { at + 66 ≤ 65536 }
     ensures { result ≡ at + 66 }
 {
     match a {
-        ClipAnswer::Done(c) => put_clip(out, at, 0, c),
-        ClipAnswer::Refused => put_clip(out, at, 7, no_clip()),
+        Ok(c) => put_clip(out, at, 0, c),
+        Err(refusal) => put_clip(out, at, refusal.number() as u64, no_clip()),
     }
 }
 
@@ -114,13 +109,13 @@ fn put_clip(out: &mut [u8; 65536], at: usize, number: u64, c: Clip) -> usize
     put(out, seventh, 1, mode_number(mode))
 }
 
-fn put_elapsed(out: &mut [u8; 65536], at: usize, a: ElapsedAnswer) -> usize
+fn put_elapsed(out: &mut [u8; 65536], at: usize, a: Result<usize, Refusal>) -> usize
     requires { at + 19 ≤ 65536 }
     ensures { result ≡ at + 19 }
 {
     match a {
-        ElapsedAnswer::Done(n) => put_count(out, at, 0, n),
-        ElapsedAnswer::Refused => put_count(out, at, 7, 0),
+        Ok(n) => put_count(out, at, 0, n),
+        Err(refusal) => put_count(out, at, refusal.number() as u64, 0),
     }
 }
 
@@ -130,8 +125,8 @@ fn put_next(out: &mut [u8; 65536], at: usize, c: Clip, now: usize) -> usize
     ensures { result ≡ at + 19 }
 {
     match c.offset(now) {
-        PositionAnswer::Done(_) => put_count(out, at, 0, c.next_at(now)),
-        PositionAnswer::Refused => put_count(out, at, 7, 0),
+        Ok(_) => put_count(out, at, 0, c.next_at(now)),
+        Err(refusal) => put_count(out, at, refusal.number() as u64, 0),
     }
 }
 
@@ -143,29 +138,29 @@ fn put_count(out: &mut [u8; 65536], at: usize, number: u64, n: usize) -> usize
     put_u64(out, first, n as u64)
 }
 
-fn put_offset(out: &mut [u8; 65536], at: usize, a: PlaceAnswer) -> usize
+fn put_offset(out: &mut [u8; 65536], at: usize, a: Result<f32, Refusal>) -> usize
     requires { at + 11 ≤ 65536 }
     ensures { result ≡ at + 11 }
 {
     match a {
-        PlaceAnswer::Done(x) => {
+        Ok(x) => {
             let first = begin(out, at, 1, 0);
             put_f32(out, first, by_value(x))
         }
-        PlaceAnswer::Refused => {
-            let first = begin(out, at, 1, 7);
+        Err(refusal) => {
+            let first = begin(out, at, 1, refusal.number() as u64);
             put_f32(out, first, 0.0)
         }
     }
 }
 
-fn put_position(out: &mut [u8; 65536], at: usize, a: PositionAnswer) -> usize
+fn put_position(out: &mut [u8; 65536], at: usize, a: Result<Position, Refusal>) -> usize
     requires { at + 37 ≤ 65536 }
     ensures { result ≡ at + 37 }
 {
     match a {
-        PositionAnswer::Done(p) => put_parts(out, at, 0, p),
-        PositionAnswer::Refused => put_parts(out, at, 7, no_position()),
+        Ok(p) => put_parts(out, at, 0, p),
+        Err(refusal) => put_parts(out, at, refusal.number() as u64, no_position()),
     }
 }
 
@@ -180,32 +175,32 @@ fn put_parts(out: &mut [u8; 65536], at: usize, number: u64, p: Position) -> usiz
     put_f32(out, third, p.fraction)
 }
 
-fn put_reversing(out: &mut [u8; 65536], at: usize, a: ReversingAnswer) -> usize
+fn put_reversing(out: &mut [u8; 65536], at: usize, a: Result<bool, Refusal>) -> usize
     requires { at + 4 ≤ 65536 }
     ensures { result ≡ at + 4 }
 {
     match a {
-        ReversingAnswer::Done(b) => {
+        Ok(b) => {
             let first = begin(out, at, 1, 0);
             put_bool(out, first, b)
         }
-        ReversingAnswer::Refused => {
-            let first = begin(out, at, 1, 7);
+        Err(refusal) => {
+            let first = begin(out, at, 1, refusal.number() as u64);
             put_bool(out, first, false)
         }
     }
 }
 
-fn put_found(out: &mut [u8; 65536], at: usize, a: FoundAnswer) -> usize
+fn put_found(out: &mut [u8; 65536], at: usize, a: Result<Option<f32>, Refusal>) -> usize
     requires { at + 13 ≤ 65536 }
     ensures { result ≡ at + 13 }
 {
     match a {
-        FoundAnswer::Done(found) => match found {
-            Found::At(y) => put_place(out, at, 0, 1, by_value(y)),
-            Found::Nothing => put_place(out, at, 0, 0, 0.0),
+        Ok(found) => match found {
+            Some(y) => put_place(out, at, 0, 1, by_value(y)),
+            None => put_place(out, at, 0, 0, 0.0),
         },
-        FoundAnswer::Refused => put_place(out, at, 7, 0, 0.0),
+        Err(refusal) => put_place(out, at, refusal.number() as u64, 0, 0.0),
     }
 }
 

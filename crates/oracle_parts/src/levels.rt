@@ -6,7 +6,8 @@ ghost use Rattle.std.specs.Prelude.{◌≡◌, ◌+◌, ◌≤◌, ◌<◌, leng
 use oracle_lines::field::{f32_at, u64_at};
 use oracle_lines::level::{put_ramp, put_volume};
 use oracle_lines::line::{begin, end, put_bool, put_f32};
-use volume::{LevelAnswer, Volume, VolumeAnswer};
+use refusals::Refusal;
+use volume::Volume;
 
 pub fn answer(fields: &[u8], out: &mut [u8; 65536], at: usize) -> usize
     requires in_bounds { 64 ≤ length fields.now }
@@ -46,42 +47,39 @@ fn read(out: &mut [u8; 65536], at: usize, v: Volume, now: usize) -> usize
 }
 
 // The volume after a change: itself, where it was refused.
-fn changed(v: Volume, a: VolumeAnswer) -> Volume {
-    match a {
-        VolumeAnswer::Done(w) => w,
-        VolumeAnswer::Refused => v,
-    }
+fn changed(v: Volume, a: Result<Volume, Refusal>) -> Volume {
+    a.unwrap_or(v)
 }
 
 // Document 01's number for the answer, and the level.
-fn put_level(out: &mut [u8; 65536], at: usize, a: LevelAnswer) -> usize
+fn put_level(out: &mut [u8; 65536], at: usize, a: Result<f32, Refusal>) -> usize
     requires { at + 11 ≤ 65536 }
     ensures { result ≡ at + 11 }
 {
     match a {
-        LevelAnswer::Done(x) => {
+        Ok(x) => {
             let first = begin(out, at, 1, 0);
             put_f32(out, first, x)
         }
-        LevelAnswer::Refused => {
-            let first = begin(out, at, 1, 7);
+        Err(refusal) => {
+            let first = begin(out, at, 1, refusal.number() as u64);
             put_f32(out, first, 0.0)
         }
     }
 }
 
 // Document 01's number for the answer, and the volume.
-fn put_change(out: &mut [u8; 65536], at: usize, a: VolumeAnswer) -> usize
+fn put_change(out: &mut [u8; 65536], at: usize, a: Result<Volume, Refusal>) -> usize
     requires { at + 56 ≤ 65536 }
     ensures { result ≡ at + 56 }
 {
     match a {
-        VolumeAnswer::Done(v) => {
+        Ok(v) => {
             let first = begin(out, at, 1, 0);
             put_volume(out, first, v)
         }
-        VolumeAnswer::Refused => {
-            let first = begin(out, at, 1, 7);
+        Err(refusal) => {
+            let first = begin(out, at, 1, refusal.number() as u64);
             put_ramp(out, first, 0, 0, 0, 0.0, 0.0)
         }
     }

@@ -6,10 +6,11 @@
 ghost use Rattle.std.specs.Prelude.{◌≡◌, ◌+◌, ◌≤◌, ◌<◌, length};
 
 use common_types::time_value::{TimeOrRatio, TimeUnit, TimeValue};
-use common_types::{LoopMode, LoopModeAnswer, Note, NoteOffBehaviour, NoteOffBehaviourAnswer};
+use common_types::{LoopMode, Note, NoteOffBehaviour};
 use oracle_lines::field::{f32_at, u64_at};
 use oracle_lines::line::{begin, end, put, put_bool, put_f32, put_u64};
 use oracle_lines::settings::{loop_mode, note_off, params_of, transport};
+use refusals::Refusal;
 
 pub fn answer(fields: &[u8], out: &mut [u8; 65536], at: usize) -> usize
     requires in_bounds { 64 ≤ length fields.now }
@@ -31,8 +32,8 @@ fn notes(fields: &[u8], out: &mut [u8; 65536], at: usize) -> usize
 {
     let note = Note::new(fields[1], fields[2]);
     let first = put_note(out, at, note);
-    let second = put_u64(out, first, note.into_u64());
-    put_note(out, second, Note::from_u64(u64_at(fields, 8)))
+    let second = put_u64(out, first, u64::from(note));
+    put_note(out, second, Note::from(u64_at(fields, 8)))
 }
 
 fn put_note(out: &mut [u8; 65536], at: usize, note: Note) -> usize
@@ -60,13 +61,13 @@ fn loop_modes(fields: &[u8], out: &mut [u8; 65536], at: usize) -> usize
 }
 
 // Document 01's number for the answer, and the mode's index.
-fn put_loop_mode(out: &mut [u8; 65536], at: usize, a: LoopModeAnswer) -> usize
+fn put_loop_mode(out: &mut [u8; 65536], at: usize, a: Result<LoopMode, Refusal>) -> usize
     requires { at + 4 ≤ 65536 }
     ensures { result ≡ at + 4 }
 {
     match a {
-        LoopModeAnswer::Done(mode) => put_index(out, at, 0, mode.to_index()),
-        LoopModeAnswer::Refused => put_index(out, at, 7, 0),
+        Ok(mode) => put_index(out, at, 0, mode.to_index()),
+        Err(refusal) => put_index(out, at, refusal.number() as u64, 0),
     }
 }
 
@@ -86,13 +87,13 @@ fn note_off_modes(fields: &[u8], out: &mut [u8; 65536], at: usize) -> usize
     put_note_off(out, third, NoteOffBehaviour::from_f32(f32_at(fields, 16)))
 }
 
-fn put_note_off(out: &mut [u8; 65536], at: usize, a: NoteOffBehaviourAnswer) -> usize
+fn put_note_off(out: &mut [u8; 65536], at: usize, a: Result<NoteOffBehaviour, Refusal>) -> usize
     requires { at + 4 ≤ 65536 }
     ensures { result ≡ at + 4 }
 {
     match a {
-        NoteOffBehaviourAnswer::Done(mode) => put_index(out, at, 0, mode.to_index()),
-        NoteOffBehaviourAnswer::Refused => put_index(out, at, 7, 0),
+        Ok(mode) => put_index(out, at, 0, mode.to_index()),
+        Err(refusal) => put_index(out, at, refusal.number() as u64, 0),
     }
 }
 
