@@ -37,10 +37,8 @@ use Rattle.voice.specs.declared.Tick.{Tick}
 use Rattle.voice.specs.Voices.{moved_of}
 use Rattle.channel.specs.Channels.{live}
 use Rattle.questions.specs.declared.VoiceInfo.{VoiceInfo}
-use Rattle.questions.specs.declared.OffsetAnswer.TheVariants as offset
-use Rattle.questions.specs.declared.Told.TheVariants as told
 use Rattle.questions.specs.Questions.{list_after, notes_of, active_notes_after, get_last_recorded_offset_of, is_recording_of, voice_info_of, figures_of, voice_infos_of, get_voice_info_of}
-use Rattle.recorder.specs.declared.LastOffset.TheVariants.{At, Nothing}
+use Rattle.std.specs.Prelude.{Some, None}
 use Rattle.recorder.specs.Recording.{last_recorded_offset_of, is_recording_of as records_of}
 use Rattle.promises.specs.Runs.{World, Call, start, stop, speed, start_recording, stop_recording, reset, sample, frame, code, after, run, chan, set_up, output}
 use Rattle.promises.proofs.Examples.{computing, half, two, plain, key, press, since}
@@ -496,10 +494,10 @@ notes_listed = refl
 
 -- the write place is that of the next sample, and there is none while the recorder is idle
 pub recorder_told :
-    (get_last_recorded_offset_of (run (begun false) (start_recording ∷ takes half plain ∷ [])).sampler 0 ≡ offset.Done (At 1))
-    × (get_last_recorded_offset_of (holding (half ∷ [])).sampler 0 ≡ offset.Done Nothing)
-    × (is_recording_of (run (begun false) (start_recording ∷ [])).sampler 0 ≡ told.Done true)
-    × (is_recording_of (holding (half ∷ [])).sampler 0 ≡ told.Done false)
+    (get_last_recorded_offset_of (run (begun false) (start_recording ∷ takes half plain ∷ [])).sampler 0 ≡ Ok (Some 1))
+    × (get_last_recorded_offset_of (holding (half ∷ [])).sampler 0 ≡ Ok None)
+    × (is_recording_of (run (begun false) (start_recording ∷ [])).sampler 0 ≡ Ok true)
+    × (is_recording_of (holding (half ∷ [])).sampler 0 ≡ Ok false)
 unfolding computing last_recorded_offset_of records_of
 recorder_told = (refl, refl, refl, refl)
 

@@ -173,11 +173,11 @@ told_length t v = with_data_length (sped t v) t.now t.span.data_length
 -- mode it is found
 pub record Asked (t : Tick) (v : Voice) : Type 0 where
   pub length : data_to_clip_of (at_length v.clip2 t.span.length) (offset_at v.clip2 t.now)
-      ≡ Done (found_at (at_length v.clip2 t.span.length) (offset_at v.clip2 t.now))
+      ≡ Ok (found_at (at_length v.clip2 t.span.length) (offset_at v.clip2 t.now))
   pub speed : data_to_clip_of (at_speed (lengthened t v) (mul binary32 v.speed t.speed))
-      (offset_at (lengthened t v) t.now) ≡ Done (At (back_of (lengthened t v) (offset_at (lengthened t v) t.now)))
+      (offset_at (lengthened t v) t.now) ≡ Ok (Some (back_of (lengthened t v) (offset_at (lengthened t v) t.now)))
   pub mode : data_to_clip_of (at_mode (told_length t v) t.mode) (offset_at (told_length t v) t.now)
-      ≡ Done (At (back_of (told_length t v) (offset_at (told_length t v) t.now)))
+      ≡ Ok (Some (back_of (told_length t v) (offset_at (told_length t v) t.now)))
 
 -- the place of a clip at a time lies from 0 to below its length, as the Rust's `clip_offset` asserts
 abbrev pub Placed : Clip → ℕ → Type 0

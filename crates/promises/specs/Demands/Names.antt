@@ -1,5 +1,5 @@
 -- The names that the demands are written in, and where each stands. Definitions only. Assumes nothing.
-pub use Rattle.std.specs.Prelude.{◌≡◌, Bool, true, false, not, ◌⊎◌, ◌≢◌, ◌↔◌, List, [], ◌∷◌, ◌++◌, map, ℕ, suc, ◌+◌, ◌-◌, ◌*◌, ◌/◌, ◌%◌, ◌^◌, ◌≤◌, ◌<◌, min, max, T, eqb, ltb, length, take, drop, ℤ, Float, Result, Ok}
+pub use Rattle.std.specs.Prelude.{◌≡◌, Bool, true, false, not, ◌⊎◌, ◌≢◌, ◌↔◌, List, [], ◌∷◌, ◌++◌, map, ℕ, suc, ◌+◌, ◌-◌, ◌*◌, ◌/◌, ◌%◌, ◌^◌, ◌≤◌, ◌<◌, min, max, T, eqb, ltb, length, take, drop, ℤ, Float, Result, Some, Ok}
 pub use Rattle.std.proofs.Math.Option.{some}
 pub use Rattle.std.specs.Float.{nan, fin, binary32}
 pub use Rattle.std.specs.Float.Ieee.{up, down, add, sub, mul, div, eq, le, is_nan, fits}
@@ -24,8 +24,6 @@ pub use Rattle.recorder.specs.ErrorText.{error_text}
 pub use Rattle.volume.specs.Levels.{level_of}
 pub use Rattle.clip.specs.declared.Clip.{Clip}
 pub use Rattle.clip.specs.declared.Mode.{Mode}
-pub use Rattle.clip.specs.declared.Found.TheVariants.{At}
-pub use Rattle.clip.specs.declared.FoundAnswer.TheVariants.{Done}
 pub use Rattle.clip.specs.Positions.{elapsed_at, clip_offset_at, offset_at, position_at, index_at, next_at}
 pub use Rattle.clip.specs.Updates.{
   at_speed,
