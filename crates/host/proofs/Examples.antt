@@ -11,7 +11,7 @@ use Rattle.common_types.specs.declared.LoopMode.TheVariants.{PlayOnce, Loop, Pin
 use Rattle.common_types.specs.declared.NoteOffBehaviour.TheVariants.{Decay, ZeroCrossing, DecayAndZeroCrossing}
 use Rattle.common_types.specs.declared.time_value.TimeOrRatio.TheVariants.{Time, Ratio, WholeBars}
 use Rattle.common_types.specs.declared.time_value.TimeValue.TheVariants.{QuarterNotes, Samples, Seconds, Bars}
-use Rattle.recorder.specs.declared.LastOffset.TheVariants.{At, Nothing}
+use Rattle.std.specs.Prelude.{Some, None}
 use Rattle.channel.specs.Tables.{head_asks, asks_of}
 use Rattle.sampler.specs.declared.Sampler.{Sampler}
 use Rattle.sampler.specs.Samplers.{choose_phrase_of, delete_phrase_of}
@@ -115,7 +115,7 @@ told_met = refl
 abbrev placed : ℕ → ℕ → ℕ → Offset
 placed n number found = record { at = n; number = number; found = found }
 
-pub offsets_met : map offset_by (offset.Done (At 0) ∷ offset.Done Nothing ∷ offset.Refused 1 ∷ []) ≡ placed 0 0 1 ∷ placed 0 0 0 ∷ placed 0 1 0 ∷ []
+pub offsets_met : map offset_by (offset.Done (Some 0) ∷ offset.Done None ∷ offset.Refused 1 ∷ []) ≡ placed 0 0 1 ∷ placed 0 0 0 ∷ placed 0 1 0 ∷ []
 offsets_met = refl
 
 -- a song of a start and a stop: in a list with room for both, in one that is a word short, at a rate that is none; and no song

@@ -2,7 +2,7 @@
 use Rattle.std.specs.Prelude.{ℕ, min, Bool, ◌&&◌, cond, leb, eqb}
 use Rattle.common_types.specs.Settings.{default_params}
 use Rattle.common_types.specs.declared.Params.{Params}
-use Rattle.recorder.specs.declared.LastOffset.TheVariants.{At, Nothing}
+use Rattle.std.specs.Prelude.{Some, None}
 use Rattle.sampler.specs.declared.Answer.{Answer}
 use Rattle.sampler.specs.Samplers.{set_up_of}
 use Rattle.questions.specs.declared.Counted.{Counted}
@@ -68,8 +68,8 @@ told_by (told.Done b) = record { count = cond b 1 0; number = 0 }
 told_by (told.Refused number) = record { count = 0; number = number }
 
 abbrev pub offset_by : OffsetAnswer → Offset
-offset_by (offset.Done (At n)) = record { at = n; number = 0; found = 1 }
-offset_by (offset.Done Nothing) = record { at = 0; number = 0; found = 0 }
+offset_by (offset.Done (Some n)) = record { at = n; number = 0; found = 1 }
+offset_by (offset.Done None) = record { at = 0; number = 0; found = 0 }
 offset_by (offset.Refused number) = record { at = 0; number = number; found = 0 }
 
 -- a short list is told how many entries the song has

@@ -18,7 +18,6 @@ ghost use Rattle.host.specs.Crossing.{count_by, told_by, offset_by, entries_by};
 
 use common_types::Params;
 use questions::{Counted, OffsetAnswer, Told, VoiceInfo, WaveformSummary};
-use recorder::LastOffset;
 use sampler::Sampler;
 
 #[derive(Clone, Copy)]
@@ -62,12 +61,12 @@ fn offset_by(answer: OffsetAnswer) -> Offset
 {
     match answer {
         OffsetAnswer::Done(last) => match last {
-            LastOffset::At(at) => Offset {
+            Some(at) => Offset {
                 at,
                 number: 0,
                 found: 1,
             },
-            LastOffset::Nothing => Offset {
+            None => Offset {
                 at: 0,
                 number: 0,
                 found: 0,

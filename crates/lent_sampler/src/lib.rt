@@ -550,8 +550,7 @@ fn listed(a: Listing) -> Counted
 fn packed(v: Voice) -> u64
     ensures { result ≡ into_u64_of v.note }
 {
-    let note = v.note;
-    note.into_u64()
+    u64::from(v.note)
 }
 
 // Writes the notes of the unfinished voices to the front of the list.

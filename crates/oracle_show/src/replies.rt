@@ -9,7 +9,6 @@ use common_types::Params;
 use oracle_lines::field::{u32_at, wide};
 use oracle_lines::line::{end, put, put_f32, put_u64};
 use questions::{Counted, OffsetAnswer, Told, VoiceInfo, VoiceInfos, WaveformSummary};
-use recorder::LastOffset;
 use sampler::Sampler;
 
 // How much of `most` is lent, where n are asked for.
@@ -154,8 +153,8 @@ pub fn put_offset(out: &mut [u8; 65536], at: usize, kind: u8, a: OffsetAnswer) -
 {
     match a {
         OffsetAnswer::Done(offset) => match offset {
-            LastOffset::At(n) => put_place(out, at, kind, 0, 1, n),
-            LastOffset::Nothing => put_place(out, at, kind, 0, 0, 0),
+            Some(n) => put_place(out, at, kind, 0, 1, n),
+            None => put_place(out, at, kind, 0, 0, 0),
         },
         OffsetAnswer::Refused(number) => put_place(out, at, kind, number, 0, 0),
     }
