@@ -25,7 +25,7 @@ use Rattle.clip.specs.declared.Clip.{Clip}
 use Rattle.clip.specs.declared.Mode.{Mode}
 use Rattle.clip.specs.Refusals.{most32, good_length, good_clip, clip_refused_at, new_clip_of, data_to_clip_of, is_pingpong_reversing_of, elapsed_of, clip_offset_of, offset_of, update_speed_of, update_mode_of, update_length_of, update_data_length_of, update_all_of}
 use Rattle.clip.specs.Updates.{made_of}
-use Rattle.sampler.specs.Refusals.{row}
+use Rattle.promises.specs.Runs.{row}
 use Rattle.promises.specs.SmallParts.{not_in, bad_sizes, bad_clip, bad_at, bad_time, RowSeven}
 
 -- ---- the number of an answer that a test picks

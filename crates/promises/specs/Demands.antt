@@ -55,18 +55,19 @@ pub record Demand1 : Type 0 where
   pub filled : (w : World) (j : ℕ) (p : Params) (list : List VoiceInfo) (r : InfoOutcome)
       → Allows (on w (asks (fill_voice_info j p list))) r → code w (asks (fill_voice_info j p list)) ≡ 0
       → length (chan w j).voices ≡ 32
-      → (r.answer ≡ Counted.Done (chan w j).count) × (r.lent ≡ figures w j p ++ drop (chan w j).count list)
-  pub informed : (w : World) (j : ℕ) (p : Params) (room : ℕ) (r : VoiceInfos)
+      → (r.answer ≡ Ok (chan w j).count) × (r.lent ≡ figures w j p ++ drop (chan w j).count list)
+  pub informed : (w : World) (j : ℕ) (p : Params) (room : ℕ) (r : Result VoiceInfos Refusal)
       → Allows (on w (asks (get_voice_info j p room))) r → code w (asks (get_voice_info j p room)) ≡ 0
       → length (chan w j).voices ≡ 32
-      → (r.count ≡ (chan w j).count) × (take r.count r.infos ≡ figures w j p)
+      → (v : VoiceInfos) × (r ≡ Ok v) × (v.count ≡ (chan w j).count) × (take v.count v.infos ≡ figures w j p)
   -- 1/12: "for each of up to 4,096 columns of channel 0, the root of the mean square, plus the smallest and largest." A
   -- longer list keeps its rest.
   pub summarized : (w : World) (columns : ℕ) (list : List Float) (r : WaveformOutcome)
       → Allows (on w (asks (get_waveform_summary columns list))) r → code w (asks (get_waveform_summary columns list)) ≡ 0
-      → (r.answer ≡ summary_with (smallest_of (waveform w columns)) (largest_of (waveform w columns)) 0)
+      → (r.answer ≡ Ok (summary_with (smallest_of (waveform w columns)) (largest_of (waveform w columns))))
       × (r.lent ≡ waveform w columns ++ drop columns list)
-  -- "A bad call is answered with a number from document 01," An outcome has the call's number,
+  -- "A bad call is answered with a number from document 01," An outcome has the call's refusal, and so its number,
+  pub named : (w : World) (c : Call) (r : Outcome (on w c)) → Allows (on w c) r → judged_in w c r ≡ call_judged w c
   pub numbered : (w : World) (c : Call) (r : Outcome (on w c)) → Allows (on w c) r → number_in (on w c) r ≡ code w c
   -- which is that of the first of the table's rows that holds, in the table's order, and 0 where none does. "Order: 9
   -- first. Start: 2, 3, 4, 5.
@@ -91,7 +92,7 @@ pub record Demand1 : Type 0 where
   -- A run of frames (request 3/12): "9, then 10 for a length that isn't a whole number of frames, then 4, then 6 with
   -- the count done." `frames_left` is what the largest clock of the channels in use has left.
   pub run_rows : (w : World) (xs : List Float) (p : Params) (r : RunOutcome) → Allows (along w xs p) r
-      → r.answer.ran.number
+      → code_of r.answer.ran.done
       ≡ row (not (good_with w.sampler (length w.memory))) 9
       (row (not (eqb (length xs % w.sampler.count) 0)) 10
       (row (beyond_limits p) 4 (row (ltb (frames_left w.sampler) (length xs / w.sampler.count)) 6 0)))
@@ -124,7 +125,7 @@ pub record Demand1 : Type 0 where
   pub interpolation_rows : (w : World) (on : Bool) → code w (set_interpolation on)
       ≡ row (not (good_sampler w.sampler)) 9 0
   pub set_up_rows : (count : ℕ) (p : InitParams) (m : List ℕ) (r : Answer) → Allows (new count p m) r
-      → r.number ≡ row (not (good_sizes count (capacity_of count (length m)))) 9 0
+      → code_of r.done ≡ row (not (good_sizes count (capacity_of count (length m)))) 9 0
   -- A set-up that is refused leaves a record that every call answers with 9.
   pub unmade : (count : ℕ) (p : InitParams) (m : List ℕ) → set_up_number count (length m) ≢ 0 → (c : Call)
       → code (set_up count p m) c ≡ 9
@@ -135,17 +136,18 @@ pub record Demand1 : Type 0 where
       → (left_by w c r ≡ w) × Untouched w c r
   -- So they do after a run with 9, 10 or 4, of which no frame is done.
   pub run_held : (w : World) (xs : List Float) (p : Params) (r : RunOutcome) → Allows (along w xs p) r
-      → r.answer.ran.number ≢ 0 → r.answer.ran.number ≢ 6
+      → code_of r.answer.ran.done ≢ 0 → code_of r.answer.ran.done ≢ 6
       → (r.answer.ran.frames ≡ 0) × (world_left_along r ≡ w) × (r.run ≡ xs)
   -- "The answer says how many frames were done." With 0 all of them;
   pub run_done : (w : World) (xs : List Float) (p : Params) (r : RunOutcome) → Allows (along w xs p) r
-      → r.answer.ran.number ≡ 0 → r.answer.ran.frames * w.sampler.count ≡ length xs
+      → code_of r.answer.ran.done ≡ 0 → r.answer.ran.frames * w.sampler.count ≡ length xs
   -- "If the clock ends within the run, the frames before it stand and the rest of the lent run is as it came in; that
   -- is the one refusal after work has begun." With 6 all is as after the run of these frames alone, which is done.
   pub run_ends : (w : World) (xs : List Float) (p : Params) (r : RunOutcome) → Allows (along w xs p) r
-      → r.answer.ran.number ≡ 6 → (done : ℕ) → done ≡ r.answer.ran.frames * w.sampler.count
+      → code_of r.answer.ran.done ≡ 6 → (done : ℕ) → done ≡ r.answer.ran.frames * w.sampler.count
       → (q : RunOutcome) → Allows (along w (take done xs) p) q
-      → (q.answer.ran.number ≡ 0) × (q.answer.ran.frames ≡ r.answer.ran.frames) × (world_left_along r ≡ world_left_along q)
+      → (code_of q.answer.ran.done ≡ 0) × (q.answer.ran.frames ≡ r.answer.ran.frames)
+      × (world_left_along r ≡ world_left_along q)
       × (r.run ≡ q.run ++ drop done xs)
   -- The tests of rows 1 to 6, "given exactly when", in document 01's words; row 7, of the small parts; and row 9, with
   -- what a broken record is.

@@ -29,7 +29,7 @@ use Rattle.clip.specs.Refusals.{
   update_data_length_of,
   update_all_of,
 }
-use Rattle.sampler.specs.Refusals.{row}
+use Rattle.promises.specs.Runs.{row}
 
 -- a float that is not in a to b, NaN included
 abbrev pub not_in : ℕ → ℕ → Float → Bool

@@ -1,7 +1,7 @@
--- How a call is judged and its number say the same: 0 for done, and for each refusal another. Assumes nothing.
-use Rattle.std.proofs.Common.{◌≡◌, ◌≢◌, ℕ, Bool, true, false, cond, eqb, Result, Ok, Err, is_ok, true≢false, refl, sym, ap, ◌∙◌}
-use Rattle.std.proofs.lemmas.Bool.{eqb-false}
-use Rattle.refusals.specs.Refusals.{number_of, code_of, row}
+-- What the number of a call says: 0 is that it isn't refused, and a row that doesn't hold leaves it to the rest. Assumes
+-- nothing.
+use Rattle.std.proofs.Common.{◌≡◌, ℕ, refl, sym, ap, ◌∙◌, Bool, true, false, T, eqb, cond, true≢false, Result, Ok, Err}
+use Rattle.std.specs.Prelude.{is_ok}
 use Rattle.refusals.specs.declared.Refusal.{Refusal}
 use Rattle.refusals.specs.declared.Refusal.TheVariants.{
   NoChannel,
@@ -27,74 +27,73 @@ use Rattle.refusals.specs.declared.Refusal.TheVariants.{
   PhraseRecording,
   BadRate,
 }
+use Rattle.refusals.specs.Refusals.{number_of, code_of, row}
 
--- the refusal of a number
-refusal_of : ℕ → Refusal
-refusal_of n =
-    cond (eqb n 1) NoChannel
-    (cond (eqb n 2) BadNote
-    (cond (eqb n 3) BadPosition
-    (cond (eqb n 4) BeyondLimits
-    (cond (eqb n 5) Full
-    (cond (eqb n 6) ClockEnd
-    (cond (eqb n 7) BadArgument
-    (cond (eqb n 8) ShortList
-    (cond (eqb n 9) Broken
-    (cond (eqb n 10) BadRun
-    (cond (eqb n 11) TooManyColumns
-    (cond (eqb n 12) BadSong
-    (cond (eqb n 13) OtherFormat
-    (cond (eqb n 14) LateSong
-    (cond (eqb n 15) Recording
-    (cond (eqb n 16) OtherChannels
-    (cond (eqb n 17) BadWave
-    (cond (eqb n 18) NoRoom
-    (cond (eqb n 19) NoPhrase (cond (eqb n 20) PhraseInUse (cond (eqb n 21) PhraseRecording BadRate))))))))))))))))))))
+-- no refusal has the number 0
+pub numbered : (f : Refusal) → eqb (number_of f) 0 ≡ false
+numbered NoChannel = refl
+numbered BadNote = refl
+numbered BadPosition = refl
+numbered BeyondLimits = refl
+numbered Full = refl
+numbered ClockEnd = refl
+numbered BadArgument = refl
+numbered ShortList = refl
+numbered Broken = refl
+numbered BadRun = refl
+numbered TooManyColumns = refl
+numbered BadSong = refl
+numbered OtherFormat = refl
+numbered LateSong = refl
+numbered Recording = refl
+numbered OtherChannels = refl
+numbered BadWave = refl
+numbered NoRoom = refl
+numbered NoPhrase = refl
+numbered PhraseInUse = refl
+numbered PhraseRecording = refl
+numbered BadRate = refl
 
-refusal_back : (r : Refusal) → refusal_of (number_of r) ≡ r
-unfolding refusal_of
-refusal_back NoChannel = refl
-refusal_back r = refl
-
--- no two refusals have one number,
-pub number_same : (r s : Refusal) → number_of r ≡ number_of s → r ≡ s
-number_same r s h = sym (refusal_back r) ∙ ap refusal_of h ∙ refusal_back s
-
--- and none has 0
-pub number_above : (r : Refusal) → eqb (number_of r) 0 ≡ false
-number_above NoChannel = refl
-number_above r = refl
-
--- ---- of what is answered by so much
 module _ {A : Type 0} where
-  -- it is done exactly where its number is 0
-  pub code_zero : (r : Result A Refusal) → eqb (code_of r) 0 ≡ is_ok r
-  code_zero (Ok x) = refl
-  code_zero (Err e) = number_above e
+  -- a call is done exactly where its number is 0
+  pub done_is : (r : Result A Refusal) → is_ok r ≡ eqb (code_of r) 0
+  done_is (Ok a) = refl
+  done_is (Err f) = sym (numbered f)
 
-  pub done_code : (r : Result A Refusal) → is_ok r ≡ true → code_of r ≡ 0
-  done_code (Ok x) h = refl
-  done_code (Err e) h = absurd (true≢false (sym h))
+  pub done_at : (r : Result A Refusal) → code_of r ≡ 0 → is_ok r ≡ true
+  done_at r h = done_is r ∙ ap (λ (n : ℕ). eqb n 0) h
 
-  pub code_done : (r : Result A Refusal) → code_of r ≡ 0 → is_ok r ≡ true
-  code_done r h = sym (code_zero r) ∙ ap (λ (n : ℕ). eqb n 0) h
+  pub zero_at : (r : Result A Refusal) → is_ok r ≡ true → code_of r ≡ 0
+  zero_at (Ok a) h = refl
+  zero_at (Err f) h = absurd (true≢false (sym h))
 
-  pub code_refused : (r : Result A Refusal) → code_of r ≢ 0 → is_ok r ≡ false
-  code_refused (Ok x) h = absurd (h refl)
-  code_refused (Err e) h = refl
+  pub zero_when : (r : Result A Refusal) → T (is_ok r) → code_of r ≡ 0
+  zero_when (Ok a) h = refl
+  zero_when (Err f) h = absurd h
 
-  pub refused_code : (r : Result A Refusal) → is_ok r ≡ false → code_of r ≢ 0
-  refused_code (Ok x) h k = true≢false h
-  refused_code (Err e) h k = eqb-false (number_of e) 0 (number_above e) k
+  pub refused_at : (r : Result A Refusal) → (code_of r ≡ 0 → ⊥) → is_ok r ≡ false
+  refused_at (Ok a) h = absurd (h refl)
+  refused_at (Err f) h = refl
 
-  -- a row of the table, by its number
-  pub code_row : (test : Bool) (e : Refusal) (rest : Result A Refusal) → code_of (row test e rest) ≡ cond test (number_of e) (code_of rest)
-  code_row true e rest = refl
-  code_row false e rest = refl
+  pub refused_by : (r : Result A Refusal) → is_ok r ≡ false → code_of r ≡ 0 → ⊥
+  refused_by (Ok a) h e = true≢false h
+  refused_by (Err f) h e = true≢false (sym (ap (λ (n : ℕ). eqb n 0) e) ∙ numbered f)
 
--- what two numbers say of calls that answer nothing more
-pub code_same : (r s : Result (Unit {0}) Refusal) → code_of r ≡ code_of s → r ≡ s
-code_same (Ok x) (Ok y) h = refl
-code_same (Ok x) (Err e) h = absurd (eqb-false (number_of e) 0 (number_above e) (sym h))
-code_same (Err d) (Ok y) h = absurd (eqb-false (number_of d) 0 (number_above d) h)
-code_same (Err d) (Err e) h = ap Err (number_same d e h)
+  -- what `is_ok` answered of a result tells of what that is
+  pub told : {r s : Result A Refusal} {b v : Bool} → r ≡ s → b ≡ is_ok r → b ≡ v → is_ok s ≡ v
+  told e f h = sym (ap is_ok e) ∙ sym f ∙ h
+
+  -- a row that doesn't hold leaves it to the rest
+  pub passed : (test : Bool) (f : Refusal) (rest : Result A Refusal) → code_of (row test f rest) ≡ 0 → (test ≡ false) × (code_of rest ≡ 0)
+  passed true f rest h = absurd (refused_by (Err f) refl h)
+  passed false f rest h = (refl, h)
+
+  -- and its refusal has its number
+  pub coded : (test : Bool) (f : Refusal) (rest : Result A Refusal) → code_of (row test f rest) ≡ cond test (number_of f) (code_of rest)
+  coded true f rest = refl
+  coded false f rest = refl
+
+-- of a call that answers no value
+pub done_unit : (r : Result (Unit {0}) Refusal) → code_of r ≡ 0 → r ≡ Ok tt
+done_unit (Ok tt) h = refl
+done_unit (Err f) h = absurd (refused_by {A = Unit {0}} (Err f) refl h)

@@ -178,6 +178,7 @@ pub fn good_sizes(count: usize, capacity: usize) -> bool
     }
 }
 
+#[tactic(auto, unfolding(crate::specs::Refusals::capacity_of))]
 fn capacity_of(count: usize, size: usize) -> usize
     ensures { result ≡ capacity_of count size }
 {
@@ -221,12 +222,19 @@ impl Sampler {
         }
     }
 
-    // The channels in use: never more than the array has.
+    // The first n channels: never more than the array has.
     #[tactic(auto, using(walks::proofs::Lists::Loops::take_most))]
+    fn first(&self, n: usize) -> &[Channel]
+        ensures { result.now ≡ take n self.now.channels }
+    {
+        &self.channels[..n.min(2)]
+    }
+
+    // The channels in use.
     fn present(&self) -> &[Channel]
         ensures { result.now ≡ present self.now }
     {
-        &self.channels[..self.count.min(2)]
+        self.first(self.count)
     }
 
     fn good_channels(self) -> bool
@@ -248,17 +256,14 @@ impl Sampler {
     }
 
     // What the channels in use have against what a change asks.
+    #[tactic(auto, unfolding(crate::specs::Refusals::against_any))]
     pub fn against(self, ask: Ask) -> Against
         ensures { result ≡ against_any ask self }
     {
-        let mut blocked = false;
-        let mut short = false;
-        for c in self.present() {
-            let a = c.against(ask, self.capacity);
-            blocked = blocked | a.blocked;
-            short = short | a.short;
+        Against {
+            blocked: self.present().iter().any(|c| c.against(ask, self.capacity).blocked),
+            short: self.present().iter().any(|c| c.against(ask, self.capacity).short),
         }
-        Against { blocked, short }
     }
 
     // Whether one of the channels in use records.
@@ -272,7 +277,7 @@ impl Sampler {
     fn any_at_end(self, n: usize) -> bool
         ensures { result ≡ list_any at_end (take n self.channels) }
     {
-        self.channels[..n.min(2)].iter().any(|c| channel::LAST_TIME <= c.head.now)
+        self.first(n).iter().any(|c| channel::LAST_TIME <= c.head.now)
     }
 
     // The largest clock of the channels in use.
@@ -280,7 +285,9 @@ impl Sampler {
     fn latest(self) -> usize
         ensures { result ≡ latest_of (present self) }
     {
-        self.present().iter().fold(0, |time, c| time.max(c.head.now))
+        self.present()
+            .iter()
+            .fold(0, |time, c| time.max(c.head.now))
     }
 
     // The frames that are left until a clock stands at its end.
@@ -295,8 +302,8 @@ impl Sampler {
         ensures { result ≡ each_of change self }
     {
         let n = self.count.min(2);
-        for c in self.channels[..n].iter_mut() {
-            *c = c.changed(change);
+        for j in 0..n {
+            self.channels[j] = self.channels[j].changed(change);
         }
         self
     }
@@ -307,8 +314,8 @@ impl Sampler {
         ensures { result ≡ each_of (Head (Load samples)) self }
     {
         let n = self.count.min(2);
-        for c in self.channels[..n].iter_mut() {
-            *c = c.head_changed(HeadChange::Load(samples));
+        for j in 0..n {
+            self.channels[j] = self.channels[j].head_changed(HeadChange::Load(samples));
         }
         self
     }
@@ -327,7 +334,11 @@ impl Sampler {
         ensures memory_after { memory.new ≡ gather_memory self memory.old }
     {
         let done = self.gather_judged(memory.len());
-        let sampler = if done.is_ok() { self.gathered(memory) } else { self };
+        let sampler = if done.is_ok() {
+            self.gathered(memory)
+        } else {
+            self
+        };
         Answer { sampler, done }
     }
 
@@ -338,7 +349,8 @@ impl Sampler {
         ensures memory_after { memory.new ≡ (gathered_all self memory.old).memory }
     {
         let capacity = self.capacity;
-        for j in 0..self.count {
+        let n = self.count;
+        for j in 0..n {
             let start = part_start(j, capacity);
             let end = start + capacity;
             self.channels[j] = self.channels[j].gathered(&mut memory[start..end]);
@@ -351,7 +363,11 @@ impl Sampler {
     fn answer(self, done: Result<(), Refusal>, change: Change) -> Answer
         ensures { result ≡ answer_of done change self }
     {
-        let sampler = if done.is_ok() { self.each(change) } else { self };
+        let sampler = if done.is_ok() {
+            self.each(change)
+        } else {
+            self
+        };
         Answer { sampler, done }
     }
 
@@ -519,7 +535,7 @@ impl Sampler {
         ensures memory_after { memory.new ≡ sample_memory self channel input params memory.old }
     {
         let done = self.sample_judged(channel, params, memory.len());
-        if done.is_err() {
+        if !done.is_ok() {
             return SampleAnswer {
                 sampler: self,
                 output: 0.0,
@@ -568,7 +584,7 @@ impl Sampler {
     {
         let asked = self.frame_asked(frame.len(), memory.len());
         let done = frame_rows(asked, frame.len(), params);
-        if done.is_err() {
+        if !done.is_ok() {
             return FrameAnswer {
                 sampler: self,
                 done,
