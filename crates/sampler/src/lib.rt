@@ -255,14 +255,28 @@ impl Sampler {
         }
     }
 
+    #[tactic(auto, unfolding(crate::specs::Refusals::against_any))]
+    fn blocked(self, ask: Ask) -> bool
+        ensures { result ≡ (against_any ask self).blocked }
+    {
+        self.present().iter().any(|c| c.against(ask, self.capacity).blocked)
+    }
+
+    #[tactic(auto, unfolding(crate::specs::Refusals::against_any))]
+    fn short(self, ask: Ask) -> bool
+        ensures { result ≡ (against_any ask self).short }
+    {
+        self.present().iter().any(|c| c.against(ask, self.capacity).short)
+    }
+
     // What the channels in use have against what a change asks.
     #[tactic(auto, unfolding(crate::specs::Refusals::against_any))]
     pub fn against(self, ask: Ask) -> Against
         ensures { result ≡ against_any ask self }
     {
         Against {
-            blocked: self.present().iter().any(|c| c.against(ask, self.capacity).blocked),
-            short: self.present().iter().any(|c| c.against(ask, self.capacity).short),
+            blocked: self.blocked(ask),
+            short: self.short(ask),
         }
     }
 
