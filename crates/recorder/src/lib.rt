@@ -20,6 +20,7 @@ ghost use Rattle.recorder.specs.Recording.{
 };
 
 use decimal::Line;
+use refusals::Refusal;
 use walks::{larger, smaller};
 
 #[derive(Clone, Copy)]
@@ -52,19 +53,6 @@ pub struct Recorder {
 pub struct Recorded {
     pub recorder: Recorder,
     pub data_len: usize,
-}
-
-#[derive(Clone, Copy)]
-pub enum LastOffset {
-    At(usize),
-    Nothing,
-}
-
-// How many bytes were written, or that the lent list is shorter than the text.
-#[derive(Clone, Copy)]
-pub enum Text {
-    Written(usize),
-    Short,
 }
 
 fn raised_count(count: u32) -> u32
@@ -174,13 +162,13 @@ impl Recorder {
         }
     }
 
-    pub fn last_recorded_offset(self) -> LastOffset
+    pub fn last_recorded_offset(self) -> Option<usize>
         ensures { result ≡ last_recorded_offset_of self }
     {
         let state = self.state;
         match state {
-            State::Triggered { write } => LastOffset::At(write),
-            State::Idle => LastOffset::Nothing,
+            State::Triggered { write } => Some(write),
+            State::Idle => None,
         }
     }
 
@@ -206,15 +194,15 @@ impl Recorder {
     }
 
     // Writes `skip: 0, neg: 0, inc: 0` with the counts. Where that doesn't fit, nothing is written.
-    pub fn print_error_info(self, text: &mut [u8]) -> Text
+    pub fn print_error_info(self, text: &mut [u8]) -> Result<usize, Refusal>
         ensures value { result ≡ print_error_info_of self (length text.old) }
         ensures text_after { text.new ≡ text_after self text.old }
     {
         let line = self.error_text();
         if line.print(text) {
-            Text::Written(line.length)
+            Ok(line.length)
         } else {
-            Text::Short
+            Err(Refusal::ShortList)
         }
     }
 

@@ -233,11 +233,11 @@ abbrev pub gather_number : Sampler → ℕ → ℕ
 gather_number s size = code_of (gather_judged s size)
 
 -- a question of one channel, before the rows of its own
-abbrev pub channel_rows : {A : Type 0} → Sampler → ℕ → Result A Refusal → Result A Refusal
-channel_rows s j rest = row (not (good_sampler s)) Broken (row (no_channel s j) NoChannel rest)
+abbrev pub question_rows : {A : Type 0} → Sampler → ℕ → Result A Refusal → Result A Refusal
+question_rows s j rest = row (not (good_sampler s)) Broken (row (no_channel s j) NoChannel rest)
 
 unfoldable pub channel_judged : Sampler → ℕ → Result (Unit {0}) Refusal
-channel_judged s j = channel_rows s j (Ok tt)
+channel_judged s j = question_rows s j (Ok tt)
 
 abbrev pub channel_number : Sampler → ℕ → ℕ
 channel_number s j = code_of (channel_judged s j)

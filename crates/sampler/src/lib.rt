@@ -272,7 +272,9 @@ impl Sampler {
     fn any_at_end(self, n: usize) -> bool
         ensures { result ≡ list_any at_end (take n self.channels) }
     {
-        self.channels[..n.min(2)].iter().any(|c| channel::LAST_TIME <= c.head.now)
+        self.channels[..n.min(2)]
+            .iter()
+            .any(|c| channel::LAST_TIME <= c.head.now)
     }
 
     // The largest clock of the channels in use.
@@ -280,7 +282,9 @@ impl Sampler {
     fn latest(self) -> usize
         ensures { result ≡ latest_of (present self) }
     {
-        self.present().iter().fold(0, |time, c| time.max(c.head.now))
+        self.present()
+            .iter()
+            .fold(0, |time, c| time.max(c.head.now))
     }
 
     // The frames that are left until a clock stands at its end.
@@ -327,7 +331,11 @@ impl Sampler {
         ensures memory_after { memory.new ≡ gather_memory self memory.old }
     {
         let done = self.gather_judged(memory.len());
-        let sampler = if done.is_ok() { self.gathered(memory) } else { self };
+        let sampler = if done.is_ok() {
+            self.gathered(memory)
+        } else {
+            self
+        };
         Answer { sampler, done }
     }
 
@@ -351,7 +359,11 @@ impl Sampler {
     fn answer(self, done: Result<(), Refusal>, change: Change) -> Answer
         ensures { result ≡ answer_of done change self }
     {
-        let sampler = if done.is_ok() { self.each(change) } else { self };
+        let sampler = if done.is_ok() {
+            self.each(change)
+        } else {
+            self
+        };
         Answer { sampler, done }
     }
 

@@ -7,6 +7,7 @@ ghost use Rattle.songs.specs.Plays.{change_by, one_more_refused, cues_of, due_of
 
 use channel::Change;
 use common_types::{Note, Params};
+use refusals::Refusal;
 use sampler::Sampler;
 use smf::Cue;
 
@@ -39,10 +40,10 @@ pub fn change_of(cue: Cue, params: Params) -> Change
 }
 
 // The refused calls, with one more if it is: no list has so many that the count wraps.
-pub fn one_more(refused: usize, number: u8) -> usize
-    ensures { result ≡ one_more_refused refused number % 2 ^ 64 }
+pub fn one_more(refused: usize, done: Result<(), Refusal>) -> usize
+    ensures { result ≡ one_more_refused refused done % 2 ^ 64 }
 {
-    if number == 0 {
+    if done.is_ok() {
         refused
     } else {
         std::num::wrapping_add_usize(refused, 1)
@@ -77,7 +78,7 @@ pub fn play(s: Sampler, list: &[u64], next: usize, at: u64, params: Params) -> P
         let cue = Cue::new(list[2 * place], list[2 * place + 1]);
         let answer = sampler.changed(change_of(cue, params));
         sampler = answer.sampler;
-        refused = one_more(refused, answer.number);
+        refused = one_more(refused, answer.done);
         place += 1;
     }
     Playing {
