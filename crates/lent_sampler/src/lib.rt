@@ -17,6 +17,7 @@ ghost use Rattle.sampler.specs.Samplers.{
   gather_of,
   gather_memory,
   reset_of,
+  each_of,
   change_of,
   sample_memory,
   Frames,
@@ -76,7 +77,7 @@ use channel::{Against, Ask, Change, Channel, HeadChange};
 use common_types::{Note, Params};
 use lent_channel::{Asking, Heard};
 use questions::{Seen, VoiceInfo, WaveformSummary};
-use recordings::{Loading, Surveyed, WaveRead};
+use recordings::Surveyed;
 use refusals::Refusal;
 use sampler::{Asked, FrameAsked, Ran, RunAsked, Sampler};
 use voice::Voice;
@@ -150,15 +151,24 @@ fn change_judged(s: &Sampler, change: Change) -> Result<(), Refusal>
     sampler::change_rows(asked, change)
 }
 
+// Makes a change of each channel in use.
+fn each(s: &mut Sampler, change: Change)
+    ensures { s.new ≡ each_of change s.old }
+{
+    let n = s.count.min(2);
+    for c in s.channels[..n].iter_mut() {
+        lent_changes::change(c, change);
+    }
+}
+
 // The call that makes a change of every channel, all or none, where the record stands. The names below are it, each at
 // the change that a function makes of the name's arguments.
+#[tactic(auto, unfolding(sampler::specs::Samplers::answer_of))]
 pub fn change(s: &mut Sampler, change: Change) -> Result<(), Refusal>
     ensures { record { sampler = s.new; done = result } ≡ change_of s.old change }
 {
     change_judged(s, change)?;
-    for j in 0..s.count.min(2) {
-        lent_changes::change(&mut s.channels[j], change);
-    }
+    each(s, change);
     Ok(())
 }
 
@@ -472,10 +482,9 @@ pub fn read_wave(s: &mut Sampler, file: &[u8], memory: &mut [u32]) -> Result<u32
         ≡ read_wave_of s.old file.now (length memory.old))
         × (memory.new ≡ read_memory s.old file.now memory.old) }
 {
-    let loading = recordings::read_in(survey(s), file, memory);
-    let rate = loading.read?;
-    change(s, Change::Head(HeadChange::Load(loading.samples)))?;
-    Ok(rate)
+    let loading = recordings::read_in(survey(s), file, memory)?;
+    each(s, Change::Head(HeadChange::Load(loading.samples)));
+    Ok(loading.rate)
 }
 
 // Whether the clock of that channel stands at its end; a channel that isn't there has none.
