@@ -1,6 +1,6 @@
 -- What each call of the recorder does (document 01, module 5). `len` is the length of the data, `capacity` that of the
 -- lent memory. Assumes nothing.
-use Rattle.std.specs.Prelude.{Bool, true, false, cond, ◌&&◌, List, ℕ, ◌+◌, ◌≤◌, max, min, ltb, leb, length, set, Option, None, Some}
+use Rattle.std.specs.Prelude.{Bool, true, false, cond, ◌&&◌, List, ℕ, ◌+◌, ◌≤◌, max, min, ltb, leb, length, set, Option, Some, None}
 use Rattle.recorder.specs.declared.State.{State}
 use Rattle.recorder.specs.declared.State.TheVariants.{Triggered, Idle}
 use Rattle.recorder.specs.declared.Recorder.{Recorder}
