@@ -396,7 +396,7 @@ pub fn iter_active_notes(s: &Sampler, channel: usize, notes: &mut [u64]) -> Resu
     let mut k = 0;
     for v in live(c) {
         if !v.finished {
-            notes[k] = v.note.into_u64();
+            notes[k] = u64::from(v.note);
             k += 1;
         }
     }

@@ -229,7 +229,7 @@ fn write_note(v: Voice, k: usize, notes: &mut [u64])
         return;
     }
     let note = v.note;
-    notes[k] = note.into_u64();
+    notes[k] = u64::from(note);
 }
 
 fn active_count(c: Channel) -> usize

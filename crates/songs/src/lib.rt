@@ -23,7 +23,7 @@ pub struct Playing {
 pub fn change_of(cue: Cue, params: Params) -> Change
     ensures { result ≡ change_by cue params }
 {
-    let note = Note::from_u64(cue.note);
+    let note = Note::from(cue.note);
     if cue.starts {
         Change::Start {
             params: params.copied(),
