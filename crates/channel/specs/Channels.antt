@@ -1,13 +1,13 @@
 -- What each call does to one channel (document 01, module 6, and the Rust's Channel). The voices are the first `count`
 -- of 32 places; what stands in the others is kept as it was. `m` is the channel's part of the lent memory. Definitions
 -- only.
-use Rattle.std.specs.Prelude.{ℕ, ◌+◌, ◌-◌, Bool, false, not, ◌&&◌, cond, List, ◌++◌, map, leb, ltb, eqb, length, take, drop, get_or, set, replicate, Float}
+use Rattle.std.specs.Prelude.{Option, Some, None, ℕ, ◌+◌, ◌-◌, Bool, false, not, ◌&&◌, cond, List, ◌++◌, map, leb, ltb, eqb, length, take, drop, get_or, set, replicate, Float}
 use Rattle.std.proofs.lemmas.List.Edits.{sets}
 use Rattle.std.specs.Float.{binary32}
 use Rattle.std.specs.Float.Ieee.{add}
 use Rattle.binary32.specs.Leaves.{bits_of, zero32, one32}
-use Rattle.std.specs.List.{list_any, list_all, fold}
-use Rattle.walks.specs.Walks.{without, behind, seek}
+use Rattle.std.specs.List.{list_any, list_all, fold, position_from}
+use Rattle.walks.specs.Walks.{without, behind}
 use Rattle.common_types.specs.declared.InitParams.{InitParams}
 use Rattle.common_types.specs.declared.Params.{Params}
 use Rattle.common_types.specs.declared.Note.{Note}
@@ -67,8 +67,6 @@ use Rattle.channel.specs.declared.HeadChange.{HeadChange}
 use Rattle.channel.specs.declared.HeadChange.TheVariants.{StartRecording, StopRecording}
 use Rattle.channel.specs.declared.Played.{Played}
 use Rattle.channel.specs.declared.Turned.{Turned}
-use Rattle.channel.specs.declared.Found.{Found}
-use Rattle.channel.specs.declared.Found.TheVariants.{At, Nothing}
 
 abbrev pub with_head : Head → Channel → Channel
 with_head h
@@ -190,13 +188,13 @@ same_note a b = eqb a.note b.note && eqb a.channel b.channel
 unfoldable pub wanted_of : Note → Voice → Bool
 wanted_of note v = same_note v.note note && unfinished_of v
 
-unfoldable pub find_of : Note → Channel → Found
-find_of note c = seek At Nothing (wanted_of note) 0 (live c)
+unfoldable pub find_of : Note → Channel → Option ℕ
+find_of note c = position_from (wanted_of note) 0 (live c)
 
 -- the voice at one of the 32 places is finished now
-unfoldable pub finished_at_of : Params → Channel → Found → Channel
-finished_at_of p c Nothing = c
-finished_at_of p c (At i) =
+unfoldable pub finished_at_of : Params → Channel → Option ℕ → Channel
+finished_at_of p c None = c
+finished_at_of p c (Some i) =
     cond (ltb i 32)
     (handled_of p (with_voices
     (set c.voices i (finish_of c.head.now p.decay_samples (get_or c.voices i blank_voice))) c.count c))

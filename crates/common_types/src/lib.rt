@@ -39,7 +39,7 @@ pub mod time_value;
 use refusals::Refusal;
 use time_value::{TimeOrRatio, TimeValue, calc_samples_per_quarter_note};
 
-#[derive(Clone, Copy)]
+#[derive(Clone, Copy, PartialEq, Eq)]
 pub struct Note {
     pub note: u8,
     pub channel: u8,

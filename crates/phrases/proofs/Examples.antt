@@ -1,6 +1,5 @@
 -- Phrases at their edges, each told from its nearest wrong neighbour, and gatherings word by word. Each holds by computation. Assumes nothing.
 use Rattle.std.proofs.Common.{◌≡◌, ℕ, ◌-◌, ◌^◌, true, false, List, [], ◌∷◌, set, refl}
-use Rattle.std.specs.List.{fold}
 use Rattle.phrases.specs.declared.Phrase.{Phrase}
 use Rattle.phrases.specs.Phrases.{no_phrase, no_phrases, empty_from, no_samples, is_over_by, reach_of, apart_of, room_of, others_of, every_below, good_at, good_phrases, beside_with, beside_of}
 use Rattle.phrases.specs.Gathering.{first_below, first_from, moved_down, gather_phrase, gather_next, gather_turns, gathering_of, sum_below, samples_of_all, samples_if, samples_before}

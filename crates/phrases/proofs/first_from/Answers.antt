@@ -26,18 +26,6 @@ pub loop-i-init : goal.loop-i-init
 unfolding first_below
 loop-i-init c = (omega arith, refl, λ h. absurd (h refl))
 
-pub offset_bounds-all-i : goal.offset_bounds-all-i
-offset_bounds-all-i c = omega arith
-
-pub bounds-all-i : goal.bounds-all-i
-bounds-all-i c = omega arith
-
-pub overflow_add-i : goal.overflow_add-i
-overflow_add-i c = omega arith
-
-pub loop-i-smaller : goal.loop-i-smaller
-loop-i-smaller c = omega arith
-
 pub loop-i-preserved : goal.loop-i-preserved
 loop-i-preserved c =
     let l = c.loop-i in

@@ -1,4 +1,4 @@
-use Rattle.std.proofs.Common.{◌≡◌, ℕ, ◌-◌, ◌≤◌, List, get_or}
+use Rattle.std.proofs.Common.{◌≡◌, ℕ, ◌≤◌, List, get_or}
 use Rattle.phrases.specs.Phrases.{no_phrase}
 use Rattle.phrases.specs.Gathering.{first_below}
 use Rattle.phrases.specs.declared.Phrase.{Phrase}
@@ -10,6 +10,3 @@ Begins all found start = (found ≡ 8 → ⊥) → start ≡ (get_or all found n
 
 abbrev pub invariant-loop-i : goal.invariant-loop-i
 invariant-loop-i l = (l.i ≤ 8) × (l.found ≡ first_below l.place l.all l.i) × Begins l.all l.found l.start
-
-abbrev pub decreases-loop-i : goal.decreases-loop-i
-decreases-loop-i l = 8 - l.i

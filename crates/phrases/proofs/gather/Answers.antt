@@ -61,15 +61,6 @@ pub loop-turn-init : goal.loop-turn-init
 unfolding gathering_of
 loop-turn-init c = record { upto = omega arith; left = refl; fits = record { down = omega arith; inside = omega arith }; size = refl }
 
-pub offset_bounds-moved-k : goal.offset_bounds-moved-k
-offset_bounds-moved-k c = omega arith
-
-pub bounds-moved-k : goal.bounds-moved-k
-bounds-moved-k c = omega arith
-
-pub overflow_sub-n : goal.overflow_sub-n
-overflow_sub-n c = omega arith
-
 pub move_down-requires : goal.move_down-requires
 move_down-requires c =
     let l = c.loop-turn in
@@ -79,24 +70,12 @@ move_down-requires c =
       omega (arith, room.ensures.from_le_to),
     )
 
-pub offset_bounds-moved-k-then-k-lt-PHRASES : goal.offset_bounds-moved-k-then-k-lt-PHRASES
-offset_bounds-moved-k-then-k-lt-PHRASES c = omega arith
-
-pub bounds-moved-k-then-k-lt-PHRASES : goal.bounds-moved-k-then-k-lt-PHRASES
-bounds-moved-k-then-k-lt-PHRASES c = omega arith
-
 pub overflow_add-to : goal.overflow_add-to
 overflow_add-to c =
     let l = c.loop-turn in
     let room = c.room-room in
     let found = c.first_from-k in
     omega (arith, room.ensures.from_le_to, goes_down _ found.result found.ensures room.result room.ensures.value c.if-k-lt-PHRASES.true l.invariant.fits)
-
-pub overflow_add-turn : goal.overflow_add-turn
-overflow_add-turn c = omega arith
-
-pub loop-turn-smaller : goal.loop-turn-smaller
-loop-turn-smaller c = omega arith
 
 pub loop-turn-preserved : goal.loop-turn-preserved
 loop-turn-preserved c =
