@@ -1,9 +1,1 @@
-pub mod Numbers
-pub mod Lists
-pub mod Turned
 pub mod RunTurns
-pub mod RunTurned
-pub mod Singles
-pub mod Changes
-pub mod Gathers
-pub mod Surveys
