@@ -61,8 +61,7 @@ fn later(now: usize, n: usize) -> usize {
 fn put_channel(c: &mut Channel, capacity: usize, p: Order) {
     match p.what {
         3 => c.count = p.n,
-        4..=7 => put_head(&mut c.head, capacity, p),
-        14 => put_head(&mut c.head, capacity, p),
+        4..=7 | 14 => put_head(&mut c.head, capacity, p),
         15 => renumber(c, (p.n % 256) as u8),
         17 => put_phrase(c, p),
         _ => put_in_voices(c, p),

@@ -70,7 +70,7 @@ fn answer(rt: &impl Print, fields: &Record, run: &mut Run) -> Result<bool, Alloc
             run.params = params_of(fields);
             run.told(kind)?;
         }
-        2..=7 => {
+        2..=7 | 26 | 27 => {
             let number = run.call(fields);
             run.answered(kind, number)?;
         }
@@ -112,10 +112,6 @@ fn answer(rt: &impl Print, fields: &Record, run: &mut Run) -> Result<bool, Alloc
         25 => {
             let read = run.read(fields);
             run.took(kind, read)?;
-        }
-        26..=27 => {
-            let number = run.call(fields);
-            run.answered(kind, number)?;
         }
         28 => {
             let number = run.gather(fields);
