@@ -691,7 +691,8 @@ fn value_before(before: f32, values: &[u32], volume: Volume, time: usize, n: usi
     value_at(values, volume, time, n - 2)
 }
 
-// Adds n values at the volume's levels to the first n sums.
+// Adds n values at the volume's levels to the first n sums. A loop of its own beside `add_ramp`'s: one with a closure for the
+// level is no plainer, since the times and the counts need their bounds at each call of it.
 fn add_levels(values: &[u32], volume: Volume, time: usize, sums: &mut [f32], n: usize)
     requires { (time ≤ 2 ^ 62) × (n ≤ 2 ^ 24) × (n ≤ length «values».now) × (n ≤ length «sums».old) }
     ensures { Added (leveled «values».now volume time) 0 n «sums».old «sums».new }
