@@ -500,7 +500,12 @@ fn at_end(s: &Sampler, channel: usize) -> bool
 
 // Whether a sample of that channel is refused, with no channel copied.
 #[tactic(auto, unfolding(sampler::specs::Refusals::sample_judged))]
-pub fn sample_judged(s: &Sampler, channel: usize, params: Params, size: usize) -> Result<(), Refusal>
+pub fn sample_judged(
+    s: &Sampler,
+    channel: usize,
+    params: Params,
+    size: usize,
+) -> Result<(), Refusal>
     ensures { result ≡ sample_judged s.now channel params size }
 {
     Refusal::Broken.when(!good_with(s, size))?;
@@ -514,7 +519,9 @@ pub fn sample_judged(s: &Sampler, channel: usize, params: Params, size: usize) -
 fn any_at_end(s: &Sampler, n: usize) -> bool
     ensures { result ≡ list_any at_end (take n s.now.channels) }
 {
-    s.channels[..n.min(2)].iter().any(|c| channel::LAST_TIME <= c.head.now)
+    s.channels[..n.min(2)]
+        .iter()
+        .any(|c| channel::LAST_TIME <= c.head.now)
 }
 
 // Whether a frame is refused, with no channel copied.

@@ -39,16 +39,28 @@ fn put_loop_modes(fields: &Record, out: &mut Text) -> Result<(), AllocError> {
     let mode = loop_mode(fields[5]);
     out.put::<1>(mode.to_index() as u64)?;
     out.put_f32(mode.to_f32())?;
-    put_index(out, LoopMode::from_index(usize_at(fields, 8)).map(|mode| mode.to_index()))?;
-    put_index(out, LoopMode::from_f32(f32_at(fields, 16)).map(|mode| mode.to_index()))
+    put_index(
+        out,
+        LoopMode::from_index(usize_at(fields, 8)).map(|mode| mode.to_index()),
+    )?;
+    put_index(
+        out,
+        LoopMode::from_f32(f32_at(fields, 16)).map(|mode| mode.to_index()),
+    )
 }
 
 fn put_note_off_modes(fields: &Record, out: &mut Text) -> Result<(), AllocError> {
     let mode = note_off(fields[6]);
     out.put::<1>(mode.to_index() as u64)?;
     out.put_f32(mode.to_f32())?;
-    put_index(out, NoteOffBehaviour::from_index(usize_at(fields, 8)).map(|mode| mode.to_index()))?;
-    put_index(out, NoteOffBehaviour::from_f32(f32_at(fields, 16)).map(|mode| mode.to_index()))
+    put_index(
+        out,
+        NoteOffBehaviour::from_index(usize_at(fields, 8)).map(|mode| mode.to_index()),
+    )?;
+    put_index(
+        out,
+        NoteOffBehaviour::from_f32(f32_at(fields, 16)).map(|mode| mode.to_index()),
+    )
 }
 
 // Document 01's number for the answer, and the mode's index.

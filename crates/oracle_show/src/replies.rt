@@ -98,7 +98,11 @@ pub fn put_told(out: &mut Text, kind: u8, a: Result<bool, Refusal>) -> Result<()
 }
 
 // Whether there is one, and the offset.
-pub fn put_offset(out: &mut Text, kind: u8, a: Result<Option<usize>, Refusal>) -> Result<(), AllocError> {
+pub fn put_offset(
+    out: &mut Text,
+    kind: u8,
+    a: Result<Option<usize>, Refusal>,
+) -> Result<(), AllocError> {
     let (number, last) = match a {
         Ok(last) => (0, last),
         Err(refusal) => (refusal.number(), None),
