@@ -821,7 +821,7 @@ impl Channel {
 
     // The voices that there are.
     #[tactic(auto, using(walks::proofs::Lists::Loops::take_most))]
-    fn live(&self) -> &[Voice]
+    pub fn live(&self) -> &[Voice]
         ensures { result.now ≡ live self.now }
     {
         &self.voices[..places(self.count)]

@@ -15,8 +15,7 @@ use Rattle.volume.specs.declared.Volume.{Volume}
 use Rattle.channel.specs.declared.Head.{Head}
 use Rattle.channel.specs.declared.Channel.{Channel}
 use Rattle.channel.specs.declared.Change.TheVariants as change
-use Rattle.channel.specs.declared.Found.{Found}
-use Rattle.channel.specs.declared.Found.TheVariants.{At, Nothing}
+use Rattle.std.specs.Prelude.{Option, Some, None}
 use Rattle.channel.specs.Heads.{last_time, next_time, with_passthru, head_of}
 use Rattle.channel.specs.Channels.{
   any_unfinished_of,
@@ -46,10 +45,10 @@ module _ {A : Type 0} (f : Head → A) (same : (on : Bool) (v : Volume) (h : Hea
   unfolding pushed_of
   pushed_holds v c = either (λ (d : Channel). f d.head) (ltb c.count 32) _ c (f c.head) refl refl
 
-  pub finished_holds : (p : Params) (c : Channel) (found : Found) → f (finished_at_of p c found).head ≡ f c.head
+  pub finished_holds : (p : Params) (c : Channel) (found : Option ℕ) → f (finished_at_of p c found).head ≡ f c.head
   unfolding finished_at_of
-  finished_holds p c Nothing = refl
-  finished_holds p c (At i) = either (λ (d : Channel). f d.head) (ltb i 32) _ c (f c.head) (handled_holds p _) refl
+  finished_holds p c None = refl
+  finished_holds p c (Some i) = either (λ (d : Channel). f d.head) (ltb i 32) _ c (f c.head) (handled_holds p _) refl
 
   pub started_holds : (p : Params) (position : Float) (note : Note) (velocity : Float) (c : Channel) → f (begun_of p position note velocity c).head ≡ f c.head
   unfolding begun_of

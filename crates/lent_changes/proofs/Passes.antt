@@ -13,7 +13,7 @@ use lib.ListN.{length, length-set, take, drop, get_or, set, take-append-drop}
 use lib.Seq.{sets, sets-eq, length-take-le, set-get_or, get_or-set_same, take-set-lt, drop-set-lt, get_or-take, take_all}
 use Rattle.binary32.specs.Leaves.{zero32}
 use Rattle.std.specs.List.{list_any}
-use Rattle.walks.specs.Walks.{seek}
+use Rattle.std.specs.List.{position_from}
 use Rattle.walks.proofs.Tests.{and-true, or-false}
 use Rattle.walks.proofs.Lists.Fronts.{any_next}
 use Rattle.walks.proofs.Lists.Loops.{take_most}
@@ -27,8 +27,7 @@ use Rattle.channel.specs.declared.Change.{Change}
 use Rattle.channel.specs.declared.Change.TheVariants as change
 use Rattle.channel.specs.declared.Channel.{Channel}
 use Rattle.channel.specs.declared.Entry.{Entry}
-use Rattle.channel.specs.declared.Found.{Found}
-use Rattle.channel.specs.declared.Found.TheVariants.{At, Nothing}
+use Rattle.std.specs.Prelude.{Option, Some, None}
 use Rattle.channel.specs.Heads.{moment_of}
 use Rattle.channel.specs.Tables.{place_of, names_of, entry_stored, stored_by}
 use Rattle.channel.specs.Channels.{with_voices, beside_in, unfinished_of, same_note, wanted_of, sped_of, any_unfinished_of, handled_of, pushed_of, start_playing_of, find_of, finished_at_of, stop_playing_of, set_note_speed_of, head_changed_in, reset_of, changed_of}
@@ -179,8 +178,8 @@ module _ (turns count now decay : ℕ) (speed : Float) (note : Note) (fresh : Bo
 
   -- what it comes to: no voice is wanted, or the first that is has been finished
   data Comes (k : ℕ) (u : Bool) (vs : List Voice) : Type 0 where
-    none_wanted : seek At Nothing (wanted_of note) k vs ≡ Nothing → outs_of (stop false u) vs ≡ vs → (last_of (stop false u) vs).found ≡ false → (last_of (stop false u) vs).fresh ≡ fresh → (last_of (stop false u) vs).count ≡ count → Comes k u vs
-    one_wanted : (j : ℕ) → seek At Nothing (wanted_of note) k vs ≡ At (k + j) → j < length vs → outs_of (stop false u) vs ≡ set vs j (finish_of now decay (get_or vs j blank_voice)) → last_of (stop false u) vs ≡ stop true (u || list_any unfinished_of (outs_of (stop false u) vs)) → Comes k u vs
+    none_wanted : position_from (wanted_of note) k vs ≡ None → outs_of (stop false u) vs ≡ vs → (last_of (stop false u) vs).found ≡ false → (last_of (stop false u) vs).fresh ≡ fresh → (last_of (stop false u) vs).count ≡ count → Comes k u vs
+    one_wanted : (j : ℕ) → position_from (wanted_of note) k vs ≡ Some (k + j) → j < length vs → outs_of (stop false u) vs ≡ set vs j (finish_of now decay (get_or vs j blank_voice)) → last_of (stop false u) vs ≡ stop true (u || list_any unfinished_of (outs_of (stop false u) vs)) → Comes k u vs
 
   abbrev outs_at : Bool → Voice → List Voice → Bool → List Voice
   outs_at u v vs c = cond c (remade_of (stop false u) v) v ∷ outs_of (passed_of (stop false u) v c) vs
@@ -194,18 +193,18 @@ module _ (turns count now decay : ℕ) (speed : Float) (note : Note) (fresh : Bo
   hit_is u v = refl
 
   comes : (k : ℕ) (u : Bool) (vs : List Voice) → Comes k u vs
-  unfolding seek passed_of remade_of finish_of
+  unfolding passed_of remade_of finish_of
   comes k u [] = none_wanted refl refl refl refl refl
   comes k u (v ∷ vs) = go (wanted_of note v) refl (comes (k + 1) (u || unfinished_of v) vs)
     where
-      found : Bool → Found
-      found c = cond c (At k) (seek At Nothing (wanted_of note) (k + 1) vs)
+      found : Bool → Option ℕ
+      found c = cond c (Some k) (position_from (wanted_of note) (k + 1) vs)
 
       go : (c : Bool) → wanted_of note v ≡ c → Comes (k + 1) (u || unfinished_of v) vs → Comes k u (v ∷ vs)
       go true e rest =
           let e_hit : hits_of (stop false u) v ≡ true = hit_is u v ∙ e in
           let outs : outs_of (stop false u) (v ∷ vs) ≡ finish_of now decay v ∷ vs = ap (outs_at u v vs) e_hit ∙ ap (λ (l : List Voice). finish_of now decay v ∷ l) (outs_found (u || false) vs) in
-          one_wanted 0 (ap found e ∙ ap At (sym (add-zero k))) (omega arith) outs
+          one_wanted 0 (ap found e ∙ ap Some (sym (add-zero k))) (omega arith) outs
           (ap (last_at u v vs) e_hit ∙ last_found (u || false) vs ∙ ap (stop true) (or_assoc u false (list_any unfinished_of vs)) ∙ ap (λ (l : List Voice). stop true (u || list_any unfinished_of l)) (sym outs))
       go false e (none_wanted s outs f g n) =
           let e_hit : hits_of (stop false u) v ≡ false = hit_is u v ∙ e in
@@ -214,7 +213,7 @@ module _ (turns count now decay : ℕ) (speed : Float) (note : Note) (fresh : Bo
       go false e (one_wanted j s lt outs last) =
           let e_hit : hits_of (stop false u) v ≡ false = hit_is u v ∙ e in
           let here : outs_of (stop false u) (v ∷ vs) ≡ v ∷ outs_of (stop false (u || unfinished_of v)) vs = ap (outs_at u v vs) e_hit in
-          one_wanted (suc j) (ap found e ∙ s ∙ ap At (omega arith)) (omega (arith, lt)) (here ∙ ap (λ (l : List Voice). v ∷ l) outs)
+          one_wanted (suc j) (ap found e ∙ s ∙ ap Some (omega arith)) (omega (arith, lt)) (here ∙ ap (λ (l : List Voice). v ∷ l) outs)
           (ap (last_at u v vs) e_hit ∙ last ∙ ap (stop true) (or_assoc u (unfinished_of v) (list_any unfinished_of (outs_of (stop false (u || unfinished_of v)) vs))) ∙ ap (λ (l : List Voice). stop true (u || list_any unfinished_of l)) (sym here))
 
 -- ---- the calls
@@ -235,9 +234,9 @@ module _ (h : Channel) (all : length h.voices ≡ 32) where
     abbrev vs : List Voice
     vs = take n l
 
-    finds : find_of note h ≡ seek At Nothing (wanted_of note) 0 vs
+    finds : find_of note h ≡ position_from (wanted_of note) 0 vs
     unfolding find_of
-    finds = ap (seek At Nothing (wanted_of note) 0) (sym (take_most l h.count 32 all))
+    finds = ap (position_from (wanted_of note) 0) (sym (take_most l h.count 32 all))
 
     abbrev made : Bool → ℕ → Bool → Bool → List Voice → Channel
     made fresh count found unfinished k = record { voices = cond fresh (set k h.count blank_voice) k; table = h.table; count = count; head = handled_if found h.head q unfinished; several = h.several }
@@ -262,7 +261,7 @@ module _ (h : Channel) (all : length h.voices ≡ 32) where
         ∙ ap (λ (b : List Voice). made false h.count true (list_any unfinished_of b) (sets l 0 b)) out
         ∙ ap (made false h.count true (list_any unfinished_of (take n (set l j w)))) (fronts l (set l j w) n within (length-set l j w) (sym (drop-set-lt n l j w below)))
         ∙ ap (λ (b : List Voice). made false h.count true (list_any unfinished_of b) (set l j w)) (take_most (set l j w) h.count 32 (length-set l j w ∙ all))
-        ∙ sym (ap (finished_at_of q h) (finds ∙ s ∙ ap At (zero-add j)) ∙ ap (λ (b : Bool). cond b (handled_of q (with_voices (set l j w) h.count h)) h) (lt-ltb j 32 (omega (arith, below))))
+        ∙ sym (ap (finished_at_of q h) (finds ∙ s ∙ ap Some (zero-add j)) ∙ ap (λ (b : Bool). cond b (handled_of q (with_voices (set l j w) h.count h)) h) (lt-ltb j 32 (omega (arith, below))))
 
   -- every voice with the note has its speed
   module _ (note : Note) (speed : Float) where

@@ -48,6 +48,7 @@ pub struct Pass {
 }
 
 // Voices are asked, and none is changed: a stop that has its voice.
+#[tactic(auto, unfolding(crate::specs::Changes::asks_voices))]
 fn asking(turns: usize, count: usize, head: Head) -> Pass
     ensures { result ≡ asks_voices turns count head }
 {
@@ -67,6 +68,7 @@ fn asking(turns: usize, count: usize, head: Head) -> Pass
 }
 
 // One voice more is stored behind the others.
+#[tactic(auto, unfolding(crate::specs::Changes::stores_behind))]
 fn behind(count: usize, head: Head) -> Pass
     requires { count < 32 }
     ensures { result ≡ stores_behind count head }
@@ -87,6 +89,7 @@ fn behind(count: usize, head: Head) -> Pass
 }
 
 // A start on no recording stores no voice. Where there is no place for one every voice is asked, for the pass-through.
+#[tactic(auto, unfolding(crate::specs::Changes::start_pass))]
 fn start_pass(count: usize, head: Head) -> Pass
     ensures { result ≡ start_pass count head }
 {
@@ -100,6 +103,7 @@ fn start_pass(count: usize, head: Head) -> Pass
 }
 
 // Every voice is gone through, and those with the note are changed.
+#[tactic(auto, unfolding(crate::specs::Changes::going_of))]
 fn going(count: usize, head: Head, note: Note, stop: bool, decay_samples: usize, speed: f32) -> Pass
     ensures { result ≡ going_of count head note stop decay_samples speed }
 {
@@ -117,6 +121,7 @@ fn going(count: usize, head: Head, note: Note, stop: bool, decay_samples: usize,
     }
 }
 
+#[tactic(auto, unfolding(crate::specs::Changes::pass_of))]
 fn pass_of(change: Change, head: Head, count: usize) -> Pass
     ensures { result ≡ pass_of change head count }
 {
@@ -130,12 +135,11 @@ fn pass_of(change: Change, head: Head, count: usize) -> Pass
 }
 
 // Whether the voice is changed: the first with the note that a stop finds unfinished, each with the note otherwise.
+#[tactic(auto, unfolding(crate::specs::Changes::hits_of))]
 fn hits(p: Pass, v: Voice) -> bool
     ensures { result ≡ hits_of p v }
 {
-    let own = v.note;
-    let note = p.note;
-    chosen(channel::same_note(own, note), p.stop, p.found, v.finished)
+    chosen(v.note == p.note, p.stop, p.found, v.finished)
 }
 
 fn chosen(same: bool, stop: bool, found: bool, finished: bool) -> bool
@@ -144,6 +148,7 @@ fn chosen(same: bool, stop: bool, found: bool, finished: bool) -> bool
     same & (!stop | (!found & !finished))
 }
 
+#[tactic(auto, unfolding(crate::specs::Changes::remade_of))]
 fn remade(p: Pass, v: Voice) -> Voice
     ensures { result ≡ remade_of p v }
 {
@@ -167,17 +172,17 @@ fn or_left(before: bool, hit: bool, finished: bool) -> bool
 }
 
 // What is known once the voice has been gone through.
+#[tactic(auto, unfolding(crate::specs::Changes::passed_of))]
 fn passed(p: Pass, v: Voice, hit: bool) -> Pass
     ensures { result ≡ passed_of p v hit }
 {
-    let note = p.note;
     Pass {
         turns: p.turns,
         count: p.count,
         now: p.now,
         decay_samples: p.decay_samples,
         speed: p.speed,
-        note,
+        note: p.note,
         stop: p.stop,
         fresh: p.fresh,
         found: either(p.found, hit),
@@ -186,6 +191,7 @@ fn passed(p: Pass, v: Voice, hit: bool) -> Pass
 }
 
 // The voice that a start stores.
+#[tactic(auto, unfolding(crate::specs::Changes::started_voice))]
 fn opened(change: Change, head: Head) -> Voice
     ensures { result ≡ started_voice change head }
 {
@@ -222,6 +228,7 @@ fn none_passes() -> Passing
 }
 
 // A ramp begins if it is asked for, and pass-through is not yet as wanted.
+#[tactic(auto, unfolding(crate::specs::Changes::passing_if))]
 fn passing_if(asked: bool, head: Head, params: Params, unfinished: bool) -> Passing
     ensures { result ≡ passing_if asked head params unfinished }
 {
@@ -234,6 +241,7 @@ fn passing_if(asked: bool, head: Head, params: Params, unfinished: bool) -> Pass
 }
 
 // Pass-through follows a start on a recording, and a stop that found its voice.
+#[tactic(auto, unfolding(crate::specs::Changes::passing_of))]
 fn passing_of(p: Pass, change: Change, head: Head) -> Passing
     ensures { result ≡ passing_of p change head }
 {
@@ -247,6 +255,7 @@ fn passing_of(p: Pass, change: Change, head: Head) -> Passing
 }
 
 // The head at the end, but for pass-through.
+#[tactic(auto, unfolding(crate::specs::Changes::altered_of))]
 fn altered(change: Change, head: Head, aside: Aside) -> Head
     ensures { result ≡ altered_of change head aside }
 {
@@ -262,6 +271,7 @@ fn altered(change: Change, head: Head, aside: Aside) -> Head
     }
 }
 
+#[tactic(auto, unfolding(crate::specs::Changes::handled_by))]
 fn handled(q: Passing, head: Head) -> Head
     ensures { result ≡ handled_by q head }
 {
@@ -311,8 +321,7 @@ pub fn change(c: &mut Channel, change: Change)
 {
     let mut p = pass_of(change, c.head, c.count);
     let n = p.turns;
-    let mut i: usize = 0;
-    while i < n {
+    for i in 0..n {
         let v = c.voices[i];
         let hit = hits(p, v);
         if hit {
@@ -320,7 +329,6 @@ pub fn change(c: &mut Channel, change: Change)
             c.voices[i] = w;
         }
         p = passed(p, v, hit);
-        i = i + 1;
     }
     if p.fresh {
         let at = c.count;
@@ -358,6 +366,7 @@ fn all_of(table: [Phrase; 8], several: bool, head: Head) -> [Phrase; 8]
 }
 
 // Table and head, the phrases being where they stand in `all`.
+#[tactic(auto, unfolding(crate::specs::Laying::laid_of))]
 fn laid_of(table: [Phrase; 8], several: bool, head: Head, all: [Phrase; 8]) -> Laid
     ensures { result ≡ laid_of table several head all }
 {
@@ -405,6 +414,7 @@ pub fn gather(c: &mut Channel, memory: &mut [u32], start: usize, end: usize)
         ++ drop (end - start) (drop start memory.old))) }
 {
     let l = gathered(c.table, c.several, c.head, memory, start, end);
+    // By a variable: an array stored from a field straight is not covered.
     let table = l.table;
     c.table = table;
     c.head = l.head;

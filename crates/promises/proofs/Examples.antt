@@ -21,7 +21,7 @@ use Rattle.common_types.specs.Settings.{default_transport}
 use Rattle.binary32.specs.Leaves.{floor_of, min_of, max_of, crossing_of, root_below, isqrt, root_of, zero32, one32}
 use Rattle.binary32.specs.Wholes.{is_whole_in}
 use Rattle.std.specs.List.{list_any, list_all, fold}
-use Rattle.walks.specs.Walks.{without, behind, seek}
+use Rattle.walks.specs.Walks.{without, behind}
 use Rattle.common_types.specs.Settings.{speed_of, time_length_of, length_of, loop_length_of, length_beyond, beyond_limits}
 use Rattle.volume.specs.Levels.{progress_of, level_of, toward_of, stepped_of, good_ramp, good_volume}
 use Rattle.recorder.specs.Recording.{raised, in_state, misused_of, skipped_of, start_of, stop_of, recorded_of, data_after, is_recording_of, good_recorder}
@@ -67,7 +67,7 @@ use Rattle.promises.proofs.TruePositions.{true_positions}
 
 -- whatever a run computes by
 unfoldable pub computing : Unit {0}
-unfolding floor_of min_of max_of crossing_of without behind seek speed_of time_length_of length_of loop_length_of length_beyond beyond_limits progress_of level_of toward_of stepped_of good_ramp good_volume raised in_state misused_of skipped_of start_of stop_of recorded_of data_after is_recording_of good_recorder lead_of travel_at looped_of round_trip_of mirrored_of bounced_of wrapped_of placed_of clip_offset_at clip_to_data_of offset_at index_at made_of back_of found_at reversing_at shift_for settled_of with_speed with_mode with_length with_data_length good_length good_clip span_of tick_of late_of over_of should_remove_of moved_of position_of one_further next_at between_of value_of product_of sounded_of finish_of played_out_of ended_of volume_stepped turn_of fresh_of blank_voice at_speed_of good_voice no_samples is_over_by reach_of apart_of stored_in room_of others_of every_below good_at good_phrases beside_with beside_of first_below moved_down gather_phrase gather_next gather_turns gathering_of phrase_by begins_at written_in holds_of phrase_after recorder_after interpolates_after chosen_after next_time head_of ramp_of passthru_of closed_of good_head good_table table_after several_after head_names found_by head_asks asks_of leaving_of blocked_by short_by channel_of reset_of uses_of head_changed_in gathered_in gathered_memory any_unfinished_of handled_of pushed_of start_playing_of wanted_of find_of finished_at_of stop_playing_of sped_of set_note_speed_of head_changed_of kept_of tidied_of added_of heard_sum played_of turning_by resting turning_at turning_of turning_in taken_of begun_of passes_over voice_turned lets_go leaves_of turns_by moment_at held_at step_of memory_of process_sample_of changed_of full_of good_voices_of good_channel good_sizes good_sampler against_any capacity_of good_with set_up_number gather_number start_rows stop_rows speed_rows sample_number frame_number channel_number notes_of list_number set_up_of each_of answer_of part_of played_at sampled_of output_of moved_at memory_at sample_of sample_memory gather_channel gather_channels gather_of gather_memory entry_of entries_of entries_moved framed_of frame_moved act is_reset is_sample decay_of fate_of follow stops becomes added_by out_of plays_out follow_all stopped_in finished_in agrees_of disagrees alters altered_in set_up question_number code after run done_to event events is_reset_call rewrites output before add sub mul div rem neg lt le eq of_int to_unsigned is_nan of_bits to_bits nan_bits of_fields latest_of frames_left run_number done_of frames_of ran_of run_answer
+unfolding floor_of min_of max_of crossing_of without behind speed_of time_length_of length_of loop_length_of length_beyond beyond_limits progress_of level_of toward_of stepped_of good_ramp good_volume raised in_state misused_of skipped_of start_of stop_of recorded_of data_after is_recording_of good_recorder lead_of travel_at looped_of round_trip_of mirrored_of bounced_of wrapped_of placed_of clip_offset_at clip_to_data_of offset_at index_at made_of back_of found_at reversing_at shift_for settled_of with_speed with_mode with_length with_data_length good_length good_clip span_of tick_of late_of over_of should_remove_of moved_of position_of one_further next_at between_of value_of product_of sounded_of finish_of played_out_of ended_of volume_stepped turn_of fresh_of blank_voice at_speed_of good_voice no_samples is_over_by reach_of apart_of stored_in room_of others_of every_below good_at good_phrases beside_with beside_of first_below moved_down gather_phrase gather_next gather_turns gathering_of phrase_by begins_at written_in holds_of phrase_after recorder_after interpolates_after chosen_after next_time head_of ramp_of passthru_of closed_of good_head good_table table_after several_after head_names found_by head_asks asks_of leaving_of blocked_by short_by channel_of reset_of uses_of head_changed_in gathered_in gathered_memory any_unfinished_of handled_of pushed_of start_playing_of wanted_of find_of finished_at_of stop_playing_of sped_of set_note_speed_of head_changed_of kept_of tidied_of added_of heard_sum played_of turning_by resting turning_at turning_of turning_in taken_of begun_of passes_over voice_turned lets_go leaves_of turns_by moment_at held_at step_of memory_of process_sample_of changed_of full_of good_voices_of good_channel good_sizes good_sampler against_any capacity_of good_with set_up_number gather_number start_rows stop_rows speed_rows sample_number frame_number channel_number notes_of list_number set_up_of each_of answer_of part_of played_at sampled_of output_of moved_at memory_at sample_of sample_memory gather_channel gather_channels gather_of gather_memory entry_of entries_of entries_moved framed_of frame_moved act is_reset is_sample decay_of fate_of follow stops becomes added_by out_of plays_out follow_all stopped_in finished_in agrees_of disagrees alters altered_in set_up question_number code after run done_to event events is_reset_call rewrites output before add sub mul div rem neg lt le eq of_int to_unsigned is_nan of_bits to_bits nan_bits of_fields latest_of frames_left run_number done_of frames_of ran_of run_answer
 computing = tt
 
 -- ---- parameters, keys, calls

@@ -30,8 +30,7 @@ use Rattle.channel.specs.declared.Channel.{Channel}
 use Rattle.channel.specs.declared.Change.TheVariants as change
 use Rattle.channel.specs.declared.HeadChange.{HeadChange}
 use Rattle.channel.specs.declared.HeadChange.TheVariants.{StartRecording, StopRecording, Interpolate, Load, Choose, Delete}
-use Rattle.channel.specs.declared.Found.{Found}
-use Rattle.channel.specs.declared.Found.TheVariants.{At, Nothing}
+use Rattle.std.specs.Prelude.{Option, Some, None}
 use Rattle.channel.specs.Heads.{with_recorded, recording_in, head_of, moment_on, moment_of, chosen_after, head_changed_of, closed_of}
 use Rattle.channel.specs.Tables.{place_of}
 use Rattle.channel.specs.Channels.{with_head, with_voices, live, phrases_in, phrase_at, moment_for, handled_of, pushed_of, find_of, finished_at_of, stop_playing_of, sped_of, set_note_speed_of, head_changed_in, reset_of, gathered_in, kept_of, played_of, taken_of, memory_of}
@@ -162,7 +161,7 @@ module _ (c : Channel) (o : OnePhrase c) where
       go true = o.voices
       go false = pushed v (fresh_phrase p position note velocity (moment_of c.head) ∙ o.number)
 
-  finished : (p : Params) (f : Found) → OnePhrase (finished_at_of p c f)
+  finished : (p : Params) (f : Option ℕ) → OnePhrase (finished_at_of p c f)
   unfolding finished_at_of handled_of
   finished p f = record {
     number = finished_holds (λ (h : Head). h.chosen) (λ on v h. refl) p c f ∙ o.number;
@@ -171,9 +170,9 @@ module _ (c : Channel) (o : OnePhrase c) where
     voices = voices f;
   }
     where
-      alone : (f : Found) → (finished_at_of p c f).several ≡ false
-      alone Nothing = o.alone
-      alone (At i) = either (λ (d : Channel). d.several) (ltb i 32) _ c false o.alone o.alone
+      alone : (f : Option ℕ) → (finished_at_of p c f).several ≡ false
+      alone None = o.alone
+      alone (Some i) = either (λ (d : Channel). d.several) (ltb i 32) _ c false o.alone o.alone
 
       -- the voice at a place past those that there are is none of them
       set_in : (i : ℕ) (b : Bool) → ltb i c.count ≡ b → Each Its (take c.count (set c.voices i (finish_of c.head.now p.decay_samples (get_or c.voices i blank_voice))))
@@ -187,9 +186,9 @@ module _ (c : Channel) (o : OnePhrase c) where
       within i true = set_in i (ltb i c.count) refl
       within i false = o.voices
 
-      voices : (f : Found) → Each Its (live (finished_at_of p c f))
-      voices Nothing = o.voices
-      voices (At i) = within i (ltb i 32)
+      voices : (f : Option ℕ) → Each Its (live (finished_at_of p c f))
+      voices None = o.voices
+      voices (Some i) = within i (ltb i 32)
 
   sped : (note : Note) (speed : Float) → OnePhrase (set_note_speed_of note speed c)
   unfolding set_note_speed_of becomes

@@ -6,7 +6,7 @@ use Prim.Native.Nat.{ℕ, zero, suc, ◌+◌, ◌≤◌, ◌<◌}
 use native.Mathlib.Omega.{arith}
 use lib.ListN.{length, get_or, take, set}
 use lib.Seq.{slice}
-use Rattle.std.specs.List.{list_all}
+use Rattle.std.specs.List.{list_all, fold}
 use Rattle.walks.proofs.Lists.Loops.{next, stored}
 
 pub both : (a b : Bool) → (a && b) ≡ true → (a ≡ true) × (b ≡ true)
@@ -26,6 +26,16 @@ module _ {A : Type 0} (p : A → Bool) where
   every_fewer (x ∷ xs) (suc n) (suc m) h k =
       let g = both (p x) (list_all p (take n xs)) h in
       simp (g.0, every_fewer xs n m g.1 (omega arith))
+
+  -- a fold that goes on behind one for which it doesn't hold
+  folded_from : (l : List A) (ok : Bool) → fold (λ (b : Bool) (x : A). b && p x) ok l ≡ (ok && list_all p l)
+  folded_from [] true = refl
+  folded_from [] false = refl
+  folded_from (x ∷ xs) true = folded_from xs (p x)
+  folded_from (x ∷ xs) false = folded_from xs false
+
+  pub all_folded : (l : List A) → fold (λ (b : Bool) (x : A). b && p x) true l ≡ list_all p l
+  all_folded l = folded_from l true
 
   -- what is left to walk is good: its first is, and the rest is
   unfoldable pub Good : List A → ℕ → ℕ → Type 0
