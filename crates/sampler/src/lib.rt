@@ -171,13 +171,10 @@ struct Entered {
 pub fn good_sizes(count: usize, capacity: usize) -> bool
     ensures { result ≡ good_sizes count capacity }
 {
-    if (count == 1) | (count == 2) {
-        (1 <= capacity) & (capacity <= MOST_SAMPLES)
-    } else {
-        false
-    }
+    ((count == 1) | (count == 2)) & (1 <= capacity) & (capacity <= MOST_SAMPLES)
 }
 
+#[tactic(auto, unfolding(crate::specs::Refusals::capacity_of))]
 fn capacity_of(count: usize, size: usize) -> usize
     ensures { result ≡ capacity_of count size }
 {
@@ -221,12 +218,19 @@ impl Sampler {
         }
     }
 
-    // The channels in use: never more than the array has.
+    // The first n channels: never more than the array has.
     #[tactic(auto, using(walks::proofs::Lists::Loops::take_most))]
+    fn first(&self, n: usize) -> &[Channel]
+        ensures { result.now ≡ take n self.now.channels }
+    {
+        &self.channels[..n.min(2)]
+    }
+
+    // The channels in use.
     fn present(&self) -> &[Channel]
         ensures { result.now ≡ present self.now }
     {
-        &self.channels[..self.count.min(2)]
+        self.first(self.count)
     }
 
     fn good_channels(self) -> bool
@@ -240,25 +244,36 @@ impl Sampler {
     pub fn good(self) -> bool
         ensures { result ≡ good_sampler self }
     {
-        if good_sizes(self.count, self.capacity) {
-            self.good_channels()
-        } else {
-            false
-        }
+        good_sizes(self.count, self.capacity) && self.good_channels()
+    }
+
+    #[tactic(auto, unfolding(crate::specs::Refusals::against_any))]
+    fn blocked(self, ask: Ask) -> bool
+        ensures { result ≡ (against_any ask self).blocked }
+    {
+        self.present()
+            .iter()
+            .any(|c| c.against(ask, self.capacity).blocked)
+    }
+
+    #[tactic(auto, unfolding(crate::specs::Refusals::against_any))]
+    fn short(self, ask: Ask) -> bool
+        ensures { result ≡ (against_any ask self).short }
+    {
+        self.present()
+            .iter()
+            .any(|c| c.against(ask, self.capacity).short)
     }
 
     // What the channels in use have against what a change asks.
+    #[tactic(auto, unfolding(crate::specs::Refusals::against_any))]
     pub fn against(self, ask: Ask) -> Against
         ensures { result ≡ against_any ask self }
     {
-        let mut blocked = false;
-        let mut short = false;
-        for c in self.present() {
-            let a = c.against(ask, self.capacity);
-            blocked = blocked | a.blocked;
-            short = short | a.short;
+        Against {
+            blocked: self.blocked(ask),
+            short: self.short(ask),
         }
-        Against { blocked, short }
     }
 
     // Whether one of the channels in use records.
@@ -272,7 +287,7 @@ impl Sampler {
     fn any_at_end(self, n: usize) -> bool
         ensures { result ≡ list_any at_end (take n self.channels) }
     {
-        self.channels[..n.min(2)]
+        self.first(n)
             .iter()
             .any(|c| channel::LAST_TIME <= c.head.now)
     }
@@ -299,8 +314,8 @@ impl Sampler {
         ensures { result ≡ each_of change self }
     {
         let n = self.count.min(2);
-        for c in self.channels[..n].iter_mut() {
-            *c = c.changed(change);
+        for j in 0..n {
+            self.channels[j] = self.channels[j].changed(change);
         }
         self
     }
@@ -311,8 +326,8 @@ impl Sampler {
         ensures { result ≡ each_of (Head (Load samples)) self }
     {
         let n = self.count.min(2);
-        for c in self.channels[..n].iter_mut() {
-            *c = c.head_changed(HeadChange::Load(samples));
+        for j in 0..n {
+            self.channels[j] = self.channels[j].head_changed(HeadChange::Load(samples));
         }
         self
     }
@@ -346,7 +361,8 @@ impl Sampler {
         ensures memory_after { memory.new ≡ (gathered_all self memory.old).memory }
     {
         let capacity = self.capacity;
-        for j in 0..self.count {
+        let n = self.count;
+        for j in 0..n {
             let start = part_start(j, capacity);
             let end = start + capacity;
             self.channels[j] = self.channels[j].gathered(&mut memory[start..end]);
@@ -383,21 +399,13 @@ impl Sampler {
     pub fn good_with(self, size: usize) -> bool
         ensures { result ≡ good_with self size }
     {
-        if self.good() {
-            enough(self.count, self.capacity, size)
-        } else {
-            false
-        }
+        self.good() && enough(self.count, self.capacity, size)
     }
 
     fn at_end(self, channel: usize) -> bool
         ensures { result ≡ at_end (channel_at self channel) }
     {
-        if channel < 2 {
-            channel::LAST_TIME <= self.channels[channel].head.now
-        } else {
-            false
-        }
+        channel < 2 && channel::LAST_TIME <= self.channels[channel].head.now
     }
 
     #[tactic(auto, unfolding(crate::specs::Refusals::sample_judged))]
@@ -531,7 +539,7 @@ impl Sampler {
         ensures memory_after { memory.new ≡ sample_memory self channel input params memory.old }
     {
         let done = self.sample_judged(channel, params, memory.len());
-        if done.is_err() {
+        if !done.is_ok() {
             return SampleAnswer {
                 sampler: self,
                 output: 0.0,
@@ -580,7 +588,7 @@ impl Sampler {
     {
         let asked = self.frame_asked(frame.len(), memory.len());
         let done = frame_rows(asked, frame.len(), params);
-        if done.is_err() {
+        if !done.is_ok() {
             return FrameAnswer {
                 sampler: self,
                 done,
