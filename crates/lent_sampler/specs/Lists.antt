@@ -1,7 +1,6 @@
 -- What is asked of a channel of a lent record before its notes or its voices' figures are listed. Definitions only.
 -- Assumes nothing.
-use Rattle.std.specs.Prelude.{ℕ, cond, length, ◌==◌}
-use Rattle.walks.specs.Walks.{without}
+use Rattle.std.specs.Prelude.{ℕ, not, cond, count_by, ◌==◌}
 use Rattle.voice.specs.declared.Voice.{Voice}
 use Rattle.channel.specs.declared.Channel.{Channel}
 use Rattle.channel.specs.Channels.{live, phrase_at}
@@ -17,7 +16,7 @@ seated s j = channel_at s (seat_of j)
 
 -- how many voices are unfinished
 unfoldable pub unfinished : Channel → ℕ
-unfinished c = length (without (λ (v : Voice). v.finished) (live c))
+unfinished c = count_by (λ (v : Voice). not v.finished) (live c)
 
 -- how long the phrase of that number is
 abbrev pub phrase_length : ℕ → Channel → ℕ

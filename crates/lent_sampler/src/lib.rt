@@ -4,7 +4,7 @@
 #![tactic(auto)]
 
 ghost use Rattle.std.specs.Prelude.{Ok, ◌≡◌, ◌+◌, ◌-◌, ◌*◌, ◌%◌, ◌^◌, ◌<◌, ◌≤◌, true, [], ◌∷◌, ◌++◌, length, take, drop, if◌then◌else◌, min, slice_range};
-ghost use Rattle.std.specs.List.{list_any};
+ghost use Rattle.std.specs.List.{list_all};
 ghost use Rattle.sampler.specs.Samplers.{
   start_playing_of,
   stop_playing_of,
@@ -33,16 +33,13 @@ ghost use Rattle.sampler.specs.Refusals.{
   good_sampler,
   good_with,
   against_any,
-  at_end,
   change_judged,
   gather_judged,
   sample_judged,
   frame_judged,
-  latest_of,
-  frames_left,
   question_rows,
 };
-ghost use Rattle.channel.specs.Channels.{live, process_sample_of, memory_of};
+ghost use Rattle.channel.specs.Channels.{good_channel, process_sample_of, memory_of};
 ghost use Rattle.binary32.specs.Leaves.{zero32};
 ghost use Rattle.binary32.specs.Leaves.{as_float};
 ghost use Rattle.common_types.specs.Notes.{into_u64_of};
@@ -67,7 +64,6 @@ ghost use Rattle.lent_channel.specs.Turns.{heard_of};
 ghost use Rattle.lent_sampler.specs.Runs.{run_seat};
 ghost use Rattle.lent_sampler.specs.Hearing.{at_volume, done_in, heard_in, moved_in};
 ghost use Rattle.lent_sampler.specs.Lists.{
-  seat_of,
   seated,
   unfinished,
   phrase_length,
@@ -82,12 +78,10 @@ use refusals::Refusal;
 use sampler::{Asked, FrameAsked, Ran, RunAsked, Sampler};
 use voice::Voice;
 
-// The channels in use: never more than the array has.
-#[tactic(auto, using(walks::proofs::Lists::Loops::take_most))]
-fn present(s: &Sampler) -> &[Channel]
-    ensures { result.now ≡ present s.now }
+fn good_channels(s: &Sampler) -> bool
+    ensures { result ≡ list_all (good_channel s.now.capacity) (present s.now) }
 {
-    &s.channels[..s.count.min(2)]
+    s.present().iter().all(|c| lent_channel::good(c, s.capacity))
 }
 
 // Whether the record is good.
@@ -95,8 +89,7 @@ fn present(s: &Sampler) -> &[Channel]
 fn good(s: &Sampler) -> bool
     ensures { result ≡ good_sampler s.now }
 {
-    sampler::good_sizes(s.count, s.capacity)
-        && present(s).iter().all(|c| lent_channel::good(c, s.capacity))
+    sampler::good_sizes(s.count, s.capacity) && good_channels(s)
 }
 
 // Whether record and memory are good.
@@ -132,7 +125,7 @@ fn against(s: &Sampler, ask: Ask) -> Against
     };
     let mut blocked = false;
     let mut short = false;
-    for c in present(s) {
+    for c in s.present() {
         let a = lent_channel::against(c, asking);
         blocked = blocked | a.blocked;
         short = short | a.short;
@@ -304,7 +297,7 @@ fn gather_judged(s: &Sampler, size: usize) -> Result<(), Refusal>
     ensures { result ≡ gather_judged s.now size }
 {
     Refusal::Broken.when(!good_with(s, size))?;
-    Refusal::PhraseRecording.when(present(s).iter().any(|c| c.head.is_recording()))
+    Refusal::PhraseRecording.when(s.any_recording())
 }
 
 // Moves the phrases of each channel down, so that all free room of its part is behind them.
@@ -313,9 +306,10 @@ pub fn gather(s: &mut Sampler, memory: &mut [u32]) -> Result<(), Refusal>
         × (memory.new ≡ gather_memory s.old memory.old) }
 {
     gather_judged(s, memory.len())?;
+    let capacity = s.capacity;
     for j in 0..s.count {
-        let start = sampler::part_start(j, s.capacity);
-        let end = start + s.capacity;
+        let start = sampler::part_start(j, capacity);
+        let end = start + capacity;
         lent_changes::gather(&mut s.channels[j], memory, start, end);
     }
     Ok(())
@@ -353,19 +347,11 @@ pub fn print_error_info(s: &Sampler, channel: usize, text: &mut [u8]) -> Result<
 }
 
 // The asked one of the two channels; past the last it is the first, which no answer shows.
-#[tactic(auto, unfolding(crate::specs::Lists::seat_of))]
 fn seated(s: &Sampler, channel: usize) -> &Channel
-    ensures { result.now ≡ seated s.now channel }
+    ensures asked { result.now ≡ seated s.now channel }
+    ensures whole { length (seated s.now channel).voices ≡ 32 }
 {
     &s.channels[if channel == 1 { 1 } else { 0 }]
-}
-
-// The voices in use: never more than the array has.
-#[tactic(auto, using(walks::proofs::Lists::Loops::take_most))]
-fn live(c: &Channel) -> &[Voice]
-    ensures { result.now ≡ live c.now }
-{
-    &c.voices[..c.count.min(32)]
 }
 
 // How many voices are unfinished.
@@ -373,7 +359,7 @@ fn live(c: &Channel) -> &[Voice]
 fn unfinished(c: &Channel) -> usize
     ensures { result ≡ unfinished c.now }
 {
-    live(c).iter().filter(|v| !v.finished).count()
+    c.live().iter().filter(|v| !v.finished).count()
 }
 
 // The rows that each question of a channel begins with.
@@ -394,7 +380,7 @@ pub fn iter_active_notes(s: &Sampler, channel: usize, notes: &mut [u64]) -> Resu
     let count = unfinished(c);
     Refusal::ShortList.when(notes.len() < count)?;
     let mut k = 0;
-    for v in live(c) {
+    for v in c.live() {
         if !v.finished {
             notes[k] = u64::from(v.note);
             k += 1;
@@ -435,7 +421,7 @@ pub fn get_voice_info(
     Refusal::BeyondLimits.when(params.beyond_limits())?;
     let c = seated(s, channel);
     Refusal::ShortList.when(list.len() < c.count)?;
-    for (i, v) in live(c).iter().enumerate() {
+    for (i, v) in c.live().iter().enumerate() {
         list[i] = info(params, seated(s, 0), c, *v);
     }
     Ok(c.count)
@@ -487,41 +473,15 @@ pub fn read_wave(s: &mut Sampler, file: &[u8], memory: &mut [u32]) -> Result<u32
     Ok(loading.rate)
 }
 
-// Whether the clock of that channel stands at its end; a channel that isn't there has none.
-fn at_end(s: &Sampler, channel: usize) -> bool
-    ensures { result ≡ at_end (channel_at s.now channel) }
-{
-    if channel < 2 {
-        channel::LAST_TIME <= s.channels[channel].head.now
-    } else {
-        false
-    }
-}
-
 // Whether a sample of that channel is refused, with no channel copied.
 #[tactic(auto, unfolding(sampler::specs::Refusals::sample_judged))]
-pub fn sample_judged(
-    s: &Sampler,
-    channel: usize,
-    params: Params,
-    size: usize,
-) -> Result<(), Refusal>
+pub fn sample_judged(s: &Sampler, channel: usize, params: Params, size: usize) -> Result<(), Refusal>
     ensures { result ≡ sample_judged s.now channel params size }
 {
     Refusal::Broken.when(!good_with(s, size))?;
     Refusal::NoChannel.when(!(channel < s.count))?;
     Refusal::BeyondLimits.when(params.beyond_limits())?;
-    Refusal::ClockEnd.when(at_end(s, channel))
-}
-
-// Whether the clock of one of the first n channels stands at its end.
-#[tactic(auto, using(walks::proofs::Lists::Loops::take_most))]
-fn any_at_end(s: &Sampler, n: usize) -> bool
-    ensures { result ≡ list_any at_end (take n s.now.channels) }
-{
-    s.channels[..n.min(2)]
-        .iter()
-        .any(|c| channel::LAST_TIME <= c.head.now)
+    Refusal::ClockEnd.when(channel::LAST_TIME <= s.channels[channel].head.now)
 }
 
 // Whether a frame is refused, with no channel copied.
@@ -532,25 +492,9 @@ pub fn frame_judged(s: &Sampler, entries: usize, params: Params, size: usize) ->
     let asked = FrameAsked {
         good: good_with(s, size),
         count: s.count,
-        ended: any_at_end(s, entries),
+        ended: s.any_at_end(entries),
     };
     sampler::frame_rows(asked, entries, params)
-}
-
-// The largest clock of the channels in use.
-#[tactic(auto, unfolding(sampler::specs::Refusals::latest_of))]
-fn latest(s: &Sampler) -> usize
-    ensures { result ≡ latest_of (present s.now) }
-{
-    present(s).iter().fold(0, |time, c| time.max(c.head.now))
-}
-
-// The frames that are left until a clock stands at its end.
-#[tactic(auto, unfolding(sampler::specs::Refusals::frames_left))]
-fn room(s: &Sampler) -> usize
-    ensures { result ≡ frames_left s.now }
-{
-    channel::LAST_TIME.saturating_sub(latest(s))
 }
 
 // What a run answers, with no channel copied: record, memory and parameters are judged once.
@@ -561,7 +505,7 @@ pub fn run_answer(s: &Sampler, entries: usize, params: Params, size: usize) -> R
     let asked = RunAsked {
         good: good_with(s, size),
         count: s.count,
-        room: room(s),
+        room: s.room(),
     };
     sampler::run_done(asked, entries, params)
 }
