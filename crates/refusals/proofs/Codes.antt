@@ -88,6 +88,10 @@ module _ {A : Type 0} where
   passed true f rest h = absurd (refused_by (Err f) refl h)
   passed false f rest h = (refl, h)
 
+  pub open_row : (test : Bool) (f : Refusal) (rest : Result A Refusal) (a : A) → Ok a ≡ row test f rest → test ≡ false
+  open_row true f rest a h = absurd (true≢false (ap is_ok h))
+  open_row false f rest a h = refl
+
   -- and its refusal has its number
   pub coded : (test : Bool) (f : Refusal) (rest : Result A Refusal) → code_of (row test f rest) ≡ cond test (number_of f) (code_of rest)
   coded true f rest = refl

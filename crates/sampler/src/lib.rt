@@ -171,11 +171,7 @@ struct Entered {
 pub fn good_sizes(count: usize, capacity: usize) -> bool
     ensures { result ≡ good_sizes count capacity }
 {
-    if (count == 1) | (count == 2) {
-        (1 <= capacity) & (capacity <= MOST_SAMPLES)
-    } else {
-        false
-    }
+    ((count == 1) | (count == 2)) & (1 <= capacity) & (capacity <= MOST_SAMPLES)
 }
 
 #[tactic(auto, unfolding(crate::specs::Refusals::capacity_of))]
@@ -248,11 +244,25 @@ impl Sampler {
     pub fn good(self) -> bool
         ensures { result ≡ good_sampler self }
     {
-        if good_sizes(self.count, self.capacity) {
-            self.good_channels()
-        } else {
-            false
-        }
+        good_sizes(self.count, self.capacity) && self.good_channels()
+    }
+
+    #[tactic(auto, unfolding(crate::specs::Refusals::against_any))]
+    fn blocked(self, ask: Ask) -> bool
+        ensures { result ≡ (against_any ask self).blocked }
+    {
+        self.present()
+            .iter()
+            .any(|c| c.against(ask, self.capacity).blocked)
+    }
+
+    #[tactic(auto, unfolding(crate::specs::Refusals::against_any))]
+    fn short(self, ask: Ask) -> bool
+        ensures { result ≡ (against_any ask self).short }
+    {
+        self.present()
+            .iter()
+            .any(|c| c.against(ask, self.capacity).short)
     }
 
     // What the channels in use have against what a change asks.
@@ -261,8 +271,8 @@ impl Sampler {
         ensures { result ≡ against_any ask self }
     {
         Against {
-            blocked: self.present().iter().any(|c| c.against(ask, self.capacity).blocked),
-            short: self.present().iter().any(|c| c.against(ask, self.capacity).short),
+            blocked: self.blocked(ask),
+            short: self.short(ask),
         }
     }
 
@@ -277,7 +287,9 @@ impl Sampler {
     fn any_at_end(self, n: usize) -> bool
         ensures { result ≡ list_any at_end (take n self.channels) }
     {
-        self.first(n).iter().any(|c| channel::LAST_TIME <= c.head.now)
+        self.first(n)
+            .iter()
+            .any(|c| channel::LAST_TIME <= c.head.now)
     }
 
     // The largest clock of the channels in use.
@@ -387,21 +399,13 @@ impl Sampler {
     pub fn good_with(self, size: usize) -> bool
         ensures { result ≡ good_with self size }
     {
-        if self.good() {
-            enough(self.count, self.capacity, size)
-        } else {
-            false
-        }
+        self.good() && enough(self.count, self.capacity, size)
     }
 
     fn at_end(self, channel: usize) -> bool
         ensures { result ≡ at_end (channel_at self channel) }
     {
-        if channel < 2 {
-            channel::LAST_TIME <= self.channels[channel].head.now
-        } else {
-            false
-        }
+        channel < 2 && channel::LAST_TIME <= self.channels[channel].head.now
     }
 
     #[tactic(auto, unfolding(crate::specs::Refusals::sample_judged))]
