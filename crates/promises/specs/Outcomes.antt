@@ -3,7 +3,7 @@
 -- definitions. That it does is checked of each function in the crate `contracts`: of those by value
 -- (sampler/src/lib.rt, questions/src/lib.rt, recordings/src/lib.rt, smf/src/lib.rt, songs/src/lib.rt) by a twin whose `ensures` is `Allows`, and of those on a record that the
 -- host lends (lent_sampler/src/lib.rt, lent_songs/src/lib.rt) by the theorem `Lent` on the function itself. Definitions only. Assumes nothing.
-use Rattle.std.specs.Prelude.{◌≡◌, ℕ, List, [], ◌∷◌, length, get_or, Float}
+use Rattle.std.specs.Prelude.{Result, ◌≡◌, ℕ, List, [], ◌∷◌, length, get_or, Float}
 use Rattle.common_types.specs.declared.InitParams.{InitParams}
 use Rattle.binary32.specs.Leaves.{zero32}
 use Rattle.sampler.specs.declared.Answer.{Answer}
@@ -50,7 +50,7 @@ use Rattle.recordings.specs.declared.ReadAnswer.{ReadAnswer}
 use Rattle.recordings.specs.Waves.{write_wave_of, wave_after, read_wave_of, read_memory}
 use Rattle.questions.specs.Lists.{voice_info_counted, voice_info_after}
 use Rattle.smf.specs.Cues.{cues_number, counted_judged, list_of}
-use Rattle.smf.specs.declared.Counted.{Counted as SongCounted}
+use Rattle.smf.specs.declared.SongRefusal.{SongRefusal}
 use Rattle.songs.specs.Plays.{play_of}
 use Rattle.songs.specs.declared.Playing.{Playing}
 use Rattle.sampler.specs.declared.Sampler.{Sampler}
@@ -125,7 +125,7 @@ pub record WaveformOutcome : Type 0 where
   pub lent : List Float
 
 pub record SongOutcome : Type 0 where
-  pub answer : SongCounted
+  pub answer : Result ℕ SongRefusal
   pub lent : List ℕ
 
 abbrev pub Outcome : Given → Type 0
