@@ -32,6 +32,7 @@ pub fn write_decimal(text: &mut [u8], at: usize, n: u64) -> usize
     ensures text_after { text.new ≡ sets text.old at (decimal n) }
 {
     let end = at + decimal_length(n);
+    // A `for` over the places is no plainer: what is left of the number ends the loop.
     let mut place = end;
     let mut rest = n;
     while rest >= 10 {

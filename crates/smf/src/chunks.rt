@@ -106,6 +106,7 @@ pub fn track_at(file: &[u8], at: usize) -> Result<Option<usize>, Fault>
 {
     let all = file.len();
     let mut place = at;
+    // No index is counted: each chunk says how far the next one is.
     while place < all {
         if all - place < 4 {
             return Err(Fault {

@@ -52,6 +52,7 @@ pub fn walk(file: &[u8]) -> Option<Places>
         words: 0,
         fact: 0,
     };
+    // No index is counted: each chunk says how far the next one is.
     while at < all {
         if all - at < 8 {
             return None;
