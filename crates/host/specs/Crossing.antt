@@ -1,5 +1,5 @@
 -- What a host's numbers mean, and the plain numbers that answers become. Definitions only. Assumes nothing.
-use Rattle.std.specs.Prelude.{ℕ, min, Bool, ◌&&◌, cond, leb, eqb}
+use Rattle.std.specs.Prelude.{Result, Ok, Err, ℕ, min, Bool, ◌&&◌, cond, leb, eqb}
 use Rattle.common_types.specs.Settings.{default_params}
 use Rattle.common_types.specs.declared.Params.{Params}
 use Rattle.std.specs.Prelude.{Some, None}
@@ -11,8 +11,8 @@ use Rattle.questions.specs.declared.Told.{Told}
 use Rattle.questions.specs.declared.Told.TheVariants as told
 use Rattle.questions.specs.declared.OffsetAnswer.{OffsetAnswer}
 use Rattle.questions.specs.declared.OffsetAnswer.TheVariants as offset
-use Rattle.smf.specs.declared.Counted.{Counted as SongCounted}
-use Rattle.smf.specs.declared.Counted.TheVariants as song
+use Rattle.smf.specs.declared.SongRefusal.{SongRefusal}
+use Rattle.smf.specs.declared.SongRefusal.TheVariants as song
 use Rattle.smf.specs.Cues.{cues_number}
 use Rattle.listing.specs.Records.{length_by_kind, loop_mode_of, note_off_of}
 use Rattle.host.specs.declared.settings.Settings.{Settings}
@@ -73,11 +73,11 @@ offset_by (offset.Done None) = record { at = 0; number = 0; found = 0 }
 offset_by (offset.Refused number) = record { at = 0; number = number; found = 0 }
 
 -- a short list is told how many entries the song has
-abbrev pub entries_in : SongCounted → ℕ
-entries_in (song.Done n) = n
-entries_in song.BadRate = 0
-entries_in (song.Faulty why) = 0
-entries_in (song.Short n) = n
+abbrev pub entries_in : Result ℕ SongRefusal → ℕ
+entries_in (Ok n) = n
+entries_in (Err song.BadRate) = 0
+entries_in (Err (song.Faulty why)) = 0
+entries_in (Err (song.Short n)) = n
 
-abbrev pub entries_by : SongCounted → Count
+abbrev pub entries_by : Result ℕ SongRefusal → Count
 entries_by c = record { count = entries_in c; number = cues_number c }

@@ -18,6 +18,7 @@ ghost use Rattle.host.specs.Crossing.{count_by, told_by, offset_by, entries_by};
 
 use common_types::Params;
 use questions::{Counted, OffsetAnswer, Told, VoiceInfo, WaveformSummary};
+use smf::SongRefusal;
 use sampler::Sampler;
 
 #[derive(Clone, Copy)]
@@ -81,15 +82,19 @@ fn offset_by(answer: OffsetAnswer) -> Offset
 }
 
 // A list that is too short is told how many entries the song has.
-fn entries_by(counted: smf::Counted) -> Count
+fn entries_by(counted: Result<usize, SongRefusal>) -> Count
     ensures { result ≡ entries_by counted }
 {
-    let number = counted.number();
     match counted {
-        smf::Counted::Done(count) => Count { count, number },
-        smf::Counted::BadRate => Count { count: 0, number },
-        smf::Counted::Faulty(_) => Count { count: 0, number },
-        smf::Counted::Short(count) => Count { count, number },
+        Ok(count) => Count { count, number: 0 },
+        Err(refusal) => {
+            let number = refusal.number();
+            match refusal {
+                SongRefusal::BadRate => Count { count: 0, number },
+                SongRefusal::Faulty(_) => Count { count: 0, number },
+                SongRefusal::Short(count) => Count { count, number },
+            }
+        }
     }
 }
 

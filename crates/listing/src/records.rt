@@ -33,12 +33,6 @@ pub struct Header {
     pub auto_passthru: bool,
 }
 
-#[derive(Clone, Copy)]
-pub enum Opening {
-    Good(Header),
-    Bad,
-}
-
 // What a record asks for. A frame is one float a channel.
 #[derive(Clone, Copy)]
 pub enum Call {
@@ -67,12 +61,6 @@ pub enum Call {
     Reset,
 }
 
-#[derive(Clone, Copy)]
-pub enum Reading {
-    Good(Call),
-    Bad,
-}
-
 fn good_header(bytes: &[u8]) -> bool
     ensures { result ≡ good_header bytes.now }
 {
@@ -84,17 +72,18 @@ fn good_header(bytes: &[u8]) -> bool
         & (byte_at(bytes, 2) <= 1)
 }
 
-pub fn read_header(bytes: &[u8]) -> Opening
+// None for a bad header.
+pub fn read_header(bytes: &[u8]) -> Option<Header>
     ensures { result ≡ header_of bytes.now }
 {
     if good_header(bytes) {
-        Opening::Good(Header {
+        Some(Header {
             second: byte_at(bytes, 0) == 2,
             stereo: byte_at(bytes, 1) == 2,
             auto_passthru: byte_at(bytes, 2) == 1,
         })
     } else {
-        Opening::Bad
+        None
     }
 }
 
@@ -248,12 +237,13 @@ fn call_of(h: Header, r: &[u8]) -> Call
     }
 }
 
-pub fn read_record(h: Header, r: &[u8]) -> Reading
+// None for a bad record.
+pub fn read_record(h: Header, r: &[u8]) -> Option<Call>
     ensures { result ≡ record_of h r.now }
 {
     if good_record(h, r) {
-        Reading::Good(call_of(h, r))
+        Some(call_of(h, r))
     } else {
-        Reading::Bad
+        None
     }
 }

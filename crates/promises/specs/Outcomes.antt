@@ -46,7 +46,7 @@ use Rattle.recordings.specs.declared.ReadAnswer.{ReadAnswer}
 use Rattle.recordings.specs.Waves.{write_wave_of, wave_after, read_wave_of, read_memory}
 use Rattle.questions.specs.Lists.{voice_info_counted, voice_info_after}
 use Rattle.smf.specs.Cues.{cues_number, counted_judged, list_of}
-use Rattle.smf.specs.declared.Counted.{Counted as SongCounted}
+use Rattle.smf.specs.declared.SongRefusal.{SongRefusal}
 use Rattle.songs.specs.Plays.{play_of}
 use Rattle.songs.specs.declared.Playing.{Playing}
 use Rattle.sampler.specs.declared.Sampler.{Sampler}
@@ -122,7 +122,7 @@ pub record WaveformOutcome : Type 0 where
   pub lent : List Float
 
 pub record SongOutcome : Type 0 where
-  pub answer : SongCounted
+  pub answer : Result ℕ SongRefusal
   pub lent : List ℕ
 
 abbrev pub Outcome : Given → Type 0

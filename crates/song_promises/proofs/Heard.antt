@@ -1,4 +1,5 @@
 -- From a file to its sound: `specs/Heard.antt`. Assumes nothing.
+use Rattle.std.specs.Prelude.{Ok}
 use mathlib.Core.Path.{◌≡◌, refl, sym, ap, ◌∙◌, subst}
 use mathlib.Core.Bool.{Bool, true, false, cond, not}
 use mathlib.Core.List.{List, [], ◌∷◌, ◌++◌, map}
@@ -29,7 +30,6 @@ use Rattle.common_types.specs.Settings.{beyond_limits}
 use Rattle.sampler.specs.Refusals.{good_with, frames_left, set_up_number, run_judged, run_number, done_of}
 use lib.Seq.{take_at, length-take-le}
 use Rattle.smf.specs.Cues.{Entry, song_of, numbers_of, counted_judged, list_of, cues_number, cue_of}
-use Rattle.smf.specs.declared.Counted.TheVariants.{Done}
 use Rattle.smf.specs.declared.Cue.{Cue}
 use Rattle.smf.proofs.Promised.{promised}
 use Rattle.smf.proofs.Turns.{numbers_length}
@@ -78,7 +78,7 @@ unfolding numbers_of cues_of
 cues_append [] ys = refl
 cues_append (x ∷ xs) ys = ap (λ (l : List Cue). cue_of x.frame x.key ∷ l) (cues_append xs ys)
 
-module _ (f : List ℕ) (rate : ℕ) (lent : List ℕ) (n : ℕ) (read : counted_judged f rate (length lent) ≡ Done n) where
+module _ (f : List ℕ) (rate : ℕ) (lent : List ℕ) (n : ℕ) (read : counted_judged f rate (length lent) ≡ Ok n) where
   list_is : take (2 * n) (list_of f rate lent) ≡ numbers_of (song_of rate f).entries
   unfolding cues_number
   list_is =
@@ -222,7 +222,7 @@ module _ (count : ℕ) (q : InitParams) (m : List ℕ) (good : set_up_number cou
 
 -- ---- the song
 module _ (count : ℕ) (q : InitParams) (m : List ℕ) (good : set_up_number count (length m) ≡ 0) (hs : List Made) (j : ℕ) (k : j < count) (w : World) (from : w ≡ makes (set_up count q m) hs) where
-  on_time : (f : List ℕ) (rate : ℕ) (lent : List ℕ) (n : ℕ) → counted_judged f rate (length lent) ≡ Done n
+  on_time : (f : List ℕ) (rate : ℕ) (lent : List ℕ) (n : ℕ) → counted_judged f rate (length lent) ≡ Ok n
       → (list : List ℕ) → list ≡ take (2 * n) (list_of f rate lent)
       → (before : List Entry) (e : Entry) (behind : List Entry) → (song_of rate f).entries ≡ before ++ (e ∷ behind)
       → (c : Cue) → c ≡ cue_of e.frame e.key → c.starts ≡ true
