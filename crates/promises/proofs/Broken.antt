@@ -380,12 +380,12 @@ set_up count size = (to, from)
     good : Bool
     good = good_sizes count (capacity_of count size)
 
-    to : code_of (row (not good) Broken (Ok tt)) ≡ 0 → ((count ≡ 1) ⊎ (count ≡ 2)) × (capacity_of count size ≢ 0)
+    to : code_of (row (not good) Broken (Ok (tt {0}))) ≡ 0 → ((count ≡ 1) ⊎ (count ≡ 2)) × (capacity_of count size ≢ 0)
     to h =
         let g = sizes_to count (capacity_of count size) (is_true good (passed (not good) Broken (Ok tt) h).0) in
         (g.channels, λ e. let l = g.least in omega arith)
 
-    from : ((count ≡ 1) ⊎ (count ≡ 2)) × (capacity_of count size ≢ 0) → code_of (row (not good) Broken (Ok tt)) ≡ 0
+    from : ((count ≡ 1) ⊎ (count ≡ 2)) × (capacity_of count size ≢ 0) → code_of (row (not good) Broken (Ok (tt {0}))) ≡ 0
     from (k, l) = rw (sizes_from count (capacity_of count size) (record { channels = k; least = omega arith; most = at_most count size }))
 
 positive : (n : ℕ) → (n ≡ 1) ⊎ (n ≡ 2) → 0 < n

@@ -193,7 +193,7 @@ standing_new count p m = go (good_sizes count (capacity_of count (length m))) re
     seat (suc (suc j)) h = absurd (omega arith)
 
     go : (b : Bool) → good_sizes count (capacity_of count (length m)) ≡ b
-        → Standing (record { sampler = cond (is_ok (row (not b) Broken (Ok tt))) (sampler_of count p (capacity_of count (length m))) (sampler_of 0 p 0); memory = m })
+        → Standing (record { sampler = cond (is_ok (row (not b) Broken (Ok (tt {0})))) (sampler_of count p (capacity_of count (length m))) (sampler_of 0 p 0); memory = m })
     go true e =
         let few : count ≤ 2 = sizes_count count (capacity_of count (length m)) e in
         record { two = refl; few = few; housing = λ j h. seat j (omega arith) }

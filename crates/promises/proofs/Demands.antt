@@ -1,16 +1,17 @@
 -- The demands hold. Assumes nothing.
 use mathlib.Core.Path.{◌≡◌, refl, sym, ap, ◌∙◌}
-use mathlib.Core.Bool.{Bool, not, cond}
+use mathlib.Core.Bool.{Bool, not, cond, true, false}
 use mathlib.Core.Logic.{◌⊎◌, inl, inr, ◌≢◌}
 use mathlib.Core.List.{List, [], ◌++◌}
-use Prim.Native.Nat.{ℕ}
+use Prim.Native.Nat.{ℕ, ◌%◌, ◌/◌}
+use lib.Dec.{eqb, ltb}
 use Rattle.std.specs.Prelude.{Result, Ok, Err, is_ok}
-use lib.ListN.{length, drop}
+use lib.ListN.{length, take, drop}
 use lib.Ieee.{Float, nan, inf, fin, is_nan, lt, binary32, units, odd, round, div, of_int}
 use Rattle.refusals.specs.declared.Refusal.{Refusal}
 use Rattle.refusals.specs.declared.Refusal.TheVariants.{NoChannel, BadNote, BadPosition, BeyondLimits, Full, ClockEnd, ShortList, Broken, BadRun, TooManyColumns}
 use Rattle.refusals.specs.Refusals.{code_of}
-use Rattle.refusals.proofs.Codes.{refused_at}
+use Rattle.refusals.proofs.Codes.{refused_at, passed}
 use Rattle.refusals.proofs.Numbers.{code_row}
 use Rattle.binary32.specs.Leaves.{as_float, min_of, max_of, root_of}
 use Rattle.binary32.proofs.Halves.{of_int_whole}
@@ -18,7 +19,7 @@ use Rattle.binary32.proofs.Casts.{narrow}
 use Rattle.binary32.proofs.Floors.{floor_exact, floor_cast}
 use Rattle.binary32.proofs.Patterns.{value_back, pattern_back}
 use Rattle.binary32.proofs.Roots.{nearest}
-use Rattle.std.specs.List.{fold}
+use Rattle.std.specs.List.{list_any, fold}
 use Rattle.common_types.proofs.Packing.{unpack_pack, pack_unpack}
 use Rattle.common_types.specs.declared.InitParams.{InitParams}
 use Rattle.common_types.specs.declared.Params.{Params}
@@ -26,7 +27,7 @@ use Rattle.common_types.specs.declared.time_value.TimeValue.TheVariants.{Bars}
 use Rattle.common_types.specs.declared.time_value.TimeOrRatio.{TimeOrRatio}
 use Rattle.common_types.specs.declared.time_value.TimeOrRatio.TheVariants.{WholeBars}
 use Rattle.common_types.specs.Times.{as_samples_of}
-use Rattle.common_types.specs.Settings.{length_of, loop_length_of}
+use Rattle.common_types.specs.Settings.{length_of, loop_length_of, beyond_limits}
 use Rattle.recorder.specs.ErrorText.{error_text}
 use Rattle.clip.proofs.AtOnce.{at_once, skips_length, skips_speed, skips_data_length, skips_mode}
 use Rattle.clip.proofs.Indices.{adds_up}
@@ -38,15 +39,16 @@ use Rattle.channel.specs.Channels.{live, recording_of}
 use Rattle.sampler.specs.declared.Sampler.{Sampler}
 use Rattle.sampler.specs.declared.Answer.{Answer}
 use Rattle.sampler.specs.declared.Ran.{Ran}
-use Rattle.sampler.specs.Refusals.{channel_at, good_sizes, good_sampler, capacity_of, good_with, no_channel, set_up_judged, set_up_number, start_rows, stop_rows, speed_rows, sample_judged, sample_number, frame_judged, run_judged, run_number, gather_judged, channel_judged}
+use Rattle.sampler.specs.Refusals.{channel_at, good_sizes, good_sampler, capacity_of, good_with, no_channel, set_up_judged, set_up_number, start_rows, stop_rows, speed_rows, sample_judged, sample_number, frame_judged, run_judged, run_number, gather_judged, channel_judged, bad_note, bad_position, any_full, at_end, frames_left}
 use Rattle.sampler.specs.Samplers.{sampler_of, set_up_of, each_of, answer_of, process_sample_of, sample_memory, channel_stepped_of, memory_at, Framed, framed, entries_of, framed_of, run_answer}
 use Rattle.sampler.proofs.Against.{against_voice}
 use Rattle.sampler.proofs.Gathered.{gather_refused, gather_leaves}
-use Rattle.questions.specs.Questions.{in_front, list_counted, list_after, get_voice_info_of}
+use Rattle.questions.specs.Questions.{in_front, list_counted, list_after, get_voice_info_of, iter_active_notes_of, print_error_info_of}
+use Rattle.questions.specs.declared.VoiceInfo.{VoiceInfo}
 use Rattle.questions.specs.declared.VoiceInfos.{VoiceInfos}
 use Rattle.questions.specs.Waveforms.{column_of, columns_from, smallest_of, largest_of, summary_with, waveform_judged, waveform_number, waveform_of, get_waveform_summary_of, waveform_after}
 use Rattle.questions.proofs.Cuts.{cut_first, cut_inside, cuts_rise}
-use Rattle.questions.proofs.Summaries.{columns_count, smallest_zero, waveform_done}
+use Rattle.questions.proofs.Summaries.{columns_count, smallest_zero}
 use Rattle.questions.specs.Lists.{listed_of}
 use Rattle.channel.specs.declared.Change.TheVariants.{Start, Stop, Speed, Head, Reset}
 use Rattle.channel.specs.declared.HeadChange.TheVariants.{Load}
@@ -209,6 +211,10 @@ channel_rows : (s : Sampler) (j : ℕ) → code_of (channel_judged s j) ≡ row 
 unfolding channel_judged
 channel_rows s j = code_row (not (good_sampler s)) Broken _ _ (code_row (no_channel s j) NoChannel _ _ refl)
 
+list_rows : (s : Sampler) (j : ℕ) (answer : List ℕ) (room : ℕ) → code_of (list_counted s j answer room) ≡ row (not (good_sampler s)) 9 (row (no_channel s j) 1 (row (ltb room (length answer)) 8 0))
+unfolding list_counted
+list_rows s j answer room = code_row (not (good_sampler s)) Broken _ _ (code_row (no_channel s j) NoChannel _ _ (code_row (ltb room (length answer)) ShortList _ _ refl))
+
 query_rows : (w : World) (j : ℕ) (q : Question) → (q ≡ get_frames_processed j) ⊎ ((q ≡ get_data_len j) ⊎ ((q ≡ is_recording j) ⊎ (q ≡ get_last_recorded_offset j)))
     → code w (asks q) ≡ row (not (good_sampler w.sampler)) 9 (row (no_channel w.sampler j) 1 0)
 unfolding call_judged question_judged
@@ -227,10 +233,13 @@ plain_rows w c (inr (inr e)) = ap (code w) e ∙ code_row (not (good_sampler w.s
 summary_given : (w : World) (columns : ℕ) (list : List Float) → waveform_number w.sampler columns (length list) (length w.memory) ≡ 0
     → (get_waveform_summary_of w.sampler columns (length list) w.memory ≡ Ok (summary_with (smallest_of (waveform w columns)) (largest_of (waveform w columns))))
     × (waveform_after w.sampler columns list w.memory ≡ waveform w columns ++ drop columns list)
+unfolding waveform_judged get_waveform_summary_of waveform_after
 summary_given w columns list n =
-    let done = waveform_done w.sampler columns list w.memory n in
+    let a = passed (not (good_with w.sampler (length w.memory))) Broken _ n in
+    let b = passed (ltb 4096 columns) TooManyColumns _ a.1 in
+    let c = passed (ltb (length list) columns) ShortList (Ok tt) b.1 in
     let count = columns_count columns (recording_of (chan w 0) (own_part w 0)) columns 0 in
-    (sym done.0, sym done.1 ∙ ap (λ (k : ℕ). waveform w columns ++ drop k list) count)
+    (rw (a.0, b.0, c.0) refl, rw (a.0, b.0, c.0) (ap (λ (k : ℕ). waveform w columns ++ drop k list) count))
 
 demand1 : Demand1
 unfolding set_up_of set_up_judged call_judged question_judged start_rows stop_rows speed_rows sample_judged frame_judged get_voice_info_of list_counted waveform_judged run_judged run_answer asks_of
@@ -241,8 +250,10 @@ demand1 = record {
   written = λ w c r h j p x m e. ap (λ (v : World). own_part v j) (left_after w c r h) ∙ part_written w j c p x m e;
   unwritten_run = parts_unwritten;
   run_sized = λ w f xs p g r h. ap (λ (v : World). length v.memory) (left_along w xs p r h ∙ (in_turn w f xs p g).leaves) ∙ memory_run w _;
-  filled = λ w j p list r h n q. (h.0 ∙ infos_counted_lem w j p (length list) n q, h.1 ∙ infos_listed w j p (length list) n q list);
-  informed = λ w j p room r h n q. infos_given w j p room n q r h;
+  filled = λ w j p list r h n q.
+      let z = sym (judgement_code (get_voice_info_of w.sampler j p (length list))) ∙ n in
+      (h.0 ∙ infos_counted_lem w j p (length list) z q, h.1 ∙ infos_listed w j p (length list) z q list);
+  informed = λ w j p room r h n q. infos_given w j p room (sym (judgement_code (get_voice_info_of w.sampler j p room)) ∙ n) q r h;
   summarized = λ w columns list r h n. (h.0 ∙ (summary_given w columns list n).0, h.1 ∙ (summary_given w columns list n).1);
   unmade = unmade;
   unmade_run = unmade_run;
@@ -250,22 +261,25 @@ demand1 = record {
   named = judged_code;
   numbered = λ w c r h. ap code_of (judged_code w c r h);
   start_rows_lem = λ w position note velocity p.
-      rw (against_voice w.sampler) (code_row _ Broken _ _ (code_row _ BadNote _ _ (code_row _ BadPosition _ _ (code_row _ BeyondLimits _ _ (code_row _ Full _ _ refl)))));
-  stop_rows_lem = λ w note p. code_row _ Broken _ _ (code_row _ BadNote _ _ (code_row _ BeyondLimits _ _ refl));
-  speed_rows_lem = λ w note s. code_row _ Broken _ _ (code_row _ BadNote _ _ refl);
-  sample_rows = λ w j x p. code_row _ Broken _ _ (code_row _ NoChannel _ _ (code_row _ BeyondLimits _ _ (code_row _ ClockEnd _ _ refl)));
-  frame_rows = λ w xs p. code_row _ Broken _ _ (code_row _ NoChannel _ _ (code_row _ BeyondLimits _ _ (code_row _ ClockEnd _ _ refl)));
-  run_rows = λ w xs p r h.
-      ap (λ (a : Ran). code_of a.done) h.0 ∙ code_row _ Broken _ _ (code_row _ BadRun _ _ (code_row _ BeyondLimits _ _ (code_row _ ClockEnd _ _ refl)));
-  info_rows = λ w j p room. judgement_code _ ∙ code_row _ Broken _ _ (code_row _ NoChannel _ _ (code_row _ BeyondLimits _ _ (code_row _ ShortList _ _ refl)));
+      rw (against_voice w.sampler)
+      (code_row (not (good_sampler w.sampler)) Broken _ _ (code_row (bad_note note) BadNote _ _ (code_row (bad_position position) BadPosition _ _ (code_row (beyond_limits p) BeyondLimits _ _ (code_row (any_full w.sampler) Full _ _ refl)))));
+  stop_rows_lem = λ w note p. code_row (not (good_sampler w.sampler)) Broken _ _ (code_row (bad_note note) BadNote _ _ (code_row (beyond_limits p) BeyondLimits _ _ refl));
+  speed_rows_lem = λ w note s. code_row (not (good_sampler w.sampler)) Broken _ _ (code_row (bad_note note) BadNote _ _ refl);
+  sample_rows = λ w j x p. code_row (not (good_with w.sampler (length w.memory))) Broken _ _ (code_row (no_channel w.sampler j) NoChannel _ _ (code_row (beyond_limits p) BeyondLimits _ _ (code_row (at_end (channel_at w.sampler j)) ClockEnd _ _ refl)));
+  frame_rows = λ w xs p.
+      code_row (not (good_with w.sampler (length w.memory))) Broken _ _ (code_row (ltb w.sampler.count (length xs)) NoChannel _ _ (code_row (beyond_limits p) BeyondLimits _ _ (code_row (list_any at_end (take (length xs) w.sampler.channels)) ClockEnd _ _ refl)));
+  run_rows = λ w xs p r h. ap (λ (a : Ran). code_of a.done) h.0
+      ∙ code_row (not (good_with w.sampler (length w.memory))) Broken _ _ (code_row (not (eqb (length xs % w.sampler.count) 0)) BadRun _ _ (code_row (beyond_limits p) BeyondLimits _ _ (code_row (ltb (frames_left w.sampler) (length xs / w.sampler.count)) ClockEnd _ _ refl)));
+  info_rows = λ w j p room. judgement_code (get_voice_info_of w.sampler j p room)
+      ∙ code_row (not (good_sampler w.sampler)) Broken _ _ (code_row (no_channel w.sampler j) NoChannel _ _ (code_row (beyond_limits p) BeyondLimits _ _ (code_row (ltb room (channel_at w.sampler j).count) ShortList _ _ refl)));
   fill_rows = λ w j p list. refl;
-  notes_rows = λ w j notes. judgement_code _ ∙ code_row _ Broken _ _ (code_row _ NoChannel _ _ (code_row _ ShortList _ _ refl));
-  text_rows = λ w j text. judgement_code _ ∙ code_row _ Broken _ _ (code_row _ NoChannel _ _ (code_row _ ShortList _ _ refl));
-  summary_rows = λ w columns list. code_row _ Broken _ _ (code_row _ TooManyColumns _ _ (code_row _ ShortList _ _ refl));
+  notes_rows = λ w j notes. judgement_code (iter_active_notes_of w.sampler j (length notes)) ∙ list_rows w.sampler j _ (length notes);
+  text_rows = λ w j text. judgement_code (print_error_info_of w.sampler j (length text)) ∙ list_rows w.sampler j _ (length text);
+  summary_rows = λ w columns list. code_row (not (good_with w.sampler (length w.memory))) Broken _ _ (code_row (ltb 4096 columns) TooManyColumns _ _ (code_row (ltb (length list) columns) ShortList _ _ refl));
   query_rows = query_rows;
   plain_rows = plain_rows;
-  interpolation_rows = λ w on. code_row _ Broken _ _ refl;
-  set_up_rows = λ count p m r h. ap (λ (a : Answer). code_of a.done) h ∙ code_row _ Broken _ _ refl;
+  interpolation_rows = λ w on. code_row (not (good_sampler w.sampler)) Broken _ _ refl;
+  set_up_rows = λ count p m r h. ap (λ (a : Answer). code_of a.done) h ∙ code_row (not (good_sizes count (capacity_of count (length m)))) Broken _ _ refl;
   held = λ w c r h n. (left_after w c r h ∙ after_held w c n, untouched w c r h n);
   run_held = run_held;
   run_done = run_done;

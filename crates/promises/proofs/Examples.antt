@@ -24,6 +24,7 @@ use Rattle.common_types.specs.Settings.{default_transport}
 use Rattle.binary32.specs.Leaves.{floor_of, min_of, max_of, crossing_of, root_below, isqrt, root_of, zero32, one32}
 use Rattle.binary32.specs.Wholes.{is_whole_in}
 use Rattle.std.specs.List.{list_any, list_all, fold}
+use Rattle.walks.proofs.Lists.Looks.{look_some}
 use Rattle.walks.specs.Walks.{without, behind}
 use Rattle.common_types.specs.Settings.{speed_of, time_length_of, length_of, loop_length_of, length_beyond, beyond_limits}
 use Rattle.volume.specs.Levels.{progress_of, level_of, toward_of, stepped_of, good_ramp, good_volume}
@@ -250,7 +251,7 @@ in_order_met = trio_promised.in_order (quiet plain) 1 2 0 1 (voice trio 1) (voic
 -- whoever stands at place 1 afterwards came from somewhere
 pub none_else_met : (n : ℕ) × (follow (event trio (quiet plain) 1) (chan trio 1) n ≡ at 1)
 unfolding computing
-none_else_met = came (trio_promised.none_else (quiet plain) 1 (voice (after trio (quiet plain)) 1) refl)
+none_else_met = came (trio_promised.none_else (quiet plain) 1 (voice (after trio (quiet plain)) 1) (look_some (live (chan (after trio (quiet plain)) 1)) 1 blank_voice (lit< tt)))
   where
     came : ((n : ℕ) × (v : Voice) × (voice_at (chan trio 1) n ≡ some v) × (follow (event trio (quiet plain) 1) (chan trio 1) n ≡ at 1))
         ⊎ ((1 ≡ length (live (chan trio 1))) × (added_by (event trio (quiet plain) 1) (chan trio 1) ≡ voice (after trio (quiet plain)) 1 ∷ []))
@@ -288,10 +289,13 @@ unfolding computing
 larger_needed = refl
 
 -- the finishing sample itself may be the last: play-once with no decay
-pub goes_at_once : follow_all (events (run older (quiet once ∷ [])) (quiet once ∷ []) 1) (chan (run older (quiet once ∷ [])) 1) 0 ≡ gone
+abbrev played_once : World
+played_once = run (set_up 2 init cells) (recorded ++ (press 60 ∷ quiet once ∷ []))
+
+pub goes_at_once : follow_all (events played_once (quiet once ∷ []) 1) (chan played_once 1) 0 ≡ gone
 unfolding computing
 goes_at_once =
-    (demand3 2 init cells refl (recorded ++ (press 60 ∷ quiet once ∷ [])) 1 (lit< tt)).goes (quiet once) 0 (get_or (live (chan (run older (quiet once ∷ [])) 1)) 0 blank_voice) refl refl [] once zero32 part refl refl (lit≤ tt)
+    (demand3 2 init cells refl (recorded ++ (press 60 ∷ quiet once ∷ [])) 1 (lit< tt)).goes (quiet once) 0 (voice played_once 0) (look_some (live (chan played_once 1)) 0 blank_voice (lit< tt)) refl [] once zero32 part refl refl (lit≤ tt)
 
 -- a recording that is empty keeps a finished voice, however late
 pub empty_keeps : follow_all (events older (stop (key 60) plain ∷ start_recording ∷ stop_recording ∷ quiet plain ∷ quiet plain ∷ []) 1) (chan older 1) 0 ≡ at 0

@@ -1,31 +1,29 @@
 -- What accepted voice info answers: the count of the channel's voices, and their figures in front. Assumes nothing.
 use mathlib.Core.Path.{◌≡◌, refl, sym, ap, ◌∙◌, subst}
-use mathlib.Core.Bool.{Bool, true, false, not, true≢false}
+use mathlib.Core.Bool.{not}
 use mathlib.Core.List.{List, ◌++◌}
 use Prim.Native.Nat.{ℕ, ◌≤◌}
 use native.Mathlib.Omega.{arith}
+use borrow.Author.Tests.{ltb-true}
 use lib.Dec.{ltb}
 use lib.ListN.{length, take, drop, length-map}
 use lib.Seq.{length-take-le, take_at}
-use Rattle.std.specs.Prelude.{Result, Ok, Err, is_ok}
+use Rattle.std.specs.Prelude.{Result, Ok}
 use Rattle.refusals.specs.declared.Refusal.{Refusal}
-use Rattle.refusals.specs.Refusals.{code_of, row}
-use Rattle.refusals.proofs.Codes.{done_at}
+use Rattle.refusals.specs.declared.Refusal.TheVariants.{NoChannel, BeyondLimits, ShortList, Broken}
+use Rattle.refusals.proofs.Codes.{passed}
 use Rattle.common_types.specs.declared.Params.{Params}
+use Rattle.common_types.specs.Settings.{beyond_limits}
+use Rattle.sampler.specs.Refusals.{good_sampler, no_channel}
+use Rattle.sampler.proofs.Rows.{is_true}
+use Rattle.sampler.proofs.Channels.{few_voices}
 use Rattle.channel.specs.Channels.{live}
 use Rattle.questions.specs.declared.VoiceInfo.{VoiceInfo}
 use Rattle.questions.specs.declared.VoiceInfos.{VoiceInfos}
 use Rattle.questions.specs.Questions.{no_infos, in_front, figures_of, voice_infos_of, info_number, get_voice_info_of}
-use Rattle.questions.proofs.Room.{infos_fit}
 use Rattle.questions.specs.Lists.{infos_counted, listed_of}
 use Rattle.promises.specs.Runs.{World, chan}
 use Rattle.promises.specs.Demands.{figures}
-
--- a row that refuses nothing leaves the answer to the rest
-past_row : {A : Type 0} (test : Bool) (e : Refusal) (rest : Result A Refusal) (x : A) → is_ok (row test e rest) ≡ true
-    → (is_ok rest ≡ true → rest ≡ Ok x) → row test e rest ≡ Ok x
-past_row true e rest x h k = absurd (true≢false (sym h))
-past_row false e rest x h k = k h
 
 module _ (w : World) (j : ℕ) (p : Params) (room : ℕ) (ok : info_number w.sampler j p room ≡ 0) (places : length (chan w j).voices ≡ 32) where
   infos : VoiceInfos
@@ -34,12 +32,18 @@ module _ (w : World) (j : ℕ) (p : Params) (room : ℕ) (ok : info_number w.sam
   given : get_voice_info_of w.sampler j p room ≡ Ok infos
   unfolding get_voice_info_of infos
   given =
-      past_row _ _ _ infos (done_at (get_voice_info_of w.sampler j p room) ok)
-      (λ a. past_row _ _ _ infos a (λ b. past_row _ _ _ infos b (λ c. past_row _ _ _ infos c (λ d. refl))))
+      let a = passed (not (good_sampler w.sampler)) Broken _ ok in
+      let b = passed (no_channel w.sampler j) NoChannel _ a.1 in
+      let c = passed (beyond_limits p) BeyondLimits _ b.1 in
+      let d = passed (ltb room (chan w j).count) ShortList _ c.1 in
+      rw (a.0, b.0, c.0, d.0) refl
 
   few : (chan w j).count ≤ 32
-  unfolding infos voice_infos_of
-  few = infos_fit w.sampler j p room infos given .1
+  unfolding get_voice_info_of
+  few =
+      let a = passed (not (good_sampler w.sampler)) Broken _ ok in
+      let b = passed (no_channel w.sampler j) NoChannel _ a.1 in
+      few_voices w.sampler j (is_true (good_sampler w.sampler) a.0) (ltb-true j w.sampler.count (is_true (ltb j w.sampler.count) b.0))
 
   as_many : length (figures w j p) ≡ (chan w j).count
   as_many = length-map (live (chan w j)) _ ∙ length-take-le (chan w j).count (chan w j).voices (omega (arith, few))

@@ -3,6 +3,7 @@ use mathlib.Core.Path.{◌≡◌, refl, sym, ap, ◌∙◌, subst}
 use mathlib.Core.Bool.{Bool, true, false, not}
 use mathlib.Core.List.{List, [], ◌∷◌}
 use Prim.Native.Nat.{ℕ}
+use lib.Dec.{ltb}
 use lib.ListN.{length}
 use lib.Ieee.{Float}
 use Rattle.std.specs.Prelude.{Result, Ok, Err}
@@ -177,7 +178,8 @@ judged_code w (asks (iter_active_notes j notes)) r h = ap judgement_of h.0
 judged_code w (asks (get_voice_info j p room)) r h = ap judgement_of h
 judged_code w (asks (fill_voice_info j p list)) r h = ap judgement_of h.0 ∙ infos_judgement (get_voice_info_of w.sampler j p (length list))
 judged_code w (asks (get_waveform_summary columns list)) r h =
-    ap judgement_of h.0 ∙ judgement_row (not (good_with w.sampler (length w.memory))) Broken _ _ (judgement_row _ TooManyColumns _ _ (judgement_row _ ShortList _ _ refl))
+    ap judgement_of h.0
+    ∙ judgement_row (not (good_with w.sampler (length w.memory))) Broken _ _ (judgement_row (ltb 4096 columns) TooManyColumns _ _ (judgement_row (ltb (length list) columns) ShortList _ _ refl))
 judged_code w (asks (write_wave rate out)) r h = ap judgement_of h.0 ∙ judgement_given (write_judged w.sampler (length out) (length w.memory)) _
 
 -- ---- the record and the memory afterwards

@@ -48,7 +48,7 @@ use Rattle.channel.proofs.Gathers.{gathered_phrase, gathered_phrase_length, gath
 use Rattle.channel.proofs.Phrases.{choose_leaves, delete_leaves, delete_empties, memory_leaves, read_inside, read_leaves}
 use Rattle.sampler.specs.declared.Sampler.{Sampler}
 use Rattle.sampler.specs.declared.Answer.{Answer}
-use Rattle.sampler.specs.Refusals.{present, good_sampler, good_with, records, against_any, gather_judged, sample_judged, frame_judged}
+use Rattle.sampler.specs.Refusals.{present, good_sampler, good_with, records, against_any, gather_judged, sample_judged, frame_judged, any_recording}
 use Rattle.sampler.specs.Samplers.{part_of, gather_memory}
 use Rattle.sampler.specs.Soundness.{FittingSampler, SoundSampler}
 use Rattle.sampler.proofs.Rows.{is_true, good_sizes_lem, sizes_count, Fitting, fitting}
@@ -77,11 +77,11 @@ pub mod One
 module _ (w : World) (k : ℕ) where
   choose_rows : code w (choose_phrase k) ≡ row (not (good_sampler w.sampler)) 9 (row (leb 8 k) 19 (row (list_any (records_other k) (present w.sampler)) 21 0))
   unfolding call_judged against_any asks_of head_asks blocked_by
-  choose_rows = code_row _ Broken _ _ (code_row _ NoPhrase _ _ (code_row _ PhraseRecording _ _ refl))
+  choose_rows = code_row (not (good_sampler w.sampler)) Broken _ _ (code_row (leb 8 k) NoPhrase _ _ (code_row (list_any (records_other k) (present w.sampler)) PhraseRecording _ _ refl))
 
   delete_rows : code w (delete_phrase k) ≡ row (not (good_sampler w.sampler)) 9 (row (leb 8 k) 19 (row (list_any (in_use k) (present w.sampler)) 20 0))
   unfolding call_judged against_any asks_of head_asks blocked_by leaving_of
-  delete_rows = code_row _ Broken _ _ (code_row _ NoPhrase _ _ (code_row _ PhraseInUse _ _ refl))
+  delete_rows = code_row (not (good_sampler w.sampler)) Broken _ _ (code_row (leb 8 k) NoPhrase _ _ (code_row (list_any (in_use k) (present w.sampler)) PhraseInUse _ _ refl))
 
 -- ---- one phrase of a channel
 
@@ -504,7 +504,7 @@ unfolding call_judged gather_judged
 phrases w = record {
   choose_rows = choose_rows w;
   delete_rows = delete_rows w;
-  gather_rows = code_row _ Broken _ _ (code_row _ PhraseRecording _ _ refl);
+  gather_rows = code_row (not (good_with w.sampler (length w.memory))) Broken _ _ (code_row (any_recording w.sampler) PhraseRecording _ _ refl);
   choice = λ k r a z fit j l. choice w fit k r a z j l;
   delete = λ k r a z fit j l. delete w fit k r a z j l;
   gathering = λ r a z fit j l. gathering w fit r a z j l;

@@ -12,8 +12,8 @@ use lib.ListN.{length, take, drop, get_or, length-take, length-drop}
 use lib.Seq.{take_at, drop_at, ext_get_or}
 use Rattle.std.specs.Prelude.{Ok}
 use Rattle.refusals.specs.declared.Refusal.TheVariants.{ShortList, Broken, Recording, OtherChannels, BadWave, NoRoom}
-use Rattle.refusals.proofs.Codes.{done_at, zero_unit}
-use Rattle.refusals.proofs.Numbers.{code_row}
+use Rattle.refusals.proofs.Codes.{done_at}
+use Rattle.refusals.proofs.Numbers.{code_row, zero_unit}
 use Rattle.octets.specs.Octets.{Bytes}
 use Rattle.wave.specs.declared.Starts.{Starts}
 use Rattle.wave.specs.declared.Wave.{Wave}
@@ -44,9 +44,8 @@ use Rattle.sampler.specs.Refusals.{good_with, records, any_recording, against_an
 use Rattle.sampler.specs.Samplers.{part_of}
 use Rattle.sampler.proofs.Rows.{Fitting, fitting}
 use Rattle.sampler.proofs.Against.{none_at}
-use Rattle.recordings.specs.Waves.{samples_of, starts_in, beginnings_in, layout_in, write_judged, write_wave_of, wave_after, bad_file, held_in, read_judged, read_wave_of, read_memory}
+use Rattle.recordings.specs.Waves.{samples_of, starts_in, beginnings_in, layout_in, write_judged, write_wave_of, wave_after, bad_file, held_in, read_judged, read_wave_of, read_memory, lengths_differ}
 use Rattle.recordings.specs.declared.ReadAnswer.{ReadAnswer}
-use Rattle.recordings.specs.declared.WaveRead.{WaveRead}
 use Rattle.recordings.proofs.Parts.{Roomy, beginnings_fit, part_read, part_before, part-rest, parts_rest, recording_there, alike_at}
 use Rattle.recordings.proofs.Numbers.{layout_fits, file_fits, Writes, write_says, Loads, read_says, loads_few}
 use Rattle.fates.specs.Events.{act}
@@ -69,7 +68,9 @@ module _ (w : World) where
 
   read_code : (f : List ℕ) (j : Judged) → file_judged f ≡ j → code w (read_wave f) ≡ rows_of j
   unfolding call_judged read_judged against_any blocked_by short_by
-  read_code f j e = rw e (code_row _ Broken _ _ (code_row _ Recording _ _ (code_row _ BadWave _ _ (code_row _ OtherChannels _ _ (code_row _ NoRoom _ _ refl)))))
+  read_code f j e =
+      rw e
+      (code_row (not (good_with s size)) Broken _ _ (code_row (any_recording s) Recording _ _ (code_row (bad_file j) BadWave _ _ (code_row (not (eqb (held_in j).channels s.count)) OtherChannels _ _ (code_row (no_room s (held_in j).samples) NoRoom _ _ refl)))))
 
   read_rows : (f : List ℕ) (rate channels : ℕ) (words : List ℕ) (g : IsWave f rate channels words)
       → code w (read_wave f) ≡ row (not (good_with s size)) 9 (row (any_recording s) 15 (row (not (eqb channels s.count)) 16 (row (no_room s g.samples) 18 0)))
@@ -318,7 +319,8 @@ module _ (w : World) (rate : ℕ) (out : List ℕ) (r : ListOutcome) (a : Allows
 pub recordings : (w : World) → Recordings w
 unfolding call_judged question_judged write_judged
 recordings w = record {
-  write_rows = λ rate out. code_row _ Broken _ _ (code_row _ Recording _ _ (code_row _ OtherChannels _ _ (code_row _ ShortList _ _ refl)));
+  write_rows = λ rate out.
+      code_row (not (good_with w.sampler (length w.memory))) Broken _ _ (code_row (any_recording w.sampler) Recording _ _ (code_row (lengths_differ w.sampler) OtherChannels _ _ (code_row (ltb (length out) (bytes_in w)) ShortList _ _ refl)));
   read_rows = read_rows w;
   bad_rows = bad_rows w;
   written = written w;

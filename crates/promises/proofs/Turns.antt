@@ -1,7 +1,7 @@
 -- A run of frames is its frame calls, one after the other: testing record, memory and parameters once equals testing them at each frame. Assumes nothing.
 use mathlib.Core.Path.{◌≡◌, refl, sym, ap, ◌∙◌, subst}
 use mathlib.Core.Logic.{◌⊎◌, inl, inr}
-use mathlib.Core.Bool.{Bool, true, false, not, cond}
+use mathlib.Core.Bool.{Bool, true, false, not, cond, ◌||◌}
 use mathlib.Core.List.{List, [], ◌∷◌, ◌++◌, append_assoc}
 use Prim.Native.Nat.{ℕ, zero, suc, ◌+◌, ◌-◌, ◌*◌, ◌/◌, ◌%◌, ◌≤◌, ◌<◌, min, max, zero-le}
 use native.Mathlib.Nat.{le_refl, le_trans, le_of_eq, suc-mul, zero-mul, zero-add, min-le_right}
@@ -277,7 +277,7 @@ frames_done_lem p n (suc k) w xs e o h l =
     (frames_done_lem p n k (next p n k w xs e o h l) (drop n xs) (next_count p n k w xs e o h l) (next_open p n k w xs e o h l) (next_room p n k w xs e o h l) (next_entries p n k w xs e o h l))
 
 -- ---- rows 9 and 4 of a run are those of a frame
-alike_rows : (a b c d e : Bool) (n : ℕ) → code_of (row a Broken (row b BadRun (row c BeyondLimits (row d ClockEnd (Ok tt))))) ≡ n → (n ≡ 9) ⊎ (n ≡ 4) → code_of (row a Broken (row c BeyondLimits (row e ClockEnd (Ok tt)))) ≡ n
+alike_rows : (a b c d e : Bool) (n : ℕ) → code_of (row a Broken (row b BadRun (row c BeyondLimits (row d ClockEnd (Ok (tt {0})))))) ≡ n → (n ≡ 9) ⊎ (n ≡ 4) → code_of (row a Broken (row c BeyondLimits (row e ClockEnd (Ok (tt {0}))))) ≡ n
 alike_rows true b c d e n h k = h
 alike_rows false true c d e n h (inl k) = absurd (omega arith)
 alike_rows false true c d e n h (inr k) = absurd (omega arith)
@@ -300,7 +300,7 @@ module _ (w : World) (xs : List Float) (p : Params) (six : run_number w.sampler 
   pub six_works : begun (run_judged w.sampler (length xs) p (length w.memory)) ≡ true
   six_works = ap (λ (n : ℕ). eqb n 0 || eqb n 6) six
 
-  tests : (a b c d : Bool) → code_of (row a Broken (row b BadRun (row c BeyondLimits (row d ClockEnd (Ok tt))))) ≡ 6 → d ≡ true
+  tests : (a b c d : Bool) → code_of (row a Broken (row b BadRun (row c BeyondLimits (row d ClockEnd (Ok (tt {0})))))) ≡ 6 → d ≡ true
   tests true b c d h = absurd (omega arith)
   tests false true c d h = absurd (omega arith)
   tests false false true d h = absurd (omega arith)

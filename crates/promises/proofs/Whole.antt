@@ -49,7 +49,7 @@ use Rattle.sampler.proofs.Kept.{small, channel_sound}
 use Rattle.sampler.proofs.Reach.{passes, another, none, reached_sound, reached_unbroken}
 use Rattle.fates.specs.Engine.{moment_at, held_at}
 use Rattle.fates.specs.Events.{length_at, tick_at}
-use Rattle.questions.specs.Questions.{recorder_at, notes_of, list_counted, get_voice_info_of}
+use Rattle.questions.specs.Questions.{recorder_at, notes_of, list_counted, get_voice_info_of, iter_active_notes_of, print_error_info_of, voice_infos_of}
 use Rattle.questions.specs.Waveforms.{waveform_judged}
 use Rattle.wave.specs.Reader.{file_judged}
 use Rattle.wave.specs.Memory.{bytes_of}
@@ -109,19 +109,30 @@ good_with_lem s size u = not_nine (good_with s size) _ (u.frame 0 default_params
 answered_nine : {A : Type 0} (r : Result A Refusal) → code_of r ≢ 9 → code_of (judgement_of r) ≢ 9
 answered_nine r h e = h (sym (judgement_code r) ∙ e)
 
+listed_nine : (s : Sampler) (j : ℕ) (answer : List ℕ) (room : ℕ) → good_sampler s ≡ true → code_of (list_counted s j answer room) ≢ 9
+unfolding list_counted
+listed_nine s j answer room g = passes (good_sampler s) _ g (another (no_channel s j) NoChannel _ tt (another (ltb room (length answer)) ShortList (Ok (length answer)) tt none))
+
+infos_nine : (s : Sampler) (j : ℕ) (p : Params) (room : ℕ) → good_sampler s ≡ true → code_of (get_voice_info_of s j p room) ≢ 9
+unfolding get_voice_info_of
+infos_nine s j p room g =
+    passes (good_sampler s) _ g
+    (another (no_channel s j) NoChannel _ tt (another (beyond_limits p) BeyondLimits _ tt (another (ltb room (channel_at s j).count) ShortList (Ok (voice_infos_of p (channel_at s 0) (channel_at s j))) tt none)))
+
 asked_nine : (w : World) → Unbroken w.sampler (length w.memory) → good_sampler w.sampler ≡ true → good_with w.sampler (length w.memory) ≡ true → (q : Question) → code_of (question_judged w q) ≢ 9
-unfolding question_judged list_counted get_voice_info_of waveform_judged write_judged
+unfolding question_judged waveform_judged write_judged
 asked_nine w u g m (get_frames_processed j) = u.question j
 asked_nine w u g m (get_data_len j) = u.question j
 asked_nine w u g m (is_recording j) = u.question j
 asked_nine w u g m (get_last_recorded_offset j) = u.question j
-asked_nine w u g m (print_error_info j text) = answered_nine _ (passes (good_sampler w.sampler) _ g (another _ NoChannel _ tt (another _ ShortList _ tt none)))
-asked_nine w u g m (iter_active_notes j notes) = answered_nine _ (passes (good_sampler w.sampler) _ g (another _ NoChannel _ tt (another _ ShortList _ tt none)))
-asked_nine w u g m (get_voice_info j p room) = answered_nine _ (passes (good_sampler w.sampler) _ g (another _ NoChannel _ tt (another _ BeyondLimits _ tt (another _ ShortList _ tt none))))
-asked_nine w u g m (fill_voice_info j p list) = answered_nine _ (passes (good_sampler w.sampler) _ g (another _ NoChannel _ tt (another _ BeyondLimits _ tt (another _ ShortList _ tt none))))
-asked_nine w u g m (get_waveform_summary columns list) = passes (good_with w.sampler (length w.memory)) _ m (another _ TooManyColumns _ tt (another _ ShortList _ tt none))
+asked_nine w u g m (print_error_info j text) = answered_nine (print_error_info_of w.sampler j (length text)) (listed_nine w.sampler j _ (length text) g)
+asked_nine w u g m (iter_active_notes j notes) = answered_nine (iter_active_notes_of w.sampler j (length notes)) (listed_nine w.sampler j _ (length notes) g)
+asked_nine w u g m (get_voice_info j p room) = answered_nine (get_voice_info_of w.sampler j p room) (infos_nine w.sampler j p room g)
+asked_nine w u g m (fill_voice_info j p list) = answered_nine (get_voice_info_of w.sampler j p (length list)) (infos_nine w.sampler j p (length list) g)
+asked_nine w u g m (get_waveform_summary columns list) = passes (good_with w.sampler (length w.memory)) _ m (another (ltb 4096 columns) TooManyColumns _ tt (another (ltb (length list) columns) ShortList (Ok tt) tt none))
 asked_nine w u g m (write_wave rate out) =
-    passes (good_with w.sampler (length w.memory)) _ m (another _ Recording _ tt (another _ OtherChannels _ tt (another _ ShortList _ tt none)))
+    passes (good_with w.sampler (length w.memory)) _ m
+    (another (any_recording w.sampler) Recording _ tt (another (lengths_differ w.sampler) OtherChannels _ tt (another (ltb (length out) (bytes_of (layout_in w.sampler))) ShortList (Ok tt) tt none)))
 
 no_nine : (w : World) → SoundSampler w.sampler → Unbroken w.sampler (length w.memory) → (c : Call) → code w c ≢ 9
 unfolding call_judged read_judged gather_judged

@@ -63,10 +63,6 @@ number_same r s h = sym (refusal_back r) ∙ ap refusal_of h ∙ refusal_back s
 
 -- ---- of what is answered by so much
 module _ {A : Type 0} where
-  pub refused_at : (r : Result A Refusal) → code_of r ≢ 0 → is_ok r ≡ false
-  refused_at (Ok x) h = absurd (h refl)
-  refused_at (Err e) h = refl
-
   pub refused_code : (r : Result A Refusal) → is_ok r ≡ false → code_of r ≢ 0
   refused_code (Ok x) h k = true≢false h
   refused_code (Err e) h k = eqb-false (number_of e) 0 (numbered e) k
@@ -81,3 +77,6 @@ code_same (Ok x) (Ok y) h = refl
 code_same (Ok x) (Err e) h = absurd (eqb-false (number_of e) 0 (numbered e) (sym h))
 code_same (Err d) (Ok y) h = absurd (eqb-false (number_of d) 0 (numbered d) h)
 code_same (Err d) (Err e) h = ap Err (number_same d e h)
+
+pub zero_unit : (r : Result (Unit {0}) Refusal) → code_of r ≡ 0 → r ≡ Ok tt
+zero_unit r h = code_same r (Ok tt) h
