@@ -1,5 +1,5 @@
--- What a walk over a list finds, keeps or adds up. Over any element type. Definitions only.
-use Rattle.std.specs.Prelude.{Bool, true, false, cond, ◌&&◌, ◌||◌, List, [], ◌∷◌, ℕ, ◌+◌}
+-- What a walk over a list keeps. Over any element type. Definitions only.
+use Rattle.std.specs.Prelude.{Bool, cond, List, [], ◌∷◌}
 
 module _ {A : Type 0} where
   -- those for which p is false, in order
@@ -11,8 +11,3 @@ module _ {A : Type 0} where
   unfoldable pub behind : (A → Bool) → List A → List A
   behind p [] = []
   behind p (x ∷ xs) = cond (p x) (without p xs) (behind p xs)
-
-  -- the place of the first for which p holds, counted from i
-  unfoldable pub seek : {R : Type 0} → (ℕ → R) → R → (A → Bool) → ℕ → List A → R
-  seek at none p i [] = none
-  seek at none p i (x ∷ xs) = cond (p x) (at i) (seek at none p (i + 1) xs)
