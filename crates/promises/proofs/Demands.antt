@@ -19,7 +19,7 @@ use Rattle.binary32.proofs.Casts.{narrow}
 use Rattle.binary32.proofs.Floors.{floor_exact, floor_cast}
 use Rattle.binary32.proofs.Patterns.{value_back, pattern_back}
 use Rattle.binary32.proofs.Roots.{nearest}
-use Rattle.std.specs.List.{list_any, fold}
+use Rattle.std.specs.List.{list_any}
 use Rattle.common_types.proofs.Packing.{unpack_pack, pack_unpack}
 use Rattle.common_types.specs.declared.InitParams.{InitParams}
 use Rattle.common_types.specs.declared.Params.{Params}
@@ -28,14 +28,13 @@ use Rattle.common_types.specs.declared.time_value.TimeOrRatio.{TimeOrRatio}
 use Rattle.common_types.specs.declared.time_value.TimeOrRatio.TheVariants.{WholeBars}
 use Rattle.common_types.specs.Times.{as_samples_of}
 use Rattle.common_types.specs.Settings.{length_of, loop_length_of, beyond_limits}
-use Rattle.recorder.specs.ErrorText.{error_text}
 use Rattle.clip.proofs.AtOnce.{at_once, skips_length, skips_speed, skips_data_length, skips_mode}
 use Rattle.clip.proofs.Indices.{adds_up}
 use Rattle.voice.proofs.Values.{value_off, value_whole}
 use Rattle.clip.proofs.Offsets.{clip_offset_inside, offset_within}
 use Rattle.channel.specs.declared.Change.{Change}
 use Rattle.channel.specs.Tables.{asks_of}
-use Rattle.channel.specs.Channels.{live, recording_of}
+use Rattle.channel.specs.Channels.{recording_of}
 use Rattle.sampler.specs.declared.Sampler.{Sampler}
 use Rattle.sampler.specs.declared.Answer.{Answer}
 use Rattle.sampler.specs.declared.Ran.{Ran}

@@ -23,7 +23,7 @@ use Rattle.sampler.specs.declared.Sampler.{Sampler}
 use Rattle.sampler.specs.Refusals.{capacity_of, set_up_number}
 use Rattle.sampler.specs.Samplers.{set_up_of}
 use Rattle.fates.specs.Places.{voice_at}
-use Rattle.promises.specs.Runs.{World, Call, start_recording, sample, frame, chan, call_judged, code, after, output}
+use Rattle.promises.specs.Runs.{World, Call, start_recording, sample, frame, chan, code, after, output}
 use Rattle.promises.proofs.Examples.{computing, half, two, plain, key, quiet, init}
 
 -- ==== row 9, condition by condition: the numbers of records at its edge and past it

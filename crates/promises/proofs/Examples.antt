@@ -23,7 +23,6 @@ use Rattle.common_types.specs.declared.time_value.TimeOrRatio.TheVariants.{Ratio
 use Rattle.common_types.specs.Settings.{default_transport}
 use Rattle.binary32.specs.Leaves.{floor_of, min_of, max_of, crossing_of, root_below, isqrt, root_of, zero32, one32}
 use Rattle.binary32.specs.Wholes.{is_whole_in}
-use Rattle.std.specs.List.{list_any, list_all, fold}
 use Rattle.walks.proofs.Lists.Looks.{look_some}
 use Rattle.walks.specs.Walks.{without, behind}
 use Rattle.common_types.specs.Settings.{speed_of, time_length_of, length_of, loop_length_of, length_beyond, beyond_limits}

@@ -46,7 +46,6 @@ use Rattle.promises.specs.Runs.{
   asks,
   judgement_of,
   call_judged,
-  code,
   after,
   output,
   Made,

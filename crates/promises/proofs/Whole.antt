@@ -23,7 +23,6 @@ use Rattle.common_types.specs.declared.InitParams.{InitParams}
 use Rattle.common_types.specs.declared.Params.{Params}
 use Rattle.common_types.specs.Settings.{speed_of, loop_length_of, beyond_limits, default_params}
 use Rattle.common_types.proofs.LoopLengths.{loop_length_fits}
-use Rattle.recorder.specs.ErrorText.{error_text}
 use Rattle.clip.specs.Positions.{index_at, next_at}
 use Rattle.phrases.specs.Phrases.{is_over_by}
 use Rattle.voice.specs.declared.Voice.{Voice}
@@ -41,7 +40,7 @@ use Rattle.channel.specs.Soundness.{FittingChange, SoundChannel}
 use Rattle.channel.proofs.Parts.{phrase_inside, phrase_within, voice_at}
 use Rattle.channel.proofs.Samples.{taken_sound}
 use Rattle.sampler.specs.declared.Sampler.{Sampler}
-use Rattle.sampler.specs.Refusals.{channel_at, good_sampler, good_with, any_recording, against_any, no_channel, set_up_number, frame_judged, gather_judged, channel_judged, frames_left, run_judged, run_number}
+use Rattle.sampler.specs.Refusals.{channel_at, good_sampler, good_with, any_recording, against_any, no_channel, set_up_number, frame_judged, gather_judged, frames_left, run_judged, run_number}
 use Rattle.sampler.specs.Soundness.{SoundSampler, Reached, Unbroken}
 use Rattle.sampler.proofs.Entries.{part_length, sample_memory_length, frame_memory_length}
 use Rattle.sampler.proofs.Gathered.{gather_memory_length}
@@ -49,7 +48,7 @@ use Rattle.sampler.proofs.Kept.{small, channel_sound}
 use Rattle.sampler.proofs.Reach.{passes, another, none, reached_sound, reached_unbroken}
 use Rattle.fates.specs.Engine.{moment_at, held_at}
 use Rattle.fates.specs.Events.{length_at, tick_at}
-use Rattle.questions.specs.Questions.{recorder_at, notes_of, list_counted, get_voice_info_of, iter_active_notes_of, print_error_info_of, voice_infos_of}
+use Rattle.questions.specs.Questions.{list_counted, get_voice_info_of, iter_active_notes_of, print_error_info_of, voice_infos_of}
 use Rattle.questions.specs.Waveforms.{waveform_judged}
 use Rattle.wave.specs.Reader.{file_judged}
 use Rattle.wave.specs.Memory.{bytes_of}

@@ -188,7 +188,7 @@ module _ (count : ℕ) (q : InitParams) (m : List ℕ) (good : set_up_number cou
       omega arith
 
   -- a run that is accepted is done to its end
-  last_row : (a b c d : Bool) → code_of (row a Broken (row b BadRun (row c BeyondLimits (row d ClockEnd (Ok tt))))) ≡ 0 → d ≡ false
+  last_row : (a b c d : Bool) → code_of (row a Broken (row b BadRun (row c BeyondLimits (row d ClockEnd (Ok (tt {0})))))) ≡ 0 → d ≡ false
   last_row true b c d e = absurd (omega arith)
   last_row false true c d e = absurd (omega arith)
   last_row false false true d e = absurd (omega arith)
