@@ -133,7 +133,7 @@ module _ (s : Sampler) (l : List Float) (p : Params) (m : List ℕ) where
         heard_so gives = gives ∙ ap (λ (b : Channel). at_volume p (heard_of (channel_sample_of p x b part))) c_is
 
         -- the sum is far from where a byte ends
-        pub turned_few : r ≡ at_volume p (heard_of (channel_sample_of p x c part)) → u + r.moved ≤ 62
+        pub turned_few : r ≡ at_volume p (heard_of (channel_sample_of p x c part)) → u + r.moved ≤ 63
         turned_few gives = let is : r.moved ≡ played.moved = ap (λ (b : Heard). b.moved) (heard_so gives) in omega (arith, is, few, z.summed.few, (turned_low h).0)
 
         pub turned_next : r ≡ at_volume p (heard_of (channel_sample_of p x c part)) → d ≡ (channel_sample_of p x c part).channel

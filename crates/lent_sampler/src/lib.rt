@@ -149,8 +149,8 @@ fn each(s: &mut Sampler, change: Change)
     ensures { s.new ≡ each_of change s.old }
 {
     let n = s.count.min(2);
-    for c in s.channels[..n].iter_mut() {
-        lent_changes::change(c, change);
+    for j in 0..n {
+        lent_changes::change(&mut s.channels[j], change);
     }
 }
 
