@@ -1,11 +1,15 @@
 // A volume as a word: its kind, 0 for a steady level and 1 for a ramp, the ramp's two times, and its two floats. A
 // steady level stands in the place of the first.
+ghost use Rattle.std.specs.Prelude.{◌≡◌, ◌+◌, length, OnOk};
+
 use crate::line::Text;
 use std::alloc::AllocError;
 use volume::Volume;
 
 impl Text {
-    pub fn put_volume(&mut self, v: Volume) -> Result<(), AllocError> {
+    pub fn put_volume(&mut self, v: Volume) -> Result<(), AllocError>
+        ensures { OnOk result (length self.new ≡ length self.old + 54) }
+    {
         match v {
             Volume::Static(x) => self.put_ramp(0, 0, 0, x, 0.0),
             Volume::Linear {
@@ -24,7 +28,9 @@ impl Text {
         stop: usize,
         from: f32,
         till: f32,
-    ) -> Result<(), AllocError> {
+    ) -> Result<(), AllocError>
+        ensures { OnOk result (length self.new ≡ length self.old + 54) }
+    {
         self.begin::<1>(kind)?;
         self.begin::<16>(start as u64)?;
         self.begin::<16>(stop as u64)?;
