@@ -1,13 +1,15 @@
 -- What a good record does to the engine and which line it prints, and what opens, goes on with and ends a listing
 -- (document 01, "The event listing"). Definitions only.
-use Rattle.std.specs.Prelude.{ℕ, ◌+◌, ◌-◌, ◌*◌, ◌^◌, min, true, false, cond, Option, Some, None, List, [], ◌∷◌, eqb, length, Float}
+use Rattle.std.specs.Prelude.{Ok, ℕ, ◌+◌, ◌-◌, ◌*◌, ◌^◌, min, true, false, cond, Option, Some, None, List, [], ◌∷◌, eqb, length, Float}
 use Rattle.common_types.specs.declared.Params.{Params}
 use Rattle.common_types.specs.Settings.{default_params, beyond_limits}
 use Rattle.decimal.specs.declared.Line.{Line}
 use Rattle.decimal.specs.Lines.{line_of}
 use Rattle.sampler.specs.declared.Sampler.{Sampler}
 use Rattle.sampler.specs.declared.Answer.{Answer}
-use Rattle.sampler.specs.Refusals.{channel_at, row, frame_number}
+use Rattle.refusals.specs.declared.Refusal.TheVariants.{BeyondLimits}
+use Rattle.refusals.specs.Refusals.{code_of, row}
+use Rattle.sampler.specs.Refusals.{channel_at, frame_number}
 use Rattle.sampler.specs.Samplers.{
   set_up_of,
   start_playing_of,
@@ -51,13 +53,13 @@ voices_of s = (channel_at s 0).count
 -- a call of the engine that answers a number
 unfoldable pub answer_played : ℕ → Params → Answer → Played
 answer_played kind p
-    a = record { player = record { sampler = a.sampler; params = p }; line = line_of (answer_line kind a.number) }
+    a = record { player = record { sampler = a.sampler; params = p }; line = line_of (answer_line kind (code_of a.done)) }
 
 -- parameters that row 4 refuses leave the old ones
 unfoldable pub settings_of : Player → Params → Played
 settings_of y p =
     answer_played 0 (cond (beyond_limits p) y.params p)
-    (record { sampler = y.sampler; number = row (beyond_limits p) 4 0 })
+    (record { sampler = y.sampler; done = row (beyond_limits p) BeyondLimits (Ok tt) })
 
 abbrev pub framed_by : Player → List Float → List ℕ → Framed
 framed_by y inputs m = framed_of y.sampler inputs y.params m
