@@ -48,6 +48,6 @@ module _ (y : Player) (inputs : List Float) (m : List ℕ) where
     unfolding frame_of
     shows_outputs line done is = (simp (← judged, done, is, frames.sampler, frames.frame), frames.memory)
 
-    pub shows_number : (r : Played) (f : Refusal) → a.done ≡ Err f → r ≡ answer_played 6 y.params a → Shows r after
+    pub shows_number : (r : Played) (f : Refusal) → a.done ≡ Err f → r ≡ answer_played 6 y.params (record { sampler = a.sampler; done = Err f }) → Shows r after
     unfolding frame_of answer_played
     shows_number r f refused is = (is ∙ simp (← judged, refused, numbered f, frames.sampler), frames.memory)
