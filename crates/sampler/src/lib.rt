@@ -220,14 +220,14 @@ impl Sampler {
 
     // The first n channels: never more than the array has.
     #[tactic(auto, using(walks::proofs::Lists::Loops::take_most))]
-    fn first(&self, n: usize) -> &[Channel]
+    pub fn first(&self, n: usize) -> &[Channel]
         ensures { result.now ≡ take n self.now.channels }
     {
         &self.channels[..n.min(2)]
     }
 
     // The channels in use.
-    fn present(&self) -> &[Channel]
+    pub fn present(&self) -> &[Channel]
         ensures { result.now ≡ present self.now }
     {
         self.first(self.count)
@@ -277,15 +277,15 @@ impl Sampler {
     }
 
     // Whether one of the channels in use records.
-    pub fn any_recording(self) -> bool
-        ensures { result ≡ any_recording self }
+    pub fn any_recording(&self) -> bool
+        ensures { result ≡ any_recording self.now }
     {
         self.present().iter().any(|c| c.head.is_recording())
     }
 
     // Whether the clock of one of the first n channels stands at its end.
-    fn any_at_end(self, n: usize) -> bool
-        ensures { result ≡ list_any at_end (take n self.channels) }
+    pub fn any_at_end(&self, n: usize) -> bool
+        ensures { result ≡ list_any at_end (take n self.now.channels) }
     {
         self.first(n)
             .iter()
@@ -294,8 +294,8 @@ impl Sampler {
 
     // The largest clock of the channels in use.
     #[tactic(auto, unfolding(crate::specs::Refusals::latest_of))]
-    fn latest(self) -> usize
-        ensures { result ≡ latest_of (present self) }
+    fn latest(&self) -> usize
+        ensures { result ≡ latest_of (present self.now) }
     {
         self.present()
             .iter()
@@ -304,8 +304,8 @@ impl Sampler {
 
     // The frames that are left until a clock stands at its end.
     #[tactic(auto, unfolding(crate::specs::Refusals::frames_left))]
-    fn room(self) -> usize
-        ensures { result ≡ frames_left self }
+    pub fn room(&self) -> usize
+        ensures { result ≡ frames_left self.now }
     {
         channel::LAST_TIME.saturating_sub(self.latest())
     }
