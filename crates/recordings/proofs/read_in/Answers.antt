@@ -6,7 +6,7 @@ pub returns-in_err-judged_in : goal.returns-in_err-judged_in
 returns-in_err-judged_in c =
     let a = c.args in
     let is = loading_refused a.t a.file.now a.memory.now _ c.judge-judged.ensures _ c.judged_in.ensures _ c.in_err-judged_in.was in
-    record { value = is.0; memory_after = is.1 }
+    record { value = let v = is.0 in let e = c.from_residual.ensures in cc; memory_after = is.1 }
 
 pub returns : goal.returns
 returns c =
