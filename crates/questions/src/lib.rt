@@ -373,7 +373,9 @@ fn write_columns(recording: &[u32], columns: usize, list: &mut [f32])
 fn largest(values: &[f32]) -> f32
     ensures { result ≡ largest_of values.now }
 {
-    values.iter().fold(0.0, |most, value| binary32::max(most, *value))
+    values
+        .iter()
+        .fold(0.0, |most, value| binary32::max(most, *value))
 }
 
 // Whether a recording stands in its channel's part.
