@@ -126,6 +126,7 @@ struct Standing {
 }
 
 // The answer of `quick_index` and `quick_next` that is no index.
+// No Option: an index stays in one word on the quick way, as its callers test it (speed).
 pub const NONE: usize = usize::MAX;
 
 // 2^48.

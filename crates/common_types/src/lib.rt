@@ -97,6 +97,7 @@ impl LoopMode {
         }
     }
 
+    // `from_index` and `from_f32` have the Rust's names, and are no `TryFrom`: two ways from a number would need one each.
     #[tactic(auto, using(crate::proofs::Indices::by_index_other))]
     pub fn from_index(index: usize) -> Result<LoopMode, Refusal>
         ensures { result ≡ loop_mode_from_index_of index }

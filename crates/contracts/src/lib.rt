@@ -227,7 +227,7 @@ pub fn read_wave(s: Sampler, file: &[u8], memory: &mut [u32]) -> ReadAnswer
     recordings::read_wave(s, file, memory)
 }
 
-pub fn read_song(file: &[u8], rate: u32, list: &mut [u64]) -> smf::Counted
+pub fn read_song(file: &[u8], rate: u32, list: &mut [u64]) -> Result<usize, smf::SongRefusal>
     ensures { Allows (reads file.now rate list.old)
         (record { answer = result; lent = list.new }) }
 {

@@ -1,6 +1,6 @@
 -- Steady: where no sample asks for another length, speed, data length or mode, a voice keeps the clip that it has, and sounds by it where it then stands. Assumes nothing.
 use mathlib.Core.Path.{◌≡◌, refl, sym, ap, ◌∙◌, subst}
-use mathlib.Core.Bool.{Bool, true, false, not, ◌&&◌, cond, true≢false}
+use mathlib.Core.Bool.{Bool, true, false, not, ◌&&◌, cond}
 use mathlib.Core.List.{List, [], ◌∷◌, ◌++◌}
 use mathlib.Core.Option.{Option, some}
 use Prim.Native.Nat.{ℕ}
@@ -24,15 +24,12 @@ use Rattle.fates.specs.Places.{Housed, voice_at, Place, at, gone, follow, finds_
 use Rattle.fates.specs.Sounding.{term_of, Sounds}
 use Rattle.fates.specs.Steady.{disagrees, alters, altered_in}
 use Rattle.walks.proofs.Tests.{neither, either}
+use borrow.Author.Tests.{not-false}
 use Rattle.fates.proofs.Own.{finds_kept, own_turn}
 use Rattle.fates.proofs.Housing.{housed}
 use Rattle.fates.proofs.Tracks.{at_same, gone_never, tracks}
 use Rattle.fates.proofs.Stays.{unfinished_sounds, stays_all}
 use Rattle.fates.proofs.Terms.{sounds_each}
-
-not-false : (b : Bool) → not b ≡ false → b ≡ true
-not-false true h = refl
-not-false false h = absurd (true≢false h)
 
 -- ---- one turn
 module _ (t : Tick) (m : List ℕ) (v : Voice) (a : agrees_of t v ≡ true) where

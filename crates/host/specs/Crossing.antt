@@ -10,8 +10,8 @@ use Rattle.sampler.specs.declared.Answer.{Answer}
 use Rattle.sampler.specs.declared.SampleAnswer.{SampleAnswer}
 use Rattle.sampler.specs.declared.Ran.{Ran}
 use Rattle.sampler.specs.Samplers.{set_up_of}
-use Rattle.smf.specs.declared.Counted.{Counted as SongCounted}
-use Rattle.smf.specs.declared.Counted.TheVariants as song
+use Rattle.smf.specs.declared.SongRefusal.{SongRefusal}
+use Rattle.smf.specs.declared.SongRefusal.TheVariants as song
 use Rattle.smf.specs.Cues.{cues_number}
 use Rattle.listing.specs.Records.{length_by_kind, loop_mode_of, note_off_of}
 use Rattle.host.specs.declared.settings.Settings.{Settings}
@@ -102,11 +102,11 @@ rate_by (Ok rate) = record { rate = rate; number = 0 }
 rate_by (Err refusal) = record { rate = 0; number = number_of refusal }
 
 -- a short list is told how many entries the song has
-abbrev pub entries_in : SongCounted → ℕ
-entries_in (song.Done n) = n
-entries_in song.BadRate = 0
-entries_in (song.Faulty why) = 0
-entries_in (song.Short n) = n
+abbrev pub entries_in : Result ℕ SongRefusal → ℕ
+entries_in (Ok n) = n
+entries_in (Err song.BadRate) = 0
+entries_in (Err (song.Faulty why)) = 0
+entries_in (Err (song.Short n)) = n
 
-abbrev pub entries_by : SongCounted → Count
+abbrev pub entries_by : Result ℕ SongRefusal → Count
 entries_by c = record { count = entries_in c; number = cues_number c }

@@ -19,6 +19,7 @@ ghost use Rattle.host.specs.Crossing.{refused_by, count_by, told_by, offset_by, 
 use common_types::Params;
 use questions::{VoiceInfo, WaveformSummary};
 use refusals::Refusal;
+use smf::SongRefusal;
 use sampler::Sampler;
 
 // These structs are the C interface's (host/vusatica.c), with a number for a refusal and 0 for none.
@@ -114,15 +115,19 @@ fn summary_by(answer: Result<WaveformSummary, Refusal>) -> Summary
 }
 
 // A list that is too short is told how many entries the song has.
-fn entries_by(counted: smf::Counted) -> Count
+fn entries_by(counted: Result<usize, SongRefusal>) -> Count
     ensures { result ≡ entries_by counted }
 {
-    let number = counted.number();
     match counted {
-        smf::Counted::Done(count) => Count { count, number },
-        smf::Counted::BadRate => Count { count: 0, number },
-        smf::Counted::Faulty(_) => Count { count: 0, number },
-        smf::Counted::Short(count) => Count { count, number },
+        Ok(count) => Count { count, number: 0 },
+        Err(refusal) => {
+            let number = refusal.number();
+            match refusal {
+                SongRefusal::BadRate => Count { count: 0, number },
+                SongRefusal::Faulty(_) => Count { count: 0, number },
+                SongRefusal::Short(count) => Count { count, number },
+            }
+        }
     }
 }
 

@@ -1,4 +1,5 @@
 -- Document 01's example, computed from its bytes to its lines; and listings at each edge of what is good. Assumes nothing.
+use Rattle.std.specs.Prelude.{Some}
 use mathlib.Core.Path.{◌≡◌, refl}
 use mathlib.Core.Bool.{true, false, cond}
 use mathlib.Core.List.{List, [], ◌∷◌, ◌++◌, map}
@@ -35,7 +36,6 @@ use Rattle.listing.specs.Records.{half_at, word_at, float_at, good_header, heade
 use Rattle.listing.specs.Steps.{clock_of, voices_of, answer_played, settings_of, frame_of, call_played, memory_after, player_of, later_by, opened_of, record_step, step_memory}
 use Rattle.listing.specs.Whole.{printed_from, printed}
 use Rattle.listing.specs.declared.records.Header.{Header}
-use Rattle.listing.specs.declared.records.Reading.TheVariants.{Good}
 use Rattle.listing.specs.declared.records.Call.TheVariants.{Parameters, Start, Stop, Speed, StartRecording, StopRecording, Mono, Stereo, Reset}
 use Rattle.listing.specs.Faults.{header_fault_of, settings_fault_of, kind_fault_of, record_fault_of}
 use Rattle.listing.specs.declared.faults.HeaderFault.TheVariants as header
@@ -207,7 +207,7 @@ quarter = fin false 1 (negsuc 1)
 -- attack 1, decay 2, pass-through on, ping-pong, 0.5 bars, speed 2, reverse speed 3, zero crossing, volume 0.25, rate 4, tempo 5, 6 / 7
 each_setting :
     record_of mono (from_hex "002D 00 00000001 00000002 01 02 03 3F000000 40000000 40400000 01 3E800000 40800000 40A00000 00000006 00000007")
-    ≡ Good (Parameters (record {
+    ≡ Some (Parameters (record {
       attack_samples = 1;
       decay_samples = 2;
       transport = record { sample_rate = as_float 4; tempo = as_float 5; time_sig_numerator = 6; time_sig_denominator = 7 };
@@ -238,7 +238,7 @@ each_call :
     ∷ from_hex "0001 07"
     ∷ []
     )
-    ≡ map Good (
+    ≡ map Some (
     Start (record { note = 60; channel = 5 }) half quarter
     ∷ Stop (record { note = 60; channel = 5 })
     ∷ Speed (record { note = 60; channel = 5 }) half
@@ -251,7 +251,7 @@ each_call :
 unfolding computing
 each_call = refl
 
-two_floats : record_of stereo (from_hex "0009 06 3F000000 3E800000") ≡ Good (Stereo half quarter)
+two_floats : record_of stereo (from_hex "0009 06 3F000000 3E800000") ≡ Some (Stereo half quarter)
 unfolding computing
 two_floats = refl
 
@@ -281,39 +281,39 @@ reasons : Unit {0}
 unfolding text from_hex pairs bytes half_at without good_header kind_length header_fault_of settings_fault_of kind_fault_of record_fault_of
 reasons = tt
 
-no_version : header_fault_of (from_hex "0301 00") ≡ header.Version 3
+no_version : header_fault_of (from_hex "0301 00") ≡ Some (header.Version 3)
 unfolding reasons
 no_version = refl
 
-last_kinds : (record_fault_of mono (settings 1 2 5 2) ≡ fault.LengthKind 5 4) × (record_fault_of second (settings 1 2 6 2) ≡ fault.LengthKind 6 5)
+last_kinds : (record_fault_of mono (settings 1 2 5 2) ≡ Some (fault.LengthKind 5 4)) × (record_fault_of second (settings 1 2 6 2) ≡ Some (fault.LengthKind 6 5))
 unfolding reasons
 last_kinds = (refl, refl)
 
 -- a bad mode is called by its own name
-modes_told : map (record_fault_of mono) (settings 2 2 4 2 ∷ settings 1 3 4 2 ∷ settings 1 2 4 3 ∷ []) ≡ fault.Passthru 2 ∷ fault.LoopMode 3 ∷ fault.NoteOff 3 ∷ []
+modes_told : map (record_fault_of mono) (settings 2 2 4 2 ∷ settings 1 3 4 2 ∷ settings 1 2 4 3 ∷ []) ≡ map Some (fault.Passthru 2 ∷ fault.LoopMode 3 ∷ fault.NoteOff 3 ∷ [])
 unfolding reasons
 modes_told = refl
 
-three_of_two : header_fault_of (from_hex "0103 00") ≡ header.Channels 3
+three_of_two : header_fault_of (from_hex "0103 00") ≡ Some (header.Channels 3)
 unfolding reasons
 three_of_two = refl
 
-half_a_length : record_fault_of mono (from_hex "00") ≡ fault.NoLength
+half_a_length : record_fault_of mono (from_hex "00") ≡ Some fault.NoLength
 unfolding reasons
 half_a_length = refl
 
-length_of_46 : record_fault_of mono (from_hex "002E") ≡ fault.TooLong 46
+length_of_46 : record_fault_of mono (from_hex "002E") ≡ Some (fault.TooLong 46)
 unfolding reasons
 length_of_46 = refl
 
-two_missing : record_fault_of mono (from_hex "0005 06 3F00") ≡ fault.Cut 3 5
+two_missing : record_fault_of mono (from_hex "0005 06 3F00") ≡ Some (fault.Cut 3 5)
 unfolding reasons
 two_missing = refl
 
-kind_eight : record_fault_of mono (from_hex "0001 08") ≡ fault.Kind 8
+kind_eight : record_fault_of mono (from_hex "0001 08") ≡ Some (fault.Kind 8)
 unfolding reasons
 kind_eight = refl
 
-frame_of_four : record_fault_of mono (from_hex "0004 06 3F0000") ≡ fault.Length 6 4 5
+frame_of_four : record_fault_of mono (from_hex "0004 06 3F0000") ≡ Some (fault.Length 6 4 5)
 unfolding reasons
 frame_of_four = refl

@@ -2,7 +2,7 @@
 // arguments, and equals a definition in specs/Phrases.antt.
 #![tactic(auto)]
 
-ghost use Rattle.std.specs.Prelude.{◌≡◌, ◌+◌, ◌≤◌, length, take, slice_set};
+ghost use Rattle.std.specs.Prelude.{◌≡◌, ◌+◌, ◌≤◌, ◌<◌, IfSome, length, take, slice_set};
 ghost use Rattle.std.specs.List.{list_all};
 ghost use Rattle.phrases.specs.Phrases.{
   no_phrase,
@@ -228,17 +228,16 @@ pub fn good(all: [Phrase; 8], capacity: usize) -> bool
     ok
 }
 
-// The number of the phrase that begins first of those that begin at a place or behind it; 8 where none does.
-fn first_from(all: [Phrase; 8], place: usize) -> usize
-    ensures { result ≡ first_from place all }
+// The number of the phrase that begins first of those that begin at a place or behind it, if one does.
+fn first_from(all: [Phrase; 8], place: usize) -> Option<usize>
+    ensures value { result ≡ first_from place all }
+    ensures bound { IfSome result (λ k. k < 8) }
 {
-    let mut found = PHRASES;
-    let mut start = 0;
+    let mut found = None;
     for i in 0..PHRASES {
         let p = all[i];
-        if !p.is_empty() & (place <= p.start) & ((found == PHRASES) | (p.start < start)) {
-            found = i;
-            start = p.start;
+        if !p.is_empty() & (place <= p.start) & found.is_none_or(|k| p.start < all[k].start) {
+            found = Some(i);
         }
     }
     found
@@ -261,8 +260,7 @@ pub fn gather(all: [Phrase; 8], data: &mut [u32]) -> [Phrase; 8]
     let mut from = 0;
     let mut to = 0;
     for turn in 0..PHRASES {
-        let k = first_from(moved, from);
-        if k < PHRASES {
+        if let Some(k) = first_from(moved, from) {
             let p = moved[k];
             let room = p.room(data.len());
             let n = room.to - room.from;

@@ -102,7 +102,7 @@ impl Beat {
     fn can(t: Tick) -> bool
         ensures { result ≡ can_plain t }
     {
-        clip::same_mode(t.mode, Mode::Loop)
+        (t.mode == Mode::Loop)
             & (!t.interpolates
                 & (clip::whole_in(1, LONGEST as usize, t.span.length)
                     & clip::whole_in(1, LONGEST as usize, t.span.data_length)))
@@ -180,7 +180,7 @@ impl Hot {
         // The tick's mode needn't be asked: a place is below the beat's length only if the tick loops.
         let elapsed = c.elapsed_at(t.now);
         let reached = (self.lap as usize) * (b.length as usize) + (self.place as usize);
-        clip::same_mode(c.mode, Mode::Loop)
+        (c.mode == Mode::Loop)
             & ((speed == 1.0)
                 & (((self.start as f32) == c.start)
                     & ((self.start <= b.total)

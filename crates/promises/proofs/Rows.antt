@@ -11,6 +11,7 @@ use lib.ListN.{take, get_or}
 use lib.Ieee.{Float, le, lt, of_int}
 use Rattle.binary32.specs.Leaves.{as_float, zero32, one32}
 use Rattle.std.specs.List.{list_any}
+use Rattle.walks.proofs.Tests.{joined}
 use Rattle.walks.proofs.Lists.Every.{both}
 use Rattle.common_types.specs.declared.Params.{Params}
 use Rattle.common_types.specs.declared.Transport.{Transport}
@@ -27,7 +28,6 @@ use Rattle.sampler.specs.declared.Sampler.{Sampler}
 use Rattle.sampler.specs.Refusals.{channel_at, no_channel, bad_position, any_full}
 use Rattle.promises.specs.Broken.{In}
 use Rattle.promises.specs.Rows.{Beyond, Full, RowTests}
-use Rattle.promises.proofs.Broken.{join}
 
 -- ---- tests as facts
 pub either : (a b : Bool) → (a || b) ≡ true → (a ≡ true) ⊎ (b ≡ true)
@@ -68,7 +68,7 @@ bad_position_lem x = (to, from)
     to h = both (le zero32 x) (le x one32) (not-false _ h)
 
     from : In 0 1 x → not (le zero32 x && le x one32) ≡ false
-    from h = rw (join (le zero32 x) (le x one32) h.0 h.1)
+    from h = rw (joined (le zero32 x) (le x one32) h.0 h.1)
 
 -- ---- row 4
 abbrev BeyondLength : TimeOrRatio → Transport → Type 0

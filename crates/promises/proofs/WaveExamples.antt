@@ -7,12 +7,12 @@ use lib.Dec.{lit<}
 use lib.IntN.{negsuc}
 use lib.Ieee.{Float, fin}
 use lib.ListN.{take, replicate}
+use Rattle.std.specs.Prelude.{Ok}
 use Rattle.octets.proofs.Hex.{from_hex}
 use Rattle.walks.specs.Each.{Each}
 use Rattle.binary32.specs.Leaves.{zero32, one32}
 use Rattle.voice.specs.Voices.{fresh_of}
 use Rattle.channel.specs.Channels.{live}
-use Rattle.questions.specs.declared.Counted.TheVariants.{Done}
 use Rattle.fates.specs.Sounding.{terms_of}
 use Rattle.recordings.proofs.Examples.{computing as filing, no_samples_lem, others, cut, mono, stereo}
 use Rattle.promises.specs.Runs.{World, Call, start_recording, stop_recording, sample, read_wave, write_wave, asks, set_up, run, after, code, chan, output}
@@ -34,7 +34,7 @@ abbrev writes : Call
 writes = asks (write_wave 44100 (replicate 75 7))
 
 abbrev wrote : ListOutcome
-wrote = record { answer = Done 74; lent = file ++ (7 ∷ []) }
+wrote = record { answer = Ok 74; lent = file ++ (7 ∷ []) }
 
 pub wrote_met : Allows (on taken writes) wrote
 unfolding computing filing
@@ -57,7 +57,7 @@ lent_front = take (bytes_in taken) wrote.lent
 
 abbrev got : ReadOutcome
 got = record {
-  answer = record { sampler = (after fresh (read_wave file)).sampler; read = record { rate = 44100; number = 0 } };
+  answer = record { sampler = (after fresh (read_wave file)).sampler; read = Ok 44100 };
   memory = 0x3F000000 ∷ 0x3F800000 ∷ 32 ∷ 0x3F800000 ∷ 0x3F000000 ∷ 42 ∷ 98 ∷ [];
 }
 

@@ -17,7 +17,7 @@ use Rattle.channel.specs.declared.HeadChange.TheVariants.{Choose}
 use Rattle.channel.specs.Heads.{with_recorded, holds_of, moment_of}
 use Rattle.channel.specs.Channels.{with_head, live, phrase_at, moment_for, beside_in, uses_of, taken_of, memory_of}
 use Rattle.sampler.specs.declared.Answer.{Answer}
-use Rattle.sampler.specs.Refusals.{row, present, good_sampler, good_with, records, any_recording}
+use Rattle.sampler.specs.Refusals.{present, good_sampler, good_with, records, any_recording}
 use Rattle.sampler.specs.Soundness.{FittingSampler}
 use Rattle.fates.specs.Events.{Event, changes, sounds, act}
 use Rattle.promises.specs.Runs.{
@@ -29,6 +29,7 @@ use Rattle.promises.specs.Runs.{
   read_wave,
   gather,
   code,
+  row,
   chan,
   own_part,
   event,

@@ -8,7 +8,8 @@ use borrow.Author.Tests.{ne_eqb, leb-true, leb-false, le-ltb, lt-ltb, ltb-false}
 use lib.Dec.{leb, ltb}
 use lib.ListN.{length}
 use Rattle.recorder.specs.declared.Recorder.{Recorder}
-use Rattle.recorder.specs.declared.Text.TheVariants.{Written, Short}
+use Rattle.std.specs.Prelude.{Ok, Err}
+use Rattle.refusals.specs.declared.Refusal.{Refusal}
 use Rattle.recorder.specs.ErrorText.{error_text, print_error_info_of, text_after}
 use Rattle.recorder.proofs.ErrorTexts.{text_fits, text_too_long}
 use Rattle.sampler.specs.declared.Sampler.{Sampler}
@@ -93,7 +94,7 @@ module _ (broken absent : Bool) (r : Recorder) (text : List ℕ) (number : ℕ) 
         let kept = refused_by broken absent (error_text r) text 8 (number_is ∙ simp (lt-ltb _ _ f)) (λ e. omega arith) in
         (kept.0, (text_too_long r text f).1 ∙ kept.1)
 
-    pub text_written : (n : ℕ) → print_error_info_of r (length text) ≡ Written n → SaysBy broken absent (error_text r) text (Done n) (text_after r text)
+    pub text_written : (n : ℕ) → print_error_info_of r (length text) ≡ Ok n → SaysBy broken absent (error_text r) text (Done n) (text_after r text)
     text_written n e = go (leb (length (error_text r)) (length text)) refl
       where
         go : (b : Bool) → leb (length (error_text r)) (length text) ≡ b → SaysBy broken absent (error_text r) text (Done n) (text_after r text)
@@ -107,8 +108,8 @@ module _ (broken absent : Bool) (r : Recorder) (text : List ℕ) (number : ℕ) 
             let never : ◌≡◌ {A = ℕ} 0 1 = cc in
             absurd (omega arith)
 
-    pub text_short : print_error_info_of r (length text) ≡ Short → SaysBy broken absent (error_text r) text (Refused 8) (text_after r text)
-    text_short e = go (leb (length (error_text r)) (length text)) refl
+    pub text_short : (refusal : Refusal) → print_error_info_of r (length text) ≡ Err refusal → SaysBy broken absent (error_text r) text (Refused 8) (text_after r text)
+    text_short refusal e = go (leb (length (error_text r)) (length text)) refl
       where
         go : (b : Bool) → leb (length (error_text r)) (length text) ≡ b → SaysBy broken absent (error_text r) text (Refused 8) (text_after r text)
         go true f =

@@ -228,8 +228,7 @@ fn write_note(v: Voice, k: usize, notes: &mut [u64])
     if v.finished {
         return;
     }
-    let note = v.note;
-    notes[k] = u64::from(note);
+    notes[k] = u64::from(v.note);
 }
 
 fn active_count(c: Channel) -> usize

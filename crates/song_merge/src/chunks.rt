@@ -95,14 +95,16 @@ fn whole(file: &[u8], at: usize, end: usize) -> bool
     let mut running: u8 = 0;
     loop {
         match step_at(file, end, running, place) {
-            Step::Broken(_) => return false,
-            Step::End(next) => return next == end,
-            Step::Is {
-                delta: _,
-                event: _,
-                status,
-                next,
-            } => {
+            Err(_) => return false,
+            Ok(Step::End(next)) => return next == end,
+            Ok(
+                Step::Is {
+                    delta: _,
+                    event: _,
+                    status,
+                    next,
+                },
+            ) => {
                 running = status;
                 place = next;
             }

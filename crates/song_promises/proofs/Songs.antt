@@ -5,10 +5,11 @@ use mathlib.Core.List.{List, [], ◌∷◌, ◌++◌, map, map-append}
 use Prim.Native.Nat.{ℕ, zero, suc, ◌+◌, ◌*◌, ◌≤◌, ◌<◌}
 use native.Mathlib.Omega.{arith}
 use borrow.Author.Tests.{leb-true, leb-false}
-use lib.Dec.{leb, eqb}
+use lib.Dec.{leb}
 use lib.ListN.{length, drop}
 use lib.Seq.{drop-drop}
 use lib.Ieee.{Float}
+use Rattle.std.specs.Prelude.{is_ok}
 use Rattle.binary32.specs.Leaves.{as_float}
 use Rattle.common_types.specs.Notes.{from_u64_of}
 use Rattle.common_types.specs.declared.InitParams.{InitParams}
@@ -32,17 +33,12 @@ use Rattle.songs.proofs.Hands.{by_hand}
 use Rattle.fates.specs.Engine.{born_of}
 use Rattle.fates.specs.Events.{idle, changes, sounds, is_reset, is_sample, empty_at}
 use Rattle.fates.specs.Places.{stopped_in}
-use Rattle.promises.specs.Runs.{World, set_up, Call, stop, frame, code, with_sampler, after, run, chan, done_to, event, events, is_reset_call, Made, one, made as made_by, makes}
+use Rattle.promises.specs.Runs.{World, set_up, Call, stop, frame, code, with_sampler, after, run, chan, done_to, event, events, is_reset_call, Made, one, made as made_by, makes, call_judged}
 use Rattle.promises.specs.Demands.{is_empty, FirstIn, Demand3}
-use Rattle.promises.proofs.Makes.{third}
+use Rattle.promises.proofs.Makes.{third, run_more}
 use Rattle.song_promises.specs.Songs.{start_call, hand_of, hands, left_in, due_in, Rising, played, hosted, woven, Songs}
 
 -- ---- by hand
-
-run_more : (w : World) (bs cs : List Call) → run w (bs ++ cs) ≡ run (run w bs) cs
-unfolding run
-run_more w [] cs = refl
-run_more w (b ∷ bs) cs = run_more (after w b) bs cs
 
 -- a call of the list is the call of its world
 made : (p : Params) (w : World) (c : Cue) → with_sampler (cue_call w.sampler c p).sampler w ≡ after w (hand_of p c)
@@ -152,8 +148,8 @@ no_sample p w [] j = refl
 no_sample p w (c ∷ cs) j = rw (keeps c.starts) (no_sample p (after w (hand_of p c)) cs j)
   where
     keeps : (b : Bool) → is_sample (event w (cond b (start_call p c) (stop (from_u64_of c.note) p)) j) ≡ false
-    keeps true = silent (eqb (code w (start_call p c)) 0) _
-    keeps false = silent (eqb (code w (stop (from_u64_of c.note) p)) 0) _
+    keeps true = silent (is_ok (call_judged w (start_call p c))) _
+    keeps false = silent (is_ok (call_judged w (stop (from_u64_of c.note) p))) _
 
 -- ---- on time
 

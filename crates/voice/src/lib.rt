@@ -85,6 +85,7 @@ pub struct Tick {
 }
 
 // A turn taken the quick way, where the voice glides; elsewhere `voice` is not to be looked at.
+// No Option: the voice is made in one place, before it is known whether it glides (speed: `quick_at`).
 #[derive(Clone, Copy)]
 pub struct Quick {
     pub voice: Voice,

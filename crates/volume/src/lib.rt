@@ -138,6 +138,7 @@ impl Volume {
         }
     }
 
+    // A ramp that goes on is made anew, as `copied` makes it, for the same reason.
     #[tactic(auto, unfolding(crate::specs::Levels::stepped_of))]
     pub fn stepped(self, now: usize) -> Self
         ensures { result ≡ stepped_of self now }

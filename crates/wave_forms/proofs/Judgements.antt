@@ -1,4 +1,5 @@
 -- What the tests of a form say where they hold, and the answers that they lead to. Assumes nothing.
+use Rattle.std.specs.Prelude.{Option}
 use mathlib.Core.Path.{◌≡◌}
 use mathlib.Core.Bool.{true, false, ◌&&◌}
 use mathlib.Core.List.{List}
@@ -11,7 +12,6 @@ use Rattle.walks.proofs.Lists.Every.{both as and_both}
 use Rattle.wave.specs.Fields.{four_at}
 use Rattle.wave.specs.Reader.{walk_of, good_riff}
 use Rattle.wave.specs.declared.chunks.Places.{Places}
-use Rattle.wave.specs.declared.chunks.Met.{Met}
 use Rattle.wave_forms.specs.Reader.{known_form, good_form, form_at, counted_judged, judged_at, judged_in, file_judged}
 use Rattle.wave_forms.specs.Grammar.{Kind}
 use Rattle.wave_forms.specs.declared.formats.Form.{Form}
@@ -73,7 +73,7 @@ module _ (f : List ℕ) (p : Places) where
   unfolding judged_at
   judged_is h k = simp (ne_eqb _ _ h, k)
 
-pub judged_riff : (f : List ℕ) (m : Met) → good_riff f ≡ true → walk_of f ≡ m → file_judged f ≡ judged_in f m
+pub judged_riff : (f : List ℕ) (m : Option Places) → good_riff f ≡ true → walk_of f ≡ m → file_judged f ≡ judged_in f m
 unfolding file_judged
 judged_riff f m h e = rw (h, e)
 

@@ -1,4 +1,5 @@
 -- What an answer rests on, and what `turn` answers and leaves, case by case. Assumes nothing.
+use Rattle.std.specs.Prelude.{Option, Some, None}
 use mathlib.Core.Path.{◌≡◌, refl, sym, ap, ◌∙◌, subst}
 use mathlib.Core.Bool.{true}
 use mathlib.Core.List.{List}
@@ -13,8 +14,6 @@ use Rattle.wave.specs.Fields.{four_at, word_bytes}
 use Rattle.wave.specs.Files.{head_fits, head_put}
 use Rattle.wave.specs.Reader.{missing, walk_of, good_riff}
 use Rattle.wave.specs.declared.chunks.Places.{Places}
-use Rattle.wave.specs.declared.chunks.Met.{Met}
-use Rattle.wave.specs.declared.chunks.Met.TheVariants as met
 use Rattle.wave.proofs.Judgements.{both, places_below}
 use Rattle.wave.proofs.Standing.{length-listed}
 use Rattle.wave.proofs.Calls.{file_put, head_made, head_done}
@@ -30,7 +29,7 @@ use Rattle.wave_forms.proofs.Judgements.{FormIs, form_true}
 pub record Rests (f : List ℕ) (s : Source) : Type 0 where
   pub places : Places
   pub riff : good_riff f ≡ true
-  pub met : walk_of f ≡ met.Is places
+  pub met : walk_of f ≡ Some places
   pub some : places.words ≡ 0 → ⊥
   pub form : FormIs (form_at f places.format)
   pub even : four_at f (places.words + 4) % (form_at f places.format).block ≡ 0
@@ -48,7 +47,7 @@ never e = let z : ◌≡◌ {A = ℕ} 0 1 = cc in omega arith
 abbrev Answers : List ℕ → Source → Judged → Type 0
 Answers f s j = j ≡ Is s → Rests f s
 
-rests_at : (f : List ℕ) (s : Source) (p : Places) → good_riff f ≡ true → walk_of f ≡ met.Is p → Answers f s (judged_at f p)
+rests_at : (f : List ℕ) (s : Source) (p : Places) → good_riff f ≡ true → walk_of f ≡ Some p → Answers f s (judged_at f p)
 unfolding judged_at counted_judged
 rests_at f s p r m =
     let o = form_at f p.format in
@@ -68,9 +67,9 @@ rests_at f s p r m =
     })
     (λ _ e. absurd (never e))) (λ _ e. absurd (never e))) (λ _ e. absurd (never e)))
 
-rests_in : (f : List ℕ) (s : Source) (m : Met) → good_riff f ≡ true → walk_of f ≡ m → Answers f s (judged_in f m)
-rests_in f s (met.Is p) r e = rests_at f s p r e
-rests_in f s met.Refused r e = λ g. absurd (never g)
+rests_in : (f : List ℕ) (s : Source) (m : Option Places) → good_riff f ≡ true → walk_of f ≡ m → Answers f s (judged_in f m)
+rests_in f s (Some p) r e = rests_at f s p r e
+rests_in f s None r e = λ g. absurd (never g)
 
 pub judged_rests : (f : List ℕ) (s : Source) → file_judged f ≡ Is s → Rests f s
 unfolding file_judged

@@ -1,12 +1,10 @@
 -- What is read of a WAVE file of another form, behind the walk over its chunks that 10/12's reader makes. `Grammar.antt`
 -- says the same of a file as a whole. Definitions only.
-use Rattle.std.specs.Prelude.{Bool, cond, ◌&&◌, ◌||◌, List, ℕ, ◌+◌, ◌*◌, ◌/◌, ◌%◌, ◌^◌, ltb, leb, eqb}
+use Rattle.std.specs.Prelude.{Option, Some, None, Bool, cond, ◌&&◌, ◌||◌, List, ℕ, ◌+◌, ◌*◌, ◌/◌, ◌%◌, ◌^◌, ltb, leb, eqb}
 use Rattle.octets.specs.Octets.{bytes_at, little_of}
 use Rattle.wave.specs.Fields.{two_at, four_at, listed}
 use Rattle.wave.specs.Reader.{missing, walk_of, good_riff}
 use Rattle.wave.specs.declared.chunks.Places.{Places}
-use Rattle.wave.specs.declared.chunks.Met.{Met}
-use Rattle.wave.specs.declared.chunks.Met.TheVariants as met
 use Rattle.wave_forms.specs.Values.{number_word}
 use Rattle.wave_forms.specs.declared.formats.Form.{Form}
 use Rattle.wave_forms.specs.declared.Source.{Source}
@@ -70,9 +68,9 @@ judged_at f p =
     (cond (good_form (form_at f p.format)) (counted_judged (form_at f p.format) (p.words + 8) (four_at f (p.words + 4)))
     Refused)
 
-abbrev pub judged_in : List ℕ → Met → Judged
-judged_in f (met.Is p) = judged_at f p
-judged_in f met.Refused = Refused
+abbrev pub judged_in : List ℕ → Option Places → Judged
+judged_in f (Some p) = judged_at f p
+judged_in f None = Refused
 
 unfoldable pub file_judged : List ℕ → Judged
 file_judged f = cond (good_riff f) (judged_in f (walk_of f)) Refused

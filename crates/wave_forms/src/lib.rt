@@ -12,7 +12,7 @@ ghost use Rattle.wave_forms.specs.Turns.{turn_answer, output_after};
 
 use formats::{Form, form_at, good_form};
 use numbers::put_words;
-use wave::chunks::{Met, Places};
+use wave::chunks::Places;
 use wave::fields::four_at;
 
 // A file of a known form: `count` numbers, `samples` for each channel, frame by frame, stand from `first` on.
@@ -78,8 +78,8 @@ fn judge(file: &[u8]) -> Judged
 {
     if wave::good_riff(file) {
         match wave::chunks::walk(file) {
-            Met::Is(p) => judged_at(file, p),
-            Met::Refused => Judged::Refused,
+            Some(p) => judged_at(file, p),
+            None => Judged::Refused,
         }
     } else {
         Judged::Refused

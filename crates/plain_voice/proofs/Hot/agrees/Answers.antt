@@ -21,4 +21,4 @@ pub returns : goal.returns
 unfolding of_bits
 returns c =
     let a = c.args in
-    agreed a.self a.c a.t a.b a.speed a.last c.same_mode.result c.elapsed_at-elapsed.result c.same_mode.ensures c.elapsed_at-elapsed.ensures c.if-not-same.false c.if-self-gt-LONGEST.false
+    agreed a.self a.c a.t a.b a.speed a.last c.eq.result c.elapsed_at-elapsed.result (search rules) c.elapsed_at-elapsed.ensures c.if-not-same.false c.if-self-gt-LONGEST.false
