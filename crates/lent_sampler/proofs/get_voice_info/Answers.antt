@@ -7,6 +7,7 @@ use Rattle.refusals.specs.Refusals.{row}
 use Rattle.common_types.specs.Settings.{beyond_limits}
 use Rattle.channel.specs.declared.Channel.{Channel}
 use Rattle.channel.specs.Channels.{live}
+use Rattle.channel.proofs.Slots.{none}
 use Rattle.sampler.specs.Refusals.{channel_at}
 use Rattle.questions.specs.Questions.{figures_of}
 use Rattle.questions.specs.Lists.{voice_info_counted, voice_info_after}
@@ -59,8 +60,8 @@ loop-i-preserved c =
     let room : length (live c.seated-c.result.now) ≤ length at.list.now = omega (arith, full, infos_room at.s.now at.channel at.params at.list.now c.in_ok-rows.ensures within fits) in
     let lt : c.loop-i.i < length (live c.seated-c.result.now) = omega (arith, ap length c.live-v-items.ensures) in
     let first : c.seated.result.now ≡ channel_at at.s.now 0 = c.seated.ensures.asked ∙ ap (channel_at at.s.now) (seat_is 0 (omega arith)) in
-    let info = c.info.ensures ∙ (λ q. figures_of at.params (first q) c.seated-c.result.now (get_or (c.live-v-items.ensures q) c.loop-i.i _)) in
-    (λ q. set (c.loop-i.invariant q) c.loop-i.i (info q)) ∙ figured_next at.params (channel_at at.s.now 0) c.seated-c.result.now at.list.now c.loop-i.i _ lt room
+    let info = c.info.ensures ∙ (λ q. figures_of at.params (first q) c.seated-c.result.now (get_or (c.live-v-items.ensures q) c.loop-i.i none)) in
+    (λ q. set (c.loop-i.invariant q) c.loop-i.i (info q)) ∙ figured_next at.params (channel_at at.s.now 0) c.seated-c.result.now at.list.now c.loop-i.i none lt room
 
 pub returns : goal.returns
 returns c =
