@@ -191,7 +191,12 @@ pub fn iter_active_notes(s: Sampler, channel: usize, notes: &mut [u64]) -> Resul
     questions::iter_active_notes(s, channel, notes)
 }
 
-pub fn get_voice_info(s: Sampler, channel: usize, params: Params, room: usize) -> Result<VoiceInfos, Refusal>
+pub fn get_voice_info(
+    s: Sampler,
+    channel: usize,
+    params: Params,
+    room: usize,
+) -> Result<VoiceInfos, Refusal>
     ensures { (m : List ℕ)
         → Allows (on (record { sampler = s; memory = m }) (asks (get_voice_info channel params room))) result }
 {

@@ -19,8 +19,8 @@ ghost use Rattle.host.specs.Crossing.{refused_by, count_by, told_by, offset_by, 
 use common_types::Params;
 use questions::{VoiceInfo, WaveformSummary};
 use refusals::Refusal;
-use smf::SongRefusal;
 use sampler::Sampler;
+use smf::SongRefusal;
 
 // These structs are the C interface's (host/vusatica.c), with a number for a refusal and 0 for none.
 #[derive(Clone, Copy)]

@@ -29,12 +29,11 @@ ghost use Rattle.plain_sampler.specs.Backings.{
 };
 ghost use Rattle.host.specs.Crossing.{phrase_byte, Coded, sampled_by, ran_by};
 
+use crate::calls::{FrameDone, RunDone, Sampled};
 use channel::{Change, HeadChange};
 use common_types::Params;
 use plain_sampler::Backing;
 use sampler::Sampler;
-
-use crate::calls::{FrameDone, RunDone, Sampled};
 
 pub fn start_playing(
     s: &mut Sampler,
@@ -49,7 +48,11 @@ pub fn start_playing(
         × (k.new ≡ change_backing s.old (Change.Start params position (note_of note channel) velocity)
         k.old) }
 {
-    refusals::code(plain_sampler::change(s, k, crate::calls::start_of(position, note, channel, velocity, params)))
+    refusals::code(plain_sampler::change(
+        s,
+        k,
+        crate::calls::start_of(position, note, channel, velocity, params),
+    ))
 }
 
 pub fn stop_playing(s: &mut Sampler, k: &mut Backing, note: u8, channel: u8, params: Params) -> u8

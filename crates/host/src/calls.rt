@@ -255,9 +255,10 @@ pub struct Sampled {
 
 pub fn heard_by(heard: Result<Heard, Refusal>) -> Sampled
     ensures { result ≡ record {
-        output = (heard_in heard).output;
-        number = code_of (done_in heard);
-        moved = (heard_in heard).moved } }
+      output = (heard_in heard).output;
+      number = code_of (done_in heard);
+      moved = (heard_in heard).moved;
+    } }
 {
     match heard {
         Ok(heard) => Sampled {

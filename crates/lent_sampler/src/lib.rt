@@ -81,7 +81,9 @@ use voice::Voice;
 fn good_channels(s: &Sampler) -> bool
     ensures { result ≡ list_all (good_channel s.now.capacity) (present s.now) }
 {
-    s.present().iter().all(|c| lent_channel::good(c, s.capacity))
+    s.present()
+        .iter()
+        .all(|c| lent_channel::good(c, s.capacity))
 }
 
 // Whether the record is good.
@@ -475,7 +477,12 @@ pub fn read_wave(s: &mut Sampler, file: &[u8], memory: &mut [u32]) -> Result<u32
 
 // Whether a sample of that channel is refused, with no channel copied.
 #[tactic(auto, unfolding(sampler::specs::Refusals::sample_judged))]
-pub fn sample_judged(s: &Sampler, channel: usize, params: Params, size: usize) -> Result<(), Refusal>
+pub fn sample_judged(
+    s: &Sampler,
+    channel: usize,
+    params: Params,
+    size: usize,
+) -> Result<(), Refusal>
     ensures { result ≡ sample_judged s.now channel params size }
 {
     Refusal::Broken.when(!good_with(s, size))?;
@@ -559,7 +566,8 @@ pub fn process_sample(
     params: Params,
     memory: &mut [u32],
 ) -> Result<Heard, Refusal>
-    ensures { (record { sampler = s.new; output = (heard_in result).output; done = done_in result; moved = (heard_in result).moved }
+    ensures { (record { sampler = s.new; output = (heard_in result).output; done = done_in result;
+        moved = (heard_in result).moved }
         ≡ sample_of s.old channel input params memory.old)
         × (memory.new ≡ sample_memory s.old channel input params memory.old) }
 {

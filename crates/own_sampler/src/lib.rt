@@ -5,7 +5,6 @@
 ghost use Rattle.std.specs.Prelude.{◌≡◌, length};
 ghost use Rattle.sampler.specs.Refusals.{frame_judged};
 ghost use Rattle.sampler.specs.Samplers.{Frames, framed_of, frame_moved, ran_of, run_answer};
-
 ghost use Rattle.lent_sampler.specs.Hearing.{done_in, moved_in};
 
 use common_types::Params;

@@ -94,14 +94,24 @@ pub fn start_playing(
     )
 }
 
-pub fn stop_playing(s: &mut Sampler, k: &mut Backing, note: Note, params: Params) -> Result<(), Refusal>
+pub fn stop_playing(
+    s: &mut Sampler,
+    k: &mut Backing,
+    note: Note,
+    params: Params,
+) -> Result<(), Refusal>
     ensures { (record { sampler = s.new; done = result } ≡ stop_playing_of s.old note params)
         × (k.new ≡ change_backing s.old (Change.Stop params note) k.old) }
 {
     change(s, k, lent_sampler::stop_of(note, params))
 }
 
-pub fn set_note_speed(s: &mut Sampler, k: &mut Backing, note: Note, speed: f32) -> Result<(), Refusal>
+pub fn set_note_speed(
+    s: &mut Sampler,
+    k: &mut Backing,
+    note: Note,
+    speed: f32,
+) -> Result<(), Refusal>
     ensures { (record { sampler = s.new; done = result } ≡ set_note_speed_of s.old note speed)
         × (k.new ≡ change_backing s.old (Change.Speed note speed) k.old) }
 {
@@ -198,7 +208,8 @@ pub fn process_sample(
     params: Params,
     memory: &mut [u32],
 ) -> Result<Heard, Refusal>
-    ensures { ((record { sampler = s.new; output = (heard_in result).output; done = done_in result; moved = (heard_in result).moved }
+    ensures { ((record { sampler = s.new; output = (heard_in result).output; done = done_in result;
+        moved = (heard_in result).moved }
         ≡ sample_of s.old channel input params memory.old)
         × (memory.new ≡ sample_memory s.old channel input params memory.old))
         × (k.new

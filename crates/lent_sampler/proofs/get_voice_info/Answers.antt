@@ -7,6 +7,7 @@ use Rattle.refusals.specs.Refusals.{row}
 use Rattle.common_types.specs.Settings.{beyond_limits}
 use Rattle.channel.specs.declared.Channel.{Channel}
 use Rattle.channel.specs.Channels.{live}
+use Rattle.channel.proofs.Slots.{none}
 use Rattle.sampler.specs.Refusals.{channel_at}
 use Rattle.questions.specs.Questions.{figures_of}
 use Rattle.questions.specs.Lists.{voice_info_counted, voice_info_after}
@@ -47,7 +48,7 @@ bounds-list-i c =
     let fits : ok ≡ row (ltb (length at.list.now) (seated at.s.now at.channel).count) ShortList ok = c.in_ok-when-2.ensures ∙ ap (λ (d : Channel). row (ltb (length at.list.now) d.count) ShortList ok) c.seated-c.ensures.asked in
     let full : length (live c.seated-c.result.now) ≡ (seated at.s.now at.channel).count = ap (λ (d : Channel). length (live d)) c.seated-c.ensures.asked ∙ all_live at.s.now at.channel c.in_ok-rows.ensures c.seated-c.ensures.whole in
     let room : length (live c.seated-c.result.now) ≤ length at.list.now = omega (arith, full, infos_room at.s.now at.channel at.params at.list.now c.in_ok-rows.ensures within fits) in
-    let lt : c.loop-i.i < length (live c.seated-c.result.now) = omega (arith, ap length c.live.ensures) in
+    let lt : c.loop-i.i < length (live c.seated-c.result.now) = omega (arith, ap length c.live-v-items.ensures) in
     omega (arith, lt, room, c.loop-i.auto.list)
 
 pub loop-i-preserved : goal.loop-i-preserved
@@ -57,17 +58,17 @@ loop-i-preserved c =
     let fits : ok ≡ row (ltb (length at.list.now) (seated at.s.now at.channel).count) ShortList ok = c.in_ok-when-2.ensures ∙ ap (λ (d : Channel). row (ltb (length at.list.now) d.count) ShortList ok) c.seated-c.ensures.asked in
     let full : length (live c.seated-c.result.now) ≡ (seated at.s.now at.channel).count = ap (λ (d : Channel). length (live d)) c.seated-c.ensures.asked ∙ all_live at.s.now at.channel c.in_ok-rows.ensures c.seated-c.ensures.whole in
     let room : length (live c.seated-c.result.now) ≤ length at.list.now = omega (arith, full, infos_room at.s.now at.channel at.params at.list.now c.in_ok-rows.ensures within fits) in
-    let lt : c.loop-i.i < length (live c.seated-c.result.now) = omega (arith, ap length c.live.ensures) in
+    let lt : c.loop-i.i < length (live c.seated-c.result.now) = omega (arith, ap length c.live-v-items.ensures) in
     let first : c.seated.result.now ≡ channel_at at.s.now 0 = c.seated.ensures.asked ∙ ap (channel_at at.s.now) (seat_is 0 (omega arith)) in
-    let info = c.info.ensures ∙ (λ q. figures_of at.params (first q) c.seated-c.result.now (get_or (c.live.ensures q) c.loop-i.i _)) in
-    (λ q. set (c.loop-i.invariant q) c.loop-i.i (info q)) ∙ figured_next at.params (channel_at at.s.now 0) c.seated-c.result.now at.list.now c.loop-i.i _ lt room
+    let info = c.info.ensures ∙ (λ q. figures_of at.params (first q) c.seated-c.result.now (get_or (c.live-v-items.ensures q) c.loop-i.i none)) in
+    (λ q. set (c.loop-i.invariant q) c.loop-i.i (info q)) ∙ figured_next at.params (channel_at at.s.now 0) c.seated-c.result.now at.list.now c.loop-i.i none lt room
 
 pub returns : goal.returns
 returns c =
     let at = c.args in
     let within : ok ≡ row (beyond_limits at.params) BeyondLimits ok = c.in_ok-when.ensures ∙ ap (λ (b : Bool). row b BeyondLimits ok) c.beyond_limits.ensures in
     let fits : ok ≡ row (ltb (length at.list.now) (seated at.s.now at.channel).count) ShortList ok = c.in_ok-when-2.ensures ∙ ap (λ (d : Channel). row (ltb (length at.list.now) d.count) ShortList ok) c.seated-c.ensures.asked in
-    let i_is : c.loop-i.i ≡ length (live c.seated-c.result.now) = omega (arith, ap length c.live.ensures) in
+    let i_is : c.loop-i.i ≡ length (live c.seated-c.result.now) = omega (arith, ap length c.live-v-items.ensures) in
     let is = c.loop-i.invariant
     ∙ ap (figured_upto at.params (channel_at at.s.now 0) c.seated-c.result.now at.list.now) i_is
     ∙ ap (λ (d : Channel). figured_upto at.params (channel_at at.s.now 0) d at.list.now (length (live d))) c.seated-c.ensures.asked in

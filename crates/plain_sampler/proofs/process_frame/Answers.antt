@@ -16,8 +16,8 @@ returns-in_err-frame_judged c =
     let at = c.args in
     let no = sym c.in_err-frame_judged.ensures in (
       subst (λ (r : Result ℕ Refusal). (done_in r ≡ frame_judged at.s.now (length at.frame.now) at.params (length at.memory.now))
-      × Frames (framed_of at.s.now at.frame.now at.params at.memory.now) at.s.now at.frame.now at.memory.now
-      × (moved_in r ≡ frame_moved at.s.now at.frame.now at.params at.memory.now)) (sym e)
+          × Frames (framed_of at.s.now at.frame.now at.params at.memory.now) at.s.now at.frame.now at.memory.now
+          × (moved_in r ≡ frame_moved at.s.now at.frame.now at.params at.memory.now)) (sym e)
           (c.in_err-frame_judged.ensures, refused at.s.now at.frame.now at.params at.memory.now _ no, none_moved at.s.now at.frame.now at.params at.memory.now _ no),
       frame_refused at.s.now at.frame.now at.params at.memory.now at.k.now _ no,
     )
