@@ -6,6 +6,7 @@ use Rattle.std.proofs.lemmas.List.Edits.{sets}
 use Rattle.std.specs.Float.{binary32}
 use Rattle.std.specs.Float.Ieee.{add}
 use Rattle.binary32.specs.Leaves.{bits_of, zero32, one32}
+use Rattle.std.specs.Option.{option_map_or}
 use Rattle.std.specs.List.{list_any, list_all, fold, position_from}
 use Rattle.walks.specs.Walks.{without, behind}
 use Rattle.common_types.specs.declared.InitParams.{InitParams}
@@ -132,7 +133,9 @@ uses_of k c = list_any (λ (v : Voice). eqb v.phrase k) (live c)
 
 -- what the channel has against what a change asks, in a record of that capacity
 abbrev pub against_of : ℕ → Ask → Channel → Against
-against_of capacity a c = against_by a c.head c.count (uses_of (leaving_of a) c) (beside_in capacity c) capacity
+against_of capacity a c =
+    let used = option_map_or (λ k. uses_of k c) (leaving_of a) false in
+    against_by a c.head c.count used (beside_in capacity c) capacity
 
 -- a change that touches no voice
 unfoldable pub head_changed_in : HeadChange → Channel → Channel

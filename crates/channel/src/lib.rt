@@ -558,17 +558,17 @@ pub fn held_against(
     Against { blocked, short }
 }
 
-// The number of the phrase that is to be deleted; 8 where none is.
+// The number of the phrase that is to be deleted, if one is.
 #[tactic(auto, unfolding(crate::specs::Tables::leaving_of))]
-pub fn leaving(ask: Ask) -> u8
+pub fn leaving(ask: Ask) -> Option<u8>
     ensures { result ≡ leaving_of ask }
 {
     match ask {
-        Ask::Voice => 8,
-        Ask::Samples(_) => 8,
-        Ask::Choice(_) => 8,
-        Ask::Delete(k) => k,
-        Ask::Nothing => 8,
+        Ask::Voice => None,
+        Ask::Samples(_) => None,
+        Ask::Choice(_) => None,
+        Ask::Delete(k) => Some(k),
+        Ask::Nothing => None,
     }
 }
 
@@ -594,7 +594,8 @@ fn head_names(change: HeadChange) -> u8
     }
 }
 
-// The number of the phrase that a change names; 0 where it names none.
+// The number of the phrase that a change names; 0 where it names none. No Option: `head_entry` stores the entry that was
+// looked at again, so one is looked at for each change, and 0 is its place.
 #[tactic(auto, unfolding(crate::specs::Tables::names_of))]
 pub fn names(change: Change) -> u8
     ensures { result ≡ names_of change }
@@ -839,7 +840,7 @@ impl Channel {
     pub fn against(self, ask: Ask, capacity: usize) -> Against
         ensures { result ≡ against_of capacity ask self }
     {
-        let used = self.uses(leaving(ask));
+        let used = leaving(ask).is_some_and(|k| self.uses(k));
         let b = self.beside(capacity);
         held_against(ask, self.head, self.count, used, b, capacity)
     }

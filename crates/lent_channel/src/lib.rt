@@ -238,7 +238,7 @@ fn answered(a: Asking, head: Head, count: usize, used: bool, b: Beside) -> Again
 pub fn against(c: &Channel, a: Asking) -> Against
     ensures { result ≡ against_of a.capacity a.ask c.now }
 {
-    let used = uses(c, channel::leaving(a.ask));
+    let used = channel::leaving(a.ask).is_some_and(|k| uses(c, k));
     let b = beside(c, a.capacity);
     answered(a, c.head, c.count, used, b)
 }
