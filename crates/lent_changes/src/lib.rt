@@ -16,7 +16,6 @@ ghost use Rattle.lent_changes.specs.Changes.{
   passed_of,
   started_voice,
   aside_of,
-  none_passes,
   passing_if,
   passing_of,
   altered_of,
@@ -209,48 +208,39 @@ fn opened(change: Change, head: Head) -> Voice
     }
 }
 
-// What pass-through does at a change: whether a ramp of it begins, to which state, and over how many samples.
+// A ramp of pass-through that begins at a change: to which state, and over how many samples.
 #[derive(Clone, Copy)]
 pub struct Passing {
-    pub begins: bool,
     pub on: bool,
     pub samples: usize,
 }
 
-fn none_passes() -> Passing
-    ensures { result ≡ none_passes }
-{
-    Passing {
-        begins: false,
-        on: false,
-        samples: 0,
-    }
-}
-
 // A ramp begins if it is asked for, and pass-through is not yet as wanted.
 #[tactic(auto, unfolding(crate::specs::Changes::passing_if))]
-fn passing_if(asked: bool, head: Head, params: Params, unfinished: bool) -> Passing
+fn passing_if(asked: bool, head: Head, params: Params, unfinished: bool) -> Option<Passing>
     ensures { result ≡ passing_if asked head params unfinished }
 {
     let on = channel::passes(params, unfinished);
-    Passing {
-        begins: asked & !(on == head.passthru_on),
-        on,
-        samples: channel::ramp_samples(params, on),
+    if asked & !(on == head.passthru_on) {
+        return Some(Passing {
+            on,
+            samples: channel::ramp_samples(params, on),
+        });
     }
+    None
 }
 
 // Pass-through follows a start on a recording, and a stop that found its voice.
 #[tactic(auto, unfolding(crate::specs::Changes::passing_of))]
-fn passing_of(p: Pass, change: Change, head: Head) -> Passing
+fn passing_of(p: Pass, change: Change, head: Head) -> Option<Passing>
     ensures { result ≡ passing_of p change head }
 {
     match change {
         Change::Start { params, .. } => passing_if(head.data_len != 0, head, params, p.unfinished),
         Change::Stop { params, .. } => passing_if(p.found, head, params, p.unfinished),
-        Change::Speed { .. } => none_passes(),
-        Change::Head(_) => none_passes(),
-        Change::Reset => none_passes(),
+        Change::Speed { .. } => None,
+        Change::Head(_) => None,
+        Change::Reset => None,
     }
 }
 
@@ -272,13 +262,13 @@ fn altered(change: Change, head: Head, aside: Aside) -> Head
 }
 
 #[tactic(auto, unfolding(crate::specs::Changes::handled_by))]
-fn handled(q: Passing, head: Head) -> Head
-    ensures { result ≡ handled_by q head }
+fn handled(passing: Option<Passing>, head: Head) -> Head
+    ensures { result ≡ handled_by passing head }
 {
-    if q.begins {
-        return head.ramped(q.on, q.samples);
+    match passing {
+        Some(q) => head.ramped(q.on, q.samples),
+        None => head,
     }
-    head
 }
 
 // The head at the end.

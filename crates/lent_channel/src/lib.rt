@@ -250,7 +250,8 @@ pub fn added(output: f32, w: Voice) -> f32
 }
 
 // Where the voices' turns stand: the place of the next, how many have stayed, what was heard of them, the place of the
-// first that left, if one did, and whether each of them glided.
+// first that left, if one did, and whether each of them glided. `first` is no Option: `kept < place` says whether one left,
+// and an Option would say so a second time.
 #[derive(Clone, Copy)]
 pub struct Going {
     pub place: usize,
