@@ -18,7 +18,7 @@ use Rattle.song_grammar.specs.Grammar.{Track, MTrk, Aliens}
 use Rattle.song_grammar.proofs.Segments.{From, from_length, join, split}
 use Rattle.song_grammar.proofs.Chunks.{Chunked, chunked, chunk_there, Searched, search}
 use Rattle.song_grammar.proofs.Wholes.{Octets, chunk_stands, aliens_passed, track_there}
-use Rattle.song_merge.specs.declared.merging.Gathered.TheVariants.{To, Short, Broken}
+use Rattle.song_merge.specs.declared.merging.Unmerged.TheVariants.{Short, Broken}
 use Rattle.song_merge.specs.Songs.{Tracks}
 use Rattle.song_merge.specs.Songs.Tracks.{none, track}
 use Rattle.song_merge.specs.Merges.{merged_of, merged_with, merged_all}
@@ -169,7 +169,7 @@ module _ (f : List ℕ) (octets : Octets f) where
     }
 
     module _ (before out : List ℕ) (place end i : ℕ) (r : Round f count at spare before out place end i) where
-      broken : ((uss : List (List Timed)) → TracksFrom f at count uss → ⊥) → GathersTracks f count at spare out Broken
+      broken : ((uss : List (List Timed)) → TracksFrom f at count uss → ⊥) → GathersTracks f count at spare out (Err Broken)
       broken h = record {
         told = λ no. absurd (no refl);
         taken = λ uss c e. h uss c;
@@ -177,14 +177,14 @@ module _ (f : List ℕ) (octets : Octets f) where
         room = λ uss c. absurd (h uss c);
       }
 
-      pub no_track : i < count → (q : Result (Option ℕ) Fault) → track_at f place ≡ q → ((chunk : ℕ) → q ≡ Ok (Some chunk) → ⊥) → GathersTracks f count at spare out Broken
+      pub no_track : i < count → (q : Result (Option ℕ) Fault) → track_at f place ≡ q → ((chunk : ℕ) → q ≡ Ok (Some chunk) → ⊥) → GathersTracks f count at spare out (Err Broken)
       no_track more q e other = broken (λ uss c. let l = r.on uss c in go l (firsts place l.tss r.room l.rest))
         where
           go : {uss : List (List Timed)} (l : Left f count at spare out place end i uss) → Firsts f place l.tss → ⊥
           go l (inl (nothing, is)) = let n = l.number in let z = ap length is in omega arith
           go l (inr (ts, tss, is, f₁)) = other f₁.chunk (sym e ∙ f₁.is_found)
 
-      pub no_chunk : i < count → (chunk : ℕ) → track_at f place ≡ Ok (Some chunk) → ChunkEnd f chunk 0 → GathersTracks f count at spare out Broken
+      pub no_chunk : i < count → (chunk : ℕ) → track_at f place ≡ Ok (Some chunk) → ChunkEnd f chunk 0 → GathersTracks f count at spare out (Err Broken)
       no_chunk more chunk e c₀ = broken (λ uss c. let l = r.on uss c in go l (firsts place l.tss r.room l.rest))
         where
           go : {uss : List (List Timed)} (l : Left f count at spare out place end i uss) → Firsts f place l.tss → ⊥
@@ -256,7 +256,7 @@ module _ (f : List ℕ) (octets : Octets f) where
             go l (inl (nothing, is)) = (nothing, l, is)
             go l (inr (ts, tss, is, f₁)) = let n = l.number in let z = ap length is in absurd (omega arith)
 
-        no_more : (q : Result (Option ℕ) Fault) → track_at f place ≡ q → (q ≡ (Ok None) → ⊥) → GathersTracks f count at spare out Broken
+        no_more : (q : Result (Option ℕ) Fault) → track_at f place ≡ q → (q ≡ (Ok None) → ⊥) → GathersTracks f count at spare out (Err Broken)
         no_more q e other = broken (λ uss c. other (sym e ∙ (all uss c).0))
 
         module _ (nothing : track_at f place ≡ Ok None) where
@@ -266,7 +266,7 @@ module _ (f : List ℕ) (octets : Octets f) where
               let few = r.few in
               (uss, (u, omega arith))
 
-          short : ((uss : List (List Timed)) → TracksFrom f at count uss → 14 ≤ at → at < length f → 2 * length f ≤ spare → 2 * length f ≤ length out → length f < 2 ^ 31 → ⊥) → GathersTracks f count at spare out Short
+          short : ((uss : List (List Timed)) → TracksFrom f at count uss → 14 ≤ at → at < length f → 2 * length f ≤ spare → 2 * length f ≤ length out → length f < 2 ^ 31 → ⊥) → GathersTracks f count at spare out (Err Short)
           short h = record {
             told = λ _. told;
             taken = λ uss c e. let z : ◌≡◌ {A = ℕ} 0 1 = cc in omega arith;
@@ -274,13 +274,13 @@ module _ (f : List ℕ) (octets : Octets f) where
             room = λ uss c p q s t u _. h uss c p q s t u;
           }
 
-          no_end : end ≡ 0 → GathersTracks f count at spare out Short
+          no_end : end ≡ 0 → GathersTracks f count at spare out (Err Short)
           no_end e = short (λ uss c p q s t u. omega (arith, (all uss c).1.roomy p q s t))
 
-          too_long : 0xFFFFFFFF < end → GathersTracks f count at spare out Short
+          too_long : 0xFFFFFFFF < end → GathersTracks f count at spare out (Err Short)
           too_long e = short (λ uss c p q s t u. let l = (all uss c).1 in let size = l.size in let long = l.long in let room = r.room in omega arith)
 
-          ends : 0 < end → end ≤ 0xFFFFFFFF → GathersTracks f count at spare out (To end)
+          ends : 0 < end → end ≤ 0xFFFFFFFF → GathersTracks f count at spare out (Ok end)
           unfolding merged_with
           ends some high = record {
             told = λ _. told;

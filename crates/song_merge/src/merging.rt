@@ -70,10 +70,9 @@ fn with_track(
     22 + size
 }
 
-// The place behind the merged track, which begins at 22.
+// Why there is no merged track: the tracks are not whole, or it has no room.
 #[derive(Clone, Copy)]
-pub enum Gathered {
-    To(usize),
+pub enum Unmerged {
     Short,
     Broken,
 }
@@ -88,46 +87,50 @@ fn start(out: &mut [u8]) -> usize
 }
 
 // Behind the last track no other stands, and the merged one is short enough for a chunk.
-fn closed(found: Result<Option<usize>, Fault>, end: usize) -> Gathered
+fn closed(found: Result<Option<usize>, Fault>, end: usize) -> Result<usize, Unmerged>
     ensures { result ≡ gathered_to found end }
 {
     match found {
-        Err(_) => Gathered::Broken,
+        Err(_) => Err(Unmerged::Broken),
         Ok(track) => match track {
-            Some(_) => Gathered::Broken,
+            Some(_) => Err(Unmerged::Broken),
             None => {
                 if end == 0 {
-                    return Gathered::Short;
+                    return Err(Unmerged::Short);
                 }
                 if 0xffff_ffff < end {
-                    return Gathered::Short;
+                    return Err(Unmerged::Short);
                 }
-                Gathered::To(end)
+                Ok(end)
             }
         },
     }
 }
 
-// So many tracks of the file from a place on.
-pub fn gather(file: &[u8], count: u32, at: usize, spare: &mut [u8], out: &mut [u8]) -> Gathered
+// So many tracks of the file from a place on: the place behind the merged track, which begins at 22.
+pub fn gather(
+    file: &[u8],
+    count: u32,
+    at: usize,
+    spare: &mut [u8],
+    out: &mut [u8],
+) -> Result<usize, Unmerged>
     requires { at ≤ length file.now }
     ensures { GathersTracks file.now count at (length spare.old) out.new result }
 {
     let mut place = at;
     let mut end = start(out);
-    let mut i: u32 = 0;
-    while i < count {
+    for i in 0..count {
         match track_at(file, place) {
-            Ok(None) => return Gathered::Broken,
-            Err(_) => return Gathered::Broken,
+            Ok(None) => return Err(Unmerged::Broken),
+            Err(_) => return Err(Unmerged::Broken),
             Ok(Some(chunk)) => {
                 let full = chunk_end(file, chunk);
                 if full == 0 {
-                    return Gathered::Broken;
+                    return Err(Unmerged::Broken);
                 }
                 end = with_track(file, chunk + 8, full, spare, out, end);
                 place = full;
-                i += 1;
             }
         }
     }

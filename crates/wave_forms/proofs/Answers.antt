@@ -21,7 +21,6 @@ use Rattle.wave_forms.specs.Grammar.{IsForm, Tail, words_of_file}
 use Rattle.wave_forms.specs.Grammar.Tail.{plain, empty, extensible}
 use Rattle.wave_forms.specs.declared.formats.Form.{Form}
 use Rattle.wave_forms.specs.declared.Source.{Source}
-use Rattle.wave_forms.specs.declared.Judged.TheVariants.{Is}
 use Rattle.wave_forms.proofs.Widths.{bytes_few, kind_small, kind_some}
 use Rattle.wave_forms.proofs.Judgements.{FormIs, form_good, counted_is, judged_is, judged_riff}
 use Rattle.wave_forms.proofs.Sources.{Rests, judged_rests, count-is}
@@ -102,7 +101,7 @@ module _ (f : List ℕ) (bytes : Bytes f) where
             ap (λ (k : ℕ). k * b) (count-is c b n some even) ∙ mul_assoc c (n / (c * b)) b ∙ ap (λ (k : ℕ). c * k) (mul_comm (n / (c * b)) b) ∙ sym (mul_assoc c b (n / (c * b)))
             ∙ omega (arith, div-add-mod' n (c * b), mul_comm (c * b) (n / (c * b)))
 
-  pub answer_good : (s : Source) → file_judged f ≡ Is s → IsForm f s.form.rate s.form.channels s.form.tag s.form.bits (numbers_in f s)
+  pub answer_good : (s : Source) → file_judged f ≡ Some s → IsForm f s.form.rate s.form.channels s.form.tag s.form.bits (numbers_in f s)
   unfolding form_at number_at
   answer_good s e =
       let r = judged_rests f s e in
@@ -128,7 +127,7 @@ module _ (f : List ℕ) (rate channels tag bits : ℕ) (numbers : List ℕ) (g :
 
   pub record Known : Type 0 where
     pub places : Places
-    pub judged : file_judged f ≡ Is (source places)
+    pub judged : file_judged f ≡ Some (source places)
     pub same_numbers : numbers_in f (source places) ≡ numbers
 
   form_is : (p : Places) → Held f p (g.format ∷ g.sound ∷ []) g.facts → form_at f p.format ≡ (source p).form

@@ -20,8 +20,6 @@ use Rattle.wave.proofs.Calls.{file_put, head_made, head_done}
 use Rattle.wave_forms.specs.Reader.{form_at, good_form, counted_judged, judged_at, judged_in, file_judged, words_in}
 use Rattle.wave_forms.specs.Turns.{bytes_of, turn_answer, output_after}
 use Rattle.wave_forms.specs.declared.Source.{Source}
-use Rattle.wave_forms.specs.declared.Judged.{Judged}
-use Rattle.wave_forms.specs.declared.Judged.TheVariants.{Is, Refused}
 use Rattle.wave_forms.proofs.Widths.{bytes_few}
 use Rattle.wave_forms.proofs.Judgements.{FormIs, form_true}
 
@@ -41,11 +39,11 @@ pub record Rests (f : List ℕ) (s : Source) : Type 0 where
     first = places.words + 8;
   }
 
-never : {s : Source} → Refused ≡ Is s → ⊥
+never : {s : Source} → None ≡ Some s → ⊥
 never e = let z : ◌≡◌ {A = ℕ} 0 1 = cc in omega arith
 
-abbrev Answers : List ℕ → Source → Judged → Type 0
-Answers f s j = j ≡ Is s → Rests f s
+abbrev Answers : List ℕ → Source → Option Source → Type 0
+Answers f s j = j ≡ Some s → Rests f s
 
 rests_at : (f : List ℕ) (s : Source) (p : Places) → good_riff f ≡ true → walk_of f ≡ Some p → Answers f s (judged_at f p)
 unfolding judged_at counted_judged
@@ -71,7 +69,7 @@ rests_in : (f : List ℕ) (s : Source) (m : Option Places) → good_riff f ≡ t
 rests_in f s (Some p) r e = rests_at f s p r e
 rests_in f s None r e = λ g. absurd (never g)
 
-pub judged_rests : (f : List ℕ) (s : Source) → file_judged f ≡ Is s → Rests f s
+pub judged_rests : (f : List ℕ) (s : Source) → file_judged f ≡ Some s → Rests f s
 unfolding file_judged
 judged_rests f s = both (Answers f s) (good_riff f) _ _ (λ r. rests_in f s (walk_of f) r refl) (λ _ e. absurd (never e))
 
@@ -87,7 +85,7 @@ pub record Sourced (s : Source) : Type 0 where
   pub count : s.count ≡ s.form.channels * s.samples
   pub room : 50 + 4 * s.count < 2 ^ 32
 
-pub sourced : (f : List ℕ) (s : Source) → file_judged f ≡ Is s → Sourced s
+pub sourced : (f : List ℕ) (s : Source) → file_judged f ≡ Some s → Sourced s
 sourced f s e =
     let r = judged_rests f s e in
     let o = form_at f r.places.format in
@@ -99,7 +97,7 @@ sourced f s e =
       room = r.room;
     })
 
-pub first_below : (f : List ℕ) (s : Source) (n : ℕ) → file_judged f ≡ Is s → length f < n → s.first < n + 8
+pub first_below : (f : List ℕ) (s : Source) (n : ℕ) → file_judged f ≡ Some s → length f < n → s.first < n + 8
 first_below f s n e h =
     let r = judged_rests f s e in
     let below = places_below f r.places n r.met h in
@@ -107,11 +105,11 @@ first_below f s n e h =
 
 -- ---- what `turn` answers and leaves
 module _ (f out : List ℕ) where
-  pub turn_refused : file_judged f ≡ Refused → (record { length = 0; number = 17 } ≡ turn_answer f (length out)) × (out ≡ output_after f out)
+  pub turn_refused : file_judged f ≡ None → (record { length = 0; number = 17 } ≡ turn_answer f (length out)) × (out ≡ output_after f out)
   unfolding turn_answer output_after
   turn_refused e = (rw e, rw e)
 
-  module _ (s : Source) (e : file_judged f ≡ Is s) where
+  module _ (s : Source) (e : file_judged f ≡ Some s) where
     pub turn_short : length out < bytes_of s → (record { length = bytes_of s; number = 8 } ≡ turn_answer f (length out)) × (out ≡ output_after f out)
     unfolding turn_answer output_after
     turn_short h = (rw (e, lt-ltb _ _ h), rw (e, lt-ltb _ _ h))

@@ -1,17 +1,17 @@
 -- `closed` meets its contract. Assumes nothing.
-use Rattle.std.specs.Prelude.{Option, Some, None, Result, Ok}
+use Rattle.std.specs.Prelude.{Option, Some, None, Result, Ok, Err}
 use mathlib.Core.Path.{◌≡◌, ap, ◌∙◌}
 use Prim.Native.Nat.{ℕ}
 use borrow.Author.Tests.{lt-ltb, le-ltb, eq-eqb, ne_eqb}
 use Rattle.smf.specs.declared.faults.Fault.{Fault}
-use Rattle.song_merge.specs.declared.merging.Gathered.TheVariants.{Broken}
+use Rattle.song_merge.specs.declared.merging.Unmerged.TheVariants.{Broken}
 use Rattle.song_merge.specs.Gathers.{gathered_to}
 use Rattle.song_merge.proofs.merging.closed.Goals as goal
 
 none : (r : Result (Option ℕ) Fault) (o : Option ℕ) → r ≡ Ok o → o ≡ None → r ≡ Ok None
 none r o e h = e ∙ ap (λ (p : Option ℕ). Ok p) h
 
-another : (r : Result (Option ℕ) Fault) (o : Option ℕ) (place end : ℕ) → r ≡ Ok o → o ≡ Some place → Broken ≡ gathered_to r end
+another : (r : Result (Option ℕ) Fault) (o : Option ℕ) (place end : ℕ) → r ≡ Ok o → o ≡ Some place → Err Broken ≡ gathered_to r end
 unfolding gathered_to
 another r o place end e h = simp (e, h)
 
