@@ -61,7 +61,7 @@ impl Run {
     // Goes on with the sampler of an answer, and answers its number.
     pub fn on(&mut self, a: Answer) -> u8 {
         self.sampler = a.sampler;
-        a.number
+        refusals::code(a.done)
     }
 
     // Kind 0: auto pass-through at 1, the count of channels at 4, the samples of memory at 8. Memory, file and parameters
@@ -107,7 +107,7 @@ impl Run {
         self.sampler = a.sampler;
         Heard {
             entries: [a.output, 0.0, 0.0],
-            number: a.number,
+            number: refusals::code(a.done),
             moved: a.moved,
         }
     }
@@ -123,7 +123,7 @@ impl Run {
         self.sampler = a.sampler;
         Heard {
             entries: frame,
-            number: a.number,
+            number: refusals::code(a.done),
             moved: a.moved,
         }
     }

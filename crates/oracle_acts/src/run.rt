@@ -8,8 +8,7 @@ use oracle_lines::field::{Record, u32_at};
 use oracle_lines::line::Text;
 use oracle_show::record::put_sampler;
 use oracle_show::replies::{put_bytes, put_number, put_written};
-use questions::Counted;
-use recordings::WaveRead;
+use refusals::Refusal;
 use sampler::{Ran, Sampler};
 use std::alloc::{AllocError, Global};
 
@@ -68,7 +67,7 @@ impl Run {
 
     // The frames that are done, and every entry.
     pub fn ran(&mut self, kind: u8, ran: Ran, entries: &[f32]) -> Result<(), AllocError> {
-        put_number(&mut self.out, kind, ran.number)?;
+        put_number(&mut self.out, kind, refusals::code(ran.done))?;
         self.out.put_u32((ran.frames % 0x1_0000_0000) as u32)?;
         for entry in entries {
             self.out.put_f32(*entry)?;
@@ -77,16 +76,20 @@ impl Run {
     }
 
     // How many bytes were written, and the file's room.
-    pub fn wrote(&mut self, kind: u8, a: Counted) -> Result<(), AllocError> {
+    pub fn wrote(&mut self, kind: u8, a: Result<usize, Refusal>) -> Result<(), AllocError> {
         put_written(&mut self.out, kind, a)?;
         put_bytes(&mut self.out, &self.file)?;
         self.put_record()
     }
 
-    // The file's rate, and a number that is made of the memory's words.
-    pub fn took(&mut self, kind: u8, read: WaveRead) -> Result<(), AllocError> {
-        put_number(&mut self.out, kind, read.number)?;
-        self.out.put_u32(read.rate)?;
+    // The file's rate, 0 where it is refused, and a number that is made of the memory's words.
+    pub fn took(&mut self, kind: u8, read: Result<u32, Refusal>) -> Result<(), AllocError> {
+        let (number, rate) = match read {
+            Ok(rate) => (0, rate),
+            Err(refusal) => (refusal.number(), 0),
+        };
+        put_number(&mut self.out, kind, number)?;
+        self.out.put_u32(rate)?;
         self.out.put_u32(mixed(&self.memory))?;
         self.put_record()
     }

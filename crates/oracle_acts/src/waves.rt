@@ -3,8 +3,7 @@ ghost use Rattle.std.specs.Prelude.{◌≤◌};
 
 use crate::run::Run;
 use oracle_lines::field::{Record, u32_at};
-use questions::Counted;
-use recordings::WaveRead;
+use refusals::Refusal;
 
 impl Run {
     // Kind 23: how many bytes at 1, 56 at most, their place in the file at 4, 968 at most, the bytes from 8 on.
@@ -22,7 +21,7 @@ impl Run {
     }
 
     // Kind 24: the rate at 4, the room for the file at 12, the samples of memory lent at 16.
-    pub fn write(&mut self, fields: &Record) -> Counted {
+    pub fn write(&mut self, fields: &Record) -> Result<usize, Refusal> {
         let n = self.file_room(fields);
         let m = self.lent(fields);
         let rate = u32_at(fields, 4);
@@ -32,7 +31,7 @@ impl Run {
 
     // Kind 25: the file as long as it says itself, or where the byte at 1 is 0 as the number at 12 says; the samples of
     // memory lent at 16.
-    pub fn read(&mut self, fields: &Record) -> WaveRead {
+    pub fn read(&mut self, fields: &Record) -> Result<u32, Refusal> {
         let n = self.file_length(fields);
         let m = self.lent(fields);
         let memory = &mut self.memory[..];

@@ -1,12 +1,11 @@
 // The lines that answer the questions of a host: records of kinds 12 to 18, of the channel at 8, with room in a list
 // for the number at 12; and of kind 20, a waveform in so many columns as the number at 8. Of a list that was lent all is
 // shown, but of a waveform's a sum.
-use channel::places;
 use common_types::Params;
 use oracle_lines::field::{Record, u32_at};
 use oracle_lines::line::Text;
-use questions::{Counted, OffsetAnswer, Told, VoiceInfo, VoiceInfos, WaveformSummary};
-use recorder::LastOffset;
+use questions::{VoiceInfo, VoiceInfos, WaveformSummary};
+use refusals::Refusal;
 use sampler::Sampler;
 use std::alloc::AllocError;
 
@@ -46,11 +45,19 @@ pub fn waveform(
     put_summary(out, a, &list)
 }
 
-// Of the list the sum of the bits of all entries.
-pub fn put_summary(out: &mut Text, a: WaveformSummary, list: &[f32]) -> Result<(), AllocError> {
-    put_number(out, 20, a.number)?;
-    out.put_f32(a.smallest)?;
-    out.put_f32(a.largest)?;
+// Of the list the sum of the bits of all entries; refused, both extremes are 0.
+pub fn put_summary(
+    out: &mut Text,
+    a: Result<WaveformSummary, Refusal>,
+    list: &[f32],
+) -> Result<(), AllocError> {
+    let (number, smallest, largest) = match a {
+        Ok(summary) => (0, summary.smallest, summary.largest),
+        Err(refusal) => (refusal.number(), 0.0, 0.0),
+    };
+    put_number(out, 20, number)?;
+    out.put_f32(smallest)?;
+    out.put_f32(largest)?;
     out.put_u64(
         list.iter().fold(0u64, |sum, x| {
             sum.wrapping_add(binary32::to_bits(*x) as u64)
@@ -60,29 +67,29 @@ pub fn put_summary(out: &mut Text, a: WaveformSummary, list: &[f32]) -> Result<(
 }
 
 // Document 01's number for a count, and the count.
-fn counted(a: Counted) -> (u8, usize) {
+fn counted(a: Result<usize, Refusal>) -> (u8, usize) {
     match a {
-        Counted::Done(n) => (0, n),
-        Counted::Refused(number) => (number, 0),
+        Ok(n) => (0, n),
+        Err(refusal) => (refusal.number(), 0),
     }
 }
 
 // How many bytes a file has that was asked for.
-pub fn put_written(out: &mut Text, kind: u8, a: Counted) -> Result<(), AllocError> {
+pub fn put_written(out: &mut Text, kind: u8, a: Result<usize, Refusal>) -> Result<(), AllocError> {
     let (number, n) = counted(a);
     put_number(out, kind, number)?;
     out.put_usize(n)
 }
 
-pub fn put_count(out: &mut Text, kind: u8, a: Counted) -> Result<(), AllocError> {
+pub fn put_count(out: &mut Text, kind: u8, a: Result<usize, Refusal>) -> Result<(), AllocError> {
     put_written(out, kind, a)?;
     out.end()
 }
 
-pub fn put_told(out: &mut Text, kind: u8, a: Told) -> Result<(), AllocError> {
+pub fn put_told(out: &mut Text, kind: u8, a: Result<bool, Refusal>) -> Result<(), AllocError> {
     let (number, yes) = match a {
-        Told::Done(yes) => (0, yes),
-        Told::Refused(number) => (number, false),
+        Ok(yes) => (0, yes),
+        Err(refusal) => (refusal.number(), false),
     };
     put_number(out, kind, number)?;
     out.put_bool(yes)?;
@@ -90,11 +97,15 @@ pub fn put_told(out: &mut Text, kind: u8, a: Told) -> Result<(), AllocError> {
 }
 
 // Whether there is one, and the offset.
-pub fn put_offset(out: &mut Text, kind: u8, a: OffsetAnswer) -> Result<(), AllocError> {
+pub fn put_offset(
+    out: &mut Text,
+    kind: u8,
+    a: Result<Option<usize>, Refusal>,
+) -> Result<(), AllocError> {
     let (number, some, offset) = match a {
-        OffsetAnswer::Done(LastOffset::At(n)) => (0, true, n),
-        OffsetAnswer::Done(LastOffset::Nothing) => (0, false, 0),
-        OffsetAnswer::Refused(number) => (number, false, 0),
+        Ok(Some(n)) => (0, true, n),
+        Ok(None) => (0, false, 0),
+        Err(refusal) => (refusal.number(), false, 0),
     };
     put_number(out, kind, number)?;
     out.put_bool(some)?;
@@ -103,7 +114,7 @@ pub fn put_offset(out: &mut Text, kind: u8, a: OffsetAnswer) -> Result<(), Alloc
 }
 
 // The number and the count with which the line of a list begins.
-pub fn put_listed(out: &mut Text, kind: u8, a: Counted) -> Result<(), AllocError> {
+pub fn put_listed(out: &mut Text, kind: u8, a: Result<usize, Refusal>) -> Result<(), AllocError> {
     let (number, n) = counted(a);
     put_size(out, kind, number, n)
 }
@@ -146,10 +157,15 @@ pub fn put_notes(out: &mut Text, notes: &[u64]) -> Result<(), AllocError> {
 }
 
 // The infos that the answer has.
-fn put_infos(out: &mut Text, a: VoiceInfos) -> Result<(), AllocError> {
-    put_size(out, 18, a.number, a.count)?;
-    for info in &a.infos[..places(a.count)] {
-        put_info(out, *info)?;
+fn put_infos(out: &mut Text, a: Result<VoiceInfos, Refusal>) -> Result<(), AllocError> {
+    match a {
+        Ok(voices) => {
+            put_size(out, 18, 0, voices.count)?;
+            for info in &voices.infos[..voices.count.min(32)] {
+                put_info(out, *info)?;
+            }
+        }
+        Err(refusal) => put_size(out, 18, refusal.number(), 0)?,
     }
     out.end()
 }
