@@ -67,10 +67,10 @@ pub struct VoiceInfo {
     pub pos: f32,
 }
 
-impl VoiceInfo {
-    pub fn default() -> Self
-        ensures { result ≡ no_info }
-    {
+impl Default for VoiceInfo {
+    ghost is_default = { λ info. info ≡ no_info };
+
+    fn default() -> Self {
         Self {
             start: 0.0,
             end: 0.0,
@@ -132,6 +132,7 @@ fn channel_at(s: Sampler, channel: usize) -> Channel
 }
 
 // Past the last channel it is the second's, which no answer shows.
+#[tactic(auto, unfolding(crate::specs::Sights::head_in))]
 fn head_in(t: Seen, channel: usize) -> Head
     ensures { result ≡ head_in t channel }
 {
@@ -228,19 +229,18 @@ fn write_note(v: Voice, k: usize, notes: &mut [u64])
     if v.finished {
         return;
     }
-    notes[k] = u64::from(v.note);
+    let note = v.note;
+    notes[k] = u64::from(note);
 }
 
 fn active_count(c: Channel) -> usize
     ensures { result ≡ length (notes_of (live c)) }
 {
-    let n = channel::places(c.count);
+    let n = c.count.min(32);
     let mut k = 0;
-    let mut i = 0;
-    while i < n {
+    for i in 0..n {
         let v = c.voices[i];
         k += note_count(v);
-        i += 1;
     }
     k
 }
@@ -249,18 +249,17 @@ fn write_notes(c: Channel, notes: &mut [u64])
     requires { length (notes_of (live c)) ≤ length notes.old }
     ensures { notes.new ≡ sets notes.old 0 (notes_of (live c)) }
 {
-    let n = channel::places(c.count);
+    let n = c.count.min(32);
     let mut k = 0;
-    let mut i = 0;
-    while i < n {
+    for i in 0..n {
         let v = c.voices[i];
         write_note(v, k, notes);
         k += note_count(v);
-        i += 1;
     }
 }
 
 // Writes the notes of the unfinished voices to the front of the list.
+#[tactic(auto, unfolding(crate::specs::Questions::list_counted, crate::specs::Questions::list_after))]
 pub fn iter_active_notes(s: Sampler, channel: usize, notes: &mut [u64]) -> Result<usize, Refusal>
     ensures value { result ≡ iter_active_notes_of s channel (length notes.old) }
     ensures notes_after { notes.new ≡ active_notes_after s channel notes.old }
@@ -273,6 +272,7 @@ pub fn iter_active_notes(s: Sampler, channel: usize, notes: &mut [u64]) -> Resul
     Ok(count)
 }
 
+#[tactic(auto, unfolding(crate::specs::Questions::voice_info_of))]
 pub fn voice_info(v: Voice, length: f32, data_length: f32) -> VoiceInfo
     ensures { result ≡ voice_info_of length data_length v }
 {
@@ -287,16 +287,14 @@ pub fn voice_info(v: Voice, length: f32, data_length: f32) -> VoiceInfo
 fn voice_infos(c: Channel, first: Channel, params: Params) -> VoiceInfos
     ensures { result ≡ voice_infos_of params first c }
 {
-    let n = channel::places(c.count);
+    let n = c.count.min(32);
     let mut infos = [VoiceInfo::default(); 32];
-    let mut i = 0;
-    while i < n {
+    for i in 0..n {
         let v = c.voices[i];
         let whole = first.phrase_at(v.phrase);
         let own = c.phrase_at(v.phrase);
         let length = params.loop_length(whole.length);
         infos[i] = voice_info(v, length, binary32::usize_to_f32(own.length));
-        i += 1;
     }
     VoiceInfos {
         infos,
@@ -305,6 +303,7 @@ fn voice_infos(c: Channel, first: Channel, params: Params) -> VoiceInfos
 }
 
 // The caller has a list with room for so many.
+#[tactic(auto, unfolding(crate::specs::Questions::get_voice_info_of))]
 pub fn get_voice_info(
     s: Sampler,
     channel: usize,
@@ -335,17 +334,15 @@ pub struct WaveformSummary {
 fn squares(samples: &[u32]) -> f32
     ensures { result ≡ squares_of (map float_of samples.now) }
 {
-    let n = samples.len();
     let mut total = 0.0;
-    let mut i = 0;
-    while i < n {
-        let x = binary32::from_bits(samples[i]);
+    for bits in samples {
+        let x = binary32::from_bits(*bits);
         total = total + x * x;
-        i += 1;
     }
     total
 }
 
+#[tactic(auto, unfolding(crate::specs::Waveforms::column_of))]
 fn column(samples: &[u32]) -> f32
     ensures { result ≡ column_of (map float_of samples.now) }
 {
@@ -366,26 +363,19 @@ fn write_columns(recording: &[u32], columns: usize, list: &mut [f32])
 {
     let step = binary32::usize_to_f32(recording.len()) / binary32::usize_to_f32(columns);
     let mut start = 0;
-    let mut i = 0;
-    while i < columns {
+    for i in 0..columns {
         let end = cut(step, i + 1);
         list[i] = column(&recording[start..end]);
         start = end;
-        i += 1;
     }
 }
 
 fn largest(values: &[f32]) -> f32
     ensures { result ≡ largest_of values.now }
 {
-    let n = values.len();
-    let mut most = 0.0;
-    let mut i = 0;
-    while i < n {
-        most = binary32::max(most, values[i]);
-        i += 1;
-    }
-    most
+    values
+        .iter()
+        .fold(0.0, |most, value| binary32::max(most, *value))
 }
 
 // Whether a recording stands in its channel's part.
@@ -398,27 +388,22 @@ fn in_part(head: Head, capacity: usize) -> bool
 
 // Whether what is seen may be of a good record: no recording in use leaves its part. One that isn't in use may stand
 // anywhere.
+#[tactic(auto, unfolding(crate::specs::Sights::sound_in))]
 fn sound(t: Seen) -> bool
     ensures { result ≡ sound_in t }
 {
-    if t.good & sampler::good_sizes(t.count, t.capacity) {
-        if t.count == 2 {
-            return in_part(t.first, t.capacity) & in_part(t.second, t.capacity);
-        }
-        return in_part(t.first, t.capacity);
-    }
-    false
+    t.good
+        && sampler::good_sizes(t.count, t.capacity)
+        && in_part(t.first, t.capacity)
+        && (t.count != 2 || in_part(t.second, t.capacity))
 }
 
 // And memory of that size is long enough for it.
+#[tactic(auto, unfolding(crate::specs::Sights::good_in))]
 pub fn good_in(t: Seen, size: usize) -> bool
     ensures { result ≡ good_in t size }
 {
-    if sound(t) {
-        sampler::enough(t.count, t.capacity, size)
-    } else {
-        false
-    }
+    sound(t) && sampler::enough(t.count, t.capacity, size)
 }
 
 fn waveform_judged(t: Seen, columns: usize, room: usize, size: usize) -> Result<(), Refusal>

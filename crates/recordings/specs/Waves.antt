@@ -91,8 +91,7 @@ held_in Refused = record { rate = 0; channels = 0; samples = 0; first = 0 }
 abbrev pub read_rows : Bool → Bool → Judged → ℕ → Bool → Result (Unit {0}) Refusal
 read_rows good recording j count short =
     row (not good) Broken
-    (row recording Recording
-    (row (bad_file j) BadWave
+    (row recording Recording (row (bad_file j) BadWave
     (row (not ((held_in j).channels == count)) OtherChannels (row short NoRoom (Ok tt)))))
 
 unfoldable pub read_judged : Sampler → Judged → ℕ → Result (Unit {0}) Refusal

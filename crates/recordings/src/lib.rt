@@ -137,7 +137,8 @@ fn write_judged(t: Seen, room: usize, size: usize) -> Result<(), Refusal>
     let l = layout(t);
     Refusal::Recording.when(any_recording(t))?;
     Refusal::OtherChannels.when(lengths_differ(t))?;
-    Refusal::ShortList.when(room < 58 + 4 * (l.channels * l.samples))
+    let bytes = 58 + 4 * (l.channels * l.samples);
+    Refusal::ShortList.when(room < bytes)
 }
 
 // Writes the recordings of all channels as a file to the front of `out`, and answers how many bytes it has.

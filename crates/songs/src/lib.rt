@@ -55,14 +55,12 @@ pub fn due(list: &[u64], next: usize, at: u64) -> usize
     ensures { result ≡ next + length (due_of at (cues_of (drop (2 * next) list.now))) }
 {
     let entries = list.len() / 2;
-    let mut place = next;
-    while place < entries {
+    for place in next..entries {
         if at < list[2 * place] {
             return place;
         }
-        place += 1;
     }
-    place
+    next.max(entries)
 }
 
 // Makes the calls that are due at the frame count `at`, from the entry `next` of the list on. To play a song, call it
@@ -72,14 +70,12 @@ pub fn play(s: Sampler, list: &[u64], next: usize, at: u64, params: Params) -> P
 {
     let end = due(list, next, at);
     let mut sampler = s;
-    let mut place = next;
     let mut refused: usize = 0;
-    while place < end {
+    for place in next..end {
         let cue = Cue::new(list[2 * place], list[2 * place + 1]);
         let answer = sampler.changed(change_of(cue, params));
         sampler = answer.sampler;
         refused = one_more(refused, answer.done);
-        place += 1;
     }
     Playing {
         sampler,
