@@ -61,7 +61,7 @@ fn changed(mut s: Sampler, change: Change) -> Answer
     Answer { sampler: s, done }
 }
 
-// One frame is played on the host's own record, which it lends for the call.
+// One frame is played on the host's own record, which it lends for the call: own_sampler's call once more, to show how.
 fn sounded(mut s: Sampler, frame: &mut [f32], params: Params, memory: &mut [u32]) -> FramePlayed
     ensures { (done_in result.done
         ≡ frame_judged s (length frame.old) params (length memory.old))
