@@ -1,6 +1,8 @@
 // The text of a sampler's record, for programs that print it: a line for each channel, and after it one for each phrase
 // with samples that isn't chosen and one for each of its voices. Numbers are in hexadecimal, floats by their bits, and a
 // NaN is 7FC00000. Of a clip's shift a zero of either sign is written alike.
+ghost use Rattle.std.specs.Prelude.{◌≡◌, ◌+◌, ◌≤◌, length, OnOk};
+
 use channel::{Channel, Head, places};
 use clip::{Clip, Mode};
 use oracle_lines::line::Text;
@@ -10,7 +12,9 @@ use sampler::Sampler;
 use std::alloc::AllocError;
 use voice::Voice;
 
-fn put_mode(out: &mut Text, mode: Mode) -> Result<(), AllocError> {
+fn put_mode(out: &mut Text, mode: Mode) -> Result<(), AllocError>
+    ensures { OnOk result (length out.new ≡ length out.old + 2) }
+{
     match mode {
         Mode::Loop => out.put::<1>(0),
         Mode::PingPong => out.put::<1>(1),
@@ -18,11 +22,15 @@ fn put_mode(out: &mut Text, mode: Mode) -> Result<(), AllocError> {
 }
 
 // A float that compares by value.
-fn put_place(out: &mut Text, x: f32) -> Result<(), AllocError> {
+fn put_place(out: &mut Text, x: f32) -> Result<(), AllocError>
+    ensures { OnOk result (length out.new ≡ length out.old + 9) }
+{
     out.put_f32(if x == 0.0 { 0.0 } else { x })
 }
 
-fn put_clip(out: &mut Text, c: Clip) -> Result<(), AllocError> {
+fn put_clip(out: &mut Text, c: Clip) -> Result<(), AllocError>
+    ensures { OnOk result (length out.new ≡ length out.old + 64) }
+{
     out.put_usize(c.since)?;
     out.put_f32(c.start)?;
     out.put_f32(c.speed)?;
@@ -32,14 +40,18 @@ fn put_clip(out: &mut Text, c: Clip) -> Result<(), AllocError> {
     put_mode(out, c.mode)
 }
 
-fn put_levels(out: &mut Text, v: Voice) -> Result<(), AllocError> {
+fn put_levels(out: &mut Text, v: Voice) -> Result<(), AllocError>
+    ensures { OnOk result (length out.new ≡ length out.old + 36) }
+{
     out.put_f32(v.loop_start_percent)?;
     out.put_f32(v.played)?;
     out.put_f32(v.last_sample_value)?;
     out.put_f32(v.speed)
 }
 
-fn put_note(out: &mut Text, v: Voice) -> Result<(), AllocError> {
+fn put_note(out: &mut Text, v: Voice) -> Result<(), AllocError>
+    ensures { OnOk result (length out.new ≡ length out.old + 13) }
+{
     out.put_u8(v.note.note)?;
     out.put_u8(v.note.channel)?;
     out.put_bool(v.finished)?;
@@ -47,7 +59,9 @@ fn put_note(out: &mut Text, v: Voice) -> Result<(), AllocError> {
     out.put_u8(v.phrase)
 }
 
-fn put_voice(out: &mut Text, v: Voice) -> Result<(), AllocError> {
+fn put_voice(out: &mut Text, v: Voice) -> Result<(), AllocError>
+    ensures { OnOk result (length out.new ≡ length out.old + 203) }
+{
     out.tag(b'V')?;
     out.put_usize(v.finished_at)?;
     out.put_usize(v.last_sample_index)?;
@@ -59,7 +73,9 @@ fn put_voice(out: &mut Text, v: Voice) -> Result<(), AllocError> {
 }
 
 // Whether it records, and its write place (0 while idle).
-fn put_state(out: &mut Text, state: State) -> Result<(), AllocError> {
+fn put_state(out: &mut Text, state: State) -> Result<(), AllocError>
+    ensures { OnOk result (length out.new ≡ length out.old + 19) }
+{
     let (records, write) = match state {
         State::Triggered { write } => (true, write),
         State::Idle => (false, 0),
@@ -68,7 +84,9 @@ fn put_state(out: &mut Text, state: State) -> Result<(), AllocError> {
     out.put_usize(write)
 }
 
-fn put_recorder(out: &mut Text, r: Recorder) -> Result<(), AllocError> {
+fn put_recorder(out: &mut Text, r: Recorder) -> Result<(), AllocError>
+    ensures { OnOk result (length out.new ≡ length out.old + 37) }
+{
     put_state(out, r.state)?;
     out.put_u32(r.skipped_samples)?;
     out.put_u32(r.incorrect_state)
@@ -84,7 +102,9 @@ fn begins(h: Head) -> usize {
 }
 
 // A channel without its voices but for their count.
-fn put_head(out: &mut Text, h: Head, count: usize) -> Result<(), AllocError> {
+fn put_head(out: &mut Text, h: Head, count: usize) -> Result<(), AllocError>
+    ensures { OnOk result (length out.new ≡ length out.old + 168) }
+{
     out.tag(b'C')?;
     out.put_usize(h.now)?;
     out.put_u8(h.chosen)?;
@@ -99,7 +119,9 @@ fn put_head(out: &mut Text, h: Head, count: usize) -> Result<(), AllocError> {
 }
 
 // A line for the phrase of that number, where it has samples and isn't chosen: its number, where it begins, its length.
-fn put_phrase(out: &mut Text, k: u8, chosen: u8, p: Phrase) -> Result<(), AllocError> {
+fn put_phrase(out: &mut Text, k: u8, chosen: u8, p: Phrase) -> Result<(), AllocError>
+    ensures { OnOk result (length out.new ≤ length out.old + 38) }
+{
     if (k == chosen) | p.is_empty() {
         return Ok(());
     }
@@ -110,7 +132,9 @@ fn put_phrase(out: &mut Text, k: u8, chosen: u8, p: Phrase) -> Result<(), AllocE
     out.end()
 }
 
-fn put_channel(out: &mut Text, c: &Channel) -> Result<(), AllocError> {
+fn put_channel(out: &mut Text, c: &Channel) -> Result<(), AllocError>
+    ensures { OnOk result (length out.new ≤ length out.old + 6968) }
+{
     put_head(out, c.head, c.count)?;
     for k in 0..8 {
         put_phrase(out, k, c.head.chosen, c.phrase_at(k))?;
@@ -122,8 +146,10 @@ fn put_channel(out: &mut Text, c: &Channel) -> Result<(), AllocError> {
 }
 
 // What is in use of the record: the channels below the count, each with the voices below its count.
-pub fn put_sampler(out: &mut Text, s: &Sampler) -> Result<(), AllocError> {
-    for c in s.channels.iter().take(s.count) {
+pub fn put_sampler(out: &mut Text, s: &Sampler) -> Result<(), AllocError>
+    ensures { OnOk result (length out.new ≤ length out.old + 13936) }
+{
+    for c in &s.channels[..s.count.min(2)] {
         put_channel(out, c)?;
     }
     Ok(())

@@ -1,6 +1,8 @@
 // The lines that answer the questions of a host: records of kinds 12 to 18, of the channel at 8, with room in a list
 // for the number at 12; and of kind 20, a waveform in so many columns as the number at 8. Of a list that was lent all is
 // shown, but of a waveform's a sum.
+ghost use Rattle.std.specs.Prelude.{◌≡◌, ◌+◌, ◌*◌, ◌≤◌, length, OnOk};
+
 use channel::places;
 use common_types::Params;
 use oracle_lines::field::{Record, u32_at};
@@ -11,12 +13,16 @@ use sampler::Sampler;
 use std::alloc::AllocError;
 
 // A record's kind and number, with which its text begins.
-pub fn put_number(out: &mut Text, kind: u8, number: u8) -> Result<(), AllocError> {
+pub fn put_number(out: &mut Text, kind: u8, number: u8) -> Result<(), AllocError>
+    ensures { OnOk result (length out.new ≡ length out.old + 6) }
+{
     out.put_u8(kind)?;
     out.put_u8(number)
 }
 
-pub fn query(s: Sampler, p: Params, fields: &Record, out: &mut Text) -> Result<(), AllocError> {
+pub fn query(s: Sampler, p: Params, fields: &Record, out: &mut Text) -> Result<(), AllocError>
+    ensures { OnOk result (length out.new ≤ length out.old + 1024) }
+{
     let kind = fields[0];
     let channel = u32_at(fields, 8) as usize;
     let room = u32_at(fields, 12) as usize;
@@ -37,7 +43,9 @@ pub fn waveform(
     fields: &Record,
     memory: &[u32],
     out: &mut Text,
-) -> Result<(), AllocError> {
+) -> Result<(), AllocError>
+    ensures { OnOk result (length out.new ≡ length out.old + 41) }
+{
     let mut list = [7.0; 4100];
     let n = (u32_at(fields, 12) as usize).min(list.len());
     let m = (u32_at(fields, 16) as usize).min(memory.len());
@@ -51,7 +59,9 @@ pub fn put_summary(
     out: &mut Text,
     a: Result<WaveformSummary, Refusal>,
     list: &[f32],
-) -> Result<(), AllocError> {
+) -> Result<(), AllocError>
+    ensures { OnOk result (length out.new ≡ length out.old + 41) }
+{
     let (number, smallest, largest) = match a {
         Ok(summary) => (0, summary.smallest, summary.largest),
         Err(refusal) => (refusal.number(), 0.0, 0.0),
@@ -76,18 +86,24 @@ fn counted(a: Result<usize, Refusal>) -> (u8, usize) {
 }
 
 // How many bytes a file has that was asked for.
-pub fn put_written(out: &mut Text, kind: u8, a: Result<usize, Refusal>) -> Result<(), AllocError> {
+pub fn put_written(out: &mut Text, kind: u8, a: Result<usize, Refusal>) -> Result<(), AllocError>
+    ensures { OnOk result (length out.new ≡ length out.old + 23) }
+{
     let (number, n) = counted(a);
     put_number(out, kind, number)?;
     out.put_usize(n)
 }
 
-pub fn put_count(out: &mut Text, kind: u8, a: Result<usize, Refusal>) -> Result<(), AllocError> {
+pub fn put_count(out: &mut Text, kind: u8, a: Result<usize, Refusal>) -> Result<(), AllocError>
+    ensures { OnOk result (length out.new ≡ length out.old + 23) }
+{
     put_written(out, kind, a)?;
     out.end()
 }
 
-pub fn put_told(out: &mut Text, kind: u8, a: Result<bool, Refusal>) -> Result<(), AllocError> {
+pub fn put_told(out: &mut Text, kind: u8, a: Result<bool, Refusal>) -> Result<(), AllocError>
+    ensures { OnOk result (length out.new ≡ length out.old + 8) }
+{
     let (number, yes) = match a {
         Ok(yes) => (0, yes),
         Err(refusal) => (refusal.number(), false),
@@ -102,7 +118,9 @@ pub fn put_offset(
     out: &mut Text,
     kind: u8,
     a: Result<Option<usize>, Refusal>,
-) -> Result<(), AllocError> {
+) -> Result<(), AllocError>
+    ensures { OnOk result (length out.new ≡ length out.old + 25) }
+{
     let (number, last) = match a {
         Ok(last) => (0, last),
         Err(refusal) => (refusal.number(), None),
@@ -114,13 +132,17 @@ pub fn put_offset(
 }
 
 // The number and the count with which the line of a list begins.
-pub fn put_listed(out: &mut Text, kind: u8, a: Result<usize, Refusal>) -> Result<(), AllocError> {
+pub fn put_listed(out: &mut Text, kind: u8, a: Result<usize, Refusal>) -> Result<(), AllocError>
+    ensures { OnOk result (length out.new ≡ length out.old + 9) }
+{
     let (number, n) = counted(a);
     put_number(out, kind, number)?;
     out.put::<2>(n as u64)
 }
 
-fn error_text(s: Sampler, channel: usize, room: usize, out: &mut Text) -> Result<(), AllocError> {
+fn error_text(s: Sampler, channel: usize, room: usize, out: &mut Text) -> Result<(), AllocError>
+    ensures { OnOk result (length out.new ≡ length out.old + 201) }
+{
     let mut text = [b'.'; 64];
     let n = room.min(text.len());
     let a = questions::print_error_info(s, channel, &mut text[..n]);
@@ -129,14 +151,18 @@ fn error_text(s: Sampler, channel: usize, room: usize, out: &mut Text) -> Result
     out.end()
 }
 
-pub fn put_bytes(out: &mut Text, bytes: &[u8]) -> Result<(), AllocError> {
+pub fn put_bytes(out: &mut Text, bytes: &[u8]) -> Result<(), AllocError>
+    ensures { OnOk result (length out.new ≡ length out.old + 3 * length bytes.now) }
+{
     for byte in bytes {
         out.put_u8(*byte)?;
     }
     Ok(())
 }
 
-fn active_notes(s: Sampler, channel: usize, room: usize, out: &mut Text) -> Result<(), AllocError> {
+fn active_notes(s: Sampler, channel: usize, room: usize, out: &mut Text) -> Result<(), AllocError>
+    ensures { OnOk result (length out.new ≡ length out.old + 587) }
+{
     let mut notes = [u64::MAX; 34];
     let n = room.min(notes.len());
     let a = questions::iter_active_notes(s, channel, &mut notes[..n]);
@@ -145,7 +171,9 @@ fn active_notes(s: Sampler, channel: usize, room: usize, out: &mut Text) -> Resu
     out.end()
 }
 
-pub fn put_notes(out: &mut Text, notes: &[u64]) -> Result<(), AllocError> {
+pub fn put_notes(out: &mut Text, notes: &[u64]) -> Result<(), AllocError>
+    ensures { OnOk result (length out.new ≡ length out.old + 17 * length notes.now) }
+{
     for note in notes {
         out.put_u64(*note)?;
     }
@@ -153,7 +181,9 @@ pub fn put_notes(out: &mut Text, notes: &[u64]) -> Result<(), AllocError> {
 }
 
 // The infos that the answer has.
-fn put_infos(out: &mut Text, a: Result<VoiceInfos, Refusal>) -> Result<(), AllocError> {
+fn put_infos(out: &mut Text, a: Result<VoiceInfos, Refusal>) -> Result<(), AllocError>
+    ensures { OnOk result (length out.new ≤ length out.old + 873) }
+{
     put_listed(out, 18, a.map(|infos| infos.count))?;
     if let Ok(infos) = a {
         for info in &infos.infos[..places(infos.count)] {
@@ -163,7 +193,9 @@ fn put_infos(out: &mut Text, a: Result<VoiceInfos, Refusal>) -> Result<(), Alloc
     out.end()
 }
 
-pub fn put_info(out: &mut Text, info: VoiceInfo) -> Result<(), AllocError> {
+pub fn put_info(out: &mut Text, info: VoiceInfo) -> Result<(), AllocError>
+    ensures { OnOk result (length out.new ≡ length out.old + 27) }
+{
     out.put_f32(info.start)?;
     out.put_f32(info.end)?;
     out.put_f32(info.pos)
