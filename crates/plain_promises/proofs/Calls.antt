@@ -11,7 +11,7 @@ use lib.ListN.{length, get_or, set, length-set}
 use lib.Seq.{get_or-set_same, get_or-set_other}
 use lib.Ieee.{Float}
 use Rattle.std.specs.Prelude.{is_ok}
-use Rattle.refusals.proofs.Codes.{zero_at}
+use Rattle.refusals.proofs.Codes.{zero_at, done_is}
 use Rattle.binary32.specs.Leaves.{zero32}
 use Rattle.common_types.specs.declared.Params.{Params}
 use Rattle.walks.proofs.Tests.{either}
@@ -138,7 +138,9 @@ module _ (w : World) (k : Backing) (two : length k.sides ≡ 2) (j : ℕ) (below
 
     sample_side : (i : ℕ) (y : Float) (q : Params) → event w (sample i y q) j ≡ sounds p x own → side_at (sample_backing s i y q m k) j ≡ side_after p x (chan w j) own (side_at k j)
     unfolding event call_judged done_to sample_backing
-    sample_side i y q h = go (is_ok (sample_judged s i q (length m))) (eqb i j) refl h
+    sample_side i y q h =
+        subst (λ (z : Bool). side_at (cond z (side_stepped s i q y m k) k) j ≡ side_after p x (chan w j) own (side_at k j)) (done_is (sample_judged s i q (length m)))
+        (go (is_ok (sample_judged s i q (length m))) (eqb i j) refl h)
       where
         go : (a b : Bool) → eqb i j ≡ b → cond a (cond b (sounds q y (part_of s j m)) idle) idle ≡ sounds p x own
             → side_at (cond a (side_stepped s i q y m k) k) j ≡ side_after p x (chan w j) own (side_at k j)
@@ -150,7 +152,9 @@ module _ (w : World) (k : Backing) (two : length k.sides ≡ 2) (j : ℕ) (below
 
     frame_side : (xs : List Float) (q : Params) → event w (frame xs q) j ≡ sounds p x own → side_at (frame_backing s xs q m k) j ≡ side_after p x (chan w j) own (side_at k j)
     unfolding event call_judged done_to frame_backing
-    frame_side xs q h = go (is_ok (frame_judged s (length xs) q (length m))) refl (ltb j (length xs)) refl h
+    frame_side xs q h =
+        subst (λ (z : Bool). side_at (cond z (entries_backing q (length xs) 0 (framed s xs m) k) k) j ≡ side_after p x (chan w j) own (side_at k j)) (done_is (frame_judged s (length xs) q (length m)))
+        (go (is_ok (frame_judged s (length xs) q (length m))) refl (ltb j (length xs)) refl h)
       where
         go : (a : Bool) → is_ok (frame_judged s (length xs) q (length m)) ≡ a → (b : Bool) → ltb j (length xs) ≡ b
             → cond a (cond b (sounds q (get_or xs j zero32) (part_of s j m)) idle) idle ≡ sounds p x own
@@ -180,7 +184,9 @@ module _ (w : World) (k : Backing) (two : length k.sides ≡ 2) (j : ℕ) (below
   -- what is no sample of it leaves the positions beside its voices
   quiet_sample : (i : ℕ) (y : Float) (q : Params) → is_sample (event w (sample i y q) j) ≡ false → side_at (sample_backing s i y q m k) j ≡ side_at k j
   unfolding event call_judged done_to sample_backing is_sample
-  quiet_sample i y q h = go (is_ok (sample_judged s i q (length m))) (eqb i j) refl h
+  quiet_sample i y q h =
+      subst (λ (z : Bool). side_at (cond z (side_stepped s i q y m k) k) j ≡ side_at k j) (done_is (sample_judged s i q (length m)))
+      (go (is_ok (sample_judged s i q (length m))) (eqb i j) refl h)
     where
       go : (a b : Bool) → eqb i j ≡ b → is_sample (cond a (cond b (sounds q y (part_of s j m)) idle) idle) ≡ false → side_at (cond a (side_stepped s i q y m k) k) j ≡ side_at k j
       go false b e h = refl
@@ -189,7 +195,9 @@ module _ (w : World) (k : Backing) (two : length k.sides ≡ 2) (j : ℕ) (below
 
   quiet_frame : (xs : List Float) (q : Params) → is_sample (event w (frame xs q) j) ≡ false → side_at (frame_backing s xs q m k) j ≡ side_at k j
   unfolding event call_judged done_to frame_backing is_sample
-  quiet_frame xs q h = go (is_ok (frame_judged s (length xs) q (length m))) (ltb j (length xs)) refl h
+  quiet_frame xs q h =
+      subst (λ (z : Bool). side_at (cond z (entries_backing q (length xs) 0 (framed s xs m) k) k) j ≡ side_at k j) (done_is (frame_judged s (length xs) q (length m)))
+      (go (is_ok (frame_judged s (length xs) q (length m))) (ltb j (length xs)) refl h)
     where
       go : (a b : Bool) → ltb j (length xs) ≡ b → is_sample (cond a (cond b (sounds q (get_or xs j zero32) (part_of s j m)) idle) idle) ≡ false
           → side_at (cond a (entries_backing q (length xs) 0 (framed s xs m) k) k) j ≡ side_at k j

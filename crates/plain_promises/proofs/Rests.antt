@@ -5,10 +5,9 @@ use mathlib.Core.Bool.{Bool, true, false, cond}
 use mathlib.Core.List.{List, [], ◌∷◌}
 use Prim.Native.Nat.{ℕ, zero, suc, ◌+◌, ◌<◌, min}
 use native.Mathlib.Omega.{arith}
-use lib.Dec.{ltb}
+use lib.Dec.{eqb, ltb}
 use lib.ListN.{length, get_or, set}
 use lib.Ieee.{Float}
-use Rattle.std.specs.Prelude.{is_ok}
 use Rattle.binary32.specs.Leaves.{zero32}
 use Rattle.common_types.specs.declared.Params.{Params}
 use Rattle.walks.proofs.Tests.{either}
@@ -19,7 +18,7 @@ use Rattle.plain_channel.specs.declared.Side.{Side}
 use Rattle.plain_channel.specs.Sides.{no_pour, cold_side, with_hots, taken_at, side_played, side_after}
 use Rattle.plain_channel.specs.Ahead.{rested_side}
 use Rattle.sampler.specs.declared.Sampler.{Sampler}
-use Rattle.sampler.specs.Refusals.{channel_at, sample_judged, frame_judged}
+use Rattle.sampler.specs.Refusals.{channel_at, sample_number, frame_number}
 use Rattle.sampler.specs.Samplers.{change_of, part_of, Framed, framed, entry_of}
 use Rattle.plain_sampler.specs.declared.Backing.{Backing}
 use Rattle.plain_sampler.specs.Backings.{side_at, with_side, taken_on, change_backing, side_stepped, sample_backing, entries_backing, frame_backing, rested_on, rested_backing, run_backing}
@@ -134,8 +133,8 @@ entries_apart p (suc n) j f = both (stepped_apart f.sampler j p (get_or f.frame 
 after_apart : (w : World) (c : Call) → Apart (beside_after w c)
 unfolding beside_after change_backing sample_backing frame_backing
 after_apart w (change d) = both (taken_apart w.sampler (change_of w.sampler d).sampler 0) (taken_apart w.sampler (change_of w.sampler d).sampler 1)
-after_apart w (sample j x p) = if_so (is_ok (sample_judged w.sampler j p (length w.memory))) (stepped_apart w.sampler j p x w.memory)
-after_apart w (frame xs p) = if_so (is_ok (frame_judged w.sampler (length xs) p (length w.memory))) (entries_apart p (length xs) 0 (framed w.sampler xs w.memory))
+after_apart w (sample j x p) = if_so (eqb (sample_number w.sampler j p (length w.memory)) 0) (stepped_apart w.sampler j p x w.memory)
+after_apart w (frame xs p) = if_so (eqb (frame_number w.sampler (length xs) p (length w.memory)) 0) (entries_apart p (length xs) 0 (framed w.sampler xs w.memory))
 after_apart w (read_wave f) = nothing
 after_apart w gather = nothing
 after_apart w (asks q) = nothing

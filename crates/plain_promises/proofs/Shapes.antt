@@ -3,11 +3,10 @@ use mathlib.Core.Path.{◌≡◌, refl, ◌∙◌}
 use mathlib.Core.Bool.{Bool, true, false, cond}
 use mathlib.Core.List.{List, [], ◌∷◌}
 use Prim.Native.Nat.{ℕ, zero, suc, ◌+◌, min}
-use lib.Dec.{ltb}
+use lib.Dec.{eqb, ltb}
 use lib.ListN.{length, take, drop, get_or, set, length-set, length-replicate}
 use lib.Seq.{length-sets}
 use lib.Ieee.{Float}
-use Rattle.std.specs.Prelude.{is_ok}
 use Rattle.binary32.specs.Leaves.{zero32}
 use Rattle.common_types.specs.declared.Params.{Params}
 use Rattle.walks.proofs.Tests.{either}
@@ -18,7 +17,7 @@ use Rattle.channel.specs.Channels.{live, Turning, turning_in, taken_of, memory_o
 use Rattle.plain_channel.specs.declared.Side.{Side}
 use Rattle.plain_channel.specs.Sides.{cold_side, with_hots, taken_at, hots_kept, side_played, side_after}
 use Rattle.sampler.specs.declared.Sampler.{Sampler}
-use Rattle.sampler.specs.Refusals.{channel_at, sample_judged, frame_judged, done_of}
+use Rattle.sampler.specs.Refusals.{channel_at, sample_number, frame_number, done_of}
 use Rattle.sampler.specs.Samplers.{change_of, part_of, Framed, framed, entry_of, entries_of}
 use Rattle.plain_sampler.specs.declared.Backing.{Backing}
 use Rattle.plain_sampler.specs.Backings.{cold_backing, side_at, with_side, taken_on, change_backing, side_stepped, sample_backing, entries_backing, frame_backing, frames_backing, rested_on, rested_backing, run_backing}
@@ -83,9 +82,9 @@ shaped_frames p (suc n) f k h =
 pub shaped_after : (w : World) (c : Call) (k : Backing) → Shaped k → Shaped (beside_after w c k)
 unfolding beside_after change_backing sample_backing frame_backing
 shaped_after w (change d) k h = shaped_taken w.sampler (change_of w.sampler d).sampler 1 _ (shaped_taken w.sampler (change_of w.sampler d).sampler 0 k h)
-shaped_after w (sample j x p) k h = shaped_if (is_ok (sample_judged w.sampler j p (length w.memory))) _ k (shaped_stepped w.sampler j p x w.memory k h) h
+shaped_after w (sample j x p) k h = shaped_if (eqb (sample_number w.sampler j p (length w.memory)) 0) _ k (shaped_stepped w.sampler j p x w.memory k h) h
 shaped_after w (frame xs p) k h =
-    shaped_if (is_ok (frame_judged w.sampler (length xs) p (length w.memory))) _ k (shaped_entries p (length xs) 0 (framed w.sampler xs w.memory) k h) h
+    shaped_if (eqb (frame_number w.sampler (length xs) p (length w.memory)) 0) _ k (shaped_entries p (length xs) 0 (framed w.sampler xs w.memory) k h) h
 shaped_after w (read_wave f) k h = h
 shaped_after w gather k h = h
 shaped_after w (asks q) k h = h

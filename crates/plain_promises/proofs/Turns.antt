@@ -1,4 +1,5 @@
 -- A run of frames leaves beside the record what its frame calls leave, one after the other, with nothing poured. Assumes nothing.
+use borrow.Author.Tests.{eq-eqb}
 use mathlib.Core.Path.{◌≡◌, refl, sym, ap, ◌∙◌, subst}
 use mathlib.Core.List.{List, [], ◌∷◌, ◌++◌}
 use Prim.Native.Nat.{ℕ, zero, suc, ◌+◌, ◌*◌, ◌≤◌}
@@ -41,7 +42,7 @@ module _ (w : World) (xs : List Float) (p : Params) (k : Backing) (ok : code w (
 
   beside_is : beside_after w (frame (take n xs) p) k ≡ entries_backing p n 0 front k
   unfolding beside_after frame_backing call_judged
-  beside_is = rw (done_at (call_judged w (frame (take n xs) p)) ok) (ap (λ (c : ℕ). entries_backing p c 0 front k) size)
+  beside_is = rw (eq-eqb (code w (frame (take n xs) p)) 0 ok) (ap (λ (c : ℕ). entries_backing p c 0 front k) size)
 
   -- the run goes on behind it
   abbrev u : World
