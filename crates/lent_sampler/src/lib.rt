@@ -566,8 +566,12 @@ pub fn process_sample(
     params: Params,
     memory: &mut [u32],
 ) -> Result<Heard, Refusal>
-    ensures { (record { sampler = s.new; output = (heard_in result).output; done = done_in result;
-        moved = (heard_in result).moved }
+    ensures { (record {
+      sampler = s.new;
+      output = (heard_in result).output;
+      done = done_in result;
+      moved = (heard_in result).moved;
+    }
         ≡ sample_of s.old channel input params memory.old)
         × (memory.new ≡ sample_memory s.old channel input params memory.old) }
 {
