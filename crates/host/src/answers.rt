@@ -115,6 +115,7 @@ fn summary_by(answer: Result<WaveformSummary, Refusal>) -> Summary
 }
 
 // A list that is too short is told how many entries the song has.
+#[tactic(auto, unfolding(smf::specs::Cues::cues_number))]
 fn entries_by(counted: Result<usize, SongRefusal>) -> Count
     ensures { result ≡ entries_by counted }
 {
