@@ -1,6 +1,6 @@
 -- A channel that is read where it stands is the record's, and what its type says of it holds. Assumes nothing.
-use Rattle.std.proofs.Common.{◌≡◌, ℕ, zero, suc, ◌<◌, Bool, true, false, not, ltb, leb, List, [], ◌∷◌, length, get_or, sym, ap, ◌∙◌, arith, ltb-true}
-use Rattle.std.specs.Prelude.{Result, Ok}
+use Rattle.std.proofs.Common.{◌≡◌, ℕ, zero, suc, ◌<◌, Bool, true, false, not, ltb, leb, List, [], ◌∷◌, length, get_or, sym, ap, ◌∙◌, arith, ltb-true, true≢false}
+use Rattle.std.specs.Prelude.{Result, Ok, Err}
 use Rattle.refusals.specs.declared.Refusal.{Refusal}
 use Rattle.refusals.specs.declared.Refusal.TheVariants.{NoChannel, BeyondLimits, ClockEnd, Broken}
 use Rattle.refusals.specs.Refusals.{row}
@@ -19,6 +19,15 @@ use Rattle.sampler.specs.Refusals.{channel_at, good_with, sample_judged}
 use Rattle.sampler.proofs.Rows.{is_true, fitting}
 use Rattle.sampler.proofs.Seats.{none}
 use Rattle.lent_sampler.proofs.Lists.{ok, row_fails}
+use Rattle.channel.specs.declared.Change.TheVariants.{Head}
+use Rattle.channel.specs.declared.HeadChange.TheVariants.{Load}
+use Rattle.sampler.specs.Samplers.{answer_of, each_of}
+use Rattle.wave.specs.Reader.{file_judged}
+use Rattle.recordings.specs.declared.Loading.{Loading}
+use Rattle.recordings.specs.declared.ReadAnswer.{ReadAnswer}
+use Rattle.recordings.specs.Waves.{given, held_in, read_judged, read_wave_of}
+use Rattle.recordings.specs.Sights.{survey_of, loading_seen}
+use Rattle.recordings.proofs.Sights.{rated, read_judged_seen_lem}
 
 -- an element of an array that a record holds is what its type says
 module _ {A : Type 0} (own : A → List Val → Fml) where
@@ -48,3 +57,46 @@ module _ (s : Sampler) (j : ℕ) (p : Params) (size : ℕ) (good : Bool) (is_goo
         let n : not (ltb j s.count) ≡ false = row_fails (not (ltb j s.count)) NoChannel k in
         ap (λ (c : Channel). row (leb last_time c.head.now) ClockEnd ok) (there s two j low_channel)
         ∙ sym (λ i. row (g i) Broken (row (n i) NoChannel (row (b i) BeyondLimits (row (leb last_time (channel_at s j).head.now) ClockEnd ok))))
+
+-- what a read answers and leaves, by how it is judged
+samples_in : Result Loading Refusal → ℕ
+samples_in (Ok l) = l.samples
+samples_in (Err refusal) = 0
+
+is_done : Result Loading Refusal → Bool
+is_done (Ok l) = true
+is_done (Err refusal) = false
+
+module _ (s : Sampler) (f : List ℕ) (size : ℕ) where
+  loaded : Loading
+  loaded = record { rate = (held_in (file_judged f)).rate; samples = (held_in (file_judged f)).samples }
+
+  answers : Result (Unit {0}) Refusal → ReadAnswer
+  answers done = record {
+    sampler = (answer_of done (Head (Load (held_in (file_judged f)).samples)) s).sampler;
+    read = given done (held_in (file_judged f)).rate;
+  }
+
+  refused_so : (e : Refusal) (done : Result (Unit {0}) Refusal) → Err e ≡ given done loaded → record { sampler = s; read = Err e } ≡ answers done
+  unfolding answer_of is_done loaded answers
+  refused_so e (Ok tt) h = absurd (true≢false (sym (ap is_done h)))
+  refused_so e (Err x) h = ap (λ (r : Result ℕ Refusal). record { sampler = s; read = r }) (ap rated h)
+
+  done_so : (l : Loading) (done : Result (Unit {0}) Refusal) → Ok l ≡ given done loaded
+      → record { sampler = each_of (Head (Load l.samples)) s; read = Ok l.rate } ≡ answers done
+  unfolding answer_of is_done loaded answers samples_in
+  done_so l (Ok tt) h = ap (λ (r : Result Loading Refusal). record { sampler = each_of (Head (Load (samples_in r))) s; read = rated r }) h
+  done_so l (Err x) h = absurd (true≢false (ap is_done h))
+
+  module _ (two : length s.channels ≡ 2) (r : Result Loading Refusal) (is : r ≡ loading_seen (survey_of s) f size) where
+    judged : r ≡ given (read_judged s (file_judged f) size) loaded
+    unfolding loaded
+    judged = is ∙ ap (λ (done : Result (Unit {0}) Refusal). given done loaded) (read_judged_seen_lem s two (file_judged f) size)
+
+    pub read_refused : (e : Refusal) → r ≡ Err e → record { sampler = s; read = Err e } ≡ read_wave_of s f size
+    unfolding read_wave_of answers
+    read_refused e h = refused_so e (read_judged s (file_judged f) size) (sym h ∙ judged)
+
+    pub read_done : (l : Loading) → r ≡ Ok l → record { sampler = each_of (Head (Load l.samples)) s; read = Ok l.rate } ≡ read_wave_of s f size
+    unfolding read_wave_of answers
+    read_done l h = done_so l (read_judged s (file_judged f) size) (sym h ∙ judged)
