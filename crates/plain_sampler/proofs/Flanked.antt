@@ -1,5 +1,5 @@
 -- The loop of a frame, and of a run, with a second record lent: what stands there after i entries, each of the channel that `seat` says. A refused call has no entry to play. Assumes nothing.
-use Rattle.std.proofs.Common.{◌≡◌, refl, sym, ap, ◌∙◌, subst, Bool, true, false, cond, List, ◌++◌, ℕ, zero, suc, ◌+◌, ◌-◌, ◌*◌, ◌<◌, add-one, zero-mul, arith, eqb, length, get_or, take, drop, set, length-set}
+use Rattle.std.proofs.Common.{◌≡◌, refl, sym, ap, ◌∙◌, subst, Bool, cond, List, ◌++◌, ℕ, zero, suc, ◌+◌, ◌-◌, ◌*◌, ◌<◌, add-one, zero-mul, arith, eqb, length, get_or, take, drop, set, length-set}
 use native.Mathlib.Nat.{sub-zero}
 use Rattle.std.specs.Prelude.{Result, Ok, Err}
 use Rattle.refusals.specs.declared.Refusal.{Refusal}
