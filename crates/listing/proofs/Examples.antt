@@ -27,7 +27,7 @@ use Rattle.voice.specs.Voices.{span_of, tick_of, late_of, over_of, should_remove
 use Rattle.channel.specs.Heads.{phrase_by, begins_at, written_in, next_time, head_of, phrase_after, recorder_after, interpolates_after, chosen_after, head_changed_of, ramp_of, passthru_of, closed_of, good_head}
 use Rattle.channel.specs.Tables.{good_table, table_after, several_after, head_names, found_by, head_asks, asks_of, leaving_of, blocked_by, short_by}
 use Rattle.channel.specs.Channels.{channel_of, reset_of, uses_of, head_changed_in, any_unfinished_of, handled_of, pushed_of, start_playing_of, wanted_of, find_of, finished_at_of, stop_playing_of, sped_of, set_note_speed_of, kept_of, added_of, heard_sum, played_of, turning_by, resting, turning_at, turning_of, turning_in, taken_of, memory_of, process_sample_of, changed_of, good_voices_of, good_channel}
-use Rattle.sampler.specs.Refusals.{good_sizes, good_sampler, capacity_of, good_with, against_any, set_up_number, start_rows, stop_rows, speed_rows, frame_number}
+use Rattle.sampler.specs.Refusals.{good_sizes, good_sampler, capacity_of, good_with, against_any, set_up_judged, start_rows, stop_rows, speed_rows, frame_judged}
 use Rattle.sampler.specs.Samplers.{set_up_of, each_of, answer_of, part_of, played_at, channel_stepped_of as stepped_at, output_of, memory_at, entry_of, entries_of, framed_of}
 use Rattle.decimal.specs.Decimal.{digits, decimal}
 use Rattle.decimal.specs.Lines.{bytes, line_of, text_of}
@@ -60,7 +60,7 @@ text (line ∷ lines) = bytes line ++ newline ++ text lines
 
 -- whatever a listing computes by
 computing : Unit {0}
-unfolding text from_hex pairs bytes line_of text_of digits decimal printed_from printed hex_digit hex_digits output_text outputs_of answer_line frame_line bad_line half_at word_at float_at good_header header_of kind_length to_read good_settings good_record loop_mode_of note_off_of length_by_kind transport_of params_of frame_call_of call_of record_of clock_of voices_of answer_played settings_of frame_of call_played memory_after player_of later_by opened_of record_step step_memory floor_of min_of max_of crossing_of without speed_of quarter_notes_per_bar_of samples_per_quarter_note_of samples_per_bar_of as_samples_of time_length_of length_of loop_length_of length_beyond beyond_limits progress_of level_of toward_of stepped_of good_ramp good_volume raised in_state misused_of skipped_of start_of stop_of is_recording_of recorded_of data_after good_recorder lead_of travel_at looped_of round_trip_of mirrored_of bounced_of wrapped_of placed_of clip_offset_at clip_to_data_of offset_at index_at made_of back_of found_at reversing_at shift_for settled_of with_speed with_mode with_length with_data_length good_length good_clip span_of tick_of late_of over_of should_remove_of moved_of position_of one_further next_at between_of value_of product_of sounded_of finish_of played_out_of ended_of volume_stepped turn_of fresh_of blank_voice at_speed_of good_voice next_time head_of ramp_of passthru_of closed_of good_head channel_of reset_of any_unfinished_of handled_of pushed_of start_playing_of wanted_of find_of finished_at_of stop_playing_of sped_of set_note_speed_of head_changed_of kept_of added_of heard_sum played_of turning_by resting turning_at turning_of turning_in no_samples is_over_by reach_of stored_in room_of others_of beside_with beside_of phrase_by begins_at written_in phrase_after recorder_after interpolates_after chosen_after good_table table_after several_after head_names found_by head_asks asks_of leaving_of blocked_by short_by uses_of head_changed_in taken_of memory_of process_sample_of changed_of good_voices_of good_channel good_sizes good_sampler capacity_of good_with against_any set_up_number start_rows stop_rows speed_rows frame_number set_up_of each_of answer_of part_of played_at stepped_at output_of memory_at entry_of entries_of framed_of add sub mul div rem neg lt le eq of_int to_unsigned is_nan of_bits to_bits nan_bits of_fields
+unfolding text from_hex pairs bytes line_of text_of digits decimal printed_from printed hex_digit hex_digits output_text outputs_of answer_line frame_line bad_line half_at word_at float_at good_header header_of kind_length to_read good_settings good_record loop_mode_of note_off_of length_by_kind transport_of params_of frame_call_of call_of record_of clock_of voices_of answer_played settings_of frame_of call_played memory_after player_of later_by opened_of record_step step_memory floor_of min_of max_of crossing_of without speed_of quarter_notes_per_bar_of samples_per_quarter_note_of samples_per_bar_of as_samples_of time_length_of length_of loop_length_of length_beyond beyond_limits progress_of level_of toward_of stepped_of good_ramp good_volume raised in_state misused_of skipped_of start_of stop_of is_recording_of recorded_of data_after good_recorder lead_of travel_at looped_of round_trip_of mirrored_of bounced_of wrapped_of placed_of clip_offset_at clip_to_data_of offset_at index_at made_of back_of found_at reversing_at shift_for settled_of with_speed with_mode with_length with_data_length good_length good_clip span_of tick_of late_of over_of should_remove_of moved_of position_of one_further next_at between_of value_of product_of sounded_of finish_of played_out_of ended_of volume_stepped turn_of fresh_of blank_voice at_speed_of good_voice next_time head_of ramp_of passthru_of closed_of good_head channel_of reset_of any_unfinished_of handled_of pushed_of start_playing_of wanted_of find_of finished_at_of stop_playing_of sped_of set_note_speed_of head_changed_of kept_of added_of heard_sum played_of turning_by resting turning_at turning_of turning_in no_samples is_over_by reach_of stored_in room_of others_of beside_with beside_of phrase_by begins_at written_in phrase_after recorder_after interpolates_after chosen_after good_table table_after several_after head_names found_by head_asks asks_of leaving_of blocked_by short_by uses_of head_changed_in taken_of memory_of process_sample_of changed_of good_voices_of good_channel good_sizes good_sampler capacity_of good_with against_any set_up_judged start_rows stop_rows speed_rows frame_judged set_up_of each_of answer_of part_of played_at stepped_at output_of memory_at entry_of entries_of framed_of add sub mul div rem neg lt le eq of_int to_unsigned is_nan of_bits to_bits nan_bits of_fields
 computing = tt
 
 -- ---- document 01's example
