@@ -1,4 +1,6 @@
 // The recordings, as lines.
+ghost use Rattle.std.specs.Prelude.{◌≤◌, length, max, OnOk};
+
 use crate::run::Run;
 use channel::Channel;
 use phrases::Phrase;
@@ -6,7 +8,9 @@ use std::alloc::AllocError;
 
 impl Run {
     // For each channel in use a line for each of its phrases that has samples.
-    pub fn put_recordings(&mut self, rt: &impl Print) -> Result<(), AllocError> {
+    pub fn put_recordings(&mut self, rt: &impl Print) -> Result<(), AllocError>
+        ensures { OnOk result (length self.new.out ≤ max (length self.old.out) 32777) }
+    {
         let s = self.sampler;
         let capacity = s.capacity;
         if s.count > 0 {
@@ -19,7 +23,9 @@ impl Run {
     }
 
     // Those of a channel whose part of the memory begins at a place.
-    fn put_channel(&mut self, rt: &impl Print, c: &Channel, part: usize) -> Result<(), AllocError> {
+    fn put_channel(&mut self, rt: &impl Print, c: &Channel, part: usize) -> Result<(), AllocError>
+        ensures { OnOk result (length self.new.out ≤ max (length self.old.out) 32777) }
+    {
         for k in 0..8 {
             self.put_phrase(rt, k, c.phrase_at(k), part)?;
         }
@@ -33,7 +39,9 @@ impl Run {
         k: u8,
         p: Phrase,
         part: usize,
-    ) -> Result<(), AllocError> {
+    ) -> Result<(), AllocError>
+        ensures { OnOk result (length self.new.out ≤ max (length self.old.out) 32777) }
+    {
         if p.is_empty() {
             return Ok(());
         }

@@ -1,5 +1,5 @@
 // What a run holds between two records, and the text of what a record answers and leaves.
-ghost use Rattle.std.specs.Prelude.{◌≤◌};
+ghost use Rattle.std.specs.Prelude.{◌≡◌, ◌+◌, ◌*◌, ◌≤◌, length, OnOk};
 
 use crate::calls::Heard;
 use crate::waves::mixed;
@@ -43,7 +43,9 @@ impl Run {
     }
 
     // The count of channels and the capacity, which end the line, and what is in use of the record.
-    fn put_record(&mut self) -> Result<(), AllocError> {
+    fn put_record(&mut self) -> Result<(), AllocError>
+        ensures { OnOk result (length self.new.out ≤ length self.old.out + 14000) }
+    {
         let s = &self.sampler;
         self.out.put::<1>((s.count % 16) as u64)?;
         self.out.put_u32((s.capacity % 0x1_0000_0000) as u32)?;
@@ -51,12 +53,16 @@ impl Run {
         put_sampler(&mut self.out, s)
     }
 
-    pub fn answered(&mut self, kind: u8, number: u8) -> Result<(), AllocError> {
+    pub fn answered(&mut self, kind: u8, number: u8) -> Result<(), AllocError>
+        ensures { OnOk result (length self.new.out ≤ length self.old.out + 14006) }
+    {
         put_number(&mut self.out, kind, number)?;
         self.put_record()
     }
 
-    pub fn heard(&mut self, kind: u8, h: Heard) -> Result<(), AllocError> {
+    pub fn heard(&mut self, kind: u8, h: Heard) -> Result<(), AllocError>
+        ensures { OnOk result (length self.new.out ≤ length self.old.out + 14036) }
+    {
         put_number(&mut self.out, kind, h.number)?;
         self.out.put_f32(h.entries[0])?;
         self.out.put_f32(h.entries[1])?;
@@ -66,7 +72,9 @@ impl Run {
     }
 
     // The frames that are done, and every entry.
-    pub fn ran(&mut self, kind: u8, ran: Ran, entries: &[f32]) -> Result<(), AllocError> {
+    pub fn ran(&mut self, kind: u8, ran: Ran, entries: &[f32]) -> Result<(), AllocError>
+        ensures { OnOk result (length self.new.out ≤ length self.old.out + 14015 + 9 * length entries.now) }
+    {
         put_number(&mut self.out, kind, code(ran.done))?;
         self.out.put_u32((ran.frames % 0x1_0000_0000) as u32)?;
         for entry in entries {
@@ -76,14 +84,18 @@ impl Run {
     }
 
     // How many bytes were written, and the file's room.
-    pub fn wrote(&mut self, kind: u8, a: Result<usize, Refusal>) -> Result<(), AllocError> {
+    pub fn wrote(&mut self, kind: u8, a: Result<usize, Refusal>) -> Result<(), AllocError>
+        ensures { OnOk result (length self.new.out ≤ length self.old.out + 17095) }
+    {
         put_written(&mut self.out, kind, a)?;
         put_bytes(&mut self.out, &self.file)?;
         self.put_record()
     }
 
     // The file's rate, and a number that is made of the memory's words.
-    pub fn took(&mut self, kind: u8, read: Result<u32, Refusal>) -> Result<(), AllocError> {
+    pub fn took(&mut self, kind: u8, read: Result<u32, Refusal>) -> Result<(), AllocError>
+        ensures { OnOk result (length self.new.out ≤ length self.old.out + 14024) }
+    {
         let (number, rate) = match read {
             Ok(rate) => (0, rate),
             Err(refusal) => (refusal.number(), 0),
@@ -95,20 +107,26 @@ impl Run {
     }
 
     // A number that is made of the memory's words.
-    pub fn gathered(&mut self, kind: u8, number: u8) -> Result<(), AllocError> {
+    pub fn gathered(&mut self, kind: u8, number: u8) -> Result<(), AllocError>
+        ensures { OnOk result (length self.new.out ≤ length self.old.out + 14015) }
+    {
         put_number(&mut self.out, kind, number)?;
         self.out.put_u32(mixed(&self.memory))?;
         self.put_record()
     }
 
     // A line with no more than the kind, for a record that leaves the sampler as it is.
-    pub fn told(&mut self, kind: u8) -> Result<(), AllocError> {
+    pub fn told(&mut self, kind: u8) -> Result<(), AllocError>
+        ensures { OnOk result (length self.new.out ≡ length self.old.out + 6) }
+    {
         put_number(&mut self.out, kind, 0)?;
         self.out.end()
     }
 
     // A bad record, which ends the listing.
-    pub fn bad(&mut self) -> Result<(), AllocError> {
+    pub fn bad(&mut self) -> Result<(), AllocError>
+        ensures { OnOk result (length self.new.out ≡ length self.old.out + 2) }
+    {
         self.out.tag(b'X')?;
         self.out.end()
     }

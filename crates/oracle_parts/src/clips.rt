@@ -2,13 +2,17 @@
 // data length, 4 all of them) and new mode at 3; floats start at 4, speed at 8, length at 12, data length at 16, shift at
 // 20, x (a place in the data) at 24, value (a new speed or length, of all four the length) at 28; whole numbers since at
 // 32, now at 40, later at 48; of all four the new speed at 56 and data length at 60.
+ghost use Rattle.std.specs.Prelude.{◌≡◌, ◌+◌, length, OnOk};
+
 use clip::{Clip, Mode, Position};
 use oracle_lines::field::{Record, f32_at, usize_at};
 use oracle_lines::line::Text;
 use refusals::Refusal;
 use std::alloc::AllocError;
 
-pub fn answer(fields: &Record, out: &mut Text) -> Result<(), AllocError> {
+pub fn answer(fields: &Record, out: &mut Text) -> Result<(), AllocError>
+    ensures { OnOk result (length out.new ≡ length out.old + 272) }
+{
     let c = clip_of(fields);
     let now = usize_at(fields, 40);
     let changed = update(fields, c, now);
@@ -22,7 +26,9 @@ pub fn answer(fields: &Record, out: &mut Text) -> Result<(), AllocError> {
 }
 
 // What is asked of a clip at a time.
-fn put_at(out: &mut Text, c: Clip, now: usize) -> Result<(), AllocError> {
+fn put_at(out: &mut Text, c: Clip, now: usize) -> Result<(), AllocError>
+    ensures { OnOk result (length out.new ≡ length out.old + 90) }
+{
     put_elapsed(out, c.elapsed(now))?;
     put_offset(out, c.clip_offset(now))?;
     put_position(out, c.offset(now))?;
@@ -52,7 +58,9 @@ fn update(fields: &Record, c: Clip, time: usize) -> Result<Clip, Refusal> {
 }
 
 // Each of these puts document 01's number for the answer, and then its values.
-fn put_change(out: &mut Text, a: Result<Clip, Refusal>) -> Result<(), AllocError> {
+fn put_change(out: &mut Text, a: Result<Clip, Refusal>) -> Result<(), AllocError>
+    ensures { OnOk result (length out.new ≡ length out.old + 66) }
+{
     let (number, c) = match a {
         Ok(c) => (0, c),
         Err(refusal) => (refusal.number(), no_clip()),
@@ -67,7 +75,9 @@ fn put_change(out: &mut Text, a: Result<Clip, Refusal>) -> Result<(), AllocError
     out.put::<1>(mode_number(c.mode))
 }
 
-fn put_elapsed(out: &mut Text, a: Result<usize, Refusal>) -> Result<(), AllocError> {
+fn put_elapsed(out: &mut Text, a: Result<usize, Refusal>) -> Result<(), AllocError>
+    ensures { OnOk result (length out.new ≡ length out.old + 19) }
+{
     let (number, n) = match a {
         Ok(n) => (0, n),
         Err(refusal) => (refusal.number(), 0),
@@ -77,11 +87,15 @@ fn put_elapsed(out: &mut Text, a: Result<usize, Refusal>) -> Result<(), AllocErr
 }
 
 // The next index (request 7/12), where there is a position.
-fn put_next(out: &mut Text, c: Clip, now: usize) -> Result<(), AllocError> {
+fn put_next(out: &mut Text, c: Clip, now: usize) -> Result<(), AllocError>
+    ensures { OnOk result (length out.new ≡ length out.old + 19) }
+{
     put_elapsed(out, c.offset(now).map(|_| c.next_at(now)))
 }
 
-fn put_offset(out: &mut Text, a: Result<f32, Refusal>) -> Result<(), AllocError> {
+fn put_offset(out: &mut Text, a: Result<f32, Refusal>) -> Result<(), AllocError>
+    ensures { OnOk result (length out.new ≡ length out.old + 11) }
+{
     let (number, x) = match a {
         Ok(x) => (0, x),
         Err(refusal) => (refusal.number(), 0.0),
@@ -91,7 +105,9 @@ fn put_offset(out: &mut Text, a: Result<f32, Refusal>) -> Result<(), AllocError>
 }
 
 // What index and fraction add up to, and the two of them.
-fn put_position(out: &mut Text, a: Result<Position, Refusal>) -> Result<(), AllocError> {
+fn put_position(out: &mut Text, a: Result<Position, Refusal>) -> Result<(), AllocError>
+    ensures { OnOk result (length out.new ≡ length out.old + 37) }
+{
     let (number, p) = match a {
         Ok(p) => (0, p),
         Err(refusal) => (refusal.number(), no_position()),
@@ -102,7 +118,9 @@ fn put_position(out: &mut Text, a: Result<Position, Refusal>) -> Result<(), Allo
     out.put_f32(p.fraction)
 }
 
-fn put_reversing(out: &mut Text, a: Result<bool, Refusal>) -> Result<(), AllocError> {
+fn put_reversing(out: &mut Text, a: Result<bool, Refusal>) -> Result<(), AllocError>
+    ensures { OnOk result (length out.new ≡ length out.old + 4) }
+{
     let (number, reversing) = match a {
         Ok(b) => (0, b),
         Err(refusal) => (refusal.number(), false),
@@ -112,7 +130,9 @@ fn put_reversing(out: &mut Text, a: Result<bool, Refusal>) -> Result<(), AllocEr
 }
 
 // Whether there is a place, and the place.
-fn put_found(out: &mut Text, a: Result<Option<f32>, Refusal>) -> Result<(), AllocError> {
+fn put_found(out: &mut Text, a: Result<Option<f32>, Refusal>) -> Result<(), AllocError>
+    ensures { OnOk result (length out.new ≡ length out.old + 13) }
+{
     let (number, found) = match a {
         Ok(found) => (0, found),
         Err(refusal) => (refusal.number(), None),

@@ -1,11 +1,15 @@
 // Part 3: the constants and the defaults of common_types and volume. It has no arguments.
+ghost use Rattle.std.specs.Prelude.{◌≡◌, ◌+◌, length, OnOk};
+
 use crate::settings::put_length;
 use common_types::{InitParams, LoopMode, NoteOffBehaviour, Params, Transport};
 use oracle_lines::line::Text;
 use std::alloc::AllocError;
 use volume::Volume;
 
-pub fn answer(out: &mut Text) -> Result<(), AllocError> {
+pub fn answer(out: &mut Text) -> Result<(), AllocError>
+    ensures { OnOk result (length out.new ≡ length out.old + 212) }
+{
     let p = Params::default();
     put_constants(out)?;
     put_transport(out, Transport::default())?;
@@ -16,14 +20,18 @@ pub fn answer(out: &mut Text) -> Result<(), AllocError> {
     out.end()
 }
 
-fn put_constants(out: &mut Text) -> Result<(), AllocError> {
+fn put_constants(out: &mut Text) -> Result<(), AllocError>
+    ensures { OnOk result (length out.new ≡ length out.old + 8) }
+{
     out.put::<1>(LoopMode::LENGTH as u64)?;
     out.put::<1>(NoteOffBehaviour::LENGTH as u64)?;
     out.put_bool(common_types::DEFAULT_AUTO_PASSTHRU)?;
     out.put_bool(InitParams::default().auto_passthru)
 }
 
-fn put_transport(out: &mut Text, t: Transport) -> Result<(), AllocError> {
+fn put_transport(out: &mut Text, t: Transport) -> Result<(), AllocError>
+    ensures { OnOk result (length out.new ≡ length out.old + 36) }
+{
     out.begin_f32(t.sample_rate)?;
     out.begin_f32(t.tempo)?;
     out.begin::<8>(t.time_sig_numerator as u64)?;
@@ -31,7 +39,9 @@ fn put_transport(out: &mut Text, t: Transport) -> Result<(), AllocError> {
 }
 
 // All but the loop length and the transport.
-fn put_params(out: &mut Text, p: Params) -> Result<(), AllocError> {
+fn put_params(out: &mut Text, p: Params) -> Result<(), AllocError>
+    ensures { OnOk result (length out.new ≡ length out.old + 67) }
+{
     out.begin::<16>(p.attack_samples as u64)?;
     out.begin::<16>(p.decay_samples as u64)?;
     out.begin_f32(p.speed)?;

@@ -1,13 +1,17 @@
 // Part 2: volume. The arguments: at 1 a byte, 0 for a steady level and 1 for a ramp; whole numbers start at 8, end at
 // 16, now at 24, duration at 32; floats from at 40 (also the steady level), till at 44, target at 48; a whole number
 // later at 56.
+ghost use Rattle.std.specs.Prelude.{◌≡◌, ◌+◌, length, OnOk};
+
 use oracle_lines::field::{Record, f32_at, usize_at};
 use oracle_lines::line::Text;
 use refusals::Refusal;
 use std::alloc::AllocError;
 use volume::Volume;
 
-pub fn answer(fields: &Record, out: &mut Text) -> Result<(), AllocError> {
+pub fn answer(fields: &Record, out: &mut Text) -> Result<(), AllocError>
+    ensures { OnOk result (length out.new ≡ length out.old + 302) }
+{
     let v = volume_of(fields);
     let now = usize_at(fields, 24);
     let target = f32_at(fields, 48);
@@ -21,7 +25,9 @@ pub fn answer(fields: &Record, out: &mut Text) -> Result<(), AllocError> {
 }
 
 // What needs no time.
-fn put_set(out: &mut Text, v: Volume, target: f32) -> Result<(), AllocError> {
+fn put_set(out: &mut Text, v: Volume, target: f32) -> Result<(), AllocError>
+    ensures { OnOk result (length out.new ≡ length out.old + 112) }
+{
     out.put_bool(v.is_static())?;
     out.put_bool(v.is_static_and_mute())?;
     out.put_volume(Volume::new(target))?;
@@ -29,13 +35,17 @@ fn put_set(out: &mut Text, v: Volume, target: f32) -> Result<(), AllocError> {
 }
 
 // The level at a time, and the volume after a step at it.
-fn put_at(out: &mut Text, v: Volume, now: usize) -> Result<(), AllocError> {
+fn put_at(out: &mut Text, v: Volume, now: usize) -> Result<(), AllocError>
+    ensures { OnOk result (length out.new ≡ length out.old + 67) }
+{
     put_level(out, v.value(now))?;
     put_change(out, v.step(now))
 }
 
 // Document 01's number for the answer, and the level.
-fn put_level(out: &mut Text, a: Result<f32, Refusal>) -> Result<(), AllocError> {
+fn put_level(out: &mut Text, a: Result<f32, Refusal>) -> Result<(), AllocError>
+    ensures { OnOk result (length out.new ≡ length out.old + 11) }
+{
     let (number, x) = match a {
         Ok(x) => (0, x),
         Err(refusal) => (refusal.number(), 0.0),
@@ -45,7 +55,9 @@ fn put_level(out: &mut Text, a: Result<f32, Refusal>) -> Result<(), AllocError> 
 }
 
 // Document 01's number for the answer, and the volume.
-fn put_change(out: &mut Text, a: Result<Volume, Refusal>) -> Result<(), AllocError> {
+fn put_change(out: &mut Text, a: Result<Volume, Refusal>) -> Result<(), AllocError>
+    ensures { OnOk result (length out.new ≡ length out.old + 56) }
+{
     let (number, v) = match a {
         Ok(v) => (0, v),
         Err(refusal) => (refusal.number(), Volume::Static(0.0)),

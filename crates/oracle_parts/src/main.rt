@@ -3,6 +3,8 @@
 // that is cut short or that names no part is answered by `X`, and the program ends.
 #![tactic(auto)]
 
+ghost use Rattle.std.specs.Prelude.{◌≡◌, ◌+◌, ◌*◌, ◌≤◌, [], length, OnOk};
+
 use oracle_lines::chunk::read_full;
 use oracle_lines::field::Record;
 use oracle_lines::line::Text;
@@ -27,15 +29,19 @@ fn main(rt: HostRuntime) {
 }
 
 // Reads and answers 128 records, or as many as are left. Whether more may follow.
-fn turn(rt: &impl Print, from: &mut impl Read, out: &mut Text) -> Result<bool, AllocError> {
+fn turn(rt: &impl Print, from: &mut impl Read, out: &mut Text) -> Result<bool, AllocError>
+    ensures { OnOk result (out.new ≡ []) }
+{
     let mut chunk = [0u8; 8192];
     let got = read_full(from, &mut chunk);
     let all = answers(&chunk[..got], out)?;
     Ok(out.write(rt) & all & (got == 8192))
 }
 
-// Whether every record was answered.
-fn answers(chunk: &[u8], out: &mut Text) -> Result<bool, AllocError> {
+// Whether every record was answered. (A record of 64 bytes takes no more than 512.)
+fn answers(chunk: &[u8], out: &mut Text) -> Result<bool, AllocError>
+    ensures { OnOk result (length out.new ≤ length out.old + 8 * length chunk.now) }
+{
     let (records, rest) = chunk.as_chunks::<64>();
     let mut all = rest.is_empty();
     for record in records {
@@ -52,7 +58,9 @@ fn answers(chunk: &[u8], out: &mut Text) -> Result<bool, AllocError> {
 }
 
 // The line that answers the record. Whether it names a part.
-fn answer(fields: &Record, out: &mut Text) -> Result<bool, AllocError> {
+fn answer(fields: &Record, out: &mut Text) -> Result<bool, AllocError>
+    ensures { OnOk result (length out.new ≤ length out.old + 302) }
+{
     match fields[0] {
         0 => leaves::answer(fields, out)?,
         1 => settings::answer(fields, out)?,

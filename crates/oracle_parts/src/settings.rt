@@ -3,6 +3,8 @@
 // listing's version 2); a whole number n at 8, which is a packed note, an index and a data length; floats x at 16, value at
 // 20, rate at 24, tempo at 28; whole numbers numerator at 32, denominator at 36, attack at 40, decay at 48; floats
 // speed at 56 and reverse speed at 60.
+ghost use Rattle.std.specs.Prelude.{◌≡◌, ◌+◌, length, OnOk};
+
 use common_types::time_value::{
     TimeOrRatio, TimeUnit, TimeValue, calc_quarter_notes_per_bar, calc_samples_per_bar,
     calc_samples_per_quarter_note,
@@ -14,7 +16,9 @@ use oracle_lines::settings::{loop_mode, note_off, params_of, transport};
 use refusals::Refusal;
 use std::alloc::AllocError;
 
-pub fn answer(fields: &Record, out: &mut Text) -> Result<(), AllocError> {
+pub fn answer(fields: &Record, out: &mut Text) -> Result<(), AllocError>
+    ensures { OnOk result (length out.new ≡ length out.old + 134) }
+{
     put_notes(fields, out)?;
     put_loop_modes(fields, out)?;
     put_note_off_modes(fields, out)?;
@@ -23,19 +27,25 @@ pub fn answer(fields: &Record, out: &mut Text) -> Result<(), AllocError> {
     out.end()
 }
 
-fn put_notes(fields: &Record, out: &mut Text) -> Result<(), AllocError> {
+fn put_notes(fields: &Record, out: &mut Text) -> Result<(), AllocError>
+    ensures { OnOk result (length out.new ≡ length out.old + 29) }
+{
     let note = Note::new(fields[1], fields[2]);
     put_note(out, note)?;
     out.put_u64(u64::from(note))?;
     put_note(out, Note::from(u64_at(fields, 8)))
 }
 
-fn put_note(out: &mut Text, note: Note) -> Result<(), AllocError> {
+fn put_note(out: &mut Text, note: Note) -> Result<(), AllocError>
+    ensures { OnOk result (length out.new ≡ length out.old + 6) }
+{
     out.begin::<2>(note.note as u64)?;
     out.put_u8(note.channel)
 }
 
-fn put_loop_modes(fields: &Record, out: &mut Text) -> Result<(), AllocError> {
+fn put_loop_modes(fields: &Record, out: &mut Text) -> Result<(), AllocError>
+    ensures { OnOk result (length out.new ≡ length out.old + 19) }
+{
     let mode = loop_mode(fields[5]);
     out.put::<1>(mode.to_index() as u64)?;
     out.put_f32(mode.to_f32())?;
@@ -49,7 +59,9 @@ fn put_loop_modes(fields: &Record, out: &mut Text) -> Result<(), AllocError> {
     )
 }
 
-fn put_note_off_modes(fields: &Record, out: &mut Text) -> Result<(), AllocError> {
+fn put_note_off_modes(fields: &Record, out: &mut Text) -> Result<(), AllocError>
+    ensures { OnOk result (length out.new ≡ length out.old + 19) }
+{
     let mode = note_off(fields[6]);
     out.put::<1>(mode.to_index() as u64)?;
     out.put_f32(mode.to_f32())?;
@@ -64,7 +76,9 @@ fn put_note_off_modes(fields: &Record, out: &mut Text) -> Result<(), AllocError>
 }
 
 // Document 01's number for the answer, and the mode's index.
-fn put_index(out: &mut Text, a: Result<usize, Refusal>) -> Result<(), AllocError> {
+fn put_index(out: &mut Text, a: Result<usize, Refusal>) -> Result<(), AllocError>
+    ensures { OnOk result (length out.new ≡ length out.old + 4) }
+{
     let (number, index) = match a {
         Ok(index) => (0, index),
         Err(refusal) => (refusal.number(), 0),
@@ -73,7 +87,9 @@ fn put_index(out: &mut Text, a: Result<usize, Refusal>) -> Result<(), AllocError
     out.put::<1>(index as u64)
 }
 
-fn put_times(fields: &Record, out: &mut Text) -> Result<(), AllocError> {
+fn put_times(fields: &Record, out: &mut Text) -> Result<(), AllocError>
+    ensures { OnOk result (length out.new ≡ length out.old + 47) }
+{
     let t = transport(fields);
     let time = TimeValue::from_unit_value(unit(fields[3]), f32_at(fields, 20));
     put_time(out, time)?;
@@ -84,7 +100,9 @@ fn put_times(fields: &Record, out: &mut Text) -> Result<(), AllocError> {
 }
 
 // The length kind of the listing, and the value.
-fn put_time(out: &mut Text, time: TimeValue) -> Result<(), AllocError> {
+fn put_time(out: &mut Text, time: TimeValue) -> Result<(), AllocError>
+    ensures { OnOk result (length out.new ≡ length out.old + 11) }
+{
     match time {
         TimeValue::QuarterNotes(x) => put_kind(out, 0, x),
         TimeValue::Samples(x) => put_kind(out, 1, x),
@@ -93,20 +111,26 @@ fn put_time(out: &mut Text, time: TimeValue) -> Result<(), AllocError> {
     }
 }
 
-pub fn put_length(out: &mut Text, length: TimeOrRatio) -> Result<(), AllocError> {
-    match length {
+pub fn put_length(out: &mut Text, of: TimeOrRatio) -> Result<(), AllocError>
+    ensures { OnOk result (length out.new ≡ length out.old + 11) }
+{
+    match of {
         TimeOrRatio::Time(time) => put_time(out, time),
         TimeOrRatio::Ratio(x) => put_kind(out, 4, x),
         TimeOrRatio::WholeBars(x) => put_kind(out, 5, x),
     }
 }
 
-fn put_kind(out: &mut Text, kind: u64, x: f32) -> Result<(), AllocError> {
+fn put_kind(out: &mut Text, kind: u64, x: f32) -> Result<(), AllocError>
+    ensures { OnOk result (length out.new ≡ length out.old + 11) }
+{
     out.begin::<1>(kind)?;
     out.put_f32(x)
 }
 
-fn put_params(fields: &Record, out: &mut Text) -> Result<(), AllocError> {
+fn put_params(fields: &Record, out: &mut Text) -> Result<(), AllocError>
+    ensures { OnOk result (length out.new ≡ length out.old + 20) }
+{
     let p = params_of(fields);
     out.put_f32(p.speed())?;
     out.put_f32(p.loop_length(usize_at(fields, 8)))?;

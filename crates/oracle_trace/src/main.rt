@@ -11,6 +11,8 @@
 // defaults, and empties memory and file.
 #![tactic(auto)]
 
+ghost use Rattle.std.specs.Prelude.{◌≤◌, length, max, OnOk};
+
 use oracle_acts::calls::{entries_of, run_asked};
 use oracle_acts::puts::put;
 use oracle_acts::run::Run;
@@ -34,14 +36,18 @@ fn main(rt: HostRuntime) {
 }
 
 // Reads and plays 128 records, or as many as are left. Whether more may follow.
-fn turn(rt: &impl Print, from: &mut impl Read, run: &mut Run) -> Result<bool, AllocError> {
+fn turn(rt: &impl Print, from: &mut impl Read, run: &mut Run) -> Result<bool, AllocError>
+    ensures { OnOk result (length run.new.out ≤ max (length run.old.out) 65536) }
+{
     let mut chunk = [0u8; 8192];
     let got = read_full(from, &mut chunk);
     Ok(play(rt, &chunk[..got], run)? & (got == 8192))
 }
 
 // Whether the listing goes on: a bad record ends it.
-fn play(rt: &impl Print, chunk: &[u8], run: &mut Run) -> Result<bool, AllocError> {
+fn play(rt: &impl Print, chunk: &[u8], run: &mut Run) -> Result<bool, AllocError>
+    ensures { OnOk result (length run.new.out ≤ max (length run.old.out) 65536) }
+{
     let (records, rest) = chunk.as_chunks::<64>();
     for record in records {
         run.out.spill(rt);
@@ -59,7 +65,9 @@ fn play(rt: &impl Print, chunk: &[u8], run: &mut Run) -> Result<bool, AllocError
 }
 
 // Whether the record's kind is known.
-fn answer(rt: &impl Print, fields: &Record, run: &mut Run) -> Result<bool, AllocError> {
+fn answer(rt: &impl Print, fields: &Record, run: &mut Run) -> Result<bool, AllocError>
+    ensures { OnOk result (length run.old.out ≤ 32768 → length run.new.out ≤ 65534) }
+{
     let kind = fields[0];
     match kind {
         0 => {
@@ -123,7 +131,9 @@ fn answer(rt: &impl Print, fields: &Record, run: &mut Run) -> Result<bool, Alloc
 }
 
 // A run of as many entries as the number at 12 says, and of 2,048 at most.
-fn ran(kind: u8, fields: &Record, run: &mut Run) -> Result<(), AllocError> {
+fn ran(kind: u8, fields: &Record, run: &mut Run) -> Result<(), AllocError>
+    ensures { OnOk result (length run.old.out ≤ 32768 → length run.new.out ≤ 65534) }
+{
     let mut entries = [0.0f32; 2048];
     let n = run_asked(fields);
     let ran = run.frames_of(fields, &mut entries[..n]);
