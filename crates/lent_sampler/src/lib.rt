@@ -3,7 +3,7 @@
 // question answered, and no channel is copied.
 #![tactic(auto)]
 
-ghost use Rattle.std.specs.Prelude.{Ok, ◌≡◌, ◌+◌, ◌-◌, ◌*◌, ◌%◌, ◌^◌, ◌<◌, ◌≤◌, true, [], ◌∷◌, ◌++◌, length, take, drop, if◌then◌else◌, min, slice_range};
+ghost use Rattle.std.specs.Prelude.{Ok, ◌≡◌, ◌-◌, ◌≤◌, ◌++◌, length, take, drop, slice_range};
 ghost use Rattle.std.specs.List.{list_all};
 ghost use Rattle.sampler.specs.Samplers.{
   start_playing_of,
@@ -40,10 +40,6 @@ ghost use Rattle.sampler.specs.Refusals.{
   question_rows,
 };
 ghost use Rattle.channel.specs.Channels.{good_channel, process_sample_of, memory_of};
-ghost use Rattle.binary32.specs.Leaves.{zero32};
-ghost use Rattle.binary32.specs.Leaves.{as_float};
-ghost use Rattle.common_types.specs.Notes.{into_u64_of};
-ghost use Rattle.common_types.specs.Settings.{loop_length_of};
 ghost use Rattle.questions.specs.Questions.{
   get_frames_processed_of,
   get_data_len_of,
