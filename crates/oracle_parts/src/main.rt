@@ -16,7 +16,6 @@ mod leaves;
 mod levels;
 mod settings;
 
-// Where memory for the text fails, it ends as where a write does.
 fn main(rt: HostRuntime) {
     let mut from = rt.stdin();
     let mut out = Text::new();

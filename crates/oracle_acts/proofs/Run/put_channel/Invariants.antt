@@ -1,5 +1,0 @@
-use Rattle.std.proofs.Common.{◌≤◌, length, max}
-use Rattle.oracle_acts.proofs.Run.put_channel.Given as goal
-
-abbrev pub invariant-loop-k : goal.invariant-loop-k
-invariant-loop-k l = length l.self.out ≤ max (length l.fn.self.out) 32777
