@@ -1,5 +1,5 @@
 // What the records do to the sampler.
-ghost use Rattle.std.specs.Prelude.{◌≤◌};
+ghost use Rattle.std.specs.Prelude.{◌≡◌, ◌≤◌};
 
 use crate::run::Run;
 use common_types::{InitParams, Note, Params};
@@ -60,14 +60,18 @@ pub fn run_asked(fields: &Record) -> usize
 
 impl Run {
     // Goes on with the sampler of an answer, and answers its number.
-    pub fn on(&mut self, a: Answer) -> u8 {
+    pub fn on(&mut self, a: Answer) -> u8
+        ensures { self.new.out ≡ self.old.out }
+    {
         self.sampler = a.sampler;
         code(a.done)
     }
 
     // Kind 0: auto pass-through at 1, the count of channels at 4, the samples of memory at 8. Memory, file and parameters
     // are as at the beginning.
-    pub fn set_up(&mut self, fields: &Record) -> u8 {
+    pub fn set_up(&mut self, fields: &Record) -> u8
+        ensures { self.new.out ≡ self.old.out }
+    {
         self.memory.fill(0);
         self.file.fill(0);
         self.params = Params::default();
@@ -80,7 +84,9 @@ impl Run {
     }
 
     // Kinds 2 to 7: the note at 1, its channel at 2, then floats from 4 on. Kinds 26 and 27: a phrase's number at 1.
-    pub fn call(&mut self, fields: &Record) -> u8 {
+    pub fn call(&mut self, fields: &Record) -> u8
+        ensures { self.new.out ≡ self.old.out }
+    {
         let s = self.sampler;
         let p = self.params;
         self.on(match fields[0] {
@@ -96,7 +102,9 @@ impl Run {
     }
 
     // Kind 8: the input at 4, the channel at 8, the samples of memory lent at 16.
-    pub fn sample(&mut self, fields: &Record) -> Heard {
+    pub fn sample(&mut self, fields: &Record) -> Heard
+        ensures { self.new.out ≡ self.old.out }
+    {
         let channel = u32_at(fields, 8) as usize;
         let n = self.lent(fields);
         let a = self.sampler.process_sample(
@@ -114,7 +122,9 @@ impl Run {
     }
 
     // Kind 9: how many entries at 1, the samples of memory lent at 16.
-    pub fn frame(&mut self, entries: [f32; 3], fields: &Record) -> Heard {
+    pub fn frame(&mut self, entries: [f32; 3], fields: &Record) -> Heard
+        ensures { self.new.out ≡ self.old.out }
+    {
         let mut frame = entries;
         let n = entries_asked(fields);
         let m = self.lent(fields);
@@ -130,7 +140,9 @@ impl Run {
     }
 
     // Kind 19: as many frames as the number at 12 says, of which the last is shown.
-    pub fn frames(&mut self, fields: &Record) -> Heard {
+    pub fn frames(&mut self, fields: &Record) -> Heard
+        ensures { self.new.out ≡ self.old.out }
+    {
         let mut h = Heard::nothing();
         for i in 0..u32_at(fields, 12) {
             h = self.frame(entries_at(fields, i), fields);
@@ -139,14 +151,18 @@ impl Run {
     }
 
     // Kind 28: the samples of memory lent at 16.
-    pub fn gather(&mut self, fields: &Record) -> u8 {
+    pub fn gather(&mut self, fields: &Record) -> u8
+        ensures { self.new.out ≡ self.old.out }
+    {
         let n = self.lent(fields);
         let a = self.sampler.gather(&mut self.memory[..n]);
         self.on(a)
     }
 
     // Kind 21: a run of frames on these entries, which are made from the seed at 4; the samples of memory lent at 16.
-    pub fn frames_of(&mut self, fields: &Record, entries: &mut [f32]) -> Ran {
+    pub fn frames_of(&mut self, fields: &Record, entries: &mut [f32]) -> Ran
+        ensures { self.new.out ≡ self.old.out }
+    {
         fill(entries, u32_at(fields, 4));
         let n = self.lent(fields);
         let a = self

@@ -1,5 +1,5 @@
 // Recordings out and in as WAVE files: a file is written to and read from, and pieces are put into it.
-ghost use Rattle.std.specs.Prelude.{◌≤◌};
+ghost use Rattle.std.specs.Prelude.{◌≡◌, ◌≤◌};
 
 use crate::run::Run;
 use oracle_lines::field::{Record, u32_at};
@@ -7,7 +7,9 @@ use refusals::Refusal;
 
 impl Run {
     // Kind 23: how many bytes at 1, 56 at most, their place in the file at 4, 968 at most, the bytes from 8 on.
-    pub fn piece(&mut self, fields: &Record) {
+    pub fn piece(&mut self, fields: &Record)
+        ensures { self.new.out ≡ self.old.out }
+    {
         let from = (u32_at(fields, 4) as usize).min(968);
         let n = (fields[1] as usize).min(56);
         self.file[from..from + n].copy_from_slice(&fields[8..8 + n]);
@@ -21,7 +23,9 @@ impl Run {
     }
 
     // Kind 24: the rate at 4, the room for the file at 12, the samples of memory lent at 16.
-    pub fn write(&mut self, fields: &Record) -> Result<usize, Refusal> {
+    pub fn write(&mut self, fields: &Record) -> Result<usize, Refusal>
+        ensures { self.new.out ≡ self.old.out }
+    {
         let n = self.file_room(fields);
         let m = self.lent(fields);
         let rate = u32_at(fields, 4);
@@ -31,7 +35,9 @@ impl Run {
 
     // Kind 25: the file as long as it says itself, or where the byte at 1 is 0 as the number at 12 says; the samples of
     // memory lent at 16.
-    pub fn read(&mut self, fields: &Record) -> Result<u32, Refusal> {
+    pub fn read(&mut self, fields: &Record) -> Result<u32, Refusal>
+        ensures { self.new.out ≡ self.old.out }
+    {
         let n = self.file_length(fields);
         let m = self.lent(fields);
         let memory = &mut self.memory[..];

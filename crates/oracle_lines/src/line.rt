@@ -1,46 +1,59 @@
 // Lines of answers: words with a space behind each, of which the line's end takes the last. A word is one number in
 // upper-case hexadecimal digits, or several with a colon between them.
-ghost use Rattle.std.specs.Prelude.{◌≡◌, ◌+◌, ◌-◌, ◌<◌, ◌≤◌, [], length, OnOk};
+ghost use Rattle.std.specs.Prelude.{◌≡◌, ◌+◌, ◌-◌, ◌<◌, ◌≤◌, [], length, min};
 
-use std::alloc::{AllocError, Global};
 use std::marker::Model;
 
-// The lines that wait to be written.
+// The lines that wait to be written: as many of the bytes as the length says. What is past the room is cut; no program
+// comes there, as each writes what waits before the rest is too short for a record's answer.
 #[derive(Drop)]
 pub struct Text {
-    bytes: Vec<u8>,
+    bytes: [u8; 65536],
+    length: usize,
 }
 
-// A clause sees the bytes.
+// A clause sees the bytes that wait.
 impl Model for Text {
-    ghost use Rattle.std.specs.Prelude.{ℕ, List};
+    ghost use Rattle.std.specs.Prelude.{◌≤◌, ℕ, List, take};
 
     ghost Value = { List ℕ };
 
-    ghost view = { λ t. t.bytes.items };
+    ghost view = { λ t. take t.length t.bytes };
+
+    ghost invariant = { λ t. t.length ≤ 65536 };
 }
 
 impl Text {
-    pub fn new(alloc: Global) -> Self
+    pub fn new() -> Self
         ensures { result ≡ [] }
     {
         Self {
-            bytes: Vec::new(alloc),
+            bytes: [0; 65536],
+            length: 0,
         }
     }
 
-    // A letter as a word.
-    pub fn tag(&mut self, letter: u8) -> Result<(), AllocError>
-        ensures { OnOk result (length self.new ≡ length self.old + 2) }
+    // As many of the bytes as there is room for.
+    fn add(&mut self, bytes: &[u8])
+        ensures { length self.new ≡ min (length self.old + length bytes.now) 65536 }
     {
-        self.bytes.extend_from_slice(&[letter, b' '])
+        let n = bytes.len().min(65536 - self.length);
+        self.bytes[self.length..self.length + n].copy_from_slice(&bytes[..n]);
+        self.length += n;
+    }
+
+    // A letter as a word.
+    pub fn tag(&mut self, letter: u8)
+        ensures { length self.new ≡ min (length self.old + 2) 65536 }
+    {
+        self.add(&[letter, b' '])
     }
 
     // The last N digits of n, and the byte `after` them. (Tried by `{:X}`: three times as slow; the edit digit_of_16 is of
     // `digit`.)
-    fn digits<const N: usize>(&mut self, n: u64, after: u8) -> Result<(), AllocError>
+    fn digits<const N: usize>(&mut self, n: u64, after: u8)
         requires { N ≤ 16 }
-        ensures { OnOk result (length self.new ≡ length self.old + N + 1) }
+        ensures { length self.new ≡ min (length self.old + N + 1) 65536 }
     {
         let mut digits = [b'0'; N];
         let mut rest = n;
@@ -48,76 +61,74 @@ impl Text {
             *place = digit(rest % 16);
             rest /= 16;
         }
-        self.bytes.extend_from_slice(&digits)?;
-        self.bytes.push(after)?;
-        Ok(())
+        self.add(&digits);
+        self.add(&[after]);
     }
 
     // The last number of a word.
-    pub fn put<const N: usize>(&mut self, n: u64) -> Result<(), AllocError>
+    pub fn put<const N: usize>(&mut self, n: u64)
         requires { N ≤ 16 }
-        ensures { OnOk result (length self.new ≡ length self.old + N + 1) }
+        ensures { length self.new ≡ min (length self.old + N + 1) 65536 }
     {
         self.digits::<N>(n, b' ')
     }
 
     // A number of a word that goes on.
-    pub fn begin<const N: usize>(&mut self, n: u64) -> Result<(), AllocError>
+    pub fn begin<const N: usize>(&mut self, n: u64)
         requires { N ≤ 16 }
-        ensures { OnOk result (length self.new ≡ length self.old + N + 1) }
+        ensures { length self.new ≡ min (length self.old + N + 1) 65536 }
     {
         self.digits::<N>(n, b':')
     }
 
-    pub fn put_u8(&mut self, n: u8) -> Result<(), AllocError>
-        ensures { OnOk result (length self.new ≡ length self.old + 3) }
+    pub fn put_u8(&mut self, n: u8)
+        ensures { length self.new ≡ min (length self.old + 3) 65536 }
     {
         self.put::<2>(n as u64)
     }
 
-    pub fn put_u32(&mut self, n: u32) -> Result<(), AllocError>
-        ensures { OnOk result (length self.new ≡ length self.old + 9) }
+    pub fn put_u32(&mut self, n: u32)
+        ensures { length self.new ≡ min (length self.old + 9) 65536 }
     {
         self.put::<8>(n as u64)
     }
 
-    pub fn put_u64(&mut self, n: u64) -> Result<(), AllocError>
-        ensures { OnOk result (length self.new ≡ length self.old + 17) }
+    pub fn put_u64(&mut self, n: u64)
+        ensures { length self.new ≡ min (length self.old + 17) 65536 }
     {
         self.put::<16>(n)
     }
 
-    pub fn put_usize(&mut self, n: usize) -> Result<(), AllocError>
-        ensures { OnOk result (length self.new ≡ length self.old + 17) }
+    pub fn put_usize(&mut self, n: usize)
+        ensures { length self.new ≡ min (length self.old + 17) 65536 }
     {
         self.put::<16>(n as u64)
     }
 
-    pub fn put_f32(&mut self, x: f32) -> Result<(), AllocError>
-        ensures { OnOk result (length self.new ≡ length self.old + 9) }
+    pub fn put_f32(&mut self, x: f32)
+        ensures { length self.new ≡ min (length self.old + 9) 65536 }
     {
         self.put_u32(binary32::to_bits(x))
     }
 
-    pub fn begin_f32(&mut self, x: f32) -> Result<(), AllocError>
-        ensures { OnOk result (length self.new ≡ length self.old + 9) }
+    pub fn begin_f32(&mut self, x: f32)
+        ensures { length self.new ≡ min (length self.old + 9) 65536 }
     {
         self.begin::<8>(binary32::to_bits(x) as u64)
     }
 
-    pub fn put_bool(&mut self, b: bool) -> Result<(), AllocError>
-        ensures { OnOk result (length self.new ≡ length self.old + 2) }
+    pub fn put_bool(&mut self, b: bool)
+        ensures { length self.new ≡ min (length self.old + 2) 65536 }
     {
         self.put::<1>(b as u64)
     }
 
     // The line's end takes the place of its last space, where there is one.
-    pub fn end(&mut self) -> Result<(), AllocError>
-        ensures { OnOk result (length self.new ≡ length self.old - 1 + 1) }
+    pub fn end(&mut self)
+        ensures { length self.new ≡ length self.old - 1 + 1 }
     {
-        self.bytes.pop();
-        self.bytes.push(b'\n')?;
-        Ok(())
+        self.length = self.length.saturating_sub(1);
+        self.add(b"\n");
     }
 
     // Writes what waits once it is long.
@@ -125,7 +136,7 @@ impl Text {
         ensures bound { length self.new ≤ 32768 }
         ensures no_longer { length self.new ≤ length self.old }
     {
-        if self.bytes.len() > 32768 {
+        if self.length > 32768 {
             self.write(rt);
         }
     }
@@ -134,8 +145,8 @@ impl Text {
     pub fn write(&mut self, rt: &impl Print) -> bool
         ensures { self.new ≡ [] }
     {
-        let written = rt.write_all(self.bytes.as_slice()).is_ok();
-        self.bytes.clear();
+        let written = rt.write_all(&self.bytes[..self.length]).is_ok();
+        self.length = 0;
         written
     }
 }

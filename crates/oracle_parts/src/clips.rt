@@ -2,37 +2,36 @@
 // data length, 4 all of them) and new mode at 3; floats start at 4, speed at 8, length at 12, data length at 16, shift at
 // 20, x (a place in the data) at 24, value (a new speed or length, of all four the length) at 28; whole numbers since at
 // 32, now at 40, later at 48; of all four the new speed at 56 and data length at 60.
-ghost use Rattle.std.specs.Prelude.{◌≡◌, ◌+◌, length, OnOk};
+ghost use Rattle.std.specs.Prelude.{◌≡◌, ◌+◌, length, min};
 
 use clip::{Clip, Mode, Position};
 use oracle_lines::field::{Record, f32_at, usize_at};
 use oracle_lines::line::Text;
 use refusals::Refusal;
-use std::alloc::AllocError;
 
-pub fn answer(fields: &Record, out: &mut Text) -> Result<(), AllocError>
-    ensures { OnOk result (length out.new ≡ length out.old + 272) }
+pub fn answer(fields: &Record, out: &mut Text)
+    ensures { length out.new ≡ min (length out.old + 272) 65536 }
 {
     let c = clip_of(fields);
     let now = usize_at(fields, 40);
     let changed = update(fields, c, now);
-    put_change(out, made(c))?;
-    put_at(out, c, now)?;
-    put_found(out, c.data_to_clip(f32_at(fields, 24)))?;
-    put_change(out, changed)?;
+    put_change(out, made(c));
+    put_at(out, c, now);
+    put_found(out, c.data_to_clip(f32_at(fields, 24)));
+    put_change(out, changed);
     // Where the update was refused, the clip is itself.
-    put_position(out, changed.unwrap_or(c).offset(usize_at(fields, 48)))?;
+    put_position(out, changed.unwrap_or(c).offset(usize_at(fields, 48)));
     out.end()
 }
 
 // What is asked of a clip at a time.
-fn put_at(out: &mut Text, c: Clip, now: usize) -> Result<(), AllocError>
-    ensures { OnOk result (length out.new ≡ length out.old + 90) }
+fn put_at(out: &mut Text, c: Clip, now: usize)
+    ensures { length out.new ≡ min (length out.old + 90) 65536 }
 {
-    put_elapsed(out, c.elapsed(now))?;
-    put_offset(out, c.clip_offset(now))?;
-    put_position(out, c.offset(now))?;
-    put_next(out, c, now)?;
+    put_elapsed(out, c.elapsed(now));
+    put_offset(out, c.clip_offset(now));
+    put_position(out, c.offset(now));
+    put_next(out, c, now);
     put_reversing(out, c.is_pingpong_reversing(now))
 }
 
@@ -58,87 +57,87 @@ fn update(fields: &Record, c: Clip, time: usize) -> Result<Clip, Refusal> {
 }
 
 // Each of these puts document 01's number for the answer, and then its values.
-fn put_change(out: &mut Text, a: Result<Clip, Refusal>) -> Result<(), AllocError>
-    ensures { OnOk result (length out.new ≡ length out.old + 66) }
+fn put_change(out: &mut Text, a: Result<Clip, Refusal>)
+    ensures { length out.new ≡ min (length out.old + 66) 65536 }
 {
     let (number, c) = match a {
         Ok(c) => (0, c),
         Err(refusal) => (refusal.number(), no_clip()),
     };
-    out.begin::<1>(number as u64)?;
-    out.begin::<16>(c.since as u64)?;
-    out.begin_f32(c.start)?;
-    out.begin_f32(c.speed)?;
-    out.begin_f32(c.length)?;
-    out.begin_f32(c.data_length)?;
-    out.begin_f32(by_value(c.shift))?;
+    out.begin::<1>(number as u64);
+    out.begin::<16>(c.since as u64);
+    out.begin_f32(c.start);
+    out.begin_f32(c.speed);
+    out.begin_f32(c.length);
+    out.begin_f32(c.data_length);
+    out.begin_f32(by_value(c.shift));
     out.put::<1>(mode_number(c.mode))
 }
 
-fn put_elapsed(out: &mut Text, a: Result<usize, Refusal>) -> Result<(), AllocError>
-    ensures { OnOk result (length out.new ≡ length out.old + 19) }
+fn put_elapsed(out: &mut Text, a: Result<usize, Refusal>)
+    ensures { length out.new ≡ min (length out.old + 19) 65536 }
 {
     let (number, n) = match a {
         Ok(n) => (0, n),
         Err(refusal) => (refusal.number(), 0),
     };
-    out.begin::<1>(number as u64)?;
+    out.begin::<1>(number as u64);
     out.put_usize(n)
 }
 
 // The next index (request 7/12), where there is a position.
-fn put_next(out: &mut Text, c: Clip, now: usize) -> Result<(), AllocError>
-    ensures { OnOk result (length out.new ≡ length out.old + 19) }
+fn put_next(out: &mut Text, c: Clip, now: usize)
+    ensures { length out.new ≡ min (length out.old + 19) 65536 }
 {
     put_elapsed(out, c.offset(now).map(|_| c.next_at(now)))
 }
 
-fn put_offset(out: &mut Text, a: Result<f32, Refusal>) -> Result<(), AllocError>
-    ensures { OnOk result (length out.new ≡ length out.old + 11) }
+fn put_offset(out: &mut Text, a: Result<f32, Refusal>)
+    ensures { length out.new ≡ min (length out.old + 11) 65536 }
 {
     let (number, x) = match a {
         Ok(x) => (0, x),
         Err(refusal) => (refusal.number(), 0.0),
     };
-    out.begin::<1>(number as u64)?;
+    out.begin::<1>(number as u64);
     out.put_f32(by_value(x))
 }
 
 // What index and fraction add up to, and the two of them.
-fn put_position(out: &mut Text, a: Result<Position, Refusal>) -> Result<(), AllocError>
-    ensures { OnOk result (length out.new ≡ length out.old + 37) }
+fn put_position(out: &mut Text, a: Result<Position, Refusal>)
+    ensures { length out.new ≡ min (length out.old + 37) 65536 }
 {
     let (number, p) = match a {
         Ok(p) => (0, p),
         Err(refusal) => (refusal.number(), no_position()),
     };
-    out.begin::<1>(number as u64)?;
-    out.begin_f32(by_value(p.sum()))?;
-    out.begin::<16>(p.index as u64)?;
+    out.begin::<1>(number as u64);
+    out.begin_f32(by_value(p.sum()));
+    out.begin::<16>(p.index as u64);
     out.put_f32(p.fraction)
 }
 
-fn put_reversing(out: &mut Text, a: Result<bool, Refusal>) -> Result<(), AllocError>
-    ensures { OnOk result (length out.new ≡ length out.old + 4) }
+fn put_reversing(out: &mut Text, a: Result<bool, Refusal>)
+    ensures { length out.new ≡ min (length out.old + 4) 65536 }
 {
     let (number, reversing) = match a {
         Ok(b) => (0, b),
         Err(refusal) => (refusal.number(), false),
     };
-    out.begin::<1>(number as u64)?;
+    out.begin::<1>(number as u64);
     out.put_bool(reversing)
 }
 
 // Whether there is a place, and the place.
-fn put_found(out: &mut Text, a: Result<Option<f32>, Refusal>) -> Result<(), AllocError>
-    ensures { OnOk result (length out.new ≡ length out.old + 13) }
+fn put_found(out: &mut Text, a: Result<Option<f32>, Refusal>)
+    ensures { length out.new ≡ min (length out.old + 13) 65536 }
 {
     let (number, found) = match a {
         Ok(found) => (0, found),
         Err(refusal) => (refusal.number(), None),
     };
-    out.begin::<1>(number as u64)?;
-    out.begin::<1>(found.is_some() as u64)?;
+    out.begin::<1>(number as u64);
+    out.begin::<1>(found.is_some() as u64);
     out.put_f32(by_value(found.unwrap_or(0.0)))
 }
 

@@ -3,12 +3,11 @@
 // that is cut short or that names no part is answered by `X`, and the program ends.
 #![tactic(auto)]
 
-ghost use Rattle.std.specs.Prelude.{◌≡◌, ◌+◌, ◌*◌, ◌≤◌, [], length, OnOk};
+ghost use Rattle.std.specs.Prelude.{◌≡◌, ◌+◌, ◌*◌, ◌≤◌, [], length};
 
 use oracle_lines::chunk::read_full;
 use oracle_lines::field::Record;
 use oracle_lines::line::Text;
-use std::alloc::AllocError;
 use std::io::Read;
 
 mod clips;
@@ -17,57 +16,56 @@ mod leaves;
 mod levels;
 mod settings;
 
-// Where memory for the text fails, it ends as where a write does.
 fn main(rt: HostRuntime) {
     let mut from = rt.stdin();
-    let mut out = Text::new(rt.alloc());
+    let mut out = Text::new();
     for _ in 0..u64::MAX {
-        if !turn(&rt, &mut from, &mut out).unwrap_or(false) {
+        if !turn(&rt, &mut from, &mut out) {
             break;
         }
     }
 }
 
 // Reads and answers 128 records, or as many as are left. Whether more may follow.
-fn turn(rt: &impl Print, from: &mut impl Read, out: &mut Text) -> Result<bool, AllocError>
-    ensures { OnOk result (out.new ≡ []) }
+fn turn(rt: &impl Print, from: &mut impl Read, out: &mut Text) -> bool
+    ensures { out.new ≡ [] }
 {
     let mut chunk = [0u8; 8192];
     let got = read_full(from, &mut chunk);
-    let all = answers(&chunk[..got], out)?;
-    Ok(out.write(rt) & all & (got == 8192))
+    let all = answers(&chunk[..got], out);
+    out.write(rt) & all & (got == 8192)
 }
 
 // Whether every record was answered. (A record of 64 bytes takes no more than 512.)
-fn answers(chunk: &[u8], out: &mut Text) -> Result<bool, AllocError>
-    ensures { OnOk result (length out.new ≤ length out.old + 8 * length chunk.now) }
+fn answers(chunk: &[u8], out: &mut Text) -> bool
+    ensures { length out.new ≤ length out.old + 8 * length chunk.now }
 {
     let (records, rest) = chunk.as_chunks::<64>();
     let mut all = rest.is_empty();
     for record in records {
-        if !answer(record, out)? {
+        if !answer(record, out) {
             all = false;
             break;
         }
     }
     if !all {
-        out.tag(b'X')?;
-        out.end()?;
+        out.tag(b'X');
+        out.end();
     }
-    Ok(all)
+    all
 }
 
 // The line that answers the record. Whether it names a part.
-fn answer(fields: &Record, out: &mut Text) -> Result<bool, AllocError>
-    ensures { OnOk result (length out.new ≤ length out.old + 302) }
+fn answer(fields: &Record, out: &mut Text) -> bool
+    ensures { length out.new ≤ length out.old + 302 }
 {
     match fields[0] {
-        0 => leaves::answer(fields, out)?,
-        1 => settings::answer(fields, out)?,
-        2 => levels::answer(fields, out)?,
-        3 => defaults::answer(out)?,
-        4 => clips::answer(fields, out)?,
-        _ => return Ok(false),
+        0 => leaves::answer(fields, out),
+        1 => settings::answer(fields, out),
+        2 => levels::answer(fields, out),
+        3 => defaults::answer(out),
+        4 => clips::answer(fields, out),
+        _ => return false,
     }
-    Ok(true)
+    true
 }

@@ -1,7 +1,7 @@
 // The text of a sampler's record, for programs that print it: a line for each channel, and after it one for each phrase
 // with samples that isn't chosen and one for each of its voices. Numbers are in hexadecimal, floats by their bits, and a
 // NaN is 7FC00000. Of a clip's shift a zero of either sign is written alike.
-ghost use Rattle.std.specs.Prelude.{◌≡◌, ◌+◌, ◌≤◌, length, OnOk};
+ghost use Rattle.std.specs.Prelude.{◌≡◌, ◌+◌, ◌≤◌, length, min};
 
 use channel::{Channel, Head, places};
 use clip::{Clip, Mode};
@@ -9,11 +9,10 @@ use oracle_lines::line::Text;
 use phrases::Phrase;
 use recorder::{Recorder, State};
 use sampler::Sampler;
-use std::alloc::AllocError;
 use voice::Voice;
 
-fn put_mode(out: &mut Text, mode: Mode) -> Result<(), AllocError>
-    ensures { OnOk result (length out.new ≡ length out.old + 2) }
+fn put_mode(out: &mut Text, mode: Mode)
+    ensures { length out.new ≡ min (length out.old + 2) 65536 }
 {
     match mode {
         Mode::Loop => out.put::<1>(0),
@@ -22,73 +21,73 @@ fn put_mode(out: &mut Text, mode: Mode) -> Result<(), AllocError>
 }
 
 // A float that compares by value.
-fn put_place(out: &mut Text, x: f32) -> Result<(), AllocError>
-    ensures { OnOk result (length out.new ≡ length out.old + 9) }
+fn put_place(out: &mut Text, x: f32)
+    ensures { length out.new ≡ min (length out.old + 9) 65536 }
 {
     out.put_f32(if x == 0.0 { 0.0 } else { x })
 }
 
-fn put_clip(out: &mut Text, c: Clip) -> Result<(), AllocError>
-    ensures { OnOk result (length out.new ≡ length out.old + 64) }
+fn put_clip(out: &mut Text, c: Clip)
+    ensures { length out.new ≡ min (length out.old + 64) 65536 }
 {
-    out.put_usize(c.since)?;
-    out.put_f32(c.start)?;
-    out.put_f32(c.speed)?;
-    out.put_f32(c.length)?;
-    out.put_f32(c.data_length)?;
-    put_place(out, c.shift)?;
+    out.put_usize(c.since);
+    out.put_f32(c.start);
+    out.put_f32(c.speed);
+    out.put_f32(c.length);
+    out.put_f32(c.data_length);
+    put_place(out, c.shift);
     put_mode(out, c.mode)
 }
 
-fn put_levels(out: &mut Text, v: Voice) -> Result<(), AllocError>
-    ensures { OnOk result (length out.new ≡ length out.old + 36) }
+fn put_levels(out: &mut Text, v: Voice)
+    ensures { length out.new ≡ min (length out.old + 36) 65536 }
 {
-    out.put_f32(v.loop_start_percent)?;
-    out.put_f32(v.played)?;
-    out.put_f32(v.last_sample_value)?;
+    out.put_f32(v.loop_start_percent);
+    out.put_f32(v.played);
+    out.put_f32(v.last_sample_value);
     out.put_f32(v.speed)
 }
 
-fn put_note(out: &mut Text, v: Voice) -> Result<(), AllocError>
-    ensures { OnOk result (length out.new ≡ length out.old + 13) }
+fn put_note(out: &mut Text, v: Voice)
+    ensures { length out.new ≡ min (length out.old + 13) 65536 }
 {
-    out.put_u8(v.note.note)?;
-    out.put_u8(v.note.channel)?;
-    out.put_bool(v.finished)?;
-    out.put_bool(v.is_at_zero_crossing)?;
+    out.put_u8(v.note.note);
+    out.put_u8(v.note.channel);
+    out.put_bool(v.finished);
+    out.put_bool(v.is_at_zero_crossing);
     out.put_u8(v.phrase)
 }
 
-fn put_voice(out: &mut Text, v: Voice) -> Result<(), AllocError>
-    ensures { OnOk result (length out.new ≡ length out.old + 203) }
+fn put_voice(out: &mut Text, v: Voice)
+    ensures { length out.new ≡ min (length out.old + 203) 65536 }
 {
-    out.tag(b'V')?;
-    out.put_usize(v.finished_at)?;
-    out.put_usize(v.last_sample_index)?;
-    put_clip(out, v.clip2)?;
-    out.put_volume(v.volume)?;
-    put_levels(out, v)?;
-    put_note(out, v)?;
+    out.tag(b'V');
+    out.put_usize(v.finished_at);
+    out.put_usize(v.last_sample_index);
+    put_clip(out, v.clip2);
+    out.put_volume(v.volume);
+    put_levels(out, v);
+    put_note(out, v);
     out.end()
 }
 
 // Whether it records, and its write place (0 while idle).
-fn put_state(out: &mut Text, state: State) -> Result<(), AllocError>
-    ensures { OnOk result (length out.new ≡ length out.old + 19) }
+fn put_state(out: &mut Text, state: State)
+    ensures { length out.new ≡ min (length out.old + 19) 65536 }
 {
     let (records, write) = match state {
         State::Triggered { write } => (true, write),
         State::Idle => (false, 0),
     };
-    out.put_bool(records)?;
+    out.put_bool(records);
     out.put_usize(write)
 }
 
-fn put_recorder(out: &mut Text, r: Recorder) -> Result<(), AllocError>
-    ensures { OnOk result (length out.new ≡ length out.old + 37) }
+fn put_recorder(out: &mut Text, r: Recorder)
+    ensures { length out.new ≡ min (length out.old + 37) 65536 }
 {
-    put_state(out, r.state)?;
-    out.put_u32(r.skipped_samples)?;
+    put_state(out, r.state);
+    out.put_u32(r.skipped_samples);
     out.put_u32(r.incorrect_state)
 }
 
@@ -102,55 +101,53 @@ fn begins(h: Head) -> usize {
 }
 
 // A channel without its voices but for their count.
-fn put_head(out: &mut Text, h: Head, count: usize) -> Result<(), AllocError>
-    ensures { OnOk result (length out.new ≡ length out.old + 168) }
+fn put_head(out: &mut Text, h: Head, count: usize)
+    ensures { length out.new ≡ min (length out.old + 168) 65536 }
 {
-    out.tag(b'C')?;
-    out.put_usize(h.now)?;
-    out.put_u8(h.chosen)?;
-    out.put_usize(begins(h))?;
-    out.put_usize(h.data_len)?;
-    put_recorder(out, h.recorder)?;
-    out.put_bool(h.passthru_on)?;
-    out.put_volume(h.passthru_volume)?;
-    out.put_bool(h.interpolates)?;
-    out.put_usize(count)?;
+    out.tag(b'C');
+    out.put_usize(h.now);
+    out.put_u8(h.chosen);
+    out.put_usize(begins(h));
+    out.put_usize(h.data_len);
+    put_recorder(out, h.recorder);
+    out.put_bool(h.passthru_on);
+    out.put_volume(h.passthru_volume);
+    out.put_bool(h.interpolates);
+    out.put_usize(count);
     out.end()
 }
 
 // A line for the phrase of that number, where it has samples and isn't chosen: its number, where it begins, its length.
-fn put_phrase(out: &mut Text, k: u8, chosen: u8, p: Phrase) -> Result<(), AllocError>
-    ensures { OnOk result (length out.new ≤ length out.old + 38) }
+fn put_phrase(out: &mut Text, k: u8, chosen: u8, p: Phrase)
+    ensures { length out.new ≤ length out.old + 38 }
 {
     if (k == chosen) | p.is_empty() {
-        return Ok(());
+        return;
     }
-    out.tag(b'P')?;
-    out.put::<1>(k as u64)?;
-    out.put_usize(p.start)?;
-    out.put_usize(p.length)?;
+    out.tag(b'P');
+    out.put::<1>(k as u64);
+    out.put_usize(p.start);
+    out.put_usize(p.length);
     out.end()
 }
 
-fn put_channel(out: &mut Text, c: &Channel) -> Result<(), AllocError>
-    ensures { OnOk result (length out.new ≤ length out.old + 6968) }
+fn put_channel(out: &mut Text, c: &Channel)
+    ensures { length out.new ≤ length out.old + 6968 }
 {
-    put_head(out, c.head, c.count)?;
+    put_head(out, c.head, c.count);
     for k in 0..8 {
-        put_phrase(out, k, c.head.chosen, c.phrase_at(k))?;
+        put_phrase(out, k, c.head.chosen, c.phrase_at(k));
     }
     for voice in &c.voices[..places(c.count)] {
-        put_voice(out, *voice)?;
+        put_voice(out, *voice);
     }
-    Ok(())
 }
 
 // What is in use of the record: the channels below the count, each with the voices below its count.
-pub fn put_sampler(out: &mut Text, s: &Sampler) -> Result<(), AllocError>
-    ensures { OnOk result (length out.new ≤ length out.old + 13936) }
+pub fn put_sampler(out: &mut Text, s: &Sampler)
+    ensures { length out.new ≤ length out.old + 13936 }
 {
     for c in &s.channels[..s.count.min(2)] {
-        put_channel(out, c)?;
+        put_channel(out, c);
     }
-    Ok(())
 }

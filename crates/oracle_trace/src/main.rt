@@ -11,6 +11,8 @@
 // defaults, and empties memory and file.
 #![tactic(auto)]
 
+ghost use Rattle.std.specs.Prelude.{◌≤◌, length, max};
+
 use oracle_acts::calls::{entries_of, run_asked};
 use oracle_acts::puts::put;
 use oracle_acts::run::Run;
@@ -18,15 +20,13 @@ use oracle_lines::chunk::read_full;
 use oracle_lines::field::Record;
 use oracle_lines::settings::params_of;
 use oracle_show::replies::{query, waveform};
-use std::alloc::AllocError;
 use std::io::Read;
 
-// Where memory for the text fails, the listing ends there.
 fn main(rt: HostRuntime) {
     let mut from = rt.stdin();
-    let mut run = Run::new(rt.alloc());
+    let mut run = Run::new();
     for _ in 0..u64::MAX {
-        if !turn(&rt, &mut from, &mut run).unwrap_or(false) {
+        if !turn(&rt, &mut from, &mut run) {
             break;
         }
     }
@@ -34,96 +34,104 @@ fn main(rt: HostRuntime) {
 }
 
 // Reads and plays 128 records, or as many as are left. Whether more may follow.
-fn turn(rt: &impl Print, from: &mut impl Read, run: &mut Run) -> Result<bool, AllocError> {
+fn turn(rt: &impl Print, from: &mut impl Read, run: &mut Run) -> bool
+    ensures { length run.new.out ≤ max (length run.old.out) 65536 }
+{
     let mut chunk = [0u8; 8192];
     let got = read_full(from, &mut chunk);
-    Ok(play(rt, &chunk[..got], run)? & (got == 8192))
+    play(rt, &chunk[..got], run) & (got == 8192)
 }
 
 // Whether the listing goes on: a bad record ends it.
-fn play(rt: &impl Print, chunk: &[u8], run: &mut Run) -> Result<bool, AllocError> {
+fn play(rt: &impl Print, chunk: &[u8], run: &mut Run) -> bool
+    ensures { length run.new.out ≤ max (length run.old.out) 65536 }
+{
     let (records, rest) = chunk.as_chunks::<64>();
     for record in records {
         run.out.spill(rt);
-        if !answer(rt, record, run)? {
-            run.bad()?;
-            return Ok(false);
+        if !answer(rt, record, run) {
+            run.bad();
+            return false;
         }
     }
     if !rest.is_empty() {
         run.out.spill(rt);
-        run.bad()?;
-        return Ok(false);
+        run.bad();
+        return false;
     }
-    Ok(true)
+    true
 }
 
 // Whether the record's kind is known.
-fn answer(rt: &impl Print, fields: &Record, run: &mut Run) -> Result<bool, AllocError> {
+fn answer(rt: &impl Print, fields: &Record, run: &mut Run) -> bool
+    ensures { length run.old.out ≤ 32768 → length run.new.out ≤ 65534 }
+{
     let kind = fields[0];
     match kind {
         0 => {
             let number = run.set_up(fields);
-            run.answered(kind, number)?;
+            run.answered(kind, number);
         }
         1 => {
             run.params = params_of(fields);
-            run.told(kind)?;
+            run.told(kind);
         }
         2..=7 | 26 | 27 => {
             let number = run.call(fields);
-            run.answered(kind, number)?;
+            run.answered(kind, number);
         }
         8 => {
             let h = run.sample(fields);
-            run.heard(kind, h)?;
+            run.heard(kind, h);
         }
         9 => {
             let h = run.frame(entries_of(fields), fields);
-            run.heard(kind, h)?;
+            run.heard(kind, h);
         }
         10 => {
             put(&mut run.sampler, fields);
-            run.answered(kind, 0)?;
+            run.answered(kind, 0);
         }
         11 => {
-            run.told(kind)?;
-            run.put_recordings(rt)?;
+            run.told(kind);
+            run.put_recordings(rt);
         }
-        12..=18 => query(run.sampler, run.params, fields, &mut run.out)?,
+        12..=18 => query(run.sampler, run.params, fields, &mut run.out),
         19 => {
             let h = run.frames(fields);
-            run.heard(kind, h)?;
+            run.heard(kind, h);
         }
-        20 => waveform(run.sampler, fields, &run.memory, &mut run.out)?,
-        21 => ran(kind, fields, run)?,
+        20 => waveform(run.sampler, fields, &run.memory, &mut run.out),
+        21 => ran(kind, fields, run),
         22 => {
             let number = run.on(run.sampler.set_interpolation(fields[1] != 0));
-            run.answered(kind, number)?;
+            run.answered(kind, number);
         }
         23 => {
             run.piece(fields);
-            run.told(kind)?;
+            run.told(kind);
         }
         24 => {
             let a = run.write(fields);
-            run.wrote(kind, a)?;
+            run.wrote(kind, a);
         }
         25 => {
             let read = run.read(fields);
-            run.took(kind, read)?;
+            run.took(kind, read);
         }
         28 => {
             let number = run.gather(fields);
-            run.gathered(kind, number)?;
+            run.gathered(kind, number);
         }
-        _ => return Ok(false),
+        _ => return false,
     }
-    Ok(true)
+    true
 }
 
 // A run of as many entries as the number at 12 says, and of 2,048 at most.
-fn ran(kind: u8, fields: &Record, run: &mut Run) -> Result<(), AllocError> {
+fn ran(kind: u8, fields: &Record, run: &mut Run)
+    ensures { length run.old.out ≤ 32768 → length run.new.out ≤ 65534 }
+{
     let mut entries = [0.0f32; 2048];
     let n = run_asked(fields);
     let ran = run.frames_of(fields, &mut entries[..n]);
