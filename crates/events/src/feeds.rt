@@ -178,7 +178,6 @@ pub fn feed(state: State, input: &[u8], last: bool, memory: &mut [u32], out: &mu
         used: 0,
         size: 0,
     };
-    // Tried as a `for` over 0..input.len() + 1: not proved yet.
     let mut turns = input.len() + 1;
     while turns > 0 && goes_on(fed, last, input) {
         fed = one(fed, input, memory, out);

@@ -46,7 +46,6 @@ fn play(
     };
     let mut written = true;
     // What a proved loop ends by: no input uses them up.
-    // Tried as a `for` over 0..u64::MAX: not proved yet.
     let mut turns = u64::MAX;
     while turns > 0 && written & run.state.listing.on {
         run = turn(rt, from, run, memory, input, out);
@@ -92,7 +91,6 @@ fn moved(input: &mut [u8], used: usize, have: usize) -> usize
     ensures upper_bound { result ≤ have }
     ensures input_after { take result input.new ≡ drop used (take have input.old) }
 {
-    // Tried as `copy_within`: not proved yet.
     let left = have - used;
     let mut i = 0;
     while i < left {

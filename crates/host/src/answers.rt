@@ -52,7 +52,7 @@ fn refused(refusal: Refusal) -> Count
     Count { count: 0, number }
 }
 
-// Of a `Result` no `From` makes these: both types would have to be this crate's own.
+// Functions, and no `From`: each is named in the contracts of the calls below, and two of them make a `Count`.
 fn count_by(counted: Result<usize, Refusal>) -> Count
     ensures { result ≡ count_by counted }
 {
